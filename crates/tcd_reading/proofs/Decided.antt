@@ -1,4 +1,4 @@
--- What a command says of files is decided by them.
+-- The files determine the report of a command.
 use Rattle.std.proofs.Common.{◌≡◌, ◌≢◌, ◌<◌, ◌≤◌, ◌+◌, inl, inr, ℕ, List, [], ◌∷◌, length, Option, Some, None, sym, ap, subst, ◌∙◌, arith}
 use Rattle.std.specs.Prelude.{IsSomeAnd}
 use Rattle.std.specs.FinMap.{get}
@@ -37,7 +37,7 @@ status_is r q e = ap (λ (x : Report). x.status) e
 pub writes_are : (r q : Report) → r ≡ q → r.writes ≡ q.writes
 writes_are r q e = ap (λ (x : Report). x.writes) e
 
--- reports of one status; only what is done writes
+-- reports with the same status, of those that a report has; only reports with status Done write
 pub record AreAlike (P : Report → Type 0) : Type 0 where
   pub told : (r : Report) → P r → IsReportStatus r.status
   pub done : (r : Report) → P r → r.status ≢ Done → r.writes ≡ []
@@ -84,7 +84,7 @@ said_done (answer P) held r d says undone = d.done r says undone
 said_done (input A form name next) held r d (inl h) undone = h.nothing
 said_done (input A form name next) held r d (inr h) undone = said_done (next h.0) held r (d.1 h.0) h.2 undone
 
--- two reports on the same inputs have one status
+-- two reports on the same inputs have the same status
 pub said_one : (reading : Reading) (held : Option Map) (r q : Report) → IsDecided reading → HoldsAsked reading held → Says reading held r → Says reading held q → r.status ≡ q.status
 unfolding IsDecided
 said_one (answer P) held r q d holds a b = d.one r q a b

@@ -32,14 +32,14 @@ name_at {S} bytes names i d h = slice_get-map bytes names i ∙ ap (λ (o : Opti
 pub name_here : {S : Type 0} (bytes : S → List ℕ) (names : List S) (i : ℕ) (x : S) (name : List ℕ) → i < length names → x ≡ get_or names i x → name ≡ bytes x → slice_get (map bytes names) i ≡ Some name
 name_here bytes names i x name h is e = name_at bytes names i x h ∙ sym (ap (λ (b : List ℕ). Some b) (e ∙ ap bytes is))
 
--- so many are read: what the rest comes to, the whole comes to
+-- the first files were read: the outcome of the rest is the outcome of the whole
 pub record HasReadSome (whole rest : Reading) (old mid : FilesSeen) (count i : ℕ) : Type 0 where
   pub leads : Leads whole rest old mid
   pub count_is : count ≡ i
 
--- ---- what is left to read
+-- ---- the files that aren't read yet
 module _ (A : Type 0) (form : ℕ → FormSeen A) (names : List (List ℕ)) (P : List A → Report → Type 0) where
-  -- the files from this place on, where the values before are known
+  -- the files from this place on, given the earlier values
   abbrev pub rest_of : ℕ → List A → Reading
   rest_of i xs = each A form i (drop i names) (λ ys. answer (P (xs ++ ys)))
 
@@ -66,7 +66,7 @@ module _ (A : Type 0) (form : ℕ → FormSeen A) (names : List (List ℕ)) (P :
       subst (λ (l : List A). HasReadSome (each A form 0 names (λ ys. answer (P ys))) (rest_of 0 l) files files (length l) 0) (sym e)
       (record { leads = leads_here (each A form 0 names (λ ys. answer (P ys))) files; count_is = refl })
 
-  -- one more is read
+  -- a further file is read
   pub next_read : (whole : Reading) (i : ℕ) (name : List ℕ) (xs xs' : List A) (x : A) (old mid new : FilesSeen) → slice_get names i ≡ Some name → HasReadSome whole (rest_of i xs) old mid (length xs) i →
       LeavesFiles name mid new → mid.faults ≤ new.faults → HoldsInput (form i) mid.held name x → xs' ≡ xs ++ x ∷ [] → HasReadSome whole (rest_of (i + 1) xs') old new (length xs') (i + 1)
   next_read whole i name xs xs' x old mid new at so_far leaves later holds e = record {

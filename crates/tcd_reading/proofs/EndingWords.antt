@@ -64,7 +64,7 @@ after_holds m ws q = record { last = λ i bytes is later. after_last m ws q i by
 holds_as : (m n n' : Map) (ws : List Written) (q : List ℕ) → get n' q ≡ get n q → HoldsLast m n ws q → HoldsLast m n' ws q
 holds_as m n n' ws q same h = record { last = λ i bytes is later. same ∙ h.last i bytes is later; other = λ none. same ∙ h.other none }
 
--- ---- where writing broke off
+-- ---- a write that failed
 some_of : (o : Option Map) (P : Map → Type 0) → IsSomeAnd o P → (n : Map) × (o ≡ Some n) × P n
 some_of None P h = absurd h
 some_of (Some n) P h = (n, refl, h)
@@ -105,7 +105,7 @@ not_steady false h = refl
 
 -- ---- how it ended
 module _ (reading : Reading) (files files' : FilesSeen) (sink sink' : SinkSeen) (result : Status) (m : Map) (text : List ℕ) (holds : files.held ≡ Some m) (prints : sink.written ≡ Some text) where
-  -- what is held and printed after, and that it ended so
+  -- the files and the text after a command that ended so
   record Ended : Type 0 where
     pub after : Map
     pub held : files'.held ≡ Some after
@@ -191,7 +191,7 @@ module _ (reading : Reading) (files files' : FilesSeen) (sink sink' : SinkSeen) 
             h.complete (sure steady asked) (λ r s. room_for sink r.text n room (fits r (said r s))) report (here report s);
       }
 
--- ---- whether files and sink tell or not
+-- ---- files and sinks in general
 module _ (reading : Reading) (files files' : FilesSeen) (sink sink' : SinkSeen) (result : Status) where
   status_of : HasEnded reading files files' sink sink' result → result ≢ Fault → result ≢ NoMemory → (report : Report) × Says reading files.held report × (result ≡ report.status)
   status_of (ending.reported report says (printed is (whole e p))) fault memory = (report, says, e)
@@ -247,7 +247,7 @@ anyhow_say reading files files' sink sink' result h = ends_anyhow reading files 
 pub ends_say : (reading : Reading) → EndsSay reading
 ends_say reading files files' sink sink' result m text holds prints h = ends_so reading files files' sink sink' result m text holds prints h
 
--- ---- what is said of two files
+-- ---- reports on two files
 held_as : {A : Type 0} (form : FormSeen A) (m : Map) (name : List ℕ) (x : A) → HoldsInput form (Some m) name x → IsHeldAs form m name x
 held_as form m name x h = record { bytes = h.0; held = h.1; short = h.2; is = h.3 }
 
@@ -270,7 +270,7 @@ says_say {A} {B} first second IsReport a b m report (inr h) = by_second h.0 h.1 
     by_second x held (inl k) = second_bad x (held_as first m a x held) (line_of second m b report k)
     by_second x held (inr k) = both x k.0 (held_as first m a x held) (held_as second m b k.0 k.1) k.2
 
--- ---- what is asked for of two files
+-- ---- the needed inputs of two files
 is_some_by : (o : Option (List ℕ)) (bytes : List ℕ) → o ≡ Some bytes → IsSome o
 is_some_by o bytes e = let P : Option (List ℕ) → Type 0 = λ x. IsSome x in subst P (sym e) refl
 

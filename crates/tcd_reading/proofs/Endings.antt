@@ -1,4 +1,4 @@
--- How a command ends, from what it comes to.
+-- How a command ends, from its outcome.
 use Rattle.std.proofs.Common.{◌≡◌, ◌≢◌, ◌⊎◌, inl, inr, List, [], Option, sym, ap, subst, ◌∙◌}
 use Rattle.std.specs.Prelude.{IsTrue}
 use Rattle.tcd_base.specs.Files.{Map, FilesSeen, LeavesFaults}
@@ -56,7 +56,7 @@ module _ (reading : Reading) (decided : IsDecided reading) (r : Report) (old new
 only_done_by : (reading : Reading) (held : Option Map) → IsDecided reading → (q : Report) → Says reading held q → q.status ≢ Done → q.writes ≡ []
 only_done_by reading held decided q says apart = said_done reading held q decided says apart
 
--- ---- by what it comes to
+-- ---- by the outcome
 reported_ends : (reading : Reading) (old mid new : FilesSeen) (sink sink' : SinkSeen) (o : Outcome) (r : Report) (result : Status) → IsDecided reading → Comes reading old mid o → Says reading old.held r →
     IsReported r mid new sink sink' result → LeavesFaults mid new → Ends reading old new sink sink' result
 reported_ends reading old mid new sink sink' o r result decided comes said h leaves =

@@ -8,7 +8,7 @@ pub report_is : {V E : Type 0} (items : V → List ℕ) (make : List ℕ → Rep
 report_is items make (Ok l) r x made said = said ∙ ap make made
 report_is items make (Err e) r x made said = absurd said
 
--- a line that was made wasn't refused for want of memory
+-- a line that was made wasn't refused by out of memory
 pub was_made : {V E : Type 0} (P : V → Type 0) (r : Result V E) → IsOkAnd r P → IsErr r → ⊥
 was_made P (Ok l) said failed = cc
 was_made P (Err e) said failed = absurd said

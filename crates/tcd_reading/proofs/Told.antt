@@ -1,4 +1,4 @@
--- From what the parts of a command do to what it comes to.
+-- The outcome of a command, from the results of its parts.
 use Rattle.std.proofs.Common.{◌≡◌, ◌≤◌, inl, inr, ℕ, List, length, Option, Result, Ok, Err, refl, sym, subst, ◌∙◌, arith}
 use Rattle.std.specs.Prelude.{IfErr, IsTrue}
 use Rattle.tcd_base.specs.Files.{Map, FilesSeen, FaultCounted, LeavesFiles, IsTooLong, Reads}
@@ -9,7 +9,7 @@ use Rattle.tcd_reading.specs.declared.outcome.Outcome.{Outcome}
 use Rattle.tcd_reading.specs.declared.outcome.Outcome.TheVariants as outcome
 
 -- ---- outcomes
--- what is told by one account is told by another
+-- an outcome for one property of reports is one for a weaker property
 pub told_as : (P Q : Report → Type 0) (F G : Type 0) (o : Outcome) → IsTold P F o → ((r : Report) → P r → Q r) → (F → G) → IsTold Q G o
 told_as P Q F G (outcome.Report s text writes) h p f = p (record { status = s; text = text.items; writes = writes.items }) h
 told_as P Q F G outcome.Unread h p f = f h
@@ -42,7 +42,8 @@ pub counted_later : (a b c : ℕ) → a ≤ b → FaultCounted b c → FaultCoun
 counted_later a b c le (inl h) = inl (omega arith)
 counted_later a b c le (inr h) = inr h
 
--- what the rest of a reading comes to from the files as they are, the whole comes to from the files before
+-- the outcome of the rest of a reading, from the files as they are, is the outcome of the whole
+-- from the files before
 pub record Leads (whole rest : Reading) (old mid : FilesSeen) : Type 0 where
   pub comes : (new : FilesSeen) (o : Outcome) → Comes rest mid new o → Comes whole old new o
 

@@ -4,7 +4,7 @@ use Rattle.std.specs.Prelude.{IsTrue}
 use Rattle.tcd_base.specs.Files.{Map, FilesSeen, LeavesFaults, OthersStay, with_file}
 use Rattle.tcd_reading.specs.Reports.{Written, with_written, Stopped}
 
--- so many were written
+-- the first files were written
 pub record HasWritten (writes : List Written) (i : ℕ) (old new : FilesSeen) : Type 0 where
   pub held : new.held ≡ with_written old.held (take i writes)
   pub leaves : LeavesFaults old new
@@ -15,7 +15,7 @@ with_more held [] i w lt = absurd (omega arith)
 with_more held (x ∷ xs) zero w lt = refl
 with_more held (x ∷ xs) (suc i) w lt = with_more (with_file held x.name x.bytes) xs i w (omega arith)
 
--- one more
+-- a further file is written
 pub wrote_more : (writes : List Written) (i : ℕ) (w : Written) (old mid new : FilesSeen) → i < length writes → HasWritten writes i old mid → new.held ≡ with_file mid.held (get_or writes i w).name (get_or writes i w).bytes →
     LeavesFaults mid new → mid.faults ≤ new.faults → HasWritten writes (i + 1) old new
 wrote_more writes i w old mid new lt h set leaves later =

@@ -1,5 +1,5 @@
--- What the definition of how a command ends gives, in plain equations: the statements of the guard laws. One that gave less of what stands
--- here would break a law.
+-- Consequences of how a command ends, in plain equations.
+-- These are the statements of the guard laws: if the definition said less, a law would fail.
 use Rattle.std.specs.Prelude.{◌≡◌, ◌≢◌, ◌-◌, ◌<◌, ◌≤◌, ◌^◌, ◌⊎◌, ℕ, true, false, List, [], ◌∷◌, ◌++◌, length, slice_get, Some, None}
 use Rattle.std.specs.FinMap.{get}
 use Rattle.tcd_base.specs.Files.{Map, FilesSeen}
@@ -11,14 +11,16 @@ use Rattle.tcd_reading.specs.declared.status.Status.{Status}
 use Rattle.tcd_reading.specs.declared.status.Status.TheVariants.{Done, Refused, BadInput, Fault, NoMemory, BadWords}
 
 -- ---- files and faults
--- A name holds the bytes of the last of these files that has it; or what it held, where none has it.
+-- A name holds the bytes of the last of these files with that name. If no file has it, it holds
+-- what it held before.
 pub record HoldsLast (old new : Map) (writes : List Written) (name : List ℕ) : Type 0 where
   pub last :
       (i : ℕ) (bytes : List ℕ) → slice_get writes i ≡ Some (record { name = name; bytes = bytes })
       → ((j : ℕ) (w : Written) → i < j → slice_get writes j ≡ Some w → w.name ≢ name) → get new name ≡ Some bytes
   pub other : ((i : ℕ) (w : Written) → slice_get writes i ≡ Some w → w.name ≢ name) → get new name ≡ get old name
 
--- writing failed at one of these files: each name but its own holds the last of those before it that has it, or what it held
+-- Writing failed at one of these files. Each other name holds the last of the earlier files with
+-- that name, or what it held before.
 pub record BreaksOff (old new : Map) (writes : List Written) : Type 0 where
   pub front : List Written
   pub at : Written
@@ -26,7 +28,7 @@ pub record BreaksOff (old new : Map) (writes : List Written) : Type 0 where
   pub are : writes ≡ front ++ at ∷ behind
   pub others : (name : List ℕ) → name ≢ at.name → HoldsLast old new front name
 
--- a count of faults, of 64 bits, rose or stands at its last value
+-- a count of faults, of 64 bits, rose or is at its greatest value
 abbrev pub HasRisen : ℕ → ℕ → Type 0
 HasRisen before now = (before < now) ⊎ (now ≡ 2 ^ 64 - 1)
 
@@ -35,10 +37,14 @@ abbrev pub AllStay : Map → Map → Type 0
 AllStay old new = (name : List ℕ) → get new name ≡ get old name
 
 -- ---- ends
--- How a command ended, where m was held and text printed before, and m' is held and text' printed after: what is said of the files was
--- reported, with its status, its files written in order, then its text printed behind what was printed; or the sink failed behind a front
--- of this text, for which it had no room where it tells its room; or a write failed or ran out of memory, with nothing printed; or a file
--- couldn't be read, where the files may fail or don't hold all that is asked for; or memory ran out with nothing written.
+-- How a command ended. Before, the files held m and the sink held text; after, they hold m' and
+-- text'.
+-- - told: the report was made with its status. Its files were written in order, then its text was
+--   printed.
+-- - cut: the sink failed within the text. If the room of the sink is known, there was too little.
+-- - unwritten, unfinished: a write failed or ran out of memory, and nothing was printed.
+-- - unread: a file couldn't be read, so the files may fail or lack an input that the command needs.
+-- - no_memory: memory ran out, and nothing was written.
 pub data HasEndedSo (reading : Reading) (files files' : FilesSeen) (sink sink' : SinkSeen) (m m' : Map) (text text' : List ℕ) (result : Status) : Type 0 where
   told :
       (report : Report) → Says reading (Some m) report → result ≡ report.status → ((name : List ℕ) → HoldsLast m m' report.writes name)
@@ -60,7 +66,8 @@ pub data HasEndedSo (reading : Reading) (files files' : FilesSeen) (sink sink' :
       → HasEndedSo reading files files' sink sink' m m' text text' result
   no_memory : result ≡ NoMemory → AllStay m m' → text' ≡ text → HasEndedSo reading files files' sink sink' m m' text text' result
 
--- So a command ends, where files and sink tell: m was held and text was printed before.
+-- How a command ends if files and sink reveal their contents: the files held m, and the sink held
+-- text.
 pub record EndsSo (reading : Reading) (files files' : FilesSeen) (sink sink' : SinkSeen) (m : Map) (text : List ℕ) (result : Status) : Type 0 where
   pub after : Map
   pub held : files'.held ≡ Some after
@@ -82,9 +89,10 @@ pub record EndsSo (reading : Reading) (files files' : FilesSeen) (sink sink' : S
       → ((report : Report) → Says reading (Some m) report → length report.text ≤ n)
       → (report : Report) → Says reading (Some m) report → (result ≡ report.status) ⊎ (result ≡ NoMemory)
 
--- And so it ends whether they tell or not: never for its words; with the status of what is said of the files, but for a fault that was
--- counted, and want of memory; what isn't told stays untold; over steady files that hold all that is asked for, and a sink with room, no
--- fault is counted, and the status is the one that is said, or want of memory.
+-- How a command ends in all cases. It never ends with the status for bad words. It ends with the
+-- status of its report, except after a counted fault or out of memory. Contents that aren't
+-- revealed remain so. Over steady files with all needed inputs, and a sink with room, no fault is
+-- counted. The status is then that of the report, or out of memory.
 pub record EndsAnyhow (reading : Reading) (files files' : FilesSeen) (sink sink' : SinkSeen) (result : Status) : Type 0 where
   pub some_words : result ≢ BadWords
   pub statuses :
@@ -107,28 +115,29 @@ pub record EndsAnyhow (reading : Reading) (files files' : FilesSeen) (sink sink'
       → ((report : Report) → Says reading files.held report → length report.text ≤ n)
       → (report : Report) → Says reading files.held report → (result ≡ report.status) ⊎ (result ≡ NoMemory)
 
--- where a command that reads so ends, it ends so
+-- a command with this reading that ends, ends so, if files and sink reveal their contents
 abbrev pub EndsSay : Reading → Type 0
 EndsSay reading =
     (files files' : FilesSeen) (sink sink' : SinkSeen) (result : Status) (m : Map) (text : List ℕ)
     → files.held ≡ Some m → sink.written ≡ Some text → Ends reading files files' sink sink' result
     → EndsSo reading files files' sink sink' m text result
 
--- the same, whether files and sink tell what they hold or not
+-- a command with this reading that ends, ends so in all cases
 abbrev pub EndsAnyhowSay : Reading → Type 0
 EndsAnyhowSay reading =
     (files files' : FilesSeen) (sink sink' : SinkSeen) (result : Status)
     → Ends reading files files' sink sink' result → EndsAnyhow reading files files' sink sink' result
 
--- ---- what is said of files
--- A file is held whose bytes, no more than its form's limit, are this value.
+-- ---- reports on files
+-- The bytes of a file are within its form's limit, and have this value.
 pub record IsHeldAs {A : Type 0} (form : FormSeen A) (m : Map) (name : List ℕ) (x : A) : Type 0 where
   pub bytes : List ℕ
   pub held : get m name ≡ Some bytes
   pub short : length bytes ≤ form.limit
   pub is : form.Is bytes x
 
--- A file is held that is above its form's limit, with this line; or below it, but of no value, with one of the lines on that.
+-- The bytes of a file are above its form's limit, with this line; or within the limit but without a
+-- value, with one of the lines for that.
 pub data IsHeldBad {A : Type 0} (form : FormSeen A) (m : Map) (name line : List ℕ) : Type 0 where
   long : (bytes : List ℕ) → get m name ≡ Some bytes → form.limit < length bytes → line ≡ form.long_line → IsHeldBad form m name line
   bad : (bytes : List ℕ) → get m name ≡ Some bytes → length bytes ≤ form.limit → form.IsBad bytes line → IsHeldBad form m name line
@@ -139,20 +148,21 @@ pub record IsLineOf (IsLine : List ℕ → Type 0) (report : Report) : Type 0 wh
   pub line : IsLine report.text
   pub writes : report.writes ≡ []
 
--- Of a command that reads two files, one after the other, is said: the first is bad; or it is a value, and the second is bad; or both are
--- values, and this is reported of them.
+-- The reports of a command that reads two files in turn. The first is bad; or it has a value, and
+-- the second is bad; or both have values, and this is reported of them.
 pub data IsSaidOfTwo {A B : Type 0} (first : FormSeen A) (second : FormSeen B) (a b : List ℕ) (IsReport : A → B → Report → Type 0) (m : Map) (report : Report) : Type 0 where
   first_bad : IsLineOf (IsHeldBad first m a) report → IsSaidOfTwo first second a b IsReport m report
   second_bad : (x : A) → IsHeldAs first m a x → IsLineOf (IsHeldBad second m b) report → IsSaidOfTwo first second a b IsReport m report
   both : (x : A) (y : B) → IsHeldAs first m a x → IsHeldAs second m b y → IsReport x y report → IsSaidOfTwo first second a b IsReport m report
 
--- whatever is said where two files are read is such
+-- each report of a command that reads two files is one of these
 abbrev pub SaysSay : {A B : Type 0} → FormSeen A → FormSeen B → (A → B → Report → Type 0) → Type 0
 SaysSay {A} {B} first second IsReport =
     (a b : List ℕ) (m : Map) (report : Report)
     → Says (input A first a (λ x. input B second b (λ y. answer (IsReport x y)))) (Some m) report → IsSaidOfTwo first second a b IsReport m report
 
--- Where two files are read, all that is asked for is held where the first is held, and the second too wherever the first is a value.
+-- The needed inputs of a command that reads two files: the first file, and the second file if the
+-- first has a value. If both are there, so are all needed inputs.
 pub record AsksSay {A B : Type 0} (first : FormSeen A) (second : FormSeen B) (IsReport : A → B → Report → Type 0) : Type 0 where
   pub asks :
       (a b : List ℕ) (m : Map) (bytes : List ℕ) → get m a ≡ Some bytes → ((x : A) → IsHeldAs first m a x → (more : List ℕ) × (get m b ≡ Some more))

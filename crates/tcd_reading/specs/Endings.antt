@@ -1,4 +1,4 @@
--- How a command ends, by what is seen of the files and of the sink.
+-- How a command ends, in terms of the views of the files and of the sink.
 use Rattle.std.specs.Prelude.{◌≡◌, ◌≢◌, ◌⊎◌, [], Option}
 use Rattle.tcd_base.specs.Files.{Map, FilesSeen, FaultCounted}
 use Rattle.tcd_base.specs.Sink.{SinkSeen, HasRoomFor}
@@ -8,12 +8,12 @@ use Rattle.tcd_reading.specs.Outcomes.{IsReported}
 use Rattle.tcd_reading.specs.declared.status.Status.{Status}
 use Rattle.tcd_reading.specs.declared.status.Status.TheVariants.{Done, Refused, BadInput, Fault, NoMemory, BadWords}
 
--- the sink has room for each text that may come
+-- the sink has room for the text of each report
 abbrev pub HasRoom : Reading → Option Map → SinkSeen → Type 0
 HasRoom reading held sink = (report : Report) → Says reading held report → HasRoomFor sink report.text
 
--- A report of what is said of the files ended; or a file couldn't be read, where the files aren't sure of all that is asked
--- for; or memory ran out before anything was written or printed.
+-- A report was written and printed. Or a file couldn't be read, so the files aren't sure of all
+-- needed inputs. Or memory ran out before anything was written or printed.
 pub data HasEnded (reading : Reading) (files files' : FilesSeen) (sink sink' : SinkSeen) (result : Status) : Type 0 where
   reported : (report : Report) → Says reading files.held report → IsReported report files files' sink sink' result → HasEnded reading files files' sink sink' result
   unread :
@@ -21,10 +21,11 @@ pub data HasEnded (reading : Reading) (files files' : FilesSeen) (sink sink' : S
       → HasEnded reading files files' sink sink' result
   no_memory : result ≡ NoMemory → files'.held ≡ files.held → sink' ≡ sink → HasEnded reading files files' sink sink' result
 
--- How a command ends, by what is seen of the files and of the sink before and after. Whether the files are steady stays. Over
--- steady files that hold the inputs that are asked for their count of faults stays, over a sink with room its count; over
--- both the status is the one that is said, unless memory ran out: done, refused or of a bad input. Only a command that is done
--- has files to write, so one that is refused leaves what is held.
+-- How a command ends, in terms of the views of the files and of the sink before and after. Whether
+-- the files are steady doesn't change. Over steady files with all needed inputs, their count of
+-- faults doesn't change. Over a sink with room, its count doesn't change. Over both, the status is
+-- that of the report (done, refused, or of a bad input), or out of memory. Only a report with
+-- status Done has files to write, so a refused command leaves the files as they are.
 pub record Ends (reading : Reading) (files files' : FilesSeen) (sink sink' : SinkSeen) (result : Status) : Type 0 where
   pub ended : HasEnded reading files files' sink sink' result
   pub no_bad_words : result ≢ BadWords

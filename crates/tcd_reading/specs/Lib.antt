@@ -1,3 +1,4 @@
+-- Commands: their inputs, reports and outcomes, and how they end.
 pub mod Endings
 pub mod Inputs
 pub mod Outcomes

@@ -1,4 +1,4 @@
--- What a command reports: a status, a text, and files that are written before the text is printed.
+-- The report of a command: a status, a text to print, and files to write before it.
 use Rattle.std.specs.Prelude.{ℕ, List, [], ◌∷◌, ◌++◌, ◌≡◌, ◌⊎◌, Option}
 use Rattle.tcd_base.specs.Files.{Map, OthersStay, with_file}
 use Rattle.tcd_reading.specs.declared.status.Status.{Status}
@@ -9,7 +9,7 @@ pub record Written : Type 0 where
   pub name : List ℕ
   pub bytes : List ℕ
 
--- a status, the text that is printed, and the files that are written before
+-- a status, the text to print, and the files to write before it
 pub record Report : Type 0 where
   pub status : Status
   pub text : List ℕ
@@ -23,21 +23,21 @@ IsReportStatus s = (s ≡ Done) ⊎ ((s ≡ Refused) ⊎ (s ≡ BadInput))
 abbrev pub says : Status → List ℕ → Report
 says status text = record { status = status; text = text; writes = [] }
 
--- one file to write, and the text on it
+-- a report with one file to write
 abbrev pub writes_file : List ℕ → List ℕ → List ℕ → Report
 writes_file name bytes text = record { status = Done; text = text; writes = record { name = name; bytes = bytes } ∷ [] }
 
--- two files to write, one after the other, and the text on them
+-- a report with two files to write, in this order
 abbrev pub writes_two : Written → Written → List ℕ → Report
 writes_two first second text = record { status = Done; text = text; writes = first ∷ second ∷ [] }
 
--- what is held once these files were written, one after another
+-- the contents of the files after these were written in order
 abbrev pub with_written : Option Map → List Written → Option Map
 with_written held [] = held
 with_written held (w ∷ ws) = with_written (with_file held w.name w.bytes) ws
 
--- One of the files failed to be written: those before it are written, it may hold anything, and those behind it aren't
--- touched.
+-- Writing a file failed. The files before it are written, its own contents are unknown, and the
+-- files after it aren't touched.
 pub record Stopped (held held' : Option Map) (writes : List Written) : Type 0 where
   pub front : List Written
   pub at : Written

@@ -1,4 +1,4 @@
-// The inputs of commands, each read and brought into its form.
+// Reads the input files of commands, and turns each into a value.
 ghost use Rattle.std.specs.Prelude.{◌≡◌, ◌≤◌, length, IfOk, IfErr, IsOkAnd};
 ghost use Rattle.tcd_base.specs.Files.{LeavesFiles};
 ghost use Rattle.tcd_reading.specs.Inputs.{FormSeen, HoldsInput, IsRefusal};
@@ -9,26 +9,27 @@ use crate::status::Status;
 use std::alloc::Global;
 use tcd_base::{FileErr, Files, NoMemory};
 
-/// The form of a kind of file.
+/// The form of a kind of input files.
 pub trait Form {
-    /// What a file of this form is.
+    /// The type of the value in a file of this form.
     type Out;
 
-    /// Its limit, the line of a file above it, its values, and the lines of what is none.
+    /// The limit of this form, the line for a larger file, the value of bytes, and the lines for
+    /// bytes without a value.
     ghost form: { Self → FormSeen Self.Out };
 
-    /// What is known of each value besides.
+    /// A fact of each value that was read.
     ghost Fits: { Self → Self.Out → Type 0 };
 
     /// The most bytes of a file.
     fn limit(&self) -> u32
         ensures { result ≡ (form self.now).limit };
 
-    /// The line of a file above the limit.
+    /// The line that is printed for a file above the limit.
     fn long_line(&self, alloc: Global) -> Result<Vec<u8>, NoMemory>
         ensures { IfOk result (λ line. line.items ≡ (form self.now).long_line) };
 
-    /// The value that bytes are, or what is printed where they are none.
+    /// The value of these bytes, or the outcome with the line that says why there is none.
     fn value(&self, alloc: Global, bytes: Vec<u8>) -> Result<Self::Out, Outcome>
         requires { length bytes.items ≤ (form self.now).limit }
         ensures found { IfOk result ((form self.now).Is bytes.items) }
@@ -36,7 +37,7 @@ pub trait Form {
         ensures stops { IfErr result (Stops ((form self.now).IsBad bytes.items) ⊥) };
 }
 
-/// An input that isn't in its form, and what is printed of it.
+/// The outcome for an input that isn't in its form, with the line that is printed.
 pub fn bad_input(alloc: Global, line: Result<Vec<u8>, NoMemory>) -> Outcome
     ensures { Stops (λ t. IsOkAnd line (λ l. t ≡ l.items)) ⊥ result }
 {
@@ -50,8 +51,8 @@ pub fn bad_input(alloc: Global, line: Result<Vec<u8>, NoMemory>) -> Outcome
     }
 }
 
-// A file that wasn't read.
-fn unread<I: Form>(form: &I, alloc: Global, e: FileErr) -> Outcome
+// The outcome for a file that wasn't read: it is too large, or reading failed.
+fn outcome_of_failure<I: Form>(form: &I, alloc: Global, e: FileErr) -> Outcome
     ensures { Stops (λ t. (e ≡ FileErr.TooLong) × (t ≡ (I.form form.now).long_line))
         (e ≡ FileErr.Failed) result }
 {
@@ -62,7 +63,7 @@ fn unread<I: Form>(form: &I, alloc: Global, e: FileErr) -> Outcome
     }
 }
 
-/// The input of this form in a file.
+/// Reads the input of this form from a file.
 pub fn read_input<I: Form, F: Files>(
     form: &I,
     alloc: Global,
@@ -79,6 +80,6 @@ pub fn read_input<I: Form, F: Files>(
 {
     match files.read(alloc, name, form.limit()) {
         Ok(bytes) => form.value(alloc, bytes),
-        Err(e) => Err(unread(form, alloc, e)),
+        Err(e) => Err(outcome_of_failure(form, alloc, e)),
     }
 }

@@ -1,40 +1,40 @@
-// What it is that a command ends.
+// Public laws of how a command ends.
 ghost use Rattle.tcd_reading.specs.EndingWords.{EndsAnyhowSay, EndsSay, SaysSay, AsksSay};
 ghost use Rattle.tcd_reading.specs.Inputs.{FormSeen, Reading};
 ghost use Rattle.tcd_reading.specs.Reports.{Report};
 
-/// Any command, by what it reads.
+/// A command, by the inputs that it reads.
 pub trait AnyCommand {
-    /// What it reads and reports.
+    /// The inputs of the command and its report.
     ghost reading: { Reading };
 }
 
-/// Any two files that a command reads, and what it reports of them.
+/// A command that reads two files, and its report of them.
 pub trait AnyTwo {
-    /// What the first file is.
+    /// The type of the first file's value.
     type First;
 
-    /// What the second file is.
+    /// The type of the second file's value.
     type Second;
 
-    /// The form of the first.
+    /// The form of the first file.
     ghost first: { FormSeen Self.First };
 
-    /// The form of the second.
+    /// The form of the second file.
     ghost second: { FormSeen Self.Second };
 
-    /// What is reported of both.
+    /// The reports of both values.
     ghost Reports: { Self.First → Self.Second → Report → Type 0 };
 }
 
-/// How a command ends, in plain equations: its status, the files that are held after it, and what is printed, where files and sink
-/// tell; and what of it holds whether they tell or not.
+/// How a command ends, in plain equations: its status, the files after it, and the printed text.
+/// Each holds for files and sinks that reveal their contents; a part holds for all of them.
 pub fn endings_in_words<C: AnyCommand>()
     ensures told { EndsSay C.reading }
     ensures anyhow { EndsAnyhowSay C.reading }
 {}
 
-/// What is said of two files that a command reads, and which files it asks for, in plain equations.
+/// The reports of a command that reads two files, and the files that it needs, in plain equations.
 pub fn readings_in_words<T: AnyTwo>()
     ensures says { SaysSay T.first T.second T.Reports }
     ensures asks { AsksSay T.first T.second T.Reports }

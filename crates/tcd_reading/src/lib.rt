@@ -1,4 +1,4 @@
-//! What a command reads and reports: inputs in their forms, one after another; and how it ends.
+//! The frame of a command: it reads inputs, reports on them, and ends with a status.
 #![tactic(auto)]
 
 mod inputs;

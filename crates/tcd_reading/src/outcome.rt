@@ -1,4 +1,4 @@
-// What a command comes to, and how it ends from there.
+// The outcome of a command, and the end of a command with this outcome.
 ghost use Rattle.std.specs.Prelude.{◌≡◌, ◌≢◌, ◌≤◌, ◌∷◌, [], IsTrue, IfOk, OnOk, IfErr, IsOkAnd};
 ghost use Rattle.tcd_base.specs.Files.{FaultCounted, LeavesFaults};
 ghost use Rattle.tcd_reading.specs.Reports.{says, writes_file, writes_two, with_written, Stopped};
@@ -12,7 +12,9 @@ use tcd_base::{FileErr, Files, NoMemory, Sink};
 /// A file to write: its name and its bytes.
 #[derive(Drop)]
 pub struct Write {
+    /// The name of the file.
     pub name: String,
+    /// Its new contents.
     pub bytes: Vec<u8>,
 }
 
@@ -26,7 +28,7 @@ impl Model for Write {
 }
 
 impl Write {
-    /// Bytes to write under a name.
+    /// Makes a file to write.
     pub fn of(alloc: Global, name: &str, bytes: Vec<u8>) -> Result<Write, NoMemory>
         ensures { IfOk result (λ w. w ≡ record { name = name.now; bytes = bytes.items }) }
     {
@@ -35,21 +37,22 @@ impl Write {
     }
 }
 
-/// What a command comes to, before anything is written or printed.
+/// The outcome of a command, before a file is written or a text printed.
 #[derive(Drop)]
 pub enum Outcome {
-    /// A status, the text that is printed, and the files that are written before.
+    /// A status, the text to print, and the files to write before it.
     Report {
         status: Status,
         text: Vec<u8>,
         writes: Vec<Write>,
     },
-    /// A file couldn't be read.
+    /// An input file that couldn't be read.
     Unread,
+    /// Out of memory.
     NoMemory,
 }
 
-/// A text with its status, and nothing to write, unless memory ran out.
+/// A report with nothing to write, or out of memory.
 pub fn report(alloc: Global, status: Status, line: Result<Vec<u8>, NoMemory>) -> Outcome
     ensures { IsTold (λ r. IsOkAnd line (λ l. r ≡ says status l.items)) ⊥ result }
 {
@@ -63,7 +66,7 @@ pub fn report(alloc: Global, status: Status, line: Result<Vec<u8>, NoMemory>) ->
     }
 }
 
-// One file to write.
+// The list with one file to write.
 fn one_write(alloc: Global, name: &str, bytes: Vec<u8>) -> Result<Vec<Write>, NoMemory>
     ensures { IfOk result (λ w. w.items ≡ record { name = name.now; bytes = bytes.items } ∷ []) }
 {
@@ -72,7 +75,7 @@ fn one_write(alloc: Global, name: &str, bytes: Vec<u8>) -> Result<Vec<Write>, No
     Ok(writes)
 }
 
-// Two files to write, one after the other.
+// The list with two files to write, in this order.
 fn two_writes(alloc: Global, first: Write, second: Write) -> Result<Vec<Write>, NoMemory>
     ensures { IfOk result (λ w. w.items ≡ first ∷ second ∷ []) }
 {
@@ -82,7 +85,7 @@ fn two_writes(alloc: Global, first: Write, second: Write) -> Result<Vec<Write>, 
     Ok(writes)
 }
 
-/// Bytes to write under a name, and the text on them, unless memory ran out.
+/// A report with one file to write, or out of memory.
 pub fn report_file(
     alloc: Global,
     name: &str,
@@ -105,7 +108,7 @@ pub fn report_file(
     }
 }
 
-/// Two files to write, one after the other, and the text on them, unless memory ran out.
+/// A report with two files to write, in this order, or out of memory.
 pub fn report_two(
     alloc: Global,
     first: Write,
@@ -127,7 +130,7 @@ pub fn report_two(
     }
 }
 
-// Writes the files, one after another, up to the first that fails.
+// Writes the files in order, up to the first failure.
 fn write_all<F: Files>(alloc: Global, writes: &[Write], files: &mut F) -> Result<(), FileErr>
     ensures done { OnOk result
         ((F.seen files.new).held ≡ with_written (F.seen files.old).held writes.now) }
@@ -148,7 +151,7 @@ fn write_all<F: Files>(alloc: Global, writes: &[Write], files: &mut F) -> Result
     Ok(())
 }
 
-/// Prints a text, and answers its status. It takes no memory.
+/// Prints a text and returns its status. It allocates no memory.
 pub fn print<S: Sink>(out: &mut S, text: &[u8], status: Status) -> Status
     ensures { Prints status text.now (S.seen out.old) (S.seen out.new) result }
 {
@@ -158,8 +161,8 @@ pub fn print<S: Sink>(out: &mut S, text: &[u8], status: Status) -> Status
     }
 }
 
-// The status of a write that failed.
-fn stopped(e: FileErr) -> Status
+// The status after a write that failed.
+fn status_of_failure(e: FileErr) -> Status
     ensures memory { e ≡ FileErr.NoMemory → result ≡ Status.NoMemory }
     ensures fault { e ≢ FileErr.NoMemory → result ≡ Status.Fault }
 {
@@ -170,7 +173,8 @@ fn stopped(e: FileErr) -> Status
     }
 }
 
-/// Writes the files of a report, and then prints its text. Once a file is written memory is only taken to write the next one.
+/// Writes the files of an outcome, and then prints its text. After the first file, memory is only
+/// allocated for writing the next files.
 pub fn finish<F: Files, S: Sink>(
     alloc: Global,
     outcome: Outcome,
@@ -187,7 +191,7 @@ pub fn finish<F: Files, S: Sink>(
             writes,
         } => match write_all(alloc, &writes, files) {
             Ok(()) => print(out, &text, status),
-            Err(e) => stopped(e),
+            Err(e) => status_of_failure(e),
         },
         Outcome::Unread => Status::Fault,
         Outcome::NoMemory => Status::NoMemory,

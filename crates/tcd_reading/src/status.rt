@@ -1,11 +1,19 @@
-/// How a command ended; the exit status of the program is its number, counted from 0.
+// The statuses with which commands end.
+
+/// How a command ended. The exit status of the program is the number of the variant, from 0.
 #[derive(Clone, Copy, Debug, PartialEq, Eq)]
 pub enum Status {
+    /// The command did what it was asked.
     Done,
+    /// The inputs are in their forms, but the command refuses them.
     Refused,
+    /// An input isn't in its form.
     BadInput,
+    /// A file or the output failed.
     Fault,
+    /// Out of memory.
     NoMemory,
+    /// The words on the command line are no command.
     BadWords,
 }
 
