@@ -1,4 +1,4 @@
--- The forms of inputs are lawful: bytes are one value, or none.
+-- The forms of inputs are lawful: bytes have at most one value.
 use Rattle.std.proofs.Common.{◌≡◌, ℕ, List, [], length, Option, Some, Result, Ok, Err, refl, sym, ap, ◌∙◌}
 use Rattle.serde_json.specs.Data.{Data}
 use Rattle.serde_json.specs.Read.{read}
@@ -35,13 +35,13 @@ plan_same bytes a b h k = let e = gives_same bytes (Ok a) (Ok b) h k in cc
 plan_err : (bytes : List ℕ) (p : PlanData) (e : PlanErr) → Gives bytes (Ok p) → Gives bytes (Err e) → ⊥
 plan_err bytes p e h k = let same = gives_same bytes (Ok p) (Err e) h k in cc
 
--- what gives a plan isn't refused
+-- bytes that are a plan aren't refused
 not_refused : (bytes : List ℕ) (p : PlanData) (e : PlanErr) → Gives bytes (Ok p) → Answers bytes (Err e) → (e ≡ plan.NoMemory → ⊥) → ⊥
 not_refused bytes p plan.NotJson h k some = let e = sym h.3 ∙ k h.0 h.1 h.2 in cc
 not_refused bytes p plan.NoMemory h k some = some refl
 not_refused bytes p _ h k some = plan_err bytes p _ h k
 
--- ---- no source keeps the rules and breaks one
+-- ---- no source both keeps the rules and breaks one
 no_least : (lines : List LineData) (line rule : ℕ) (d : LineData) → KeepsRules lines (length lines) → IsLeast lines line rule → ⊥
 no_least lines line rule d keeps least = least.some (sym (least.broken d) ∙ keeps least.place d least.within)
 

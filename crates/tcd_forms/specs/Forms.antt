@@ -1,4 +1,4 @@
--- The forms of inputs.
+-- The forms of input files.
 use Rattle.std.specs.Prelude.{◌≡◌, ◌≢◌, ◌^◌, ℕ, List, length, Ok, Err}
 use Rattle.tcd_base.specs.declared.errors.FormErr.{FormErr}
 use Rattle.elf_image.specs.Images.{ImageData}
@@ -65,7 +65,8 @@ pub record IsSource (bytes : List ℕ) (object : ObjectData) : Type 0 where
   pub keeps : KeepsRules (lines_in bytes) (length (lines_in bytes))
   pub is : object ≡ object_of (drafted (symbols_of (lines_in bytes)) (lines_in bytes))
 
--- a source, as the object that it is assembled to; of one that breaks a rule the least line is told, and there the least rule
+-- A single source, whose value is its object. For a source that breaks a rule, the line has the
+-- least bad line and the least rule there.
 abbrev pub source_form : FormSeen ObjectData
 source_form = record {
   limit = 2 ^ 24;
@@ -74,12 +75,12 @@ source_form = record {
   IsBad = λ bytes text. (line : ℕ) × (rule : ℕ) × IsLeast (lines_in bytes) line rule × (text ≡ source_line 0 rule line);
 }
 
--- a source and the object that it is assembled to
+-- a source and its object
 pub record SourceData : Type 0 where
   pub text : List ℕ
   pub object : ObjectData
 
--- the source at a place among those of a command, with its object
+-- a source among several, with its place among them
 abbrev pub placed_source_form : ℕ → FormSeen SourceData
 placed_source_form place = record {
   limit = 2 ^ 24;
@@ -97,7 +98,7 @@ layout_form = record {
   IsBad = λ bytes text. (e : LayoutErr) × (layout_of bytes ≡ Err e) × (text ≡ layout_line e);
 }
 
--- the object at this place among the objects
+-- an object among several, with its place among them
 abbrev pub object_form : ℕ → FormSeen ObjectData
 object_form place = record {
   limit = 2 ^ 24;

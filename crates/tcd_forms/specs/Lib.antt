@@ -1,3 +1,4 @@
+-- The forms of input files, and the printed lines.
 pub mod Forms
 pub mod Lines
 pub mod Results

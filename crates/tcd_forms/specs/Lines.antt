@@ -1,4 +1,4 @@
--- The printed lines.
+-- The printed lines on inputs, runs, assembling and linking.
 use Rattle.std.specs.Prelude.{ℕ, ◌==◌, if◌then◌else◌, List, [], ◌∷◌, ◌++◌, codes, slice_get, unwrap_or}
 use Rattle.std.specs.Fmt.{decimal}
 use Rattle.tcd_text.specs.Digits.{hex_word}
@@ -37,7 +37,7 @@ kind_text kind =
 unfoldable pub key_line : Key → List ℕ
 key_line key = kind_text key.kind ++ (hex_word key.entry ++ (codes " prio " ++ (decimal key.prio ++ (codes " is " ++ ((if key.is then 49 else 48) ∷ 10 ∷ [])))))
 
--- what stands between the number of a refusal and the line's end: one number, or two
+-- the end of a line on a refusal: one number, two numbers, a name or a key
 unfoldable pub at_one : ℕ → List ℕ
 at_one i = codes " at " ++ (decimal i ++ 10 ∷ [])
 
@@ -49,15 +49,15 @@ at_two i j = codes " at " ++ (decimal i ++ (codes " " ++ (decimal j ++ 10 ∷ []
 unfoldable pub at_name : List ℕ → List ℕ
 at_name name = codes " name " ++ (name ++ 10 ∷ [])
 
--- a plan's key
+-- a key of the plan
 unfoldable pub at_key : PlanKey → List ℕ
 at_key key = codes " key " ++ (unwrap_or (slice_get key_texts key.0) [] ++ 10 ∷ [])
 
--- why a file is no image: 0 where it is above its limit
+-- the line for an executable above its limit
 unfoldable pub long_elf_line : List ℕ
 long_elf_line = codes "bad elf 0" ++ 10 ∷ []
 
--- by the fault, 1 to 7
+-- why a file is no executable: the number of the fault, 1 to 7
 unfoldable pub elf_line : ImageErr → List ℕ
 elf_line elf.Short = codes "bad elf 1" ++ 10 ∷ []
 elf_line elf.NotElf32Le = codes "bad elf 2" ++ 10 ∷ []
@@ -68,11 +68,11 @@ elf_line elf.TooLarge = codes "bad elf 6" ++ 10 ∷ []
 elf_line (elf.Overlap i j) = codes "bad elf 7" ++ at_two i j
 elf_line elf.NoMemory = []
 
--- why a file is no plan: 0 where it is above its limit
+-- the line for a plan above its limit
 unfoldable pub long_plan_line : List ℕ
 long_plan_line = codes "bad plan 0" ++ 10 ∷ []
 
--- by the fault, 1 to 8
+-- why a file is no plan: the number of the fault, 1 to 8
 unfoldable pub plan_line : PlanErr → List ℕ
 plan_line plan.NotJson = codes "bad plan 1" ++ 10 ∷ []
 plan_line (plan.Missing key) = codes "bad plan 2" ++ at_key key
@@ -84,27 +84,27 @@ plan_line plan.BadVector = codes "bad plan 7" ++ 10 ∷ []
 plan_line (plan.Overlap i j) = codes "bad plan 8" ++ at_two i j
 plan_line plan.NoMemory = []
 
--- why a file is no certificate: 0 where it is above its limit
+-- the line for a certificate above its limit
 unfoldable pub long_cert_line : List ℕ
 long_cert_line = codes "bad cert 0" ++ 10 ∷ []
 
--- by the fault and its place in the file, in bytes
+-- why a file is no certificate: the number of the fault, and its offset in the file
 unfoldable pub cert_line : FormErr → List ℕ
 cert_line e = codes "bad cert " ++ (decimal e.kind ++ at_one e.at)
 
--- the rule that fails, the address, and the key
+-- a rule that fails, with the address and the key
 unfoldable pub refused_line : ℕ → Key → ℕ → List ℕ
 refused_line rule key addr = codes "refused K" ++ (decimal rule ++ (codes " at " ++ (hex_word addr ++ (codes " in " ++ key_line key))))
 
--- so many areas are needed, of so many
+-- the needed CSAs, and those of the plan
 unfoldable pub certified_line : ℕ → ℕ → List ℕ
 certified_line need areas = codes "certified " ++ (decimal need ++ (codes " of " ++ (decimal areas ++ (codes " areas" ++ 10 ∷ []))))
 
--- why a file is no script: 0 where it is above its limit; else the line
+-- the line for a script above its limit
 unfoldable pub long_script_line : List ℕ
 long_script_line = codes "bad script 0" ++ 10 ∷ []
 
--- by the fault and its line
+-- why a file is no script: the number of the fault, and its line
 unfoldable pub script_line : ScriptErr → List ℕ
 script_line (script.BadLine n) = codes "bad script 1" ++ at_one n
 script_line (script.NoSource n) = codes "bad script 2" ++ at_one n
@@ -112,7 +112,7 @@ script_line (script.OutOfRange n) = codes "bad script 3" ++ at_one n
 script_line (script.TooMany n) = codes "bad script 4" ++ at_one n
 script_line script.NoMemory = []
 
--- a cause of death
+-- the word for a cause of death
 unfoldable pub cause_text : Cause → List ℕ
 cause_text Fcd = codes "fcd"
 cause_text Fcu = codes "fcu"
@@ -122,32 +122,32 @@ cause_text NotListed = codes "notlisted"
 cause_text NoCode = codes "nocode"
 cause_text NoArea = codes "noarea"
 
--- whether a machine runs, or died, of what and where
+-- whether the machine runs, or the cause and the address of its death
 unfoldable pub end_text : End → ℕ → List ℕ
 end_text Running pc = codes "running" ++ 10 ∷ []
 end_text (Dead cause) pc = codes "dead " ++ (cause_text cause ++ (codes " at " ++ (hex_word pc ++ 10 ∷ [])))
 
--- so many events, at most so many areas in use, and the machine after the last event
+-- a run: its events, the peak of CSAs in use, and the state of the machine at its end
 unfoldable pub run_line : ℕ → ℕ → Machine → List ℕ
 run_line events peak m = codes "events " ++ (decimal events ++ (codes " peak " ++ (decimal peak ++ (codes " " ++ end_text m.end m.pc))))
 
--- why the file at a place among the sources is none: 0 where it is above its limit, else the rule; `asm` has one, at place 0
+-- the line for the source at this place, if it is above its limit; `asm` has one source, at place 0
 unfoldable pub long_source_line : ℕ → List ℕ
 long_source_line place = codes "bad source 0" ++ at_one place
 
--- by the rule and its line
+-- a source that breaks a rule: the rule, the place of the source, and the line
 unfoldable pub source_line : ℕ → ℕ → ℕ → List ℕ
 source_line place rule line = codes "bad source " ++ (decimal rule ++ at_two place line)
 
--- so many bytes of an object were written
+-- an object that was written, with its size in bytes
 unfoldable pub assembled_line : ℕ → List ℕ
 assembled_line bytes = codes "object " ++ (decimal bytes ++ (codes " bytes" ++ 10 ∷ []))
 
--- why a file is no layout: 0 where it is above its limit
+-- the line for a layout above its limit
 unfoldable pub long_layout_line : List ℕ
 long_layout_line = codes "bad layout 0" ++ 10 ∷ []
 
--- by the fault and its line
+-- why a file is no layout: the number of the fault, and its line
 unfoldable pub layout_line : LayoutErr → List ℕ
 layout_line (layout.BadLine n) = codes "bad layout 1" ++ at_one n
 layout_line (layout.Twice n) = codes "bad layout 2" ++ at_one n
@@ -155,21 +155,21 @@ layout_line (layout.TooMany n) = codes "bad layout 3" ++ at_one n
 layout_line (layout.Overlap n) = codes "bad layout 4" ++ at_one n
 layout_line layout.NoMemory = []
 
--- why the file at this place among the objects is none: 0 where it is above its limit
+-- the line for the object at this place, if it is above its limit
 unfoldable pub long_object_line : ℕ → List ℕ
 long_object_line place = codes "bad object 0" ++ at_one place
 
--- by the fault and its place in the file, in bytes
+-- why the file at this place is no object: the number of the fault, and its offset in the file
 unfoldable pub object_line : ℕ → FormErr → List ℕ
 object_line place e = codes "bad object " ++ (decimal e.kind ++ at_two place e.at)
 
--- the number of a refusal to fill a field
+-- the number of a reason why a field can't be filled
 unfoldable pub field_fault : RelocErr → ℕ
 field_fault Odd = 1
 field_fault FarOff = 2
 field_fault Segment = 3
 
--- why objects can't be linked; a relocation by its object, section and offset
+-- why objects can't be linked; a relocation is named by its object, section and offset
 unfoldable pub link_line : Refusal → List ℕ
 link_line (twice name) = codes "bad link 1" ++ at_name name
 link_line (missing name) = codes "bad link 2" ++ at_name name
@@ -179,14 +179,14 @@ link_line (reloc object section offset err) =
     codes "bad link 5 at " ++ (decimal object ++ (codes " " ++ (decimal section ++ (codes " " ++ (decimal offset ++ (codes " " ++ (decimal (field_fault err) ++ 10 ∷ [])))))))
 link_line no_entry = codes "bad link 6" ++ 10 ∷ []
 
--- so many bytes of an image were written
+-- an image that was written, with its size in bytes
 unfoldable pub linked_line : ℕ → List ℕ
 linked_line bytes = codes "image " ++ (decimal bytes ++ (codes " bytes" ++ 10 ∷ []))
 
--- a file of cells above its limit
+-- the line for a file of cells above its limit
 unfoldable pub long_cells_line : List ℕ
 long_cells_line = codes "bad cells 0" ++ 10 ∷ []
 
--- a file of tasks above its limit
+-- the line for a file of tasks above its limit
 unfoldable pub long_tasks_line : List ℕ
 long_tasks_line = codes "bad tasks 0" ++ 10 ∷ []

@@ -1,4 +1,4 @@
-// The forms of inputs.
+// The forms of input files, from executables to objects.
 use crate::lines::{
     cert_line, elf_line, layout_line, line_of, long_cert_line, long_elf_line, long_layout_line,
     long_object_line, long_plan_line, long_script_line, long_source_line, object_line, plan_line,
@@ -18,7 +18,7 @@ use tcd_base::NoMemory;
 use tcd_plan::Plan;
 use tcd_reading::{Form, Outcome, bad_input};
 
-/// The most bytes of a file that is no certificate.
+/// The most bytes of a file other than a certificate.
 pub const LIMIT: u32 = 16_777_216;
 
 // The most bytes of a certificate.
@@ -82,7 +82,7 @@ impl Form for PlanFile {
     }
 }
 
-/// A certificate, which stays on the bytes of its file.
+/// A certificate, which keeps the bytes of its file.
 #[derive(Clone, Copy)]
 pub struct CertFile;
 
@@ -115,6 +115,7 @@ impl Form for CertFile {
 /// A script for a plan.
 #[derive(Clone, Copy)]
 pub struct ScriptFile<'a> {
+    /// The plan of the machine that the script drives.
     pub plan: &'a Plan,
 }
 
@@ -144,7 +145,7 @@ impl<'a> Form for ScriptFile<'a> {
     }
 }
 
-/// A source, read as its object.
+/// A single source, whose value is its object.
 #[derive(Clone, Copy)]
 pub struct SourceFile;
 
@@ -176,10 +177,12 @@ impl Form for SourceFile {
     }
 }
 
-/// A source of several, with its object.
+/// The value of a source among several: its text and its object.
 #[derive(Drop)]
 pub struct Source {
+    /// The bytes of the source.
     pub text: Vec<u8>,
+    /// The object that it is assembled to.
     pub object: Object,
 }
 
@@ -193,9 +196,10 @@ impl Model for Source {
     ghost invariant = { λ s. IsSource s.text.items s.object };
 }
 
-/// A source at a place among several.
+/// A source among several, with its place among them.
 #[derive(Clone, Copy)]
 pub struct PlacedSourceFile {
+    /// The place among the sources, from 0.
     pub place: u32,
 }
 
@@ -259,10 +263,12 @@ impl Form for LayoutFile {
     }
 }
 
-/// The object at this place among the objects. Its bytes stay in the arena.
+/// An object among several, with its place among them. Its bytes are kept in the arena.
 #[derive(Clone, Copy)]
 pub struct ObjectFile<'a> {
+    /// The place among the objects, from 0.
     pub place: u32,
+    /// The arena that keeps the bytes.
     pub arena: &'a Bump,
 }
 

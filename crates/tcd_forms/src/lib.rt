@@ -1,4 +1,4 @@
-//! The forms of files, and the printed lines.
+//! The forms of input files, and the printed lines.
 #![tactic(auto)]
 
 mod forms;

@@ -1,4 +1,4 @@
-// The printed lines.
+// The printed lines on inputs, runs, assembling and linking.
 ghost use Rattle.std.specs.Prelude.{◌≡◌, ◌≢◌, ◌<◌, ◌++◌, ◌∷◌, [], if◌then◌else◌, length, codes, IsErr, IfOk, IfSome, OnOk};
 ghost use Rattle.std.specs.Fmt.{decimal};
 ghost use Rattle.tcd_forms.specs.Lines.{long_elf_line, long_plan_line, long_cert_line, long_script_line, long_source_line, kind_text, key_line, at_key, elf_line, plan_line, cert_line, script_line, source_line, assembled_line, long_layout_line, long_cells_line, long_tasks_line, layout_line, long_object_line, object_line, at_name, field_fault, link_line, linked_line, cause_text, end_text, run_line, refused_line, certified_line};
@@ -7,7 +7,7 @@ ghost use Rattle.tcd_plan.specs.Plans.{HasText};
 ghost use Rattle.tc_link.specs.Errors.{refusal_of};
 ghost use Rattle.tcd_plan.specs.Keys.{key_texts};
 
-use depth_cert::Key;
+use depth_cert::{CALL, IRQ, Key, START, SYS};
 use elf_image::ImageErr;
 use std::alloc::Global;
 use tc_link::{LayoutErr, LinkErr};
@@ -18,7 +18,7 @@ use tcd_base::{FormErr, NoMemory};
 use tcd_plan::{PlanErr, PlanKey, key_text};
 use tcd_text::hex_word;
 
-/// The bytes, behind what stands there.
+/// Appends bytes to a line.
 pub fn append(line: &mut Vec<u8>, bytes: &[u8]) -> Result<(), NoMemory>
     ensures { OnOk result (line.new.items ≡ line.old.items ++ bytes.now) }
 {
@@ -26,35 +26,35 @@ pub fn append(line: &mut Vec<u8>, bytes: &[u8]) -> Result<(), NoMemory>
     Ok(())
 }
 
-// The kind of a key.
+// Appends the kind of a key and a blank.
 #[tactic(auto, unfolding(crate::specs::Lines::kind_text))]
 fn append_kind(line: &mut Vec<u8>, kind: u8) -> Result<(), NoMemory>
     ensures { OnOk result (line.new.items ≡ line.old.items ++ kind_text kind) }
 {
     match kind {
-        0 => append(line, b"start "),
-        1 => append(line, b"call "),
-        2 => append(line, b"irq "),
-        3 => append(line, b"sys "),
+        START => append(line, b"start "),
+        CALL => append(line, b"call "),
+        IRQ => append(line, b"irq "),
+        SYS => append(line, b"sys "),
         _ => append(line, b"aln "),
     }
 }
 
-// Whether the interrupt stack is in use, and the line's end.
+// The digit for the interrupt stack (1: in use), and the line feed.
 fn stack_text(is: bool) -> &'static [u8]
     ensures { result.now ≡ (if is then 49 else 48) ∷ 10 ∷ [] }
 {
     if is { b"1\n" } else { b"0\n" }
 }
 
-/// Copies a text that never changes.
+/// A copy of a fixed line.
 pub fn line_of(alloc: Global, text: &[u8]) -> Result<Vec<u8>, NoMemory>
     ensures { IfOk result (λ line. line.items ≡ text.now) }
 {
     Ok(Vec::from_slice(alloc, text)?)
 }
 
-/// An executable above its limit.
+/// The line for an executable above its limit.
 #[tactic(auto, unfolding(crate::specs::Lines::long_elf_line))]
 pub fn long_elf_line() -> &'static [u8]
     ensures { result.now ≡ long_elf_line }
@@ -62,7 +62,7 @@ pub fn long_elf_line() -> &'static [u8]
     b"bad elf 0\n"
 }
 
-/// A plan above its limit.
+/// The line for a plan above its limit.
 #[tactic(auto, unfolding(crate::specs::Lines::long_plan_line))]
 pub fn long_plan_line() -> &'static [u8]
     ensures { result.now ≡ long_plan_line }
@@ -70,7 +70,7 @@ pub fn long_plan_line() -> &'static [u8]
     b"bad plan 0\n"
 }
 
-/// A certificate above its limit.
+/// The line for a certificate above its limit.
 #[tactic(auto, unfolding(crate::specs::Lines::long_cert_line))]
 pub fn long_cert_line() -> &'static [u8]
     ensures { result.now ≡ long_cert_line }
@@ -78,7 +78,7 @@ pub fn long_cert_line() -> &'static [u8]
     b"bad cert 0\n"
 }
 
-/// A script above its limit.
+/// The line for a script above its limit.
 #[tactic(auto, unfolding(crate::specs::Lines::long_script_line))]
 pub fn long_script_line() -> &'static [u8]
     ensures { result.now ≡ long_script_line }
@@ -86,7 +86,7 @@ pub fn long_script_line() -> &'static [u8]
     b"bad script 0\n"
 }
 
-/// A layout above its limit.
+/// The line for a layout above its limit.
 #[tactic(auto, unfolding(crate::specs::Lines::long_layout_line))]
 pub fn long_layout_line() -> &'static [u8]
     ensures { result.now ≡ long_layout_line }
@@ -94,7 +94,7 @@ pub fn long_layout_line() -> &'static [u8]
     b"bad layout 0\n"
 }
 
-/// A file of cells above its limit.
+/// The line for a file of cells above its limit.
 #[tactic(auto, unfolding(crate::specs::Lines::long_cells_line))]
 pub fn long_cells_line() -> &'static [u8]
     ensures { result.now ≡ long_cells_line }
@@ -102,7 +102,7 @@ pub fn long_cells_line() -> &'static [u8]
     b"bad cells 0\n"
 }
 
-/// A file of tasks above its limit.
+/// The line for a file of tasks above its limit.
 #[tactic(auto, unfolding(crate::specs::Lines::long_tasks_line))]
 pub fn long_tasks_line() -> &'static [u8]
     ensures { result.now ≡ long_tasks_line }
@@ -110,7 +110,7 @@ pub fn long_tasks_line() -> &'static [u8]
     b"bad tasks 0\n"
 }
 
-/// Why a file is no image.
+/// The line that says why a file is no executable.
 #[tactic(auto, unfolding(crate::specs::Lines::elf_line, crate::specs::Lines::at_one, crate::specs::Lines::at_two))]
 pub fn elf_line(alloc: Global, e: ImageErr) -> Result<Vec<u8>, NoMemory>
     ensures line { IfOk result (λ line. line.items ≡ elf_line e) }
@@ -128,7 +128,7 @@ pub fn elf_line(alloc: Global, e: ImageErr) -> Result<Vec<u8>, NoMemory>
     }
 }
 
-// A refusal of a plan that names a key.
+// The line of a refusal that names a key of the plan.
 #[tactic(auto, unfolding(crate::specs::Lines::at_key))]
 fn plan_key_line(alloc: Global, front: &str, key: PlanKey) -> Result<Vec<u8>, NoMemory>
     requires { key.0 < length key_texts }
@@ -138,7 +138,7 @@ fn plan_key_line(alloc: Global, front: &str, key: PlanKey) -> Result<Vec<u8>, No
     Ok(format!(in alloc; "{front} key {text}\n")?.into_bytes())
 }
 
-/// Why a file is no plan.
+/// The line that says why a file is no plan.
 #[tactic(auto, unfolding(crate::specs::Lines::plan_line, crate::specs::Lines::at_two))]
 pub fn plan_line(alloc: Global, e: PlanErr) -> Result<Vec<u8>, NoMemory>
     requires { HasText e }
@@ -158,7 +158,7 @@ pub fn plan_line(alloc: Global, e: PlanErr) -> Result<Vec<u8>, NoMemory>
     }
 }
 
-/// Why a file is no certificate.
+/// The line that says why a file is no certificate.
 #[tactic(auto, unfolding(crate::specs::Lines::cert_line, crate::specs::Lines::at_one))]
 pub fn cert_line(alloc: Global, e: FormErr) -> Result<Vec<u8>, NoMemory>
     ensures { IfOk result (λ line. line.items ≡ cert_line e) }
@@ -168,7 +168,7 @@ pub fn cert_line(alloc: Global, e: FormErr) -> Result<Vec<u8>, NoMemory>
     Ok(format!(in alloc; "bad cert {kind} at {at}\n")?.into_bytes())
 }
 
-// What a line on a rule that fails begins with.
+// The start of a line on a rule that fails.
 fn refused_front(alloc: Global, rule: u8) -> Result<Vec<u8>, NoMemory>
     ensures { IfOk result
         (λ line. line.items ≡ codes "refused K" ++ (decimal rule ++ codes " at ")) }
@@ -176,14 +176,14 @@ fn refused_front(alloc: Global, rule: u8) -> Result<Vec<u8>, NoMemory>
     Ok(format!(in alloc; "refused K{rule} at ")?.into_bytes())
 }
 
-// A priority, in a key.
+// The priority in a key.
 fn prio_text(alloc: Global, prio: u8) -> Result<Vec<u8>, NoMemory>
     ensures { IfOk result (λ text. text.items ≡ codes " prio " ++ (decimal prio ++ codes " is ")) }
 {
     Ok(format!(in alloc; " prio {prio} is ")?.into_bytes())
 }
 
-// A key, and the line's end.
+// Appends a key and the line feed.
 #[tactic(auto, unfolding(crate::specs::Lines::key_line))]
 fn append_key(alloc: Global, line: &mut Vec<u8>, key: Key) -> Result<(), NoMemory>
     ensures { OnOk result (line.new.items ≡ line.old.items ++ key_line key) }
@@ -195,7 +195,7 @@ fn append_key(alloc: Global, line: &mut Vec<u8>, key: Key) -> Result<(), NoMemor
     append(line, stack_text(key.is))
 }
 
-/// The rule that fails, the address, and the key.
+/// The line on a rule that fails, with the address and the key.
 #[tactic(auto, unfolding(crate::specs::Lines::refused_line))]
 pub fn refused_line(alloc: Global, rule: u8, key: Key, addr: u32) -> Result<Vec<u8>, NoMemory>
     ensures { IfOk result (λ line. line.items ≡ refused_line rule key addr) }
@@ -207,7 +207,7 @@ pub fn refused_line(alloc: Global, rule: u8, key: Key, addr: u32) -> Result<Vec<
     Ok(line)
 }
 
-/// So many areas are needed, of so many.
+/// The line with the needed CSAs, and those of the plan.
 #[tactic(auto, unfolding(crate::specs::Lines::certified_line))]
 pub fn certified_line(alloc: Global, need: u32, areas: u32) -> Result<Vec<u8>, NoMemory>
     ensures { IfOk result (λ line. line.items ≡ certified_line need areas) }
@@ -215,7 +215,7 @@ pub fn certified_line(alloc: Global, need: u32, areas: u32) -> Result<Vec<u8>, N
     Ok(format!(in alloc; "certified {need} of {areas} areas\n")?.into_bytes())
 }
 
-/// Why a file is no script.
+/// The line that says why a file is no script.
 #[tactic(auto, unfolding(crate::specs::Lines::script_line, crate::specs::Lines::at_one))]
 pub fn script_line(alloc: Global, e: ScriptErr) -> Result<Vec<u8>, NoMemory>
     ensures line { IfOk result (λ line. line.items ≡ script_line e) }
@@ -230,7 +230,7 @@ pub fn script_line(alloc: Global, e: ScriptErr) -> Result<Vec<u8>, NoMemory>
     }
 }
 
-// A cause of death.
+// The word for a cause of death.
 #[tactic(auto, unfolding(crate::specs::Lines::cause_text))]
 fn cause_text(cause: Cause) -> &'static [u8]
     ensures { result.now ≡ cause_text cause }
@@ -246,7 +246,7 @@ fn cause_text(cause: Cause) -> &'static [u8]
     }
 }
 
-// Whether a machine runs, or died, of what and where.
+// Appends whether the machine runs, or the cause and the address of its death, and the line feed.
 #[tactic(auto, unfolding(crate::specs::Lines::end_text))]
 fn append_end(line: &mut Vec<u8>, end: End, pc: u32) -> Result<(), NoMemory>
     ensures { OnOk result (line.new.items ≡ line.old.items ++ end_text end pc) }
@@ -268,7 +268,7 @@ fn append_death(line: &mut Vec<u8>, cause: Cause, pc: u32) -> Result<(), NoMemor
     append(line, b"\n")
 }
 
-// What a line on a run begins with.
+// The start of a line on a run.
 fn run_front(alloc: Global, events: u32, peak: u32) -> Result<Vec<u8>, NoMemory>
     ensures { IfOk result (λ line. line.items ≡ codes "events "
         ++ (decimal events ++ (codes " peak " ++ (decimal peak ++ codes " ")))) }
@@ -276,7 +276,7 @@ fn run_front(alloc: Global, events: u32, peak: u32) -> Result<Vec<u8>, NoMemory>
     Ok(format!(in alloc; "events {events} peak {peak} ")?.into_bytes())
 }
 
-/// What a run came to.
+/// The line on a run: its events, the peak of CSAs in use, and the state of the machine at its end.
 #[tactic(auto, unfolding(crate::specs::Lines::run_line))]
 pub fn run_line(alloc: Global, events: u32, peak: u32, m: &Machine) -> Result<Vec<u8>, NoMemory>
     ensures { IfOk result (λ line. line.items ≡ run_line events peak m.now) }
@@ -286,7 +286,8 @@ pub fn run_line(alloc: Global, events: u32, peak: u32, m: &Machine) -> Result<Ve
     Ok(line)
 }
 
-/// The least line of the source at this place that breaks a rule, and the least rule there.
+/// The line on a source that breaks a rule: the place of the source, the least bad line and the
+/// least rule there.
 #[tactic(auto, unfolding(crate::specs::Lines::source_line, crate::specs::Lines::at_two))]
 pub fn source_line(alloc: Global, place: u32, rule: u8, line: u32) -> Result<Vec<u8>, NoMemory>
     ensures { IfOk result (λ text. text.items ≡ source_line place rule line) }
@@ -294,7 +295,7 @@ pub fn source_line(alloc: Global, place: u32, rule: u8, line: u32) -> Result<Vec
     Ok(format!(in alloc; "bad source {rule} at {place} {line}\n")?.into_bytes())
 }
 
-/// How many bytes of an object were written.
+/// The line on an object that was written, with its size in bytes.
 #[tactic(auto, unfolding(crate::specs::Lines::assembled_line))]
 pub fn assembled_line(alloc: Global, bytes: &[u8]) -> Result<Vec<u8>, NoMemory>
     ensures { IfOk result (λ text. text.items ≡ assembled_line (length bytes.now)) }
@@ -303,7 +304,7 @@ pub fn assembled_line(alloc: Global, bytes: &[u8]) -> Result<Vec<u8>, NoMemory>
     Ok(format!(in alloc; "object {size} bytes\n")?.into_bytes())
 }
 
-/// Why a file is no layout.
+/// The line that says why a file is no layout.
 #[tactic(auto, unfolding(crate::specs::Lines::layout_line, crate::specs::Lines::at_one))]
 pub fn layout_line(alloc: Global, e: LayoutErr) -> Result<Vec<u8>, NoMemory>
     ensures line { IfOk result (λ line. line.items ≡ layout_line e) }
@@ -318,7 +319,7 @@ pub fn layout_line(alloc: Global, e: LayoutErr) -> Result<Vec<u8>, NoMemory>
     }
 }
 
-/// The source at this place is above its limit.
+/// The line for the source at this place, if it is above its limit.
 #[tactic(auto, unfolding(crate::specs::Lines::long_source_line, crate::specs::Lines::at_one))]
 pub fn long_source_line(alloc: Global, place: u32) -> Result<Vec<u8>, NoMemory>
     ensures { IfOk result (λ line. line.items ≡ long_source_line place) }
@@ -326,7 +327,7 @@ pub fn long_source_line(alloc: Global, place: u32) -> Result<Vec<u8>, NoMemory>
     Ok(format!(in alloc; "bad source 0 at {place}\n")?.into_bytes())
 }
 
-/// An object above its limit.
+/// The line for the object at this place, if it is above its limit.
 #[tactic(auto, unfolding(crate::specs::Lines::long_object_line, crate::specs::Lines::at_one))]
 pub fn long_object_line(alloc: Global, place: u32) -> Result<Vec<u8>, NoMemory>
     ensures { IfOk result (λ line. line.items ≡ long_object_line place) }
@@ -334,7 +335,7 @@ pub fn long_object_line(alloc: Global, place: u32) -> Result<Vec<u8>, NoMemory>
     Ok(format!(in alloc; "bad object 0 at {place}\n")?.into_bytes())
 }
 
-/// Why the file at this place among the objects is none.
+/// The line that says why the file at this place is no object.
 #[tactic(auto, unfolding(crate::specs::Lines::object_line, crate::specs::Lines::at_two))]
 pub fn object_line(alloc: Global, place: u32, e: FormErr) -> Result<Vec<u8>, NoMemory>
     ensures { IfOk result (λ line. line.items ≡ object_line place e) }
@@ -344,7 +345,7 @@ pub fn object_line(alloc: Global, place: u32, e: FormErr) -> Result<Vec<u8>, NoM
     Ok(format!(in alloc; "bad object {kind} at {place} {offset}\n")?.into_bytes())
 }
 
-// A refusal to link that has a name.
+// The line of a refusal to link that names a symbol or a section.
 #[tactic(auto, unfolding(crate::specs::Lines::at_name))]
 fn name_line(alloc: Global, front: &str, name: &str) -> Result<Vec<u8>, NoMemory>
     ensures { IfOk result (λ line. line.items ≡ front.now ++ at_name name.now) }
@@ -352,7 +353,7 @@ fn name_line(alloc: Global, front: &str, name: &str) -> Result<Vec<u8>, NoMemory
     Ok(format!(in alloc; "{front} name {name}\n")?.into_bytes())
 }
 
-// The number of a refusal to fill a field.
+// The number of a reason why a field can't be filled.
 #[tactic(auto, unfolding(crate::specs::Lines::field_fault))]
 fn field_fault(err: RelocErr) -> u8
     ensures { result ≡ field_fault err }
@@ -364,7 +365,7 @@ fn field_fault(err: RelocErr) -> u8
     }
 }
 
-/// Why objects can't be linked.
+/// The line that says why objects can't be linked.
 #[tactic(auto, unfolding(crate::specs::Lines::link_line))]
 pub fn link_line(alloc: Global, e: LinkErr) -> Result<Vec<u8>, NoMemory>
     ensures line { IfOk result (λ line. IfSome (refusal_of e) (λ r. line.items ≡ link_line r)) }
@@ -391,7 +392,7 @@ pub fn link_line(alloc: Global, e: LinkErr) -> Result<Vec<u8>, NoMemory>
     }
 }
 
-/// How many bytes of an image were written.
+/// The line on an image that was written, with its size in bytes.
 #[tactic(auto, unfolding(crate::specs::Lines::linked_line))]
 pub fn linked_line(alloc: Global, bytes: &[u8]) -> Result<Vec<u8>, NoMemory>
     ensures { IfOk result (λ text. text.items ≡ linked_line (length bytes.now)) }

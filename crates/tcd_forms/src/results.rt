@@ -1,4 +1,4 @@
-// The printed lines of what boot sequences, cells, tasks and generated images come to.
+// The printed lines on boot sequences, cells, tasks and generated images.
 ghost use Rattle.std.specs.Prelude.{◌≡◌, ◌++◌, ◌∷◌, [], length, codes, IfOk};
 ghost use Rattle.std.specs.Fmt.{decimal};
 ghost use Rattle.depth_cert.specs.Certs.{count_points};
@@ -11,7 +11,7 @@ use std::alloc::Global;
 use tcd_base::NoMemory;
 use tcd_text::hex_word;
 
-/// So many events of a boot sequence, and the areas that are needed then.
+/// The line on a boot sequence: its events, the needed CSAs, and those of the plan.
 #[tactic(auto, unfolding(crate::specs::Results::boots_line))]
 pub fn boots_line(alloc: Global, events: u32, need: u32, areas: u32) -> Result<Vec<u8>, NoMemory>
     ensures { IfOk result (λ line. line.items ≡ boots_line events need areas) }
@@ -20,7 +20,7 @@ pub fn boots_line(alloc: Global, events: u32, need: u32, areas: u32) -> Result<V
     Ok(text.into_bytes())
 }
 
-/// A boot sequence was written.
+/// The line on a boot sequence that was written.
 #[tactic(auto, unfolding(crate::specs::Results::generated_boot_line))]
 pub fn generated_boot_line() -> &'static [u8]
     ensures { result.now ≡ generated_boot_line }
@@ -28,7 +28,8 @@ pub fn generated_boot_line() -> &'static [u8]
     b"boot 56 instructions\n"
 }
 
-/// The areas that are needed where these cells keep their bounds.
+/// The line with the needed CSAs, those of the plan, and the number of cells that must keep their
+/// bounds.
 #[tactic(auto, unfolding(crate::specs::Results::certified_cells_line))]
 pub fn certified_cells_line(
     alloc: Global,
@@ -43,7 +44,7 @@ pub fn certified_cells_line(
     Ok(text.into_bytes())
 }
 
-/// The switch routine doesn't stand at an address.
+/// The line for an image without the switch routine at this address.
 #[tactic(auto, unfolding(crate::specs::Results::switch_line))]
 pub fn switch_line(alloc: Global, addr: u32) -> Result<Vec<u8>, NoMemory>
     ensures { IfOk result (λ line. line.items ≡ switch_line addr) }
@@ -54,7 +55,7 @@ pub fn switch_line(alloc: Global, addr: u32) -> Result<Vec<u8>, NoMemory>
     Ok(line)
 }
 
-// The number of a task, and the line's end.
+// The number of a task, and the line feed.
 fn task_text(alloc: Global, u: usize) -> Result<Vec<u8>, NoMemory>
     ensures { IfOk result
         (λ line. line.items ≡ codes " of task " ++ (decimal u ++ 10 ∷ [])) }
@@ -62,7 +63,7 @@ fn task_text(alloc: Global, u: usize) -> Result<Vec<u8>, NoMemory>
     Ok(format!(in alloc; " of task {u}\n")?.into_bytes())
 }
 
-/// The line of a certificate's fault, of a task.
+/// The line on a rule that fails in a task's certificate.
 #[tactic(auto, unfolding(crate::specs::Results::of_task))]
 pub fn refused_task_line(
     alloc: Global,
@@ -80,7 +81,7 @@ pub fn refused_task_line(
     Ok(line)
 }
 
-/// The needs of all tasks are together above so many areas.
+/// The line for tasks whose needs together exceed the CSAs of the plan.
 #[tactic(auto, unfolding(crate::specs::Results::sum_line))]
 pub fn sum_line(alloc: Global, sum: u64, areas: u32) -> Result<Vec<u8>, NoMemory>
     ensures { IfOk result (λ line. line.items ≡ sum_line sum areas) }
@@ -88,7 +89,7 @@ pub fn sum_line(alloc: Global, sum: u64, areas: u32) -> Result<Vec<u8>, NoMemory
     Ok(format!(in alloc; "refused sum {sum} of {areas} areas\n")?.into_bytes())
 }
 
-/// The areas that all tasks need together.
+/// The line with the CSAs that all tasks need together, and those of the plan.
 #[tactic(auto, unfolding(crate::specs::Results::certified_tasks_line))]
 pub fn certified_tasks_line(
     alloc: Global,
@@ -102,7 +103,8 @@ pub fn certified_tasks_line(
     Ok(text.into_bytes())
 }
 
-/// The functions that were generated, and what their certificate holds and asks for.
+/// The line on a generated image: its functions, the nodes and points of its certificate, and the
+/// needed CSAs.
 #[tactic(auto, unfolding(crate::specs::Results::generated_line))]
 pub fn generated_line(
     alloc: Global,
