@@ -1,4 +1,4 @@
-//! The files of the system and standard output, as commands see them: the trusted edge.
+//! The trusted edge: files of the operating system and standard output, as commands see them.
 #![tactic(auto)]
 
 mod real;

@@ -1,4 +1,4 @@
-// The files of the system and standard output.
+// The trusted adapters from the file and output interfaces of commands to the operating system.
 ghost use Rattle.std.specs.Prelude.{◌≡◌, ◌≤◌, length, vec_len};
 
 use std::alloc::Global;
@@ -9,14 +9,18 @@ use tcd_base::{FileErr, Files, Sink, SinkErr};
 /// The files of the system.
 #[derive(Drop)]
 pub struct RealFiles<'a, R> {
+    /// The capability of the running program.
     pub rt: &'a R,
+    /// The number of failed calls so far.
     pub failed: u64,
 }
 
 /// Standard output.
 #[derive(Drop)]
 pub struct Stdout<'a, R> {
+    /// The capability of the running program.
     pub rt: &'a R,
+    /// The number of failed calls so far.
     pub failed: u64,
 }
 
@@ -82,7 +86,8 @@ impl<'a, R: Print> Sink for Stdout<'a, R> {
     }
 }
 
-// Writes all of the bytes, or stops at an error or at a write that takes none.
+// Writes all bytes, and returns whether that worked. It stops at an error, or at a write that takes
+// no byte.
 fn write_whole<W: Write>(out: &mut W, bytes: &[u8]) -> bool {
     let mut rest = bytes;
     while !rest.is_empty() {
