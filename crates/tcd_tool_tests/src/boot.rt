@@ -1,4 +1,4 @@
-// Worked boot sequences.
+// Cases of boot sequences.
 use crate::stage::play;
 use std::test::Fail;
 

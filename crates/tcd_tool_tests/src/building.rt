@@ -1,4 +1,4 @@
-// Sources that are assembled, linked and run, and images that are listed.
+// Cases of sources that are assembled, linked and run, and of images that are listed.
 use crate::stage::play;
 use std::test::Fail;
 

@@ -1,4 +1,4 @@
-// Worked certificates that are made where words of ram keep their bounds.
+// Cases of certificates that are made for words of ram that keep their bounds.
 use crate::stage::play;
 use std::test::Fail;
 

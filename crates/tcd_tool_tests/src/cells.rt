@@ -1,4 +1,4 @@
-// Worked cells.
+// Cases of files of cells.
 use crate::stage::play;
 use std::test::Fail;
 

@@ -1,4 +1,4 @@
-// Worked certificates that are checked: needs, handlers, tables, values, the other core and the second version.
+// Cases of certificates that are checked: needs, handlers, tables, values, cores and versions.
 use crate::stage::play;
 use std::test::Fail;
 

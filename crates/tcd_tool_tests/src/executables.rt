@@ -1,4 +1,4 @@
-// Executables that are read, and files that are refused.
+// Cases of executables that are read or refused.
 use crate::stage::play;
 use std::test::Fail;
 

@@ -1,4 +1,4 @@
-// Certificates and objects of which a few bytes are changed, or that are cut.
+// Cases of certificates and objects with a few bytes changed or cut off.
 use crate::stage::play;
 use std::test::Fail;
 

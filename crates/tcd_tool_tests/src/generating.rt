@@ -1,4 +1,4 @@
-// Images that are generated, and what their certificates come to.
+// Cases of generated images and their certificates.
 use crate::stage::play;
 use std::test::Fail;
 

@@ -1,4 +1,4 @@
-// Graphs and reports of worked certificates.
+// Cases of graphs and reports of certificates.
 use crate::stage::play;
 use std::test::Fail;
 

@@ -1,4 +1,4 @@
-// Inputs that are missing, behind others and before them.
+// Cases of missing inputs, before and after other inputs.
 use crate::stage::play;
 use std::test::Fail;
 

@@ -1,4 +1,4 @@
-//! Tests of the commands, by files in memory and `tool` alone: texts of cases that are played.
+//! Tests of the commands: texts of cases, which run on files in memory.
 #![tactic(auto)]
 
 #[cfg(test)]

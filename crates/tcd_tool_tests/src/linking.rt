@@ -1,4 +1,4 @@
-// Layouts that are refused, and programs that are not linked.
+// Cases of layouts that are refused, and of programs that can't be linked.
 use crate::stage::play;
 use std::test::Fail;
 

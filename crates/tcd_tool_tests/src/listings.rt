@@ -1,4 +1,4 @@
-// Images that are listed.
+// Cases of images that are listed.
 use crate::stage::play;
 use std::test::Fail;
 

@@ -1,4 +1,4 @@
-// Worked certificates that are made.
+// Cases of certificates that are made.
 use crate::stage::play;
 use std::test::Fail;
 

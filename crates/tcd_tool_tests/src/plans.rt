@@ -1,4 +1,4 @@
-// Plans that are read, and documents that are refused.
+// Cases of plans that are read or refused.
 use crate::stage::play;
 use std::test::Fail;
 

@@ -1,5 +1,6 @@
-// What cases of several topics begin with.
+// The pieces that cases of several topics share.
 
+/// The shared pieces, as the lines of a text.
 pub const SAMPLES: &str = r#"
 # Boards: four areas with two in reserve, neither interrupts nor traps, and others beside it.
 text BOARD

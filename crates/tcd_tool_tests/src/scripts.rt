@@ -1,4 +1,4 @@
-// Scripts that are refused, and the peaks of those that drive the machine.
+// Cases of scripts that are refused, and of the peaks of runs.
 use crate::stage::play;
 use std::test::Fail;
 

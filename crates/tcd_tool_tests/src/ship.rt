@@ -1,4 +1,4 @@
-// Sources that are shipped, and what stands where something fails.
+// Cases of `ship`: sources to an image and its certificate, and the files after a failure.
 use crate::stage::play;
 use std::test::Fail;
 

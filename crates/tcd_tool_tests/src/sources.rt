@@ -1,4 +1,4 @@
-// Sources that break a rule.
+// Cases of sources that break a rule.
 use crate::stage::play;
 use std::test::Fail;
 

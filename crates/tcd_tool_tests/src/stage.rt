@@ -1,16 +1,22 @@
-// Plays texts of cases.
+// Runs texts of cases: each line of a text changes a file, runs a command or checks its result.
 //
-// A line that begins with four blanks belongs to the line above it; a lone `.` there is an empty line. The other lines are:
+// A line that begins with four blanks belongs to the line above it; a lone `.` there is an empty
+// line. The other lines are:
 //
-// `# ..`: a remark; `case ..`: no files from here on; `failing N`: no files, and their Nth call, from 0 on, fails;
-// `bytes NAME`, `text NAME`: a piece of these hex digits, or of these lines;
-// `replace NAME PIECE`: the text of a piece, with the second line below in place of the first one, which stands there;
-// `join NAME PIECE..`: pieces, one after another; `PIECE*N` is N times a piece;
-// `put FILE PIECE EDIT..`: a file of the bytes of a piece, `AT=BYTE` (hex digits) changed and cut to `..LENGTH` (a decimal number);
-// `run STATUS WORD..`: the command ends so, and prints the lines below; STATUS is `done`, `refused`, `bad-input`, `fault`, `no-memory` or
-// `bad-words`; in a WORD `_` is a blank, and `''` is the empty word;
-// `unprinted WORD..`: the command is a fault where nothing can be printed;
-// `holds FILE PIECE EDIT..`, `begins FILE PIECE`, `length FILE N`, `none FILE`: what a file holds then.
+// - `# ..`: a remark.
+// - `case ..`: begins a case, without files.
+// - `failing N`: begins a case without files, in which call N on the files fails, counted from 0.
+// - `bytes NAME`, `text NAME`: names a piece, the hex digits or the lines below.
+// - `replace NAME PIECE`: names a copy of a piece, in which the second line below replaces the
+//   first one.
+// - `join NAME PIECE..`: names pieces, one after another; `PIECE*N` is N times a piece.
+// - `put FILE PIECE EDIT..`: writes a piece to a file. The edit `AT=BYTE` (hex digits) changes a
+//   byte, and `..LENGTH` (a decimal number) cuts the bytes off there.
+// - `run STATUS WORD..`: runs a command, which must end so and print the lines below. STATUS is
+//   `done`, `refused`, `bad-input`, `fault`, `no-memory` or `bad-words`. In a WORD `_` is a blank,
+//   and `''` is the empty word.
+// - `unprinted WORD..`: runs a command with an output that fails, which must end in a fault.
+// - `holds FILE PIECE EDIT..`, `begins FILE PIECE`, `length FILE N`, `none FILE`: checks a file.
 use crate::samples::SAMPLES;
 use std::alloc::{AllocGlobal, Global};
 use std::process::Abort;
@@ -19,13 +25,14 @@ use tcd_base::{MemFiles, MemSink};
 use tcd_driver::tool;
 use tcd_reading::Status;
 
-// The pieces that are named so far, the files of the case, what the last command printed, and how many there were.
+// The named pieces, the files of the case, the output of the last command, and the number of
+// commands.
 #[derive(Drop)]
 struct Stage {
     alloc: Global,
     pieces: MemFiles,
     files: MemFiles,
-    told: Vec<u8>,
+    printed: Vec<u8>,
     count: u64,
 }
 
@@ -37,7 +44,7 @@ fn digit_of(c: u8) -> Option<u8> {
     }
 }
 
-// The number that hex digits write.
+// The number that hex digits spell.
 fn hex_number(digits: &str) -> Result<usize, Fail> {
     let mut value = 0usize;
     for c in digits.bytes() {
@@ -49,7 +56,7 @@ fn hex_number(digits: &str) -> Result<usize, Fail> {
     Ok(value)
 }
 
-// The bytes that pairs of hex digits write; blanks and ends of lines are passed over.
+// The bytes that pairs of hex digits spell. Blanks and line feeds are skipped.
 fn hex_bytes(alloc: Global, digits: &str) -> Result<Vec<u8>, Fail> {
     let mut bytes = Vec::new(alloc);
     let mut high = None;
@@ -70,8 +77,8 @@ fn hex_bytes(alloc: Global, digits: &str) -> Result<Vec<u8>, Fail> {
     Ok(bytes)
 }
 
-// A text, with one in place of another.
-fn replaced(alloc: Global, text: &[u8], lines: &str) -> Result<String, Fail> {
+// A text with all occurrences of the first line replaced by the second.
+fn replace_text(alloc: Global, text: &[u8], lines: &str) -> Result<String, Fail> {
     let text = std::str::from_utf8(text).ok().ok_or("no text")?;
     let (from, to) = lines.split_once('\n').ok_or("no text to replace")?;
     if !text.contains(from) {
@@ -80,8 +87,8 @@ fn replaced(alloc: Global, text: &[u8], lines: &str) -> Result<String, Fail> {
     Ok(text.replace(alloc, from, to.strip_suffix("\n").unwrap_or(to))?)
 }
 
-// The bytes with these edits.
-fn edited(alloc: Global, bytes: &[u8], edits: &[&str]) -> Result<Vec<u8>, Fail> {
+// A copy of the bytes after these edits.
+fn edit_bytes(alloc: Global, bytes: &[u8], edits: &[&str]) -> Result<Vec<u8>, Fail> {
     let mut out = Vec::from_slice(alloc, bytes)?;
     for edit in edits {
         match edit.split_once('=') {
@@ -105,14 +112,14 @@ fn edited(alloc: Global, bytes: &[u8], edits: &[&str]) -> Result<Vec<u8>, Fail> 
     Ok(out)
 }
 
-// The words that a line asks for.
-fn asked(alloc: Global, words: &[&str]) -> Result<Vec<String>, Fail> {
-    let mut asked = Vec::new(alloc);
+// The words of a command, as a line spells them.
+fn command_words(alloc: Global, words: &[&str]) -> Result<Vec<String>, Fail> {
+    let mut command = Vec::new(alloc);
     for word in words {
         let plain = if *word == "''" { "" } else { *word };
-        asked.push(plain.replace(alloc, "_", " ")?)?;
+        command.push(plain.replace(alloc, "_", " ")?)?;
     }
-    Ok(asked)
+    Ok(command)
 }
 
 fn status_word(status: Status) -> &'static str {
@@ -126,7 +133,7 @@ fn status_word(status: Status) -> &'static str {
     }
 }
 
-// Whether a line has others below it.
+// Whether lines may be below this one.
 fn takes_lines(words: &[&str]) -> bool {
     match words {
         ["bytes" | "text" | "replace" | "run", ..] => true,
@@ -134,7 +141,7 @@ fn takes_lines(words: &[&str]) -> bool {
     }
 }
 
-// The lines of a text that names, puts and runs.
+// Lines that name pieces, write files and run commands.
 impl Stage {
     fn piece(&self, name: &str) -> Result<&[u8], Fail> {
         match self.pieces.get(name) {
@@ -152,8 +159,8 @@ impl Stage {
         Ok(self.pieces.put(name, lines.as_bytes())?)
     }
 
-    fn name_replaced(&mut self, name: &str, piece: &str, lines: &str) -> Result<(), Fail> {
-        let text = replaced(self.alloc, self.piece(piece)?, lines)?;
+    fn name_copy(&mut self, name: &str, piece: &str, lines: &str) -> Result<(), Fail> {
+        let text = replace_text(self.alloc, self.piece(piece)?, lines)?;
         Ok(self.pieces.put(name, text.as_bytes())?)
     }
 
@@ -179,34 +186,34 @@ impl Stage {
     }
 
     fn put(&mut self, file: &str, piece: &str, edits: &[&str]) -> Result<(), Fail> {
-        let bytes = edited(self.alloc, self.piece(piece)?, edits)?;
+        let bytes = edit_bytes(self.alloc, self.piece(piece)?, edits)?;
         Ok(self.files.put(file, &bytes)?)
     }
 
-    // Whether the command ends so, and prints this.
+    // Runs a command, and returns whether it ends with this status and prints this text.
     fn runs(&mut self, status: &str, words: &[&str], printed: &str) -> Result<bool, Fail> {
         self.count = self.count.saturating_add(1);
-        let words = asked(self.alloc, words)?;
+        let words = command_words(self.alloc, words)?;
         let mut out = MemSink::sure(self.alloc, 40_000)?;
         let ended = tool(self.alloc, &words, &mut self.files, &mut out);
-        self.told = Vec::from_slice(self.alloc, out.text())?;
+        self.printed = Vec::from_slice(self.alloc, out.text())?;
         Ok(status_word(ended) == status && out.text() == printed.as_bytes())
     }
 
-    // Whether the command is a fault where nothing can be printed.
+    // Runs a command with an output that fails, and returns whether it ends in a fault.
     fn faults(&mut self, words: &[&str]) -> Result<bool, Fail> {
         self.count = self.count.saturating_add(1);
-        let words = asked(self.alloc, words)?;
+        let words = command_words(self.alloc, words)?;
         let mut out = MemSink::failing(self.alloc, 40_000, &[0])?;
         let ended = tool(self.alloc, &words, &mut self.files, &mut out);
         Ok(status_word(ended) == "fault" && out.text().is_empty())
     }
 }
 
-// The lines that tell what a file holds.
+// Lines that check files.
 impl Stage {
     fn holds(&self, file: &str, piece: &str, edits: &[&str]) -> Result<bool, Fail> {
-        let wanted = edited(self.alloc, self.piece(piece)?, edits)?;
+        let wanted = edit_bytes(self.alloc, self.piece(piece)?, edits)?;
         Ok(self.files.get(file) == Some(wanted.as_slice()))
     }
 
@@ -231,17 +238,17 @@ impl Stage {
     }
 }
 
-// Texts.
+// Runs the lines of a text.
 impl Stage {
-    // Does what a line that changes something says, with those below it; whether there is such a line.
-    fn does(&mut self, words: &[&str], below: &str) -> Result<bool, Fail> {
+    // Runs a line that changes something, and returns whether it is such a line.
+    fn change(&mut self, words: &[&str], below: &str) -> Result<bool, Fail> {
         match words {
             ["#", ..] | [""] => {}
             ["case", ..] => self.begin(),
             ["failing", call] => self.begin_failing(*call)?,
             ["bytes", name] => self.name_bytes(*name, below)?,
             ["text", name] => self.name_text(*name, below)?,
-            ["replace", name, piece] => self.name_replaced(*name, *piece, below)?,
+            ["replace", name, piece] => self.name_copy(*name, *piece, below)?,
             ["join", name, parts @ ..] => self.name_joined(*name, parts)?,
             ["put", file, piece, edits @ ..] => self.put(*file, *piece, edits)?,
             _ => return Ok(false),
@@ -249,8 +256,8 @@ impl Stage {
         Ok(true)
     }
 
-    // Whether what another line says is so.
-    fn is_so(&mut self, words: &[&str], below: &str) -> Result<bool, Fail> {
+    // Runs a line that checks something, and returns whether the check passes.
+    fn check(&mut self, words: &[&str], below: &str) -> Result<bool, Fail> {
         match words {
             ["run", status, words @ ..] => self.runs(*status, words, below),
             ["unprinted", words @ ..] => self.faults(words),
@@ -262,17 +269,17 @@ impl Stage {
         }
     }
 
-    // Plays a line with those below it.
+    // Runs a line with the lines below it, and stops the test if it fails.
     fn act<R: Abort>(&mut self, rt: &R, number: u64, line: &str, below: &str) -> Result<(), Fail> {
         let words: Vec<&str> = line.split(' ').collect(self.alloc)?;
         let fits = below.is_empty() || takes_lines(&words);
-        let good = fits && (self.does(&words, below)? || self.is_so(&words, below)?);
-        let told = std::str::from_utf8(&self.told).unwrap_or("no text");
-        assert!(rt; good, "line {number}: {line}\n{told}");
+        let good = fits && (self.change(&words, below)? || self.check(&words, below)?);
+        let printed = std::str::from_utf8(&self.printed).unwrap_or("no text");
+        assert!(rt; good, "line {number}: {line}\n{printed}");
         Ok(())
     }
 
-    // Plays a text.
+    // Runs the lines of a text.
     fn play<R: Abort>(&mut self, rt: &R, text: &str) -> Result<(), Fail> {
         let (mut number, mut at) = (0u64, 0u64);
         let mut line = String::new(self.alloc);
@@ -297,14 +304,14 @@ impl Stage {
     }
 }
 
-/// Plays the samples, and then these cases.
+/// Runs the samples, and then these cases.
 pub fn play<R: Abort + AllocGlobal>(rt: &R, cases: &str) -> Result<(), Fail> {
     let alloc = rt.alloc();
     let mut stage = Stage {
         alloc,
         pieces: MemFiles::sure(alloc),
         files: MemFiles::sure(alloc),
-        told: Vec::new(alloc),
+        printed: Vec::new(alloc),
         count: 0,
     };
     stage.play(rt, SAMPLES)?;

@@ -1,4 +1,4 @@
-// Worked tasks, and their certificates.
+// Cases of files of tasks and their certificates.
 use crate::stage::play;
 use std::test::Fail;
 
