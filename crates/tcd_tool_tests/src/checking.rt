@@ -13,6 +13,26 @@ put p RESERVED
 run refused check e p c
     refused K14 at 80000000 in start 80000000 prio 0 is 0
 
+case a certificate may say nothing of the stack pointer
+bytes FREE_POINTER_CERT
+    54434443 01000200 00000000 80000001 00000200 00000000 00800000 00000000
+    00000000 00000000 00000000 00000000 00000000 00000000 00040000 80000000
+    00000000 00000000 00000000 00000000 00000000 00000000 00000000 01080000
+    80000000 00010000 00000000 00000000 00000000 00000100 00000800 00800000
+    00000000 00000000 00000000 00000000 00000000 00000000 00000000 00
+put e CALLER
+put p BOARD
+put c FREE_POINTER_CERT
+run done check e p c
+    certified 1 of 2 areas
+put c FREE_POINTER_CERT 0f=00
+run refused check e p c
+    refused K14 at 80000000 in start 80000000 prio 0 is 0
+put p RESERVED
+put c FREE_POINTER_CERT
+run refused check e p c
+    refused K14 at 80000000 in start 80000000 prio 0 is 0
+
 case needs and other certificates are told apart
 put e CALLER
 put p BOARD
@@ -39,7 +59,29 @@ run done check e p c
     certified 1 of 2 areas
 
 case words of no command are bad
+run bad-words
+    bad words
+run bad-words help
+    bad words
+run bad-words --help
+    bad words
 run bad-words check
+    bad words
+run bad-words run e p
+    bad words
+run bad-words run e p s x
+    bad words
+run bad-words asm
+    bad words
+run bad-words asm s
+    bad words
+run bad-words asm s o x
+    bad words
+run bad-words link l e
+    bad words
+run bad-words dis
+    bad words
+run bad-words ship p l x x s
     bad words
 
 case files of other forms are named

@@ -30,6 +30,8 @@ mod making;
 #[cfg(test)]
 mod plans;
 #[cfg(test)]
+mod refusals;
+#[cfg(test)]
 mod samples;
 #[cfg(test)]
 mod scripts;
