@@ -1,5 +1,5 @@
 -- The grammar of object files: fields read from left to right, and the first fault.
--- Kinds of faults: 1 Short (any field), 2 Magic, 3 Order, 4 BadValue, 5 Limit, 6 Trailing.
+-- The kinds of faults are SHORT (any field) to TRAILING of tcd_base, 1 to 6.
 use Rattle.std.specs.Prelude.{◌+◌, ◌==◌, ◌&&◌, not, nat_lt, nat_le, if◌then◌else◌, ℕ, Bool, List, [], length, Result, Ok}
 use Rattle.tcd_base.specs.declared.errors.FormErr.{FormErr}
 use Rattle.tcd_base.specs.Place.{Place}

@@ -3,39 +3,15 @@ ghost use Rattle.std.specs.Prelude.{◌≡◌, ◌≤◌, ◌^◌, ◌&&◌, nat
 ghost use Rattle.tcd_base.specs.Reading.{Reads};
 ghost use Rattle.tc_object.specs.Grammar.{magic_at, section_count_at, kind_at};
 
-use tcd_base::{Cursor, FormErr, read_u8, read_u16, read_u32};
-
-/// The kind of fault: the file doesn't begin with the magic bytes.
-pub(crate) const BAD_MAGIC: u8 = 2;
-
-/// The kind of fault: a relocation isn't after the last one.
-pub(crate) const BAD_ORDER: u8 = 3;
-
-/// The kind of fault: a value that the field can't have.
-pub(crate) const BAD_VALUE: u8 = 4;
-
-/// The kind of fault: more items than an object may have.
-pub(crate) const PAST_LIMIT: u8 = 5;
-
-/// The kind of fault: bytes after the object.
-pub(crate) const TRAILING_BYTES: u8 = 6;
+use tcd_base::{
+    ABOVE_LIMIT, BAD_MAGIC, BAD_VALUE, Cursor, FormErr, fault, read_u8, read_u16, read_u32,
+};
 
 /// The magic bytes 54 43 4F 31 ("TCO1") as a little-endian word.
 pub(crate) const MAGIC: u32 = 0x314f_4354;
 
 /// The most sections of an object.
 const MOST_SECTIONS: u16 = 64;
-
-/// The fault of this kind at a byte offset of the file.
-pub(crate) fn fault(kind: u8, at: usize) -> FormErr
-    requires { at ≤ 2 ^ 30 }
-    ensures { result ≡ record { kind = kind; at = at } }
-{
-    FormErr {
-        kind,
-        at: at as u32,
-    }
-}
 
 /// Reads the magic bytes 54 43 4F 31 ("TCO1").
 #[tactic(auto, unfolding(crate::specs::Grammar::magic_at))]
@@ -62,7 +38,7 @@ pub(crate) fn read_section_count(c: &mut Cursor<'_>) -> Result<u16, FormErr>
     let start = c.place();
     let count = read_u16(c)?;
     if count > MOST_SECTIONS {
-        return Err(fault(PAST_LIMIT, start));
+        return Err(fault(ABOVE_LIMIT, start));
     }
     Ok(count)
 }

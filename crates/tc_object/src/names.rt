@@ -5,8 +5,9 @@ ghost use Rattle.std.specs.Option.{option_copied};
 ghost use Rattle.tc_object.specs.Names.{is_name, name_of};
 ghost use Rattle.tc_object.specs.Grammar.{name_length_at, name_bytes_at};
 
-use crate::fields::{BAD_VALUE, fault};
-use tcd_base::{Cursor, FormErr, are_name_bytes, is_name_first, read_bytes, read_u8};
+use tcd_base::{
+    BAD_VALUE, Cursor, FormErr, are_name_bytes, fault, is_name_first, read_bytes, read_u8,
+};
 
 /// Whether these bytes are a name, apart from the bound on their number.
 fn is_name(bytes: &[u8]) -> bool

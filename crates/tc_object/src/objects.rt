@@ -1,10 +1,10 @@
 // Objects that own their names and bytes, with the invariant of each object.
 use crate::fields::MAGIC;
-use crate::writing::{put_u16, write_relocs, write_sections, write_symbols};
+use crate::writing::{write_relocs, write_sections, write_symbols};
 use crate::{ObjErr, ObjectRef, Reloc, Section, Symbol};
 use std::alloc::Global;
 use std::marker::Model;
-use tcd_base::put_u32;
+use tcd_base::{put_u16, put_u32};
 
 /// An object file: sections, symbols for offsets in them, and relocations in ascending order of
 /// section and offset. At most 64 sections, 65,535 symbols and 65,535 relocations. Names have 1 to

@@ -3,13 +3,13 @@ ghost use Rattle.std.specs.Prelude.{◌≡◌, ◌≤◌, ◌^◌, length, Ok, I
 ghost use Rattle.tc_object.specs.Answers.{IsFaultOf};
 ghost use Rattle.tc_object.specs.Grammar.{object_of};
 
-use crate::fields::{TRAILING_BYTES, fault, read_magic, read_section_count};
+use crate::fields::{read_magic, read_section_count};
 use crate::reloc_fields::read_relocs;
 use crate::section_fields::read_sections;
 use crate::symbol_fields::read_symbols;
 use crate::{ObjErr, Reloc, SectionRef, SymbolRef};
 use std::alloc::Global;
-use tcd_base::{Cursor, read_u16};
+use tcd_base::{Cursor, TRAILING, fault, read_u16};
 
 /// What the bytes of an object hold, with names and bytes borrowed.
 #[derive(Drop)]
@@ -41,7 +41,7 @@ pub(crate) fn read_parts(alloc: Global, bytes: &[u8]) -> Result<Parts<'_>, ObjEr
     let relocs = read_relocs(alloc, &mut c, &sections, symbol_count, reloc_count)?;
     let end = c.place();
     if end != bytes.len() {
-        return Err(ObjErr::Bad(fault(TRAILING_BYTES, end)));
+        return Err(ObjErr::Bad(fault(TRAILING, end)));
     }
     Ok(Parts {
         sections,

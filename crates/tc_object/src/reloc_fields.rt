@@ -7,11 +7,11 @@ ghost use Rattle.tc_object.specs.Objects.{size_at, last_of, is_not_below, is_beh
 ghost use Rattle.tc_object.specs.Grammar.{reloc_section_at, reloc_offset_at, reloc_symbol_at, reloc_after};
 ghost use Rattle.tc_object.specs.Faults.{reloc_fault};
 
-use crate::fields::{BAD_ORDER, BAD_VALUE, fault, is_kind, read_kind};
+use crate::fields::{is_kind, read_kind};
 use crate::symbol_fields::size_at;
 use crate::{ObjErr, Reloc, SectionRef};
 use std::alloc::Global;
-use tcd_base::{Cursor, FormErr, read_u16, read_u32};
+use tcd_base::{BAD_ORDER, BAD_VALUE, Cursor, FormErr, fault, read_u16, read_u32};
 
 // The least kind of relocations.
 const FIRST_KIND: u8 = 1;

@@ -5,11 +5,10 @@ ghost use Rattle.tcd_base.specs.Reading.{Reads, many_at};
 ghost use Rattle.tc_object.specs.Objects.{is_section_name};
 ghost use Rattle.tc_object.specs.Grammar.{name_after, section_after};
 
-use crate::fields::{BAD_VALUE, fault};
 use crate::names::{read_name_bytes, read_name_length};
 use crate::{ObjErr, SectionRef};
 use std::alloc::Global;
-use tcd_base::{Cursor, FormErr, read_bytes, read_u32};
+use tcd_base::{BAD_VALUE, Cursor, FormErr, fault, read_bytes, read_u32};
 
 // Whether one of these sections has the name. A search by hand is enough: there are at most 64.
 fn is_section_name(sections: &[SectionRef<'_>], name: &str) -> bool

@@ -9,12 +9,12 @@ ghost use Rattle.tc_object.specs.Grammar.{symbol_section_at, symbol_offset_at, s
 ghost use Rattle.tc_object.specs.Faults.{symbol_fault};
 ghost use Rattle.tc_object.specs.Used.{is_among};
 
-use crate::fields::{BAD_VALUE, fault, is_kind, read_kind};
+use crate::fields::{is_kind, read_kind};
 use crate::used_names::{no_names, read_new_name};
 use crate::{GLOBAL_SYMBOL, ObjErr, SectionRef, SymbolRef, UNDEFINED_SYMBOL};
 use std::alloc::Global;
 use std::collections::HashMap;
-use tcd_base::{Cursor, FormErr, read_u16, read_u32};
+use tcd_base::{BAD_VALUE, Cursor, FormErr, fault, read_u16, read_u32};
 
 // The size of a symbol's kind, section and offset in the file.
 const SYMBOL_BYTES: usize = 7;

@@ -6,11 +6,10 @@ ghost use Rattle.tc_object.specs.Grammar.{name_after};
 ghost use Rattle.tc_object.specs.Used.{is_among};
 
 use crate::ObjErr;
-use crate::fields::{BAD_VALUE, fault};
 use crate::names::{read_name_bytes, read_name_length};
 use std::alloc::{AllocError, AllocFailed, Global};
 use std::collections::HashMap;
-use tcd_base::Cursor;
+use tcd_base::{BAD_VALUE, Cursor, fault};
 
 /// A map without names, with capacity for `count` of them.
 pub(crate) fn no_names<'a>(alloc: Global, count: u16) -> Result<HashMap<&'a str, ()>, AllocError>

@@ -1,18 +1,10 @@
 // Writes an object in its one spelling.
 ghost use Rattle.std.specs.Prelude.{◌≡◌, ◌≤◌, ◌<◌, ◌^◌, [], ◌∷◌, ◌++◌, length, OnOk};
 ghost use Rattle.std.specs.List.{All, flat_map};
-ghost use Rattle.tcd_base.specs.Bytes.{bytes_of_half};
 ghost use Rattle.tc_object.specs.Spelling.{bytes_of_name, bytes_of_section, bytes_of_symbol, bytes_of_reloc};
 
 use crate::{Reloc, Section, Symbol};
-use tcd_base::{NoMemory, put_u32};
-
-pub(crate) fn put_u16(out: &mut Vec<u8>, x: u16) -> Result<(), NoMemory>
-    ensures { OnOk result (out.new.items ≡ out.old.items ++ bytes_of_half x) }
-{
-    out.extend_from_slice(&x.to_le_bytes())?;
-    Ok(())
-}
+use tcd_base::{NoMemory, put_u16, put_u32};
 
 #[tactic(auto, unfolding(crate::specs::Spelling::bytes_of_name))]
 fn write_name(out: &mut Vec<u8>, name: &str) -> Result<(), NoMemory>
