@@ -2,7 +2,7 @@
 use Rattle.std.proofs.Common.{◌≡◌, ◌<◌, ◌≤◌, ◌+◌, ◌∷◌, [], ℕ, suc, Bool, true, false, cond, List, length, take, drop, Some, None, refl, ap, sym, ◌∙◌, arith}
 use Rattle.std.specs.Prelude.{position, nat_lt, not, ◌==◌}
 use Rattle.std.specs.List.{slice_split, onto_first, position_or_len}
-use Rattle.std.proofs.lemmas.List.Splits.{slice_split_first, slice_split_none}
+use Rattle.std.proofs.lemmas.List.Splits.{slice_split_first, slice_split_none, length-slice_split}
 use Rattle.std.proofs.lemmas.List.Sums.{fails_before_first, prefix_len-le-length}
 use Rattle.std.proofs.lemmas.Bool.{ltb-true, ltb-false}
 use Rattle.tcd_text.specs.Lines.{lines_of, is_blank}
@@ -26,6 +26,26 @@ pub split_whole : (xs : List ℕ) → position is_blank xs ≡ None → slice_sp
 split_whole xs e =
     let past : length xs ≤ position_or_len is_blank xs = ltb-false _ _ (none_from (nat_lt (position_or_len is_blank xs) (length xs)) (position_or_len is_blank xs) e) in
     slice_split_none is_blank xs (λ k d h. fails_before_first is_blank xs k d (omega (arith, past)))
+
+-- a line has at least one word
+some_word : (text : List ℕ) → 0 < length (slice_split is_blank text)
+some_word text = let n = length-slice_split is_blank text in omega arith
+
+-- a line of four words and a rest has more than four
+pub five_words : (words second third fourth : List (List ℕ)) (a b c d : List ℕ) (text : List ℕ) → words ≡ a ∷ second → second ≡ b ∷ third → third ≡ c ∷ fourth
+    → fourth ≡ d ∷ slice_split is_blank text → 4 < length words
+five_words words second third fourth a b c d text one two three four =
+    let n = some_word text in
+    rw (one, two, three, four) (omega arith)
+
+-- what a function has for more than four words, whatever they are
+pub more_words : {A : Type 0} (f : List (List ℕ) → A) (x : A) → ((a b c d e : List ℕ) (words : List (List ℕ)) → f (a ∷ b ∷ c ∷ d ∷ e ∷ words) ≡ x) → (words : List (List ℕ)) → 4 < length words → f words ≡ x
+more_words f x same [] more = absurd (omega arith)
+more_words f x same (a ∷ []) more = absurd (omega arith)
+more_words f x same (a ∷ b ∷ []) more = absurd (omega arith)
+more_words f x same (a ∷ b ∷ c ∷ []) more = absurd (omega arith)
+more_words f x same (a ∷ b ∷ c ∷ d ∷ []) more = absurd (omega arith)
+more_words f x same (a ∷ b ∷ c ∷ d ∷ e ∷ words) more = same a b c d e words
 
 -- ---- lines
 abbrev pub end_of : List ℕ → ℕ

@@ -10,4 +10,4 @@ mod words;
 pub use digits::{append_ascii, append_hex_byte, append_hex_word, hex_byte, hex_word};
 pub use hex_numbers::hex_number;
 pub use lines::cut_line;
-pub use words::cut_word;
+pub use words::{Words, cut_word, words_in};
