@@ -2,6 +2,7 @@
 ghost use Rattle.std.specs.Prelude.{◌≡◌, ◌≤◌, length, vec_len};
 
 use std::alloc::Global;
+use std::fs::OpenFile;
 use std::io::{Read, Write};
 use std::{fs, io, rt};
 use tcd_base::{FileErr, Files, Sink, SinkErr};
@@ -36,7 +37,14 @@ impl<'a, R: rt::Files> Files for RealFiles<'a, R> {
             self.failed = self.failed.saturating_add(1);
             return Err(FileErr::Failed);
         };
-        let mut bytes = Vec::new(alloc);
+        // The size is only a hint: a pipe has none, and a file may grow or shrink while it is read.
+        let size = file.metadata().map_or(0, |m| m.len());
+        let mut bytes = Vec::from_elem(alloc, 0u8, size.min(u64::from(limit)) as usize)?;
+        let Some(count) = fill(&mut file, &mut bytes) else {
+            self.failed = self.failed.saturating_add(1);
+            return Err(FileErr::Failed);
+        };
+        bytes.truncate(count);
         let mut buf = [0u8; 4096];
         for _ in 0..=limit {
             let Ok(count) = file.read(&mut buf) else {
@@ -84,6 +92,20 @@ impl<'a, R: Print> Sink for Stdout<'a, R> {
             Err(SinkErr::Failed)
         }
     }
+}
+
+// Reads bytes until the room is full or the file ends, and returns their number. An error gives
+// `None`.
+fn fill<R: Read>(file: &mut R, room: &mut [u8]) -> Option<usize> {
+    let mut filled = 0;
+    while filled < room.len() {
+        match file.read(&mut room[filled..]) {
+            Ok(0) => break,
+            Ok(count) => filled += count,
+            Err(_) => return None,
+        }
+    }
+    Some(filled)
 }
 
 // Writes all bytes, and returns whether that worked. It stops at an error, or at a write that takes
