@@ -1,6 +1,5 @@
 -- Hex digits are ASCII.
-use Rattle.std.proofs.Common.{◌<◌, ◌/◌, ◌%◌, ◌^◌, ℕ, List, [], ◌∷◌, ◌++◌, Result, Ok, Err, refl, arith}
-use Rattle.std.specs.Prelude.{MatchResult, IsOk}
+use Rattle.std.proofs.Common.{◌<◌, ◌/◌, ◌%◌, ◌^◌, ℕ, List, [], ◌∷◌, ◌++◌, arith}
 use Rattle.std.specs.Str.{IsAscii}
 use Rattle.std.proofs.lemmas.Bool.Decides.{nat_tests}
 use Rattle.std.proofs.lemmas.Str.Ascii.{IsAscii-nil, IsAscii-cons}
@@ -32,8 +31,3 @@ hex_word-front x rest h is =
 pub hex_word-ascii : (x : ℕ) → x < 2 ^ 32 → IsAscii (hex_word x)
 unfolding hex_byte hex_word
 hex_word-ascii x h = hex_word-front x [] h IsAscii-nil
-
--- ASCII is read as a text
-pub text_ok : {T E : Type 0} (r : Result T E) (Q : Type 0) (P : T → Type 0) (R : E → Type 0) → MatchResult r P (λ e. ¬ Q × R e) → Q → IsOk r
-text_ok (Ok x) Q P R h q = refl
-text_ok (Err e) Q P R h q = absurd (h.0 q)
