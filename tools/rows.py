@@ -6,9 +6,9 @@
 
 The tables: the rows as a definition (tc_isa/specs/Rows.antt), the fields that each row names (tc_isa/src/row_uses.rt), the
 index by codes (tc_encode/src/index.rt), the operands of each row (tc_stmt/src/row_wants.rt), and the index by names
-(tc_stmt/src/row_index.rt). What a row does is written by hand, in tc_isa/specs/Shapes.antt and tc_isa/src/row_meanings.rt.
-The count of rows is changed where it stands as a number. Both say too which rows the table of operands in docs/formats.md
-lacks, or has and shouldn't: that one is written by hand.
+(tc_stmt/src/row_index.rt). The number of rows is written to ROW_COUNT (tc_isa/src/table.rt), which all else cites. What a
+row does is written by hand, in tc_isa/specs/Shapes.antt and tc_isa/src/row_meanings.rt. Both ways of calling it print too
+which rows the table of operands in docs/formats.md lacks, or has and shouldn't: that one is written by hand.
 Nothing here is trusted: the checks of tc_isa, tc_encode and tc_stmt prove that each table is that of the rows.
 """
 import os
@@ -51,7 +51,7 @@ def operands(row):
     return [t.strip() for t in row[1].split(",")] if row[1] else []
 
 
-def named(row):
+def fields_of(row):
     fields = {f for t in operands(row) for f in OPERANDS[t][0].split()}
     return [f for f in ("c", "s1", "s2", "n", "k") if f in fields]
 
@@ -62,8 +62,14 @@ def listed(all_rows):
     return "listed =\n" + "\n".join(lines) + "\n    []\n"
 
 
-def items(name, kind, values):
-    return f"{name}: [{kind}; {len(values)}] = [\n    {', '.join(map(str, values))},\n];\n"
+def items(name, kind, values, count=None):
+    return f"{name}: [{kind}; {count or len(values)}] = [\n    {', '.join(map(str, values))},\n];\n"
+
+
+def by_rows(name, kind, all_rows, values):
+    """A table with an item for each row, and the row's name and operands behind it."""
+    lines = [f"    {value}, // {row[0]} {row[1]}".rstrip() for row, value in zip(all_rows, values)]
+    return "\n".join([f"{name}: [{kind}; ROW_COUNT] = [", *lines, "];", ""])
 
 
 def index(all_rows):
@@ -77,13 +83,14 @@ def index(all_rows):
         for i in at:
             group[all_rows[i][4]] = i
         places += group
-    plain = ["true" if named(r) == FORMS[r[2]].split() else "false" for r in all_rows]
+    plain = ["true" if fields_of(r) == FORMS[r[2]].split() else "false" for r in all_rows]
     return {
         "static STARTS": items("static STARTS", "u8", starts),
         "static ENDS": items("static ENDS", "u8", ends),
         "static BASES": items("static BASES", "u16", bases),
-        "static PLACES": items("static PLACES", "u8", places),
-        "static PLAIN": items("static PLAIN", "bool", plain),
+        "static PLACES": items("static PLACES", "u8", places, "PLACE_COUNT"),
+        "const PLACE_COUNT": f"const PLACE_COUNT: usize = {len(places)};\n",
+        "static PLAIN": by_rows("static PLAIN", "bool", all_rows, plain),
     }
 
 
@@ -97,19 +104,19 @@ def index_of_names(all_rows):
     count, keys = len(all_rows), [name_key(r[0]) for r in all_rows]
     first = [keys.index(k) if k in keys else count for k in range(256)]
     later = [next((j for j in range(i + 1, count) if keys[j] == k), count) for i, k in enumerate(keys)]
-    return {"static FIRST": items("static FIRST", "u8", first), "static NEXT": items("static NEXT", "u8", later)}
+    return {"static FIRST": items("static FIRST", "u8", first), "static NEXT": by_rows("static NEXT", "u8", all_rows, later)}
 
 
-def replaced(text, name, new):
+def replace_item(text, name, new):
     """The text with the item of this name written anew."""
-    end = r"\n    \[\]\n" if name == "listed =" else r"\n\];\n"
+    end = r"\n    \[\]\n" if name == "listed =" else r";\n" if "COUNT" in name else r"\n\];\n"
     found = re.search(rf"^{re.escape(name)}.*?{end}", text, flags=re.M | re.S)
     if not found:
         sys.exit(f"no {name}")
     return text[: found.start()] + new + text[found.end() :]
 
 
-def told():
+def documented_rows():
     """The rows of the table of operands in docs/formats.md: names and operands."""
     text = read("../docs/formats.md")
     lines = text[text.index("| Operands | Rows |") :].split("\n\n")[0].splitlines()[2:]
@@ -122,38 +129,25 @@ def main():
         print(__doc__)
         return 0
     all_rows = rows()
-    count, uses = len(all_rows), ["_".join(f.upper() for f in named(r)) or "NONE" for r in all_rows]
+    uses = ["_".join(f.upper() for f in fields_of(r)) or "NONE" for r in all_rows]
     wants = ["&[" + ", ".join(f"Want::{OPERANDS[t][1]}" for t in operands(r)) + "]" for r in all_rows]
     tables = {
         "tc_isa/specs/Rows.antt": {"listed =": listed(all_rows)},
-        "tc_isa/src/row_uses.rt": {"static USES": items("static USES", "Uses", uses)},
+        "tc_isa/src/table.rt": {"pub const ROW_COUNT": f"pub const ROW_COUNT: usize = {len(all_rows)};\n"},
+        "tc_isa/src/row_uses.rt": {"static USES": by_rows("static USES", "Uses", all_rows, uses)},
         "tc_encode/src/index.rt": index(all_rows),
-        "tc_stmt/src/row_wants.rt": {"pub static WANTS": items("pub static WANTS", "&[Want]", wants)},
+        "tc_stmt/src/row_wants.rt": {"pub static WANTS": by_rows("pub static WANTS", "&[Want]", all_rows, wants)},
         "tc_stmt/src/row_index.rt": index_of_names(all_rows),
     }
-    before = int(re.search(r"MEANINGS: \[Meaning; (\d+)\]", read("tc_isa/src/row_meanings.rt")).group(1))
-    places = int(re.search(r"PLACES: \[u8; (\d+)\]", read("tc_encode/src/index.rt")).group(1))
-    now_places = int(re.search(r"PLACES: \[u8; (\d+)\]", tables["tc_encode/src/index.rt"]["static PLACES"]).group(1))
     old, touched = {}, set()
-    for crate in ("tc_isa", "tc_encode", "tc_stmt"):
-        for base, folders, files in os.walk(f"{CRATES}/{crate}"):
-            folders[:] = [f for f in folders if f != "out"]
-            for f in files:
-                if f.endswith((".rt", ".antt", ".edit")):
-                    path = os.path.relpath(os.path.join(base, f), CRATES)
-                    old[path] = text = read(path)
-                    for name, new in tables.get(path, {}).items():
-                        text = replaced(text, name, new)
-                    if before != count:
-                        for was, now in ((before, count), (before - 1, count - 1)):
-                            where = r"\b" if "/proofs/" in path else r"(?:≡|<|≤|;|nat_le n) ?"
-                            text = re.sub(rf"({where}){was}(?=\b(?!,))", rf"\g<1>{now}", text)
-                    if places != now_places:
-                        text = re.sub(rf"((?:≡|; ) ?){places}\b", rf"\g<1>{now_places}", text)
-                    if text != old[path]:
-                        with open(f"{CRATES}/{path}", "w", encoding="utf-8") as out:
-                            out.write(text)
-                        touched.add(path)
+    for path, parts in tables.items():
+        old[path] = text = read(path)
+        for name, new in parts.items():
+            text = replace_item(text, name, new)
+        if text != old[path]:
+            with open(f"{CRATES}/{path}", "w", encoding="utf-8") as out:
+                out.write(text)
+            touched.add(path)
     for crate in {p.split("/")[0] for p in touched}:
         subprocess.run(["rt", "fmt"], cwd=f"{CRATES}/{crate}", stdout=subprocess.DEVNULL, check=False)
     differ = sorted(p for p in touched if read(p) != old[p])
@@ -161,8 +155,9 @@ def main():
         for path in touched:
             with open(f"{CRATES}/{path}", "w", encoding="utf-8") as out:
                 out.write(old[path])
-    differ += [f"docs/formats.md: {name} {words}".strip() for name, words in sorted({r[:2] for r in all_rows} ^ set(told()))]
-    print("\n".join(differ) or f"{count} rows: each table is theirs")
+    undocumented = {r[:2] for r in all_rows} ^ set(documented_rows())
+    differ += [f"docs/formats.md: {name} {words}".strip() for name, words in sorted(undocumented)]
+    print("\n".join(differ) or f"{len(all_rows)} rows: each table is theirs")
     return 1 if differ and "--check" in sys.argv else 0
 
 

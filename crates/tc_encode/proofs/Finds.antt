@@ -1,6 +1,6 @@
 -- Instructions that have a word, and the places of their rows.
 use Rattle.std.proofs.Common.{Bool, ◌≡◌, ◌+◌, ◌%◌, ◌<◌, ◌≤◌, ℕ, zero, suc, true, List, [], ◌∷◌, length, get_or, sym, ap, subst, ◌∙◌, arith, Option, Some, None, zero-add, ◌==◌, ◌^◌, false, refl, inl, inr, map, ◌||◌}
-use Rattle.std.specs.Prelude.{slice_get, nat_le, IfNone}
+use Rattle.std.specs.Prelude.{slice_get, nat_lt, IfNone}
 use Rattle.std.specs.List.{list_all}
 use Rattle.std.proofs.lemmas.Bool.{and_parts, ltb-true, leb-true, eqb-true, eqb-false, cases_eq, and_from, eq-eqb}
 use Rattle.std.proofs.lemmas.Option.{slice_get-get_or, slice_get_within, get_or_from_slice_get}
@@ -99,8 +99,8 @@ pub form_is : (place : ℕ) (r s : RowData) (start end : ℕ) → Between place 
 form_is place r s start end b at = sym (eqb-true (form_index s.form) (form_index r.form) (subst (λ o. has_form r o ≡ true) at b.form))
 
 -- a bound of each number of a list
-pub bounded : (xs : List ℕ) (n k : ℕ) → list_all (λ x. nat_le x n) xs ≡ true → k < length xs → get_or xs k 0 ≤ n
-bounded xs n k all within = leb-true _ _ (AllPass-from_list_all (λ x. nat_le x n) xs all k 0 within)
+pub bounded : (xs : List ℕ) (n k : ℕ) → list_all (λ x. nat_lt x n) xs ≡ true → k < length xs → get_or xs k 0 < n
+bounded xs n k all within = ltb-true _ _ (AllPass-from_list_all (λ x. nat_lt x n) xs all k 0 within)
 
 pub none_map : {X : Type 0} {P Q : Type 0} (r : Option X) → IfNone r P → (P → Q) → IfNone r Q
 none_map None p f = f p

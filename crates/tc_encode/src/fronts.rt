@@ -8,7 +8,7 @@ ghost use Rattle.tc_encode.specs.WordSearch.{GoesOn, Makes, span};
 
 use crate::forms::{join, split};
 use crate::index::groups;
-use tc_isa::{Fields, Inst, Row, inst, rows};
+use tc_isa::{Fields, Inst, ROW_COUNT, Row, inst, rows};
 
 /// Returns the instruction of this row if the word is one.
 fn inst_by(place: u8, row: &Row, w: u32) -> Option<Inst>
@@ -77,7 +77,7 @@ fn completion_by(place: u8, row: &Row, n: u8, part: u32) -> Option<Inst>
 /// Returns an instruction of the row at this place with these `n` low bytes, if the row's first
 /// code is the lowest of them.
 fn completion_at(place: u8, first: u8, n: u8, part: u32) -> Option<Inst>
-    requires place { place < 142 }
+    requires place { place < ROW_COUNT }
     requires low { 1 ≤ n }
     requires high { n < need_of first }
     requires part { part < span n }
@@ -94,7 +94,7 @@ fn completion_at(place: u8, first: u8, n: u8, part: u32) -> Option<Inst>
 
 /// Returns an instruction with these `n` low bytes, of a row from one place up to before another.
 fn completion_between(from: u8, to: u8, first: u8, n: u8, part: u32) -> Option<Inst>
-    requires places { to ≤ 142 }
+    requires places { to ≤ ROW_COUNT }
     requires low { 1 ≤ n }
     requires high { n < need_of first }
     requires part { part < span n }

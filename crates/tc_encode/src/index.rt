@@ -1,8 +1,10 @@
 // Index of the rows by their codes. Printed by tools/rows.py.
-ghost use Rattle.std.specs.Prelude.{◌≡◌, length, map, true, nat_le};
+ghost use Rattle.std.specs.Prelude.{◌≡◌, length, map, true, nat_le, nat_lt};
 ghost use Rattle.std.specs.List.{list_all};
 ghost use Rattle.tc_isa.specs.Rows.{listed};
 ghost use Rattle.tc_encode.specs.WordSearch.{hold_all, hold_places, names_all};
+
+use tc_isa::ROW_COUNT;
 
 // By the first byte: the place of the first row with it.
 static STARTS: [u8; 256] = [
@@ -35,10 +37,10 @@ static ENDS: [u8; 256] = [
 /// Returns the places of the first rows, and those after the last rows, by the first byte.
 pub fn groups() -> (&'static [u8; 256], &'static [u8; 256])
     ensures starts { length result.0.now ≡ 256 }
-    ensures start_within { list_all (λ n. nat_le n 141) result.0.now ≡ true }
+    ensures start_within { list_all (λ n. nat_lt n ROW_COUNT) result.0.now ≡ true }
     ensures ends { length result.1.now ≡ 256 }
     ensures all { hold_all result.0.now result.1.now 0 listed ≡ true }
-    ensures within { list_all (λ n. nat_le n 142) result.1.now ≡ true }
+    ensures within { list_all (λ n. nat_le n ROW_COUNT) result.1.now ≡ true }
 {
     (&STARTS, &ENDS)
 }
@@ -57,8 +59,11 @@ static BASES: [u16; 256] = [
     0, 405, 0, 406, 0, 0, 0, 0, 0, 0, 407, 0, 408,
 ];
 
+// The number of places below.
+const PLACE_COUNT: usize = 410;
+
 // The places of rows: for each first byte from its base on, by the second code; 0 if there is none.
-static PLACES: [u8; 410] = [
+static PLACES: [u8; PLACE_COUNT] = [
     111, 0, 0, 0, 0, 0, 0, 0, 112, 113, 43, 44, 45, 0, 0, 0, 0, 0, 0, 0, 0, 0, 0, 0, 0, 0, 0, 0, 0,
     0, 0, 0, 0, 0, 0, 0, 0, 0, 0, 0, 0, 0, 0, 0, 0, 0, 0, 0, 0, 0, 0, 0, 0, 0, 0, 0, 0, 0, 0, 0, 0,
     0, 0, 0, 0, 0, 0, 0, 0, 0, 0, 0, 0, 0, 0, 0, 0, 0, 0, 0, 0, 0, 0, 0, 0, 0, 46, 0, 0, 0, 0, 0,
@@ -78,32 +83,164 @@ static PLACES: [u8; 410] = [
 
 /// Returns for each first byte the place at which its rows begin in the list of places, and that
 /// list.
-pub fn codes() -> (&'static [u16; 256], &'static [u8; 410])
+pub fn codes() -> (&'static [u16; 256], &'static [u8; PLACE_COUNT])
     ensures bases { length result.0.now ≡ 256 }
-    ensures places { length result.1.now ≡ 410 }
+    ensures places { length result.1.now ≡ PLACE_COUNT }
     ensures all { hold_places result.0.now result.1.now 0 listed ≡ true }
-    ensures within { list_all (λ n. nat_le n 141) result.1.now ≡ true }
+    ensures within { list_all (λ n. nat_lt n ROW_COUNT) result.1.now ≡ true }
 {
     (&BASES, &PLACES)
 }
 
 // For each row: whether it has all fields of its form.
-static PLAIN: [bool; 142] = [
-    true, true, true, false, false, false, false, false, false, false, false, false, false, false,
-    false, false, false, false, false, false, false, false, false, false, false, false, false,
-    false, true, true, true, true, true, true, true, true, true, true, true, true, true, false,
-    false, false, false, false, false, true, false, false, false, true, true, true, true, true,
-    true, true, true, true, true, true, true, true, true, true, true, true, true, true, true, true,
-    true, true, true, true, true, true, true, true, true, true, true, true, true, true, true, true,
-    true, true, true, true, true, true, true, true, true, true, false, false, false, true, true,
-    true, true, true, true, true, true, true, true, false, false, false, true, true, true, true,
-    true, true, true, true, true, true, true, true, true, true, true, true, true, true, true, true,
-    true, true, true, true, true, true, true, true,
+static PLAIN: [bool; ROW_COUNT] = [
+    true, // addi Dc, Ds1, sk
+    true, // addih Dc, Ds1, uk
+    true, // addih.a Ac, As1, uk
+    false, // mov Dc, sk
+    false, // mov.u Dc, uk
+    false, // movh Dc, uk
+    false, // movh.a Ac, uk
+    false, // mfcr Dc, uk
+    false, // mtcr uk, Ds1
+    false, // add Dc, Ds1, Ds2
+    false, // sub Dc, Ds1, Ds2
+    false, // eq Dc, Ds1, Ds2
+    false, // ne Dc, Ds1, Ds2
+    false, // lt Dc, Ds1, Ds2
+    false, // lt.u Dc, Ds1, Ds2
+    false, // ge Dc, Ds1, Ds2
+    false, // ge.u Dc, Ds1, Ds2
+    false, // mov Dc, Ds2
+    false, // sh Dc, Ds1, Ds2
+    false, // sha Dc, Ds1, Ds2
+    false, // and Dc, Ds1, Ds2
+    false, // nand Dc, Ds1, Ds2
+    false, // or Dc, Ds1, Ds2
+    false, // nor Dc, Ds1, Ds2
+    false, // xor Dc, Ds1, Ds2
+    false, // xnor Dc, Ds1, Ds2
+    false, // andn Dc, Ds1, Ds2
+    false, // orn Dc, Ds1, Ds2
+    true, // add Dc, Ds1, sk
+    true, // rsub Dc, Ds1, sk
+    true, // eq Dc, Ds1, sk
+    true, // ne Dc, Ds1, sk
+    true, // lt Dc, Ds1, sk
+    true, // lt.u Dc, Ds1, uk
+    true, // ge Dc, Ds1, sk
+    true, // ge.u Dc, Ds1, uk
+    true, // sh Dc, Ds1, sk
+    true, // sha Dc, Ds1, sk
+    true, // and Dc, Ds1, uk
+    true, // or Dc, Ds1, uk
+    true, // xor Dc, Ds1, uk
+    false, // bisr uk
+    false, // syscall uk
+    false, // mov.aa Ac, As2
+    false, // add.a Ac, As1, As2
+    false, // sub.a Ac, As1, As2
+    false, // mov.d Dc, As2
+    true, // addsc.a Ac, As2, Ds1, n
+    false, // mov.a Ac, Ds2
+    false, // calli As1
+    false, // ji As1
+    true, // nop
+    true, // ret
+    true, // rfe
+    true, // svlcx
+    true, // rslcx
+    true, // enable
+    true, // disable
+    true, // dsync
+    true, // isync
+    true, // ld.b Ds1, [As2+]sk
+    true, // ld.bu Ds1, [As2+]sk
+    true, // ld.h Ds1, [As2+]sk
+    true, // ld.hu Ds1, [As2+]sk
+    true, // ld.w Ds1, [As2+]sk
+    true, // ld.a As1, [As2+]sk
+    true, // ld.b Ds1, [As2]sk
+    true, // ld.bu Ds1, [As2]sk
+    true, // ld.h Ds1, [As2]sk
+    true, // ld.hu Ds1, [As2]sk
+    true, // ld.w Ds1, [As2]sk
+    true, // ld.a As1, [As2]sk
+    true, // st.b [As2+]sk, Ds1
+    true, // st.h [As2+]sk, Ds1
+    true, // st.w [As2+]sk, Ds1
+    true, // st.a [As2+]sk, As1
+    true, // st.b [As2]sk, Ds1
+    true, // st.h [As2]sk, Ds1
+    true, // st.w [As2]sk, Ds1
+    true, // st.a [As2]sk, As1
+    true, // lea As1, [As2]sk
+    true, // ld.w.l Ds1, [As2]sk
+    true, // ld.a.l As1, [As2]sk
+    true, // st.w.l [As2]sk, Ds1
+    true, // lea.l As1, [As2]sk
+    true, // ld.w Ds1, U
+    true, // ld.a As1, U
+    true, // st.w U, Ds1
+    true, // st.a U, As1
+    true, // lea As1, U
+    true, // jeq Ds1, Ds2, T
+    true, // jne Ds1, Ds2, T
+    true, // jlt Ds1, Ds2, T
+    true, // jlt.u Ds1, Ds2, T
+    true, // jge Ds1, Ds2, T
+    true, // jge.u Ds1, Ds2, T
+    true, // jeq.a As1, As2, T
+    true, // jne.a As1, As2, T
+    false, // jz.a As1, T
+    false, // jnz.a As1, T
+    false, // loop As2, T
+    true, // jeq Ds1, sk4, T
+    true, // jne Ds1, sk4, T
+    true, // jlt Ds1, sk4, T
+    true, // jge Ds1, sk4, T
+    true, // jlt.u Ds1, uk4, T
+    true, // jge.u Ds1, uk4, T
+    true, // call T
+    true, // calla U
+    true, // j T
+    true, // ja U
+    false, // nop16
+    false, // rfe16
+    false, // ret16
+    true, // ji16 As1
+    true, // bisr16 uk
+    true, // mov16.d15 uk
+    true, // sub16.a a10, uk
+    true, // call16 T
+    true, // j16 T
+    true, // jz16.d15 T
+    true, // jnz16.d15 T
+    true, // jz16 Ds2, T
+    true, // jnz16 Ds2, T
+    true, // mov16 Ds1, Ds2
+    true, // add16 Ds1, Ds2
+    true, // sub16 Ds1, Ds2
+    true, // and16 Ds1, Ds2
+    true, // or16 Ds1, Ds2
+    true, // xor16 Ds1, Ds2
+    true, // mov16.aa As1, As2
+    true, // mov16.a As1, Ds2
+    true, // mov16.d Ds1, As2
+    true, // add16.a As1, As2
+    true, // mov16 Ds1, sk
+    true, // add16 Ds1, sk
+    true, // mov16.a As1, uk
+    true, // add16.a As1, sk
+    true, // ld16.w Ds1, [As2]
+    true, // ld16.a As1, [As2]
+    true, // st16.w [As2], Ds1
+    true, // st16.a [As2], As1
 ];
 
 /// Returns for each row, in the order of the rows, whether it has all fields of its form.
 #[tactic(auto, unfolding(tc_isa::specs::Words::bounds))]
-pub fn plain_rows() -> &'static [bool; 142]
+pub fn plain_rows() -> &'static [bool; ROW_COUNT]
     ensures { result.now ≡ map names_all listed }
 {
     &PLAIN

@@ -8,7 +8,7 @@ ghost use Rattle.tc_encode.specs.WordSearch.{Makes, has_no_gap};
 
 use crate::forms::{second_code, split};
 use crate::index::{codes, groups, plain_rows};
-use tc_isa::{Fields, Form, Inst, Row, is_zero_elsewhere, parts_differ, rows, uses};
+use tc_isa::{Fields, Form, Inst, ROW_COUNT, Row, is_zero_elsewhere, parts_differ, rows, uses};
 
 /// Returns the instruction of a word, which has 16 bits if its lowest byte is even.
 pub fn find(w: u32) -> Option<Inst>
@@ -34,7 +34,7 @@ fn second_by(first: u8, w: u32) -> u8
 
 /// Returns the place of the row with these codes, if there is one.
 fn place_by(first: u8, second: u8) -> Option<u8>
-    ensures within { IfSome result (λ p. p < 142) }
+    ensures within { IfSome result (λ p. p < ROW_COUNT) }
     ensures only { (place : ℕ) (r : RowData) → slice_get listed place ≡ Some r → r.op1 ≡ first
         → r.op2 ≡ second → result ≡ Some place }
 {
@@ -58,7 +58,7 @@ fn form_by(first: u8) -> Form
 
 /// Returns the instruction of the row at this place if it has these codes and the word.
 fn inst_at(place: u8, first: u8, second: u8, w: u32) -> Option<Inst>
-    requires place { place < 142 }
+    requires place { place < ROW_COUNT }
     requires first { first ≡ w % 256 }
     requires second { (r : RowData) → slice_get listed place ≡ Some r → r.op1 ≡ first
         → second ≡ second_of r.form w }
@@ -81,7 +81,7 @@ fn inst_at(place: u8, first: u8, second: u8, w: u32) -> Option<Inst>
 /// spelling.
 fn inst_of(place: u8, row: &Row, w: u32) -> Option<Inst>
     requires place { slice_get listed place ≡ Some (row_of row.now) }
-    requires within { place < 142 }
+    requires within { place < ROW_COUNT }
     requires first { row.now.op1 ≡ w % 256 }
     requires second { row.now.op2 ≡ second_of row.now.form w }
     requires short { w % 2 ≡ 0 → w < 2 ^ 16 }
@@ -123,7 +123,7 @@ fn is_full(form: Form, w: u32) -> bool
 /// Returns true if the fields that the row at this place doesn't have are 0.
 fn has_no_other(place: u8, row: &Row, f: &Fields) -> bool
     requires place { slice_get listed place ≡ Some (row_of row.now) }
-    requires within { place < 142 }
+    requires within { place < ROW_COUNT }
     requires below { IsBelow f.now (bounds row.now.form) }
     ensures { result ≡ rest_is_zero (uses_of (row_of row.now)) f.now }
 {

@@ -19,6 +19,7 @@ use Rattle.tc_isa.specs.declared.meaning.Destination.TheVariants.{By, Code, In}
 use Rattle.tc_isa.specs.declared.meaning.Meaning.{Meaning}
 use Rattle.tc_isa.specs.declared.meaning.Meaning.TheVariants.{Computes, Scales, Loads, Stores, Branches, Jumps, Calls, Masks, ReadsCore, WritesCore, Always}
 use Rattle.tc_isa.specs.declared.row_meanings.TheConstants.{MEANINGS}
+use Rattle.tc_isa.specs.declared.table.TheConstants.{ROW_COUNT}
 use Rattle.tc_isa.specs.declared.shapes.Shape.{Shape}
 use Rattle.tc_isa.specs.declared.shapes.Shape.TheVariants.{Ret, Rfe, Svlcx, Rslcx, Enable, Disable, Nothing}
 use Rattle.tc_isa.specs.Insts.{InstData, IsInst, fields_in}
@@ -118,7 +119,7 @@ all_sound = refl
 are_listed : map meant MEANINGS ≡ map (λ l. l.shape) meanings
 are_listed = refl
 
-count : length MEANINGS ≡ 142
+count : length MEANINGS ≡ ROW_COUNT
 count = refl
 
 pub shape_is : (i : InstData) → IsInst i → IsShape (shape_of i)

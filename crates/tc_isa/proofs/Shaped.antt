@@ -6,6 +6,7 @@ use Rattle.std.proofs.lemmas.Option.{slice_get-get_or, slice_get_within}
 use Rattle.tc_isa.specs.declared.fields.Fields.{Fields}
 use Rattle.tc_isa.specs.declared.meaning.Meaning.{Meaning}
 use Rattle.tc_isa.specs.declared.shapes.Shape.{Shape}
+use Rattle.tc_isa.specs.declared.table.TheConstants.{ROW_COUNT}
 use Rattle.tc_isa.specs.declared.table.Form.{Form}
 use Rattle.tc_isa.specs.declared.table.Form.TheVariants.{Rlc}
 use Rattle.tc_isa.specs.Rows.{listed}
@@ -23,18 +24,18 @@ small_in _ f b = record { c = omega arith; s1 = omega arith; s2 = omega arith; n
 pub small : (i : InstData) → IsInst i → AreSmall (fields_in i)
 small i is = small_in is.row.form (fields_in i) is.fits.below
 
-count_listed : length listed ≡ 142
+count_listed : length listed ≡ ROW_COUNT
 count_listed = refl
 
-count_meanings : length meanings ≡ 142
+count_meanings : length meanings ≡ ROW_COUNT
 count_meanings = refl
 
-pub row_below : (i : InstData) → IsInst i → i.row < 142
+pub row_below : (i : InstData) → IsInst i → i.row < ROW_COUNT
 row_below i is = subst (λ n. i.row < n) count_listed (slice_get_within listed i.row is.row is.at)
 
 pub meanings_enough : (ms : List Meaning) (p : ℕ) (i : InstData) → map meant ms ≡ map (λ l. l.shape) meanings → p ≡ i.row → IsInst i → p < length ms
 meanings_enough ms p i are same is =
-    let count : length ms ≡ 142 = sym (length-map ms meant) ∙ ap length are ∙ length-map meanings (λ (l : Line). l.shape) ∙ count_meanings in
+    let count : length ms ≡ ROW_COUNT = sym (length-map ms meant) ∙ ap length are ∙ length-map meanings (λ (l : Line). l.shape) ∙ count_meanings in
     omega (arith, count, row_below i is, same)
 
 pub shaped : (ms : List Meaning) (p : ℕ) (d : Meaning) (i : InstData) → map meant ms ≡ map (λ l. l.shape) meanings → p ≡ i.row → IsInst i → meant (get_or ms p d) (fields_in i) ≡ shape_of i

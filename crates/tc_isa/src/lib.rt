@@ -22,5 +22,5 @@ pub use inst_shape::{shape, shape_laws};
 pub use instruction::Inst;
 pub use row_uses::uses;
 pub use shapes::{Arg, Cond, Op, Shape, Target};
-pub use table::{Form, Row, rows};
+pub use table::{Form, ROW_COUNT, Row, rows};
 pub use written_registers::writes;

@@ -15,10 +15,10 @@ use crate::meaning::Meaning::{
 };
 use crate::meaning::Operand::{At, Of};
 use crate::meaning::RegField::{A10, Ac, As1, As2, D15, Dc, Ds1, Ds2};
-use crate::{Cond, Op, Shape};
+use crate::{Cond, Op, ROW_COUNT, Shape};
 
 // The meanings of the rows, in the order of the rows. Written by hand.
-static MEANINGS: [Meaning; 142] = [
+static MEANINGS: [Meaning; ROW_COUNT] = [
     Computes(Op::Add, Dc, At(Ds1), Of(Signed16)), // addi Dc, Ds1, sk
     Computes(Op::Add, Dc, At(Ds1), Of(High)), // addih Dc, Ds1, uk
     Computes(Op::Add, Ac, At(As1), Of(High)), // addih.a Ac, As1, uk

@@ -50,8 +50,11 @@ macro_rules! row {
     };
 }
 
+/// The number of rows. Written by tools/rows.py.
+pub const ROW_COUNT: usize = 142;
+
 /// The rows of the table, numbered from 0.
-pub static ROWS: [Row; 142] = [
+pub static ROWS: [Row; ROW_COUNT] = [
     row!("addi", "Dc, Ds1, sk", Rlc, 0x1b, 0x00),
     row!("addih", "Dc, Ds1, uk", Rlc, 0x9b, 0x00),
     row!("addih.a", "Ac, As1, uk", Rlc, 0x11, 0x00),
@@ -199,7 +202,7 @@ pub static ROWS: [Row; 142] = [
 /// Returns all rows, numbered from 0.
 pub fn rows() -> &'static [Row]
     ensures rows { map row_of result.now ≡ listed }
-    ensures count { length result.now ≡ 142 }
+    ensures count { length result.now ≡ ROW_COUNT }
 {
     &ROWS
 }

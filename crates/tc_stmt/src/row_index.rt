@@ -1,9 +1,10 @@
-// An index of the rows by a key of their names, so that a search skips most rows.
+// An index of the rows by a key of their names, so that a search skips most rows. The
+// tables are printed by tools/rows.py.
 ghost use Rattle.std.specs.Prelude.{◌≡◌, ◌<◌, ◌+◌, ◌-◌, ◌==◌, List, map, length, drop, true, slice_index};
 ghost use Rattle.tc_isa.specs.Rows.{RowData, row_of, listed};
 ghost use Rattle.tc_stmt.specs.RowIndex.{name_key, none_has, are_next, are_first};
 
-use tc_isa::Row;
+use tc_isa::{ROW_COUNT, Row};
 
 // The number of the first row with each key, and the number of rows if no row has the key.
 static FIRST: [u8; 256] = [
@@ -24,15 +25,149 @@ static FIRST: [u8; 256] = [
 
 // For each row, the number of the next row with the same key, and the number of rows if there is
 // none.
-static NEXT: [u8; 142] = [
-    142, 142, 142, 17, 46, 142, 142, 91, 142, 28, 142, 30, 31, 32, 33, 34, 35, 96, 36, 37, 38, 53,
-    39, 142, 40, 142, 142, 142, 142, 112, 142, 142, 142, 142, 142, 142, 100, 63, 142, 142, 142,
-    142, 142, 142, 142, 142, 48, 142, 142, 108, 74, 142, 142, 142, 142, 142, 142, 142, 142, 142,
-    66, 67, 68, 69, 70, 71, 142, 142, 142, 142, 85, 86, 76, 77, 78, 79, 142, 142, 87, 88, 89, 142,
-    142, 142, 142, 142, 142, 142, 142, 142, 101, 102, 103, 105, 104, 106, 142, 142, 142, 142, 142,
-    142, 142, 142, 142, 142, 142, 142, 142, 142, 142, 142, 142, 142, 142, 142, 142, 142, 142, 142,
-    142, 142, 142, 142, 134, 135, 142, 142, 142, 142, 142, 132, 136, 137, 142, 142, 142, 142, 139,
-    142, 141, 142,
+static NEXT: [u8; ROW_COUNT] = [
+    142, // addi Dc, Ds1, sk
+    142, // addih Dc, Ds1, uk
+    142, // addih.a Ac, As1, uk
+    17, // mov Dc, sk
+    46, // mov.u Dc, uk
+    142, // movh Dc, uk
+    142, // movh.a Ac, uk
+    91, // mfcr Dc, uk
+    142, // mtcr uk, Ds1
+    28, // add Dc, Ds1, Ds2
+    142, // sub Dc, Ds1, Ds2
+    30, // eq Dc, Ds1, Ds2
+    31, // ne Dc, Ds1, Ds2
+    32, // lt Dc, Ds1, Ds2
+    33, // lt.u Dc, Ds1, Ds2
+    34, // ge Dc, Ds1, Ds2
+    35, // ge.u Dc, Ds1, Ds2
+    96, // mov Dc, Ds2
+    36, // sh Dc, Ds1, Ds2
+    37, // sha Dc, Ds1, Ds2
+    38, // and Dc, Ds1, Ds2
+    53, // nand Dc, Ds1, Ds2
+    39, // or Dc, Ds1, Ds2
+    142, // nor Dc, Ds1, Ds2
+    40, // xor Dc, Ds1, Ds2
+    142, // xnor Dc, Ds1, Ds2
+    142, // andn Dc, Ds1, Ds2
+    142, // orn Dc, Ds1, Ds2
+    142, // add Dc, Ds1, sk
+    112, // rsub Dc, Ds1, sk
+    142, // eq Dc, Ds1, sk
+    142, // ne Dc, Ds1, sk
+    142, // lt Dc, Ds1, sk
+    142, // lt.u Dc, Ds1, uk
+    142, // ge Dc, Ds1, sk
+    142, // ge.u Dc, Ds1, uk
+    100, // sh Dc, Ds1, sk
+    63, // sha Dc, Ds1, sk
+    142, // and Dc, Ds1, uk
+    142, // or Dc, Ds1, uk
+    142, // xor Dc, Ds1, uk
+    142, // bisr uk
+    142, // syscall uk
+    142, // mov.aa Ac, As2
+    142, // add.a Ac, As1, As2
+    142, // sub.a Ac, As1, As2
+    48, // mov.d Dc, As2
+    142, // addsc.a Ac, As2, Ds1, n
+    142, // mov.a Ac, Ds2
+    108, // calli As1
+    74, // ji As1
+    142, // nop
+    142, // ret
+    142, // rfe
+    142, // svlcx
+    142, // rslcx
+    142, // enable
+    142, // disable
+    142, // dsync
+    142, // isync
+    66, // ld.b Ds1, [As2+]sk
+    67, // ld.bu Ds1, [As2+]sk
+    68, // ld.h Ds1, [As2+]sk
+    69, // ld.hu Ds1, [As2+]sk
+    70, // ld.w Ds1, [As2+]sk
+    71, // ld.a As1, [As2+]sk
+    142, // ld.b Ds1, [As2]sk
+    142, // ld.bu Ds1, [As2]sk
+    142, // ld.h Ds1, [As2]sk
+    142, // ld.hu Ds1, [As2]sk
+    85, // ld.w Ds1, [As2]sk
+    86, // ld.a As1, [As2]sk
+    76, // st.b [As2+]sk, Ds1
+    77, // st.h [As2+]sk, Ds1
+    78, // st.w [As2+]sk, Ds1
+    79, // st.a [As2+]sk, As1
+    142, // st.b [As2]sk, Ds1
+    142, // st.h [As2]sk, Ds1
+    87, // st.w [As2]sk, Ds1
+    88, // st.a [As2]sk, As1
+    89, // lea As1, [As2]sk
+    142, // ld.w.l Ds1, [As2]sk
+    142, // ld.a.l As1, [As2]sk
+    142, // st.w.l [As2]sk, Ds1
+    142, // lea.l As1, [As2]sk
+    142, // ld.w Ds1, U
+    142, // ld.a As1, U
+    142, // st.w U, Ds1
+    142, // st.a U, As1
+    142, // lea As1, U
+    101, // jeq Ds1, Ds2, T
+    102, // jne Ds1, Ds2, T
+    103, // jlt Ds1, Ds2, T
+    105, // jlt.u Ds1, Ds2, T
+    104, // jge Ds1, Ds2, T
+    106, // jge.u Ds1, Ds2, T
+    142, // jeq.a As1, As2, T
+    142, // jne.a As1, As2, T
+    142, // jz.a As1, T
+    142, // jnz.a As1, T
+    142, // loop As2, T
+    142, // jeq Ds1, sk4, T
+    142, // jne Ds1, sk4, T
+    142, // jlt Ds1, sk4, T
+    142, // jge Ds1, sk4, T
+    142, // jlt.u Ds1, uk4, T
+    142, // jge.u Ds1, uk4, T
+    142, // call T
+    142, // calla U
+    142, // j T
+    142, // ja U
+    142, // nop16
+    142, // rfe16
+    142, // ret16
+    142, // ji16 As1
+    142, // bisr16 uk
+    142, // mov16.d15 uk
+    142, // sub16.a a10, uk
+    142, // call16 T
+    142, // j16 T
+    142, // jz16.d15 T
+    142, // jnz16.d15 T
+    142, // jz16 Ds2, T
+    142, // jnz16 Ds2, T
+    134, // mov16 Ds1, Ds2
+    135, // add16 Ds1, Ds2
+    142, // sub16 Ds1, Ds2
+    142, // and16 Ds1, Ds2
+    142, // or16 Ds1, Ds2
+    142, // xor16 Ds1, Ds2
+    142, // mov16.aa As1, As2
+    132, // mov16.a As1, Ds2
+    136, // mov16.d Ds1, As2
+    137, // add16.a As1, As2
+    142, // mov16 Ds1, sk
+    142, // add16 Ds1, sk
+    142, // mov16.a As1, uk
+    142, // add16.a As1, sk
+    139, // ld16.w Ds1, [As2]
+    142, // ld16.a As1, [As2]
+    141, // st16.w [As2], Ds1
+    142, // st16.a [As2], As1
 ];
 
 /// For each key, the number of the first row that has it.
