@@ -39,7 +39,8 @@ impl<'a, R: rt::Files> Files for RealFiles<'a, R> {
         };
         // The size is only a hint: a pipe has none, and a file may grow or shrink while it is read.
         let size = file.metadata().map_or(0, |m| m.len());
-        let mut bytes = Vec::from_elem(alloc, 0u8, size.min(u64::from(limit)) as usize)?;
+        let mut bytes = Vec::new(alloc);
+        bytes.resize(size.min(u64::from(limit)) as usize, 0u8)?;
         let Some(count) = fill(&mut file, &mut bytes) else {
             self.failed = self.failed.saturating_add(1);
             return Err(FileErr::Failed);
