@@ -49,14 +49,15 @@ pub same_length : (s : State) (v : Val) (o : Option ℕ) → length (set_at s v 
 same_length s v (Some i) = length-set s.regs i v
 same_length s v None = refl
 
--- the value of another register
-reg_of-other : (p : PlanData) (s : State) (r q : ℕ) (v : Val) (o o2 : Option ℕ) → o ≡ slot r → o2 ≡ slot q → (q ≡ r → ⊥) → value_at p (set_at s v o) q o2 ≡ value_at p s q o2
+-- the value of another register is as before
+pub reg_of-other : (p : PlanData) (s : State) (r q : ℕ) (v : Val) (o o2 : Option ℕ) → o ≡ slot r → o2 ≡ slot q → (q ≡ r → ⊥) → value_at p (set_at s v o) q o2 ≡ value_at p s q o2
 reg_of-other p s r q v None o2 e f apart = refl
 reg_of-other p s r q v (Some i) None e f apart = refl
 reg_of-other p s r q v (Some i) (Some j) e f apart =
     get_or-set_other s.regs i j v any_val (λ same. apart (slot_apart q r i j (sym f) (sym e) (sym same)))
 
-reg_of-here : (p : PlanData) (s : State) (r : ℕ) (v : Val) (o : Option ℕ) → length s.regs ≡ 27 → o ≡ slot r → IsSome o → value_at p (set_at s v o) r o ≡ v
+-- the register itself has the value that was set, if it has a place
+pub reg_of-here : (p : PlanData) (s : State) (r : ℕ) (v : Val) (o : Option ℕ) → length s.regs ≡ 27 → o ≡ slot r → IsSome o → value_at p (set_at s v o) r o ≡ v
 reg_of-here p s r v (Some i) len e some = get_or-set_same s.regs i v any_val (omega (arith, (slot_is r i (sym e)).within))
 reg_of-here p s r v None len e some = absurd (let f : false ≡ true = some in cc)
 

@@ -9,8 +9,8 @@ pub fn operation_laws()
     ensures monotone { AreMonotone }
 {}
 
-/// The laws of refinement: it keeps each word for which the relation holds, and it grows with both
-/// sets.
+/// The laws of refinement, by unsigned and by signed comparisons: it keeps each word for which the
+/// relation holds, and it grows with both sets.
 pub fn refinement_laws()
     ensures { AreRefined }
 {}
