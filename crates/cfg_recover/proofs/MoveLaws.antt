@@ -1,5 +1,5 @@
 -- What a machine at a point does next, against what the point owes.
-use Rattle.std.proofs.Common.{◌≡◌, ℕ, ◌*◌, ◌/◌, ◌%◌, ◌^◌, ◌<◌, inl, inr, Bool, true, false, not, ◌&&◌, cond, List, [], refl, sym, ap, ◌∙◌, subst, arith, Option, Some, None, Ok, eqb, ltb, unwrap_or}
+use Rattle.std.proofs.Common.{◌≡◌, ℕ, ◌*◌, ◌/◌, ◌%◌, ◌^◌, ◌<◌, inl, inr, Bool, true, false, not, ◌&&◌, cond, List, [], length, refl, sym, ap, ◌∙◌, subst, arith, Option, Some, None, Ok, eqb, ltb, unwrap_or}
 use Rattle.std.specs.Prelude.{IfSome, IsSome, IsSomeAnd, Contains}
 use Rattle.std.specs.FinMap as memory_map
 use Rattle.std.proofs.lemmas.Bool.{cases_Bool, and_parts, both_ways, not-true, ltb-true, lt-ltb, eq-eqb, false≢true, cond_both}
@@ -36,21 +36,21 @@ use Rattle.value_domain.specs.Values.{IsMember, IsValue, IsWell, members}
 use Rattle.value_domain.proofs.CoverLaws.{among_member, has_step}
 use Rattle.value_domain.proofs.RangeLaws.{one_value}
 use Rattle.value_domain.proofs.SetLaws.{distinct_has}
-use Rattle.vd_transfer.specs.Registers.{slot, reg_of, arg_of, word_val}
+use Rattle.vd_transfer.specs.Registers.{slot, reg_of, arg_of, word_val, set_reg}
 use Rattle.vd_transfer.specs.Effects.{access_of, address_of, transfer_of}
 use Rattle.vd_transfer.specs.Branches.{refine_of}
 use Rattle.vd_transfer.specs.Holding.{Holds, word_of, words_after, ie_after, ccpn_after, ReadsMember}
 use Rattle.vd_transfer.specs.Soundness.{IsSetting}
-use Rattle.vd_transfer.proofs.HoldLaws.{transfer_holds, branch_holds, address_holds, arg_value}
+use Rattle.vd_transfer.proofs.HoldLaws.{same_length, reg_of-other, reg_of-here, transfer_holds, branch_holds, address_holds, arg_value}
 use Rattle.vd_transfer.proofs.ValueLaws.{value_of_value}
 use Rattle.store_ranges.specs.Loads.{HoldsLoads, loaded_of}
 use Rattle.store_ranges.proofs.Covers.{map_has}
 use Rattle.store_ranges.proofs.Sound.{set_sound, span_sound}
 use Rattle.depth_cert.specs.declared.keys.Key.{Key}
-use Rattle.cfg_recover.specs.Entries.{aln_key, aln_entry, irq_key, irq_entry, call_key, call_entry}
+use Rattle.cfg_recover.specs.Entries.{aln_key, aln_entry, irq_key, irq_entry, call_key, call_entry, stack_of, sys_entry}
 use Rattle.cfg_recover.specs.Local.{named_by, targets_of, are_aligned}
 use Rattle.cfg_recover.specs.Duties.{owed, jump, enter, entered_and_back, loaded_at, successors_of, jump_on, misaligned_at, irqs_of, duties_of}
-use Rattle.cfg_recover.specs.Moves.{InState, IsAtPoint, MovesTo, traps, Moved, MovesInFrame, TrapsOwed, CallsOwed, InterruptsOwed, StoresHeld}
+use Rattle.cfg_recover.specs.Moves.{InState, IsAtPoint, MovesTo, traps, Moved, MovesInFrame, TrapsOwed, CallsOwed, SystemCallsOwed, InterruptsOwed, StoresHeld}
 use Rattle.cfg_recover.proofs.EntryLaws.{reg_lt}
 use Rattle.cfg_recover.proofs.Points.{setting, bounded, writes, fetched_at}
 use Rattle.cfg_recover.proofs.Members.{contains_first, contains_among, contains_map, contains_flat, contains_filter, passes_each, contains_jump, owes_successor, owes_entry, owes_misaligned, owes_interrupt}
@@ -66,7 +66,7 @@ record IsSparing (image : ImageData) (plan : PlanData) (old new : Memory) : Type
   pub rom : HoldsRom image plan new
   pub memory : IsPlanMemory plan new
 
--- the words of the machine lie in the state where these words do
+-- the state that holds these words holds the machine's
 holds_went : (plan : PlanData) (d a : List ℕ) (word : ℕ → ℕ) (ie : Bool) (ccpn : ℕ) (t : State) → ((r : ℕ) → reg_in d a r ≡ word r) → Holds plan word ie ccpn t → Holds plan (reg_in d a) ie ccpn t
 holds_went plan d a word ie ccpn t same h = record {
   regs = λ r lt. subst (λ w. IsMember w (reg_of plan t r)) (sym (same r)) (h.regs r lt);
@@ -105,7 +105,7 @@ module _ {b : Limits} {image : ImageData} {plan : PlanData} {key : Key} {m : Mac
   same_memory : IsSparing image plan m.mem m.mem
   same_memory = record { areas = λ x inside. refl; rom = at.rom; memory = at.memory }
 
-  -- to where the point owes a jump
+  -- the machine goes where the point owes a jump
   moved_to : (t : State) (word : ℕ → ℕ) (pc : ℕ) (ie : Bool) (mem : Memory) → Went m (does m e shape n) word pc ie mem → Holds plan word ie m.ccpn t → KeepsLower (reg m) word s t → t.locals.items ≡ s.locals.items
       → word 27 ≡ reg m 27 → IsSparing image plan m.mem mem → Contains (successors_of b image plan m.pc s shape n) (owed 4 (jump pc t)) → Moved b image plan key m e s shape n
   moved_to t word pc ie mem w h lower locals a11 sparing owes = record {
@@ -114,7 +114,7 @@ module _ {b : Limits} {image : ImageData} {plan : PlanData} {key : Key} {m : Mac
     moves = moves_to image plan m (does m e shape n) s t word pc ie mem at.running w h lower locals a11 sparing;
   }
 
-  -- to the next instruction
+  -- the machine goes to the next instruction
   moved_on : (input : ℕ) (mem : Memory) → GoesOn shape → input < 2 ^ 32 → ReadsMember shape input (loaded_at b image plan s shape) → ccpn_after shape m.ccpn ≡ m.ccpn → IsSparing image plan m.mem mem
       → Contains (successors_of b image plan m.pc s shape n) (owed 4 (jump (moved m.pc n) (transfer_of b plan shape s (loaded_at b image plan s shape))))
       → Went m (does m e shape n) (words_after shape input (reg m)) (moved m.pc n) (ie_after shape m.ie) mem → Moved b image plan key m e s shape n
@@ -128,12 +128,12 @@ module _ {b : Limits} {image : ImageData} {plan : PlanData} {key : Key} {m : Mac
       (keeps_lower b plan shape s read (reg m) input goes) (keeps_locals b plan shape s read goes) (keeps_valueless shape (reg m) input 27 (writes at) no_a11) sparing owes
 
 -- ---- accesses
--- the value of an address is one of the limits
+-- the value of an address is within the limits
 address_value : (b : Limits) (plan : PlanData) (s : State) (base : Arg) (offset : ℕ) (after : Bool) → IsSetting b plan s → IsArg base → offset < 2 ^ 32 → IsValue b (access_of b plan s base offset after)
 address_value b plan s base offset true set is small = arg_value b plan s base set is
 address_value b plan s base offset false set is small = value_of_value b Add (arg_of plan s base) (word_val offset) set.limits (arg_value b plan s base set is) (one_value b offset set.limits small)
 
--- what is loaded is a member of what a load may give
+-- what is loaded is a member of the load's value
 loads_hold : (b : Limits) (image : ImageData) (plan : PlanData) (at : Val) (size : ℕ) (signed : Bool) → IsPlan plan → IsWell at → HoldsLoads image plan at size signed (loaded_of b image plan at size signed)
 loads_hold b image plan (Set ws) size signed ok well = set_sound b image plan ws size signed ok
 loads_hold b image plan (Span lo last step) size signed ok well = span_sound b image plan (Span lo last step) size signed ok well
@@ -172,14 +172,14 @@ named_has : (v : Val) (w : ℕ) → IsSome (named_by v) → IsMember w v → Con
 named_has (Set ws) w some m = contains_among _ (w / 2 * 2) (distinct_has (w / 2 * 2) _ (map_has (λ w. w / 2 * 2) w ws m))
 named_has (Span lo last step) w some m = absurd (let f : false ≡ true = some in cc)
 
--- where a jump or a call goes is a known target
+-- a jump or a call goes to a known target
 goes_to : (plan : PlanData) (m : Machine) (s : State) (to : Target) → IsSome (targets_of plan s m.pc to) → IsTarget to → InState plan m s → Contains (unwrap_or (targets_of plan s m.pc to) []) (target_of m to)
 goes_to plan m s (target.Rel by) some is inside = contains_first (moved m.pc by) []
 goes_to plan m s (target.Abs x) some is inside = contains_first x []
 goes_to plan m s (target.Reg r) some is inside = named_has (reg_of plan s r) (reg m r) some (inside.regs r is)
 
 -- ---- moves
--- the side of a branch that the machine takes
+-- the side of a branch that the machine takes is possible
 some_at : {A : Type 0} (o : Option A) (P Q : A → Type 0) → IsSomeAnd o P → IfSome o Q → (x : A) × (o ≡ Some x) × P x × Q x
 some_at None P Q p q = absurd p
 some_at (Some x) P Q p q = (x, refl, p, q)
@@ -263,7 +263,7 @@ moves_in_frame b image plan key m e s Nothing n at fits none stays quiet = moved
 moves_in_frame b image plan key m e s _ n at fits none stays quiet = absurd stays
 
 -- ---- traps
--- where an access from a member traps, not all members are aligned
+-- if an access traps at a member, not all members are aligned
 unaligned : (b : Limits) (v : Val) (x size : ℕ) (aln : Bool) → IsValue b v → IsMember x v → (aln && not (eqb (x % size) 0)) ≡ true → are_aligned v size ≡ false
 unaligned b v x size aln value m traps =
     elim (cases_Bool (are_aligned v size)) [
@@ -296,6 +296,27 @@ calls_owed b image plan key m s to n at =
       back = owes_entry b image plan key m.pc s (Call to) n _ (contains_flat both _ (target_of m to) _ known (1, omega arith, refl));
     }
 
+-- ---- system calls
+pub system_calls_owed : SystemCallsOwed
+unfolding slot
+system_calls_owed b image plan key m s tin n at =
+    let sp = stack_of plan key s in
+    let t = set_reg s 26 sp in
+    let u = sys_entry plan key s tin in
+    let long : length t.regs ≡ 27 = same_length s sp (slot 26) ∙ at.regs in
+    record {
+      state = u;
+      entered = owes_entry b image plan key m.pc s (Syscall tin) n _ (0, omega arith, refl);
+      back = owes_entry b image plan key m.pc s (Syscall tin) n _ (1, omega arith, refl);
+      number = reg_of-here plan t 15 (word_val tin) (slot 15) long refl refl;
+      stack = reg_of-other plan t 15 26 (word_val tin) (slot 15) (slot 26) refl refl (λ e. omega arith) ∙ reg_of-here plan s 26 sp (slot 26) at.regs refl refl;
+      others = λ r n15 n26. reg_of-other plan t 15 r (word_val tin) (slot 15) (slot r) refl refl n15 ∙ reg_of-other plan s 26 r sp (slot 26) (slot r) refl refl n26;
+      enabled = refl;
+      priority = refl;
+      lower = refl;
+      locals = refl;
+    }
+
 -- ---- interrupts
 pub interrupts_owed : InterruptsOwed
 interrupts_owed b image plan key m e s shape n at fits taken =
@@ -307,7 +328,7 @@ interrupts_owed b image plan key m e s shape n at fits taken =
     owes_interrupt b image plan key m.pc s shape n _ (contains_map (λ p. owed 11 (enter (irq_key plan p) (irq_entry plan key s p))) (irqs_of plan s) e.irq reached)
 
 -- ---- stores
--- a taken interrupt stores nowhere
+-- a step that takes an interrupt stores nothing
 taken_stores : (m : Machine) (e : Event) → m.end ≡ Running → is_taken m e ≡ true → stored m e ≡ None
 unfolding stored
 taken_stores m e running taken =

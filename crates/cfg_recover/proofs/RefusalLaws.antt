@@ -20,7 +20,7 @@ module _ (b : Limits) (image : ImageData) (plan : PlanData) where
   refusal_says : (r : ℕ) (k : Key) (p : ℕ) → IsRefusalWith b image plan r k p → RefusalSays b image plan r k p
   refusal_says _ _ _ (fault r k p h) = any_fault_says r k p h
   refusal_says _ _ _ (recursion a k p least h) = by_recursion a h.recurs.before h.recurs.into refl least h.recurs.enters h.recurs.back h.first
-  refusal_says _ _ _ (need a least many) = by_need a refl refl refl least many
+  refusal_says _ _ _ (need a least many) = by_need a refl refl refl least many.ends many.above
 
 pub refusals_say : RefusalsSay
 refusals_say b image plan r k p h = refusal_says b image plan r k p h

@@ -1,21 +1,25 @@
-// What a machine at a point does next, against what the point owes.
+// The laws of points, edges, frames, faults and refusals.
 ghost use Rattle.cfg_recover.specs.FaultLaws.{FirstFaultsSay, NeedSays};
 ghost use Rattle.cfg_recover.specs.FrameLaws.{EdgesAre, FramesAre, HeldFramesSay, OwedEdgesSay};
-ghost use Rattle.cfg_recover.specs.Moves.{CallsOwed, InterruptsOwed, MovesInFrame, StoresHeld, TrapsOwed};
+ghost use Rattle.cfg_recover.specs.Moves.{CallsOwed, InterruptsOwed, MovesInFrame, StoresHeld, SystemCallsOwed, TrapsOwed};
 ghost use Rattle.cfg_recover.specs.RefusalLaws.{RefusalsSay};
 
-/// A machine at a point without a fault of its own, whose registers lie in the point's state, goes where the point owes a jump
-/// (and its registers lie in that state), a call's entry, an interrupt's or a trap's, and its stores are in range.
+/// The laws of a machine at a point whose instruction breaks no rule by itself and whose state holds
+/// the machine. If the machine stays in its frame, it goes where the point owes a jump, and the
+/// jump's state holds it then. If it calls, makes a system call, or takes an interrupt or the trap
+/// of misaligned accesses, the point owes that entry. Its stores are in range.
 pub fn move_laws()
     ensures moves { MovesInFrame }
     ensures traps { TrapsOwed }
     ensures calls { CallsOwed }
+    ensures system_calls { SystemCallsOwed }
     ensures interrupts { InterruptsOwed }
     ensures stores { StoresHeld }
 {}
 
-/// What edges and frames are at each step of a machine, and what the promises on them give: the newest frame stands at a
-/// point that holds the machine; a step is owed there, and a return goes back to a frame that is there.
+/// The laws of edges and frames: what they are at each step of a machine, and what the promises
+/// about them give. The newest frame is at a point whose state holds the machine. A step is owed by
+/// that point, and a return goes back to a frame that is there.
 pub fn frame_laws()
     ensures edges { EdgesAre }
     ensures frames { FramesAre }
@@ -23,14 +27,14 @@ pub fn frame_laws()
     ensures owed { OwedEdgesSay }
 {}
 
-/// What the printed numbers are: those of the first fault name a rule that fails and where, before all others, and the need
-/// is that of the start's node.
+/// The laws of the printed numbers. The first fault is a rule that fails and the place where it
+/// fails, before all others. The need is the one of the start's node.
 pub fn fault_laws()
     ensures first { FirstFaultsSay }
     ensures need { NeedSays }
 {}
 
-/// What a refusal to make a certificate names: a rule and the very place where it fails.
+/// The law of a refusal to make a certificate: it names a rule and the very place where it fails.
 pub fn refusal_laws()
     ensures { RefusalsSay }
 {}
