@@ -1,4 +1,4 @@
--- The code at an address: from the bytes there, and back; it is one.
+-- The code at an address: from its bytes, and back. There is at most one instruction.
 use Rattle.std.proofs.Common.{◌≡◌, ℕ, zero, suc, ◌+◌, ◌%◌, ◌<◌, ◌≤◌, ◌⊎◌, inl, inr, List, [], ◌∷◌, ◌++◌, length, take, drop, Option, Some, None, Result, Ok, refl, sym, ap, ◌∙◌, subst, arith, add-zero}
 use Rattle.std.specs.Prelude.{slice_index, option_and_then}
 use Rattle.std.specs.Option.{option_map}
@@ -36,7 +36,7 @@ held_from image x (b ∷ bs) h =
 held_by_length : (image : ImageData) (x n : ℕ) (bs : List ℕ) → length bs ≡ n → Holds image x bs → held_bytes image x n ≡ Some bs
 held_by_length image x n bs e h = let P : ℕ → Type 0 = λ m. held_bytes image x m ≡ Some bs in subst P e (held_from image x bs h)
 
--- and those that are found are held
+-- bytes that are found are held
 parts : (o : Option ℕ) (r : Option (List ℕ)) (bs : List ℕ) → option_and_then (λ b. option_map (λ t. b ∷ t) r) o ≡ Some bs → (b : ℕ) × (t : List ℕ) × (o ≡ Some b) × (r ≡ Some t) × (bs ≡ b ∷ t)
 parts None r bs e = cc
 parts (Some b) None bs e = cc
@@ -57,19 +57,19 @@ held_to image x (suc n) bs e =
     let l : length bs ≡ suc (length p.1) = ap (λ (l : List ℕ). length l) p.4 in
     (omega arith, held_next image x p.0 p.1 bs p.4 p.2 r.1)
 
--- a front of them is, too
+-- so is a front of them
 front_held : (image : ImageData) (x n : ℕ) (bs : List ℕ) → n ≤ length bs → Holds image x bs → Holds image x (take n bs)
 front_held image x n bs le h i lt =
     let within : i < n = omega (arith, length-take n bs) in
     h i (omega arith) ∙ ap Some (sym (get_or-take n bs i 0 within))
 
--- fewer bytes lie in a range, too
+-- fewer bytes are in the range, too
 in_one_fewer : (x n m : ℕ) (rs : List Range) → m ≤ n → IsInOne x n rs → IsInOne x m rs
 in_one_fewer x n m [] le h = absurd h
 in_one_fewer x n m (r ∷ rs) le (inl w) = inl (w.0, omega arith)
 in_one_fewer x n m (r ∷ rs) le (inr h) = inr (in_one_fewer x n m rs le h)
 
--- an instruction with which they begin is there
+-- an instruction that they begin with is there
 pub code_found : (image : ImageData) (plan : PlanData) (x m : ℕ) (bs : List ℕ) (inst : InstData) (n : ℕ) → x % 2 ≡ 0 → FindsInRom image plan x m (Some bs) → FindsBytes bs (Some (inst, n)) → IsCode image plan x (shape_of inst) n
 code_found image plan x m bs inst n even at finds =
     let held = held_to image x m bs at.1 in
@@ -87,11 +87,11 @@ code_found image plan x m bs inst n even at finds =
       sized = omega (arith, length-take n bs, lengths.0);
     }
 
--- what spells an instruction has two or four bytes
+-- the spelling of an instruction has two or four bytes
 two_or_four : (bs : List ℕ) (inst : InstData) → Spells bs inst → (length bs ≡ 2) ⊎ (length bs ≡ 4)
 two_or_four bs inst s = (decode_laws.lengths (bs ++ []) inst (length bs) (decode_laws.spelled bs [] inst s)).2
 
--- bytes that begin with no instruction aren't such a front
+-- no instruction is spelled by a front of bytes that begin with none
 begins_none : (bs front rest : List ℕ) (inst : InstData) → FindsBytes bs None → bs ≡ front ++ rest → Spells front inst → ⊥
 begins_none bs front rest inst none e s = none inst (length front) (ap (λ (l : List ℕ). decoded_of l) e ∙ decode_laws.spelled front rest inst s)
 
@@ -114,7 +114,7 @@ SpellsNone image plan x = (bytes : List ℕ) (inst : InstData) → SpellsAt imag
 has_none : (image : ImageData) (plan : PlanData) (x : ℕ) → SpellsNone image plan x → HasCode image plan x → ⊥
 has_none image plan x none has = none (has.code).bytes (has.code).inst (has.code).spells
 
--- four bytes are there that begin with no instruction
+-- if four bytes are there that begin with no instruction, there is none
 none_in_four : (image : ImageData) (plan : PlanData) (x : ℕ) (bs : List ℕ) → FindsInRom image plan x 4 (Some bs) → FindsBytes bs None → SpellsNone image plan x
 none_in_four image plan x bs at none bytes inst code =
     let held = held_to image x 4 bs at.1 in
@@ -129,7 +129,7 @@ none_in_four image plan x bs at none bytes inst code =
           begins_none bs bytes [] inst none (same ∙ sym (append-nil bytes)) code.spelled
     ]
 
--- no four bytes are there, and two that begin with no instruction
+-- if no four bytes are there, and two that begin with no instruction, there is none
 none_in_two : (image : ImageData) (plan : PlanData) (x : ℕ) (bs : List ℕ) → FindsInRom image plan x 4 None → FindsInRom image plan x 2 (Some bs) → FindsBytes bs None → SpellsNone image plan x
 none_in_two image plan x bs no_four at none bytes inst code =
     elim (two_or_four bytes inst code.spelled) [
@@ -139,7 +139,7 @@ none_in_two image plan x bs no_four at none bytes inst code =
       | inr four ↦ none_some _ bytes (no_four (in_rom_of image plan x 4 bytes inst code four)) (held_of image plan x 4 bytes inst code four)
     ]
 
--- neither four nor two bytes are there
+-- if neither four nor two bytes are there, there is no instruction
 pub none_there : (image : ImageData) (plan : PlanData) (x : ℕ) → FindsInRom image plan x 4 None → FindsInRom image plan x 2 None → FindsCode image plan x None
 none_there image plan x no_four no_two = has_none image plan x (λ bytes inst code.
     elim (two_or_four bytes inst code.spelled) [
@@ -152,7 +152,7 @@ pub by_four : (image : ImageData) (plan : PlanData) (x : ℕ) (bs : List ℕ) (f
 by_four image plan x bs (Some (inst, n)) even at finds = code_found image plan x 4 bs inst n even at finds
 by_four image plan x bs None even at finds = has_none image plan x (none_in_four image plan x bs at finds)
 
--- the same by two
+-- the code at an even address, by two bytes
 pub by_two : (image : ImageData) (plan : PlanData) (x : ℕ) (bs : List ℕ) (found : Option (InstData × ℕ)) → x % 2 ≡ 0 → FindsInRom image plan x 4 None → FindsInRom image plan x 2 (Some bs) → FindsBytes bs found → FindsCode image plan x found
 by_two image plan x bs (Some (inst, n)) even no_four at finds = code_found image plan x 2 bs inst n even at finds
 by_two image plan x bs None even no_four at finds = has_none image plan x (none_in_two image plan x bs no_four at finds)
@@ -161,7 +161,7 @@ by_two image plan x bs None even no_four at finds = has_none image plan x (none_
 found_same : (i j : InstData) (m n : ℕ) (r : Result (InstData × ℕ) DecodeErr) → r ≡ Ok (i, m) → r ≡ Ok (j, n) → (i ≡ j) × (m ≡ n)
 found_same i j m n r e f = let p : (i, m) ≡ (j, n) = cc in (ap (λ (q : InstData × ℕ). q.0) p, ap (λ (q : InstData × ℕ). q.1) p)
 
--- two instructions with which the same bytes begin
+-- two instructions that the same bytes begin with are equal
 begin_same : (a b r s : List ℕ) (i j : InstData) → a ++ r ≡ b ++ s → Spells a i → Spells b j → (i ≡ j) × (length a ≡ length b)
 begin_same a b r s i j e x y = found_same i j (length a) (length b) (decoded_of (a ++ r)) (decode_laws.spelled a r i x) (ap (λ (l : List ℕ). decoded_of l) e ∙ decode_laws.spelled b s j y)
 
@@ -200,7 +200,7 @@ IsCode-one image plan x s t m n a b =
 pub IsCode-bounded : (image : ImageData) (plan : PlanData) (x : ℕ) (s : Shape) (n : ℕ) → IsCode image plan x s n → IsShape s
 IsCode-bounded image plan x s n a = subst IsShape a.shaped (shape_is a.inst ((a.spells).spelled).inst)
 
--- the numbers that it may bring into registers are words
+-- the numbers that it may write to registers are words
 pub IsCode-suits : (image : ImageData) (plan : PlanData) (x : ℕ) (s : Shape) (n : ℕ) → IsCode image plan x s n → machine.IsShape s
 IsCode-suits image plan x s n a = subst (λ (t : Shape). machine.IsShape t) a.shaped (machine.shape_of-suits a.inst ((a.spells).spelled).inst)
 

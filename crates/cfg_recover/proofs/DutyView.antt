@@ -1,4 +1,5 @@
--- A duty of a point, by what asks for it: each lemma of the form "each duty is such" goes by these cases.
+-- The duties of a point by cases: what asks for each. Lemmas of the form "each duty is such" use
+-- these cases.
 use Rattle.std.proofs.Common.{◌≡◌, ℕ, zero, suc, ◌<◌, inl, inr, Bool, true, false, List, [], ◌∷◌, ◌++◌, map, get_or, refl, subst, arith, Option, Some, None, eqb, eqb-true}
 use Rattle.std.specs.Prelude.{Contains, unwrap_or, if◌then◌else◌}
 use Rattle.std.specs.List.{flat_map}
@@ -45,7 +46,7 @@ pub data DutyAt (b : Limits) (image : ImageData) (plan : PlanData) (key : Key) (
   resumes : key.kind ≡ 3 → DutyAt b image plan key p s n Rfe (owed 7 (leave (exit_of s)))
 
 module _ (b : Limits) (image : ImageData) (plan : PlanData) (key : Key) (p : ℕ) (s : State) (n : ℕ) where
-  -- each duty of these is one of the point's
+  -- each duty of this list is one of the cases
   AreAt : Shape → List Owed → Type 0
   AreAt shape ds = (d : Owed) → Contains ds d → DutyAt b image plan key p s n shape d
 
@@ -111,7 +112,7 @@ module _ (b : Limits) (image : ImageData) (plan : PlanData) (key : Key) (p : ℕ
   leavings_at Rfe = elim (cases_Bool (eqb key.kind 3)) [ inl t ↦ rw t (one_at Rfe _ (resumes (eqb-true key.kind 3 t))) | inr f ↦ rw f (none_at Rfe) ]
   leavings_at shape = none_at shape
 
-  -- so is all that a point owes
+  -- each duty of a point is one of the cases
   pub duty_at : (shape : Shape) (d : Owed) → Contains (duties_of b image plan key p s shape n) d → DutyAt b image plan key p s n shape d
   unfolding duties_of AreAt
   duty_at shape =
@@ -120,7 +121,7 @@ module _ (b : Limits) (image : ImageData) (plan : PlanData) (key : Key) (p : ℕ
       (both_at shape _ (misaligned_of b plan key s shape) (both_at shape (successors_of b image plan p s shape n) (entries_of plan key p s shape n) (successors_at shape) (entries_at shape)) (accesses_at shape))
       (interrupts_at shape)) (leavings_at shape)
 
-  -- and the other way round
+  -- and each case is a duty of the point
   pub duty_listed : (shape : Shape) (d : Owed) → DutyAt b image plan key p s n shape d → Contains (duties_of b image plan key p s shape n) d
   duty_listed _ d (next shape e) = owes_successor b image plan key p s shape n d (rw (e s) (contains_first d []))
   duty_listed _ d (straight test x y by lowers t e) =

@@ -1,4 +1,4 @@
--- The states that the entries of frames make.
+-- The states after the changes at the entries of frames.
 use Rattle.std.proofs.Common.{◌≡◌, ℕ, true, false, refl}
 use Rattle.tcd_plan.specs.PlanData.{PlanData}
 use Rattle.value_domain.specs.declared.values.Val.{Val}

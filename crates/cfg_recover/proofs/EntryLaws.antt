@@ -1,4 +1,5 @@
--- Words that lie in a state lie in the states that cover it, at the entries that it leads to, in exits, and after calls.
+-- Words that a state holds are held by the states that cover it, at the entries of frames, by
+-- exits, and after returns.
 use Rattle.std.proofs.Common.{◌≡◌, ◌≢◌, ℕ, zero, suc, ◌+◌, ◌-◌, ◌<◌, ◌≤◌, ◌^◌, ◌⊎◌, ◌&&◌, inl, inr, Bool, true, false, cond, List, [], ◌∷◌, length, get_or, take, drop, replicate, refl, sym, ap, ◌∙◌, subst, arith, Option, Some, None, IsTrue, ltb, leb, if◌then◌else◌, length-append, length-take-le, length-drop, get_or-take, get_or-drop}
 use Rattle.std.specs.Prelude.{IfSome}
 use Rattle.std.proofs.lemmas.Bool.{cases_Bool, cases_eq, cases_lt, eq-eqb, ne_eqb, lt-ltb, le-ltb, le-leb, lt-leb, ltb-true, leb-true, and_parts, or_cases, cond_both}
@@ -39,7 +40,7 @@ covered_at : (plan : PlanData) (u s : State) (w r : ℕ) (o : Option ℕ) → o 
 covered_at plan u s w r None e len below m = m
 covered_at plan u s w r (Some i) e len below m = below i (omega (arith, (slot_is r i (sym e)).within)) w m
 
--- words that lie in a state lie in each state that covers it
+-- a state that covers one that holds the words holds them, too
 pub holds_covered : (plan : PlanData) (u s : State) (word : ℕ → ℕ) (ie : Bool) (ccpn : ℕ) → Covers u s → length s.regs ≡ 27 → Holds plan word ie ccpn s → Holds plan word ie ccpn u
 holds_covered plan u s word ie ccpn c len h = record {
   regs = λ r lt. covered_at plan u s (word r) r (slot r) refl len c.regs (h.regs r lt);
@@ -59,7 +60,7 @@ same_at : (plan : PlanData) (s t : State) (w r : ℕ) (o : Option ℕ) → t.reg
 same_at plan s t w r (Some i) same m = subst (λ (l : List Val). IsMember w (get_or l i any_val)) (sym same) m
 same_at plan s t w r None same m = m
 
--- the values stay, and A11 may be another
+-- the values stay, and A11 may be another word
 pub holds_same : (plan : PlanData) (s t : State) (word word2 : ℕ → ℕ) (ie ie2 : Bool) (ccpn ccpn2 : ℕ) → t.regs ≡ s.regs → (IsTrue ie2 → IsTrue t.ie) → t.ccpn ≤ ccpn2
     → word2 27 < 2 ^ 32 → ((r : ℕ) → r < 32 → r ≢ 27 → word2 r ≡ word r) → Holds plan word ie ccpn s → Holds plan word2 ie2 ccpn2 t
 holds_same plan s t word word2 ie ie2 ccpn ccpn2 same enabled priority small others h = record {
@@ -95,7 +96,7 @@ some_slot r lt n16 n17 n24 n25 n27 e =
       ]
     ]
 
--- they are A0, A1, A8, A9 and A11
+-- the registers without a value are A0, A1, A8, A9 and A11
 fixed_cases : (P : ℕ → Type 0) → P 16 → P 17 → P 24 → P 25 → P 27 → (r : ℕ) → r < 32 → slot r ≡ None → P r
 fixed_cases P a0 a1 a8 a9 a11 r lt e =
     elim (cases_eq r 16) [
@@ -119,7 +120,7 @@ fixed_cases P a0 a1 a8 a9 a11 r lt e =
 abbrev pub HasGlobalWords : PlanData → (ℕ → ℕ) → Type 0
 HasGlobalWords plan word = (r : ℕ) → r < 32 → slot r ≡ None → IsMember (word r) (fixed_of plan r)
 
--- they are where A0 to A9 are as in words that lie in a state
+-- they are, if A0 to A9 are as in words that a state holds
 pub globals_stay : (plan : PlanData) (s : State) (word word2 : ℕ → ℕ) (ie : Bool) (ccpn : ℕ) → word2 27 < 2 ^ 32 → ((r : ℕ) → 16 ≤ r → r < 26 → word2 r ≡ word r) → Holds plan word ie ccpn s → HasGlobalWords plan word2
 unfolding slot
 globals_stay plan s word word2 ie ccpn small same h =
@@ -130,7 +131,7 @@ globals_stay plan s word word2 ie ccpn small same h =
     (rw (same 25 (omega arith) (omega arith)) (h.regs 25 (omega arith)))
     (any_member (word2 27) small)
 
--- the word of a machine's register
+-- the word of a machine's register is below 2^32
 pub reg_lt : (m : Machine) → IsMachine m → (r : ℕ) → reg m r < 2 ^ 32
 reg_lt m k r =
     elim (cases_Bool (ltb r 16)) [
@@ -144,7 +145,7 @@ globals_start plan m k same =
     (any_member (reg m 27) (reg_lt m k 27))
 
 -- ---- entries
--- a state of which nothing is known
+-- a state in which nothing is known
 abbrev blank : Bool → ℕ → Bool → State
 blank ie ccpn lower = record { regs = replicate 27 any_val; ie = ie; ccpn = ccpn; lower = lower; locals = record { items = [] } }
 
@@ -154,7 +155,7 @@ blank_at plan t w r (Some i) same e small fixed =
     let is = slot_is r i (sym e) in
     subst (λ (v : Val). IsMember w v) (sym (ap (λ (l : List Val). get_or l i any_val) same ∙ get_or-replicate 27 i any_val any_val is.within)) (any_member w small)
 
--- words whose A10 is a member of the stack pointer's value
+-- at an entry: words whose A10 is a member of the stack pointer's value
 pub holds_entry : (plan : PlanData) (word : ℕ → ℕ) (sp : Val) (ie ie2 : Bool) (ccpn ccpn2 : ℕ) (lower : Bool) → (IsTrue ie2 → IsTrue ie) → ccpn ≤ ccpn2 → ((r : ℕ) → r < 32 → word r < 2 ^ 32)
     → HasGlobalWords plan word → IsMember (word 26) sp → Holds plan word ie2 ccpn2 (entry_with sp ie ccpn lower)
 holds_entry plan word sp ie ie2 ccpn ccpn2 lower enabled priority small globals m =
@@ -168,13 +169,13 @@ holds_entry plan word sp ie ie2 ccpn ccpn2 lower enabled priority small globals 
 pub entry_length : (sp : Val) (ie : Bool) (ccpn : ℕ) (lower : Bool) → length (entry_with sp ie ccpn lower).regs ≡ 27
 entry_length sp ie ccpn lower = same_length (blank ie ccpn lower) sp (slot 26) ∙ length-replicate 27 any_val
 
--- a start state's registers lie in the state at the start
+-- the state at the start holds the registers of a start state of the machine
 pub holds_start : (image : ImageData) (plan : PlanData) (m : Machine) → Starts image plan m → Holds plan (reg m) m.ie m.ccpn (start_state plan)
 holds_start image plan m st =
     holds_entry plan (reg m) (word_val plan.sp) plan.start_ie m.ie plan.start_ccpn m.ccpn false (λ t. sym st.ie ∙ t) (omega (arith, st.ccpn)) (λ r lt. reg_lt m st.machine r)
     (globals_start plan m st.machine st.globals) (inl st.sp)
 
--- the stack pointer of a handler
+-- the stack pointer of a handler is a member of its value
 pub stack_member : (plan : PlanData) (key : Key) (m : Machine) (s : State) (ie : Bool) (ccpn : ℕ) → is_of m.psw ≡ key.is → m.isp ≡ plan.isp → Holds plan (reg m) ie ccpn s → IsMember (handler_stack m) (stack_of plan key s)
 stack_member plan key m s ie ccpn same isp h =
     elim (cases_Bool key.is) [
@@ -187,7 +188,7 @@ module _ (plan : PlanData) (key : Key) (s : State) (word word2 : ℕ → ℕ) (i
   pub holds_irq : (p : ℕ) → ((r : ℕ) → r < 32 → word2 r < 2 ^ 32) → ((r : ℕ) → 16 ≤ r → r < 26 → word2 r ≡ word r) → Holds plan word2 false p (irq_entry plan key s p)
   holds_irq p small same = holds_entry plan word2 (stack_of plan key s) false false p p true (λ t. t) (omega arith) small (globals_stay plan s word word2 ie ccpn (small 27 (omega arith)) same h) stack
 
-  -- of that of misaligned accesses
+  -- at the entry of the handler of misaligned accesses
   pub holds_aln : ((r : ℕ) → r < 32 → word2 r < 2 ^ 32) → ((r : ℕ) → 16 ≤ r → r < 26 → word2 r ≡ word r) → word2 15 ≡ 4 → Holds plan word2 false ccpn (aln_entry plan key s)
   holds_aln small same four =
       holds_narrow plan (entry_with (stack_of plan key s) false s.ccpn true) word2 false ccpn 15 (word_val 4) (entry_length (stack_of plan key s) false s.ccpn true) (omega arith) (inl four)
@@ -203,7 +204,7 @@ module _ (plan : PlanData) (key : Key) (s : State) (word word2 : ℕ → ℕ) (i
         ]
       ]
 
-  -- of that of system calls
+  -- at the entry of the handler of system calls
   pub holds_sys : (tin : ℕ) → length s.regs ≡ 27 → word2 27 < 2 ^ 32 → word2 15 ≡ tin → ((r : ℕ) → r < 32 → r ≢ 15 → r ≢ 26 → r ≢ 27 → word2 r ≡ word r) → Holds plan word2 false ccpn (sys_entry plan key s tin)
   unfolding slot
   holds_sys tin len small is same =
@@ -228,7 +229,7 @@ sys_length plan key s tin = same_length (set_reg s 26 (stack_of plan key s)) (wo
 abbrev pub lower_place : ℕ → ℕ
 lower_place r = if ltb r 8 then r else r - 10
 
--- the words of the lower registers, IE and CCPN lie in an exit
+-- an exit holds the words of the lower registers, IE and CCPN
 pub record HoldsExit (word : ℕ → ℕ) (ie : Bool) (ccpn : ℕ) (x : Exit) : Type 0 where
   pub lower : (r : ℕ) → is_lower r ≡ true → IsMember (word r) (get_or x.lower (lower_place r) any_val)
   pub enabled : IsTrue ie → IsTrue x.ie
@@ -270,7 +271,7 @@ module _ (regs : List Val) (len : length regs ≡ 27) where
       get_or-append_right (take 8 regs) (take 6 (drop 16 regs)) 8 (r - 10) any_val d_length (omega arith) ∙ ap (λ i. get_or (take 6 (drop 16 regs)) i any_val) at
       ∙ get_or-take 6 (drop 16 regs) (r - 18) any_val (omega arith) ∙ get_or-drop 16 regs (r - 18) any_val ∙ ap (λ i. get_or regs i any_val) from
 
--- the values of the lower registers are a state's
+-- the values of the lower registers in a state's exit are the state's
 exit_value : (plan : PlanData) (s : State) (r : ℕ) → length s.regs ≡ 27 → is_lower r ≡ true → get_or (lower_values s.regs) (lower_place r) any_val ≡ reg_of plan s r
 exit_value plan s r len low =
     elim (lower_cases r low) [
@@ -285,7 +286,7 @@ lower_small r low =
       | inr a ↦ (omega (arith, a.1), rw (le-ltb r 8 (omega (arith, a.0))) (omega (arith, a.0, a.1)))
     ]
 
--- words that lie in a state lie in each exit that covers the state's
+-- an exit that covers a state's exit holds the words that the state holds
 pub holds_exit : (plan : PlanData) (s : State) (word : ℕ → ℕ) (ie : Bool) (ccpn : ℕ) (y : Exit) → length s.regs ≡ 27 → ExitCovers y (exit_of s) → Holds plan word ie ccpn s → HoldsExit word ie ccpn y
 holds_exit plan s word ie ccpn y len c h = record {
   lower = λ r low.
@@ -310,7 +311,7 @@ unfolding with_lower_from
 with_lower_length k lower [] = refl
 with_lower_length k lower (v ∷ vs) = ap suc (with_lower_length (k + 1) lower vs)
 
--- the place of a lower register's value in a state tells its place in an exit
+-- the place of a lower register's value in an exit follows from its place in a state
 exit_place : (r i : ℕ) → is_lower r ≡ true → slot r ≡ Some i → cond (ltb i 8) i (i - 8) ≡ lower_place r
 exit_place r i low e =
     elim (lower_cases r low) [
@@ -341,11 +342,11 @@ module _ (plan : PlanData) (s : State) (x : Exit) (kind : ℕ) (word : ℕ → �
     priority = priority;
   }
 
-  -- after a call: the lower registers, IE and CCPN are the exit's, the upper ones the caller's
+  -- after a call the lower registers, IE and CCPN are the exit's, the upper registers the caller's
   pub holds_after_call : (ie : Bool) (ccpn : ℕ) → kind ≡ 1 → HoldsExit word ie ccpn x → Holds plan word ie ccpn (after_of s x kind)
   holds_after_call ie ccpn call h = after_holds ie ccpn h.lower (rw (eq-eqb kind 1 call) h.enabled) (rw (eq-eqb kind 1 call) h.priority)
 
-  -- after a system call: IE and CCPN are the caller's too
+  -- after a system call IE and CCPN are the caller's, too
   pub holds_after_system : (ie ie2 : Bool) (ccpn ccpn2 : ℕ) → kind ≢ 1 → HoldsExit word ie2 ccpn2 x → (IsTrue ie → IsTrue s.ie) → s.ccpn ≤ ccpn → Holds plan word ie ccpn (after_of s x kind)
   holds_after_system ie ie2 ccpn ccpn2 other h enabled priority = after_holds ie ccpn h.lower (rw (ne_eqb kind 1 other) enabled) (rw (ne_eqb kind 1 other) priority)
 
@@ -368,7 +369,7 @@ transfer_length b plan Rslcx s loaded = length-forgotten 0 s.regs
 transfer_length b plan (Mfcr dst number) s loaded = same_length s any_val (slot dst)
 transfer_length b plan _ s loaded = refl
 
--- a branch's state has as many as the one before
+-- a state on a side of a branch has as many values as the one before
 with_arg_length : (s : State) (y : Arg) (v : Val) → length (set_arg s y v).regs ≡ length s.regs
 with_arg_length s (Reg r) v = same_length s v (slot r)
 with_arg_length s (Word w) v = refl

@@ -15,7 +15,7 @@ use Rattle.cfg_recover.specs.Accepting.{limits_in, RuleHolds, HoldsAtNode, Accep
 use Rattle.cfg_recover.specs.FaultLaws.{IsPlace, start, entry, point, FirstFaultsSay, NeedSays}
 use Rattle.cfg_recover.proofs.DutyRules.{duty_asked}
 
--- a fault refutes an accepted certificate
+-- a certificate with a fault isn't accepted
 pub fails_refutes : (image : ImageData) (plan : PlanData) (cert : CertData) (r : ℕ) (k : Key) (p : ℕ) → Fails image plan cert r k p → Accepts image plan cert → ⊥
 fails_refutes image plan cert _ _ _ (at_start wrong) accepts = wrong accepts.start
 fails_refutes image plan cert _ _ _ (at_entry node member wrong) accepts = wrong (All-contains (HoldsAtNode image plan cert) cert.nodes node accepts.nodes member).entry
@@ -23,7 +23,7 @@ fails_refutes image plan cert _ _ _ (at_point node q r member at wrong) accepts 
     let holds = All-contains (HoldsAtNode image plan cert) cert.nodes node accepts.nodes member in
     wrong (All-contains (λ (p : Point). (r : ℕ) → RuleHolds image plan cert node p r) node.points q holds.points at r)
 
--- no rule but 2 to 14 asks something of a point
+-- only rules 2 to 14 ask something of a point
 no_rule : (image : ImageData) (plan : PlanData) (cert : CertData) (node : NodeData) (q : Point) (r : ℕ) → (r < 2) ⊎ (14 < r) → RuleHolds image plan cert node q r
 no_rule image plan cert node q r out =
     let other : (n : ℕ) → 2 ≤ n → n ≤ 14 → r ≡ n → ⊥ = λ n low high e. elim out [ inl h ↦ omega arith | inr h ↦ omega arith ] in
@@ -78,7 +78,7 @@ module _ (image : ImageData) (plan : PlanData) (cert : CertData) (small : image.
       let high : r ≤ 14 = elim (cases_lt 14 r) [ inl lt ↦ absurd (wrong (no_rule image plan cert node q r (inr lt))) | inr ge ↦ ge ] in
       record { some = omega arith; most = high; addr = here.addr; one = λ e. absurd (omega arith) }
 
--- a number of key, address and rule that isn't greater stands before
+-- a fault whose number isn't greater comes before the other, or is it
 before : (r a p q c x : ℕ) → p < 2 ^ 32 → x < 2 ^ 32 → r ≤ 14 → q ≤ 14 → (a * 2 ^ 32 + p) * 2 ^ 4 + r ≤ (c * 2 ^ 32 + x) * 2 ^ 4 + q → (a < c) ⊎ (a ≡ c) × ((p < x) ⊎ (p ≡ x) × (r ≤ q))
 before r a p q c x p_lt x_lt r_le q_le le =
     elim (cases_lt a c) [

@@ -18,7 +18,8 @@ use Rattle.depth_cert.specs.Certs.{CertData, IsCert}
 use Rattle.cfg_recover.specs.Accepting.{limits_in, Accepts, HoldsAtNode}
 
 -- ---- rising lists
--- an element stands before the one at i, is that one, or has a greater number
+-- In a list in ascending order, an element is before the one at i, or is that one, or has a greater
+-- number.
 pub place_of : {A : Type 0} (f : A → ℕ) (xs : List A) (i : ℕ) (x y : A) → IsStrictlyIncreasing (map f xs) → i < length xs → y ≡ get_or xs i y → Contains xs x → Contains (take i xs) x ⊎ ((x ≡ y) ⊎ (f y < f x))
 place_of f xs i x y rising lt at (k, within, is) =
     let here : get_or xs i x ≡ y = at_read xs (λ z. z ≡ y) i y lt at refl x in
@@ -33,21 +34,21 @@ place_of f xs i x y rising lt at (k, within, is) =
           ]
     ]
 
--- one more element, where it is read as an item
+-- P holds of one more element, the one that is read as an item
 pub all_more : {X : Type 0} (P : X → Type 0) (xs : List X) (i : ℕ) (x : X) → i < length xs → x ≡ get_or xs i x → All P (take i xs) → P x → All P (take (i + 1) xs)
 all_more P xs i x lt is h p = All-more P xs i x lt h (subst P is p)
 
--- all elements
+-- P holds of all elements
 pub all_done : {X : Type 0} (P : X → Type 0) (xs : List X) (i : ℕ) → length xs ≤ i → All P (take i xs) → All P xs
 all_done P xs i past h = All-same P xs (take i xs) (sym (take_all i xs past)) h
 
--- what a test denies doesn't hold
+-- if a test says no, P doesn't hold
 pub broken : (b : Bool) (P : Type 0) → b ≡ false → (IsTrue b ↔ P) → P → ⊥
 broken b P fails both p = absurd (let f : false ≡ true = sym fails ∙ both.1 p in cc)
 
 -- ---- a rule that points keep or break
 module _ (Keeps : Point → Type 0) (node : NodeData) (points : List Point) (same : points ≡ node.points) where
-  -- where the points before one keep it, no point that breaks it has a lesser address
+  -- If Keeps holds at all points before this one, no point at which it fails has a lesser address.
   pub least_point : (i : ℕ) (point other : Point) → ArePoints node.points → i < length points → point ≡ get_or points i point → All Keeps (take i points) → Contains node.points other → (Keeps other → ⊥)
       → point.addr ≤ other.addr
   least_point i point other rising lt at before stands wrong =
@@ -69,7 +70,8 @@ module _ (Keeps : NodeData → Point → Type 0) (cert : CertData) (is_cert : Is
   pub in_cert : (i : ℕ) (node : NodeData) → i < length nodes → node ≡ get_or nodes i node → Contains cert.nodes node
   in_cert i node lt at = subst (λ (l : List NodeData). Contains l node) same (i, lt, sym at)
 
-  -- where the nodes before one keep it, and its points of lesser addresses do, no place that breaks it is lesser
+  -- If Keeps holds at all nodes before this one, and at its points of lesser addresses, no place at
+  -- which it fails comes before.
   pub least_place : (i : ℕ) (node other : NodeData) (p : ℕ) (point : Point) → i < length nodes → node ≡ get_or nodes i node → All (λ (n : NodeData). All (Keeps n) n.points) (take i nodes)
       → ((z : Point) → Contains node.points z → (Keeps node z → ⊥) → p ≤ z.addr) → p < 2 ^ 32 → Contains cert.nodes other → Contains other.points point → (Keeps other point → ⊥)
       → number_of_key node.key * 2 ^ 32 + p ≤ number_of_key other.key * 2 ^ 32 + point.addr
@@ -93,13 +95,13 @@ address_small cert is_cert node point member stands =
     (All-contains (IsPoint cert.version) node.points point is.points stands).addr
 
 -- ---- values that are accepted
--- the rules accept only values of the plan (rule 2)
+-- the values of an accepted certificate are of the plan's lattice (rule 2)
 pub accepted_values : (image : ImageData) (plan : PlanData) (cert : CertData) (node : NodeData) → Accepts image plan cert → Contains cert.nodes node → All (λ (p : Point). AreValues (limits_in plan cert) (p.state).regs) node.points
 accepted_values image plan cert node accepts member i d lt =
     let holds = All-contains (HoldsAtNode image plan cert) cert.nodes node accepts.nodes member in
     (holds.points i d lt 2).values refl
 
--- so the values at the points of a node that is read as an item are the plan's
+-- so are the values at the points of a node that is read as an item
 pub item_values : (image : ImageData) (plan : PlanData) (cert : CertData) (b : Limits) (nodes : List NodeData) (i : ℕ) (node : NodeData) → Accepts image plan cert → b ≡ limits_in plan cert → nodes ≡ cert.nodes
     → i < length nodes → node ≡ get_or nodes i node → All (λ (p : Point). AreValues b (p.state).regs) node.points
 item_values image plan cert b nodes i node accepts limits items lt at =

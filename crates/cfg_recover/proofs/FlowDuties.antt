@@ -1,4 +1,4 @@
--- The interrupts' part of what a flow tells.
+-- The interrupts' part of a Flow's duties.
 use Rattle.std.proofs.Common.{◌≡◌, ℕ, Bool, true, false, List, ap, refl, sym, ◌∙◌}
 use Rattle.elf_image.specs.Images.{ImageData}
 use Rattle.tcd_plan.specs.PlanData.{PlanData}
@@ -19,12 +19,12 @@ pub told_irqs-is : (plan : PlanData) (key : Key) (s entry : State) (irqs : List 
 unfolding slot
 told_irqs-is plan key s entry irqs e f = ap (λ (t : State). told_irqs plan t irqs) e ∙ ap (λ (l : List ℕ). told_irqs plan (irq_entry plan key s 0) l) f
 
--- two tests that hold together
+-- two tests with the same answers are equal
 pub same_test : (a b : Bool) → (a ≡ true → b ≡ true) → (b ≡ true → a ≡ true) → a ≡ b
 same_test true b there back = sym (there refl)
 same_test false true there back = back refl
 same_test false false there back = refl
 
--- where rule 8's own part holds there is room
+-- if rule 8's own part holds, there is room
 pub room_of : (b : Limits) (image : ImageData) (plan : PlanData) (key : Key) (p : ℕ) (s : State) (found : InstData × ℕ) → FindsFaultless b image plan key p s found → HasRoom b (shape_of found.0) s
 room_of b image plan key p s found f = ((f.faultless 8).own (shape_of found.0) found.1 f.code).room refl

@@ -1,4 +1,4 @@
--- Lists of values that are made or written place by place.
+-- Lists of values that are written place by place.
 use Rattle.std.proofs.Common.{◌≡◌, inl, inr, ℕ, zero, suc, ◌<◌, Bool, List, [], ◌∷◌, length, refl, arith, get_or, set, replicate}
 use Rattle.std.proofs.lemmas.Bool.{cases_eq}
 use Rattle.std.proofs.lemmas.List.{get_or-set_same, get_or-set_other, get_or-replicate, length-replicate}
@@ -11,7 +11,7 @@ use Rattle.value_domain.proofs.RangeLaws.{any_value}
 use Rattle.vd_transfer.specs.Registers.{slot}
 use Rattle.cfg_recover.specs.Entries.{entry_with}
 
--- a list that has one value everywhere
+-- a list with the same value everywhere
 pub replicate-all : (v : Val) (n : ℕ) (vs : List Val) → length vs ≡ n → ((i : ℕ) → i < n → get_or vs i v ≡ v) → vs ≡ replicate n v
 replicate-all v zero [] e each = refl
 replicate-all v zero (w ∷ vs) e each = absurd (omega arith)

@@ -14,7 +14,7 @@ last-more y z zs =
     let e : length (y ∷ z ∷ zs) - 1 ≡ suc (length (z ∷ zs) - 1) = omega arith in
     ap (λ (n : ℕ). slice_get (y ∷ z ∷ zs) n) e
 
--- the last one again
+-- adding the last word again
 pub put-again : (x : ℕ) (ys : List ℕ) → Rising ys → slice_get ys (length ys - 1) ≡ Some x → sorted_insert x ys ≡ ys
 put-again x [] r e = absurd (let f : None ≡ Some x = e in cc)
 put-again x (y ∷ []) r e = put-eq x y [] (sym (some_same y x e))
@@ -23,7 +23,7 @@ put-again x (y ∷ z ∷ zs) r e =
     let above : y < x = r.0 x (subst (λ (l : List ℕ). Among x l) rest (put_has x (z ∷ zs))) in
     put-gt x y (z ∷ zs) above ∙ ap (λ (l : List ℕ). y ∷ l) rest
 
--- one that isn't below the others, and isn't the last
+-- adding a word that isn't below the others, and isn't the last one
 pub put-behind : (x : ℕ) (ys : List ℕ) → Rising ys → ((y : ℕ) → Among y ys → y ≤ x) → (slice_get ys (length ys - 1) ≡ Some x → ⊥) → sorted_insert x ys ≡ ys ++ x ∷ []
 unfolding sorted_insert
 put-behind x [] r greatest other = refl

@@ -1,4 +1,4 @@
--- What edges and frames are, step by step, and what the promises on them give.
+-- What edges and frames are at each step, and what the promises about them give.
 use Rattle.std.proofs.Common.{◌≡◌, ℕ, suc, Bool, true, false, cond, List, [], ◌∷◌, ◌++◌, Option, Some, refl, sym, ap, ◌∙◌, subst, arith, ◌==◌}
 use Rattle.std.specs.Prelude.{None, IsSomeAnd, Result}
 use Rattle.std.proofs.lemmas.Bool.{eqb-true}
@@ -67,7 +67,7 @@ pub edges_are : EdgesAre
 edges_are m e = edge_is m e
 
 -- ---- frames
--- one event more
+-- the frames after one more event
 frames_more : (m : Machine) (es : List Event) (e : Event) (fs : List Standing) → frames_from m (es ++ e ∷ []) fs ≡ frames_after (run m es) e (frames_from m es fs)
 frames_more m [] e fs = refl
 frames_more m (x ∷ es) e fs = frames_more (step m x) es e (frames_after m x fs)
@@ -76,7 +76,7 @@ module _ (m : Machine) (e : Event) (f : Standing) (older : List Standing) where
   by_way : (w : Way) → way_of_step m e ≡ w → frames_after m e (f ∷ older) ≡ frames_by m.pc (moved m.pc (size_in (fetched m))) e.irq w (f ∷ older)
   by_way w h = ap (λ (v : Way). frames_by m.pc (moved m.pc (size_in (fetched m))) e.irq v (f ∷ older)) h
 
-  -- where the instruction's size counts
+  -- ways that depend on the instruction's size
   by_size : (w : Way) (shape : Shape) (n : ℕ) → way_of_step m e ≡ w → Meets m e shape n → frames_after m e (f ∷ older) ≡ frames_by m.pc (moved m.pc n) e.irq w (f ∷ older)
   by_size w shape n h meets =
       by_way w h ∙ ap (λ (r : Result (Shape × ℕ) Cause). frames_by m.pc (moved m.pc (size_in r)) e.irq w (f ∷ older)) meets.there

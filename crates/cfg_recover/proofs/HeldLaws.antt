@@ -12,7 +12,7 @@ or_cases : (a b : Bool) → (a || b) ≡ true → (a ≡ true) ⊎ (b ≡ true)
 or_cases true b e = inl refl
 or_cases false b e = inr e
 
--- a segment shares no address with any behind it
+-- a segment shares no address with the segments after it
 apart_one : (s : SegmentData) (ss : List SegmentData) (i : ℕ) (t : SegmentData) → list_all (are_apart s) ss ≡ true → slice_get ss i ≡ Some t → (nat_le (s.at + length s.bytes) t.at ≡ true) ⊎ (nat_le (t.at + length t.bytes) s.at ≡ true)
 apart_one s [] i t h e = cc
 apart_one s (u ∷ us) zero t h e =
@@ -41,7 +41,7 @@ not_both s t x o low high = by (holds s x) refl o
 both : (a b : Bool) → a ≡ true → b ≡ true → (a && b) ≡ true
 both a b p q = rw (p, q) refl
 
--- the byte at an address is that of a segment which has it there
+-- the byte at an address is the one in the segment that has the address
 byte_there : (ss : List SegmentData) (i : ℕ) (t : SegmentData) (x b : ℕ) → all_apart ss ≡ true → slice_get ss i ≡ Some t → t.at ≤ x → slice_get t.bytes (x - t.at) ≡ Some b → byte_in ss x ≡ Some b
 byte_there [] i t x b apart e low h = cc
 byte_there (s ∷ ss) zero t x b apart e low h =
@@ -60,7 +60,7 @@ byte_there (s ∷ ss) (suc i) t x b apart e low h =
     ap (λ b. cond b (slice_get s.bytes (x - s.at)) (byte_in ss x)) not_here
     ∙ byte_there ss i t x b p.1 e low h
 
--- bytes that stand in one segment are those of the image
+-- bytes of one segment are bytes of the image
 pub held_in : (image : ImageData) (i : ℕ) (t : SegmentData) (bs : List ℕ) (x : ℕ) → all_apart image.segments ≡ true → slice_get image.segments i ≡ Some t → StandIn t x bs → held_bytes image x (length bs) ≡ Some bs
 held_in image i t [] x apart e h = refl
 held_in image i t (b ∷ bs) x apart e h =
@@ -68,7 +68,7 @@ held_in image i t (b ∷ bs) x apart e h =
     let rest : held_bytes image (x + 1) (length bs) ≡ Some bs = held_in image i t bs (x + 1) apart e h.2 in
     rw (here, rest) refl
 
--- a segment of the code among those of the image
+-- a segment of the image in memory is one of its segments as data
 pub segment_there : (ss : List Segment) (i : ℕ) (t : Segment) → i < length ss → t ≡ get_or ss i t → slice_get (map segment_data ss) i ≡ Some (segment_data t)
 segment_there [] i t h e = absurd (omega arith)
 segment_there (s ∷ ss) zero t h e = ap (λ (u : Segment). Some (segment_data u)) (sym e)

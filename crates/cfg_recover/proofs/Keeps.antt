@@ -1,4 +1,5 @@
--- What instructions that stay in their frame leave: locals, registers without a value, and lower registers where the state says so.
+-- What instructions that stay in their frame keep: locals, registers without a value, and the lower
+-- registers if the state says that they are the entry's.
 use Rattle.std.proofs.Common.{◌≡◌, ◌≢◌, ℕ, ◌+◌, ◌-◌, ◌%◌, ◌^◌, Bool, true, false, not, ◌&&◌, cond, refl, sym, ap, ◌∙◌, Option, Some, None}
 use Rattle.std.specs.Prelude.{IfSome, is_some}
 use Rattle.std.proofs.lemmas.Bool.{and_parts, not-true, both_ways, cond_both}
@@ -21,7 +22,7 @@ use Rattle.vd_transfer.specs.Holding.{set_word, with_base_word, words_after, Has
 use Rattle.cfg_recover.specs.Moves.{StaysInFrame}
 use Rattle.cfg_recover.proofs.Went.{set_word-other}
 
--- where t says that the lower registers are the entry's, so does s, and no lower register's word is another
+-- If t says that the lower registers are the entry's, so does s, and their words are the same.
 abbrev pub KeepsLower : (ℕ → ℕ) → (ℕ → ℕ) → State → State → Type 0
 KeepsLower word word2 s t = t.lower ≡ true → (s.lower ≡ true) × ((r : ℕ) → is_lower r ≡ true → word2 r ≡ word r)
 
@@ -31,7 +32,7 @@ kept_set word l dst w e =
     let h = and_parts l (not (is_lower dst)) e in
     (h.0, λ r low. set_word-other word dst w r (λ same. both_ways (is_lower dst) (not-true (is_lower dst) h.1) (ap is_lower (sym same) ∙ low)))
 
--- writing a register keeps the lower ones, or forgets them
+-- a write of a register keeps the lower registers, or drops the claim that they are the entry's
 keeps_write : (word word2 : ℕ → ℕ) (s t : State) (dst w : ℕ) (v : Val) → KeepsLower word word2 s t → KeepsLower word (set_word word2 dst w) s (write_reg t dst v)
 keeps_write word word2 s t dst w v keeps e =
     let h = kept_set word2 t.lower dst w e in
@@ -41,7 +42,7 @@ keeps_write word word2 s t dst w v keeps e =
 same_keeps : (word : ℕ → ℕ) (s : State) → KeepsLower word word s s
 same_keeps word s e = (e, λ r low. refl)
 
--- a register without a value is none that has one
+-- a register without a value isn't one that has a value
 without_value : (r q : ℕ) → HasValue r → slot q ≡ None → q ≢ r
 without_value r q has none same = both_ways (is_some (slot r)) (ap (λ n. is_some (slot n)) (sym same) ∙ ap is_some none) has
 
@@ -69,7 +70,7 @@ base_locals b plan s (Reg r) offset false = refl
 base_locals b plan s (Reg r) offset true = written_locals s (value_of b Add (reg_of plan s r) (word_val offset)) (slot r)
 
 -- ---- instructions
--- an instruction that goes on with the next one and leaves the frame's contexts alone
+-- an instruction that goes on with the next one and doesn't touch the frame's contexts
 abbrev pub GoesOn : Shape → Type 0
 GoesOn shape = StaysInFrame shape × StaysPlain shape
 
@@ -113,7 +114,7 @@ keeps_locals b plan (Mfcr dst number) s loaded goes = written_locals s any_val (
 keeps_locals b plan _ s loaded goes = refl
 
 -- ---- branches
--- only values differ
+-- two states differ only in values
 record IsNarrowed (s t : State) : Type 0 where
   pub lower : t.lower ≡ s.lower
   pub locals : t.locals.items ≡ s.locals.items
@@ -141,7 +142,7 @@ narrowed_two s x y (Some v) (Some w) = narrowed_arg s (set_reg s x v) y w (narro
 narrowed : (b : Limits) (plan : PlanData) (test : Cond) (x : ℕ) (y : Arg) (s : State) (side : Bool) → IfSome (state_on_side b plan test x y s side) (IsNarrowed s)
 narrowed b plan test x y s side = cond_both (is_reg x y) _ _ (λ (o : Option State). IfSome o (IsNarrowed s)) (λ _. narrowed_one s x _) (λ _. narrowed_two s x y _ _)
 
--- what a branch's states keep
+-- what the states on the sides of a branch keep
 pub record IsKept (word word2 : ℕ → ℕ) (s t : State) : Type 0 where
   pub lower : KeepsLower word word2 s t
   pub locals : t.locals.items ≡ s.locals.items

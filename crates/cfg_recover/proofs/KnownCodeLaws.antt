@@ -1,4 +1,4 @@
--- What a word of code is, and what stands where its bytes stand.
+-- The instruction of a word of code, and the code at an address with that word.
 use Rattle.std.proofs.Common.{◌≡◌, ℕ, ◌+◌, ◌*◌, ◌/◌, ◌%◌, ◌<◌, List, [], ◌∷◌, ◌++◌, length, take, drop, get_or, Option, Some, None, Result, Ok, Err, refl, sym, ap, ◌∙◌, subst, arith, length-take}
 use Rattle.std.specs.Prelude.{IfSome}
 use Rattle.std.specs.Int.{from_le_bytes, w32}
@@ -68,7 +68,7 @@ four_of w (a ∷ b ∷ c ∷ d ∷ e ∷ rest) long small is = absurd (omega (ar
 pub whole_word : (w : ℕ) (bs : List ℕ) → length bs ≡ 4 → ((k : ℕ) → get_or bs k 0 < 256) → w ≡ from_le_bytes w32 bs → located_in w ≡ located_of (decoded_of bs)
 whole_word w bs long small is = ap (λ (l : List ℕ). located_of (decoded_of l)) (four_of w bs long small is)
 
--- where the first is even, the low half says it all
+-- if the first byte is even, the low half is enough
 pub half_word : (w : ℕ) (bs : List ℕ) → length bs ≡ 4 → ((k : ℕ) → get_or bs k 0 < 256) → w ≡ from_le_bytes w32 bs → w % 2 ≡ 0 → located_in (w % 65536) ≡ located_of (decoded_of bs)
 half_word w [] long small is even = absurd (omega (arith, long))
 half_word w (a ∷ []) long small is even = absurd (omega (arith, long))
@@ -95,7 +95,7 @@ pub located_there : (image : ImageData) (plan : PlanData) (x w : ℕ) (bs : List
 located_there image plan x w bs found even at word known =
     subst (λ (o : Option Located). LocatesCode image plan x o) (sym (known ∙ word)) (located_by image plan x bs (decoded_of bs) refl even at)
 
--- registers and words of what is located are such
+-- registers and words of the instruction are registers and words
 pub located_bounded : (image : ImageData) (plan : PlanData) (x : ℕ) (found : Option Located) → LocatesCode image plan x found → IfSome found (λ l. IsShape l.shape)
 located_bounded image plan x (Some l) code = IsCode-bounded image plan x l.shape l.size code
 located_bounded image plan x None code = tt

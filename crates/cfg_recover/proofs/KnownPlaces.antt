@@ -1,4 +1,5 @@
--- Places of certificates: what is known there, and the place of a greater certificate that covers one of a lesser.
+-- What is known at places of certificates. If one certificate is below another, a place of the
+-- upper one covers each place of the lower one.
 use Rattle.std.proofs.Common.{◌≡◌, ℕ, zero, suc, ◌<◌, inl, inr, Bool, true, false, cond, List, [], ◌∷◌, length, map, get_or, Option, Some, None, refl, sym, ap, ◌∙◌, subst, arith, eqb, ◌&&◌}
 use Rattle.std.specs.Prelude.{find, option_map, option_and_then, Contains}
 use Rattle.std.specs.List.Sorted.{IsStrictlyIncreasing}
@@ -45,7 +46,7 @@ same_place [] j d e lt = absurd (omega arith)
 same_place (z ∷ zs) zero d e lt = refl
 same_place (z ∷ zs) (suc j) d e lt = same_place zs j d e (omega arith)
 
--- elements with one number are one
+-- elements with the same number are equal
 one_of : {X : Type 0} (f : X → ℕ) (xs : List X) (x y : X) → IsStrictlyIncreasing (map f xs) → Contains xs x → Contains xs y → f x ≡ f y → x ≡ y
 one_of f xs x y rising (i, lt, at) (j, less, is) same =
     elim (cases_lt i j) [
@@ -139,7 +140,7 @@ pub over_state : (w : Known) (s : State) → CoversKnown w (state s) → (t : St
 over_state (state t) s c = (t, refl, c)
 over_state (leaving x) s c = absurd c
 
--- the point of another certificate that covers one
+-- the point of the upper certificate that covers this one
 pub record Above (cert : CertData) (k : Key) (q : Point) : Type 0 where
   pub node : NodeData
   pub place : Point

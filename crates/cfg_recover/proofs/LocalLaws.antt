@@ -1,4 +1,4 @@
--- The first rule whose own part fails.
+-- The least rule whose own part fails.
 use Rattle.std.proofs.Common.{◌≡◌, ℕ, ◌%◌, ◌<◌, ◌⊎◌, inl, inr, Bool, true, false, List, [], ◌∷◌, Some, None, refl, sym, ap, ◌∙◌, subst, arith}
 use Rattle.std.specs.Prelude.{IsTrue, ◌↔◌, ◌==◌}
 use Rattle.std.specs.List.{list_all}
@@ -35,12 +35,12 @@ all_from : (n : ℕ) (xs : List ℕ) → ((z : ℕ) → Among z xs → z % n ≡
 all_from n [] each = refl
 all_from n (x ∷ xs) each = and_from _ _ (eq-eqb (x % n) 0 (each x (inl refl))) (all_from n xs (λ z i. each z (inr i)))
 
--- the listed members of a value are multiples where all its members are
+-- the listed members of a value are multiples if and only if all its members are
 pub are_aligned-is : (v : Val) (size : ℕ) → IsWell v → AreAligned v size ↔ (are_aligned v size ≡ true)
 are_aligned-is v size well =
     (λ each. all_from size (members v) (λ z i. each z ((member_same v z well).1 i)), λ t x i. all_at size (members v) x t ((member_same v x well).0 i))
 
--- where the trap isn't stated, an access is allowed where all its addresses are aligned
+-- if the trap isn't stated, an access is allowed only if all its addresses are aligned
 pub allowed_untrapped : (fields plan : PlanData) (t : Bool) (v : Val) (size : ℕ) → IsWell v → fields ≡ plan → fields.aln ≡ false → IsTrue t ↔ AreAligned v size → IsTrue t ↔ ((are_aligned v size ≡ true) ⊎ (plan.aln ≡ true))
 allowed_untrapped fields plan t v size well e off is =
     let same = are_aligned-is v size well in
@@ -69,12 +69,12 @@ MayAccess-at b plan s shape at t e is =
     (λ h. same.0 (there.0 h), λ h. there.1 (same.1 h))
 
 -- ---- the least rule that fails
--- what a test that fails rules out
+-- if a test says no, P doesn't hold
 pub ruled_out : {P : Type 0} (t : Bool) → IsTrue t ↔ P → t ≡ false → P → ⊥
 ruled_out t is off h = let on : t ≡ true = is.1 h in cc
 
 -- ---- at an address
--- what holds for the shape found there holds
+-- what holds for the shape that was found there holds there
 pub LocalHolds-found : (b : Limits) (image : ImageData) (plan : PlanData) (key : Key) (p : ℕ) (s : State) (shape : Shape) (n r : ℕ) → IsCode image plan p shape n → LocalRule b plan key p s shape r → LocalHolds b image plan key p s r
 LocalHolds-found b image plan key p s shape n r code holds = record {
   code = λ e. record { shape = shape; size = n; code = code };

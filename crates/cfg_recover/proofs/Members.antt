@@ -1,4 +1,4 @@
--- What lists contain that are made of others, and duties among all that a point owes.
+-- Members of lists that are made of other lists, and of what a point owes.
 use Rattle.std.proofs.Common.{◌≡◌, ℕ, zero, suc, ◌<◌, Bool, true, List, [], ◌∷◌, ◌++◌, map, length, get_or, Option, Some, inl, inr, refl, sym, ap, ◌∙◌, subst, arith}
 use Rattle.std.specs.Prelude.{filter, Contains}
 use Rattle.std.specs.List.{flat_map, list_all}
@@ -76,7 +76,7 @@ contained_filter p (y ∷ ys) x c =
       | inr f ↦ let r = contained_filter p ys x (rw f at c) in (Contains-append_right (y ∷ []) ys x r.0, r.1)
     ]
 
--- what all elements pass, each does
+-- a test that all elements pass is passed by each
 pub passes_each : (p : ℕ → Bool) (x : ℕ) (xs : List ℕ) → list_all p xs ≡ true → Among x xs → p x ≡ true
 passes_each p x [] all i = absurd i
 passes_each p x (y ∷ ys) all (inl e) = ap p e ∙ (and_parts _ _ all).0

@@ -11,7 +11,7 @@ use Rattle.value_domain.specs.declared.states.State.{State}
 use Rattle.value_domain.specs.Limits.{Limits}
 use Rattle.cfg_recover.specs.Duties.{successors_of, next_of}
 
--- all but branches, jumps, calls, returns, system calls and MTCR
+-- all except branches, jumps, calls, returns, system calls and MTCR
 pub next_alone : (b : Limits) (image : ImageData) (plan : PlanData) (p : ℕ) (s : State) (shape : Shape) (n : ℕ)
     → ((cond : Cond) (x : ℕ) (y : Arg) (by : ℕ) (lowers : Bool) → shape ≡ Branch cond x y by lowers → ⊥) → ((to : Target) → shape ≡ Jump to → ⊥)
     → ((to : Target) → shape ≡ Call to → ⊥) → (shape ≡ Ret → ⊥) → (shape ≡ Rfe → ⊥) → ((tin : ℕ) → shape ≡ Syscall tin → ⊥)

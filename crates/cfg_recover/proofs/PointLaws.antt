@@ -1,4 +1,4 @@
--- From an accepted certificate to what its rules ask at a point.
+-- What the rules ask at a point of an accepted certificate.
 use Rattle.std.proofs.Common.{◌≡◌, ℕ, ◌-◌, ◌*◌, ◌/◌, ◌≤◌, List, length, Some, refl, sym, subst, arith, ◌==◌, All, Contains}
 use Rattle.std.proofs.lemmas.Bool.{eqb-true, cond_both}
 use Rattle.std.proofs.lemmas.List.Elements.{All-contains}
@@ -52,7 +52,7 @@ pub record PointRules (image : ImageData) (plan : PlanData) (cert : CertData) (n
   pub size : ℕ
   pub holds : PointHolds image plan cert node p s shape size
 
--- the node stands in the certificate
+-- the node is one of the certificate's
 abbrev pub Stands : CertData → NodeData → Type 0
 Stands cert node = find_node (node.key) cert.nodes ≡ Some node
 
@@ -94,7 +94,7 @@ module _ (image : ImageData) (plan : PlanData) (cert : CertData) (is_cert : IsCe
       let there = found_in (λ p. p.addr == q) node.points point found in
       subst (λ x. PointRules image plan cert node x point.state) (eqb-true _ _ there.1) (rules_at_point node point stands there.0)
 
-  -- where a point stands, there is code at an even address
+  -- at a point there is code, and its address is even
   pub even_at : (node : NodeData) (q : ℕ) (point : Point) → Stands cert node → find_point q node.points ≡ Some point → q / 2 * 2 ≡ q
   even_at node q point stands found = let e = (((rules_at node q point stands found).holds).code).even in omega arith
 

@@ -23,7 +23,7 @@ use Rattle.depth_cert.specs.declared.keys.Key.{Key}
 use Rattle.cfg_recover.specs.Moves.{IsAtPoint, traps}
 
 module _ {b : Limits} {image : ImageData} {plan : PlanData} {key : Key} {m : Machine} {s : State} {shape : Shape} {n : ℕ} (at : IsAtPoint b image plan key m s shape n) where
-  -- what the laws of effects ask for
+  -- the premises of the laws of effects
   pub setting : IsSetting b plan s
   setting = record { limits = at.limits; plan = at.is_plan; regs = at.regs; values = at.values }
 

@@ -1,4 +1,4 @@
--- The test of a plan's rom, by the plan's fields.
+-- The test of the plan's rom, by the plan's fields.
 use Rattle.std.proofs.Common.{◌≡◌, ℕ, ◌+◌, ◌^◌, ◌≤◌, Bool, ◌∙◌, sym, subst}
 use Rattle.std.specs.Prelude.{IsTrue, ◌↔◌}
 use Rattle.std.specs.List.{list_any}

@@ -1,4 +1,4 @@
--- What the step over an instruction needs of what was loaded.
+-- What an instruction uses of the value that was loaded.
 use Rattle.std.proofs.Common.{◌≡◌, ℕ, Bool, refl, sym, subst}
 use Rattle.elf_image.specs.Images.{ImageData}
 use Rattle.tcd_plan.specs.PlanData.{PlanData}
@@ -13,7 +13,7 @@ use Rattle.vd_transfer.specs.Changes.{HasLoaded}
 use Rattle.vd_transfer.specs.Effects.{transfer_of}
 use Rattle.cfg_recover.specs.Duties.{loaded_at}
 
--- a value is one whatever the instruction is
+-- any value will do, unless the instruction is a load
 pub loaded_is : (b : Limits) (shape : Shape) (v : Val) → IsValue b v → HasLoaded b shape v
 loaded_is b (Load dst base offset size signed after) v value = value
 loaded_is b _ v value = tt
@@ -22,7 +22,7 @@ loaded_is b _ v value = tt
 abbrev pub LoadsNone : Shape → Type 0
 LoadsNone shape = (dst : ℕ) (base : Arg) (offset size : ℕ) (signed after : Bool) → shape ≡ Load dst base offset size signed after → ⊥
 
--- nothing else uses what was loaded
+-- other instructions don't use what was loaded
 pub writes_none : (b : Limits) (p : PlanData) (s : State) (shape : Shape) (v w : Val) → LoadsNone shape → transfer_of b p shape s v ≡ transfer_of b p shape s w
 unfolding transfer_of
 writes_none b p s (Load dst base offset size signed after) v w other = absurd (other dst base offset size signed after refl)

@@ -1,4 +1,4 @@
--- What instructions that stay in their frame make of the machine: other registers, and a place, IE and a memory.
+-- What instructions that stay in their frame do to the machine: registers, pc, IE and memory.
 use Rattle.std.proofs.Common.{◌≡◌, ◌≢◌, ℕ, ◌+◌, ◌-◌, ◌*◌, ◌%◌, ◌^◌, ◌<◌, inl, inr, Bool, true, false, cond, List, length, get_or, set, length-set, get_or-set_same, get_or-set_other, ltb, eqb, refl, ap, ◌∙◌, subst, arith}
 use Rattle.std.proofs.lemmas.Bool.{cases_eq, cases_lt, lt-ltb, le-ltb, eq-eqb, ne_eqb}
 use Rattle.csa_chain.specs.Memory.{Memory, load_number, with_bytes, extend}
@@ -18,7 +18,7 @@ use Rattle.tc_machine.specs.Safe.{IsMachine}
 use Rattle.vd_transfer.specs.Holding.{set_word, word_of, access_word, with_base_word, words_after}
 
 -- ---- registers
--- the word of a register, in two lists
+-- the word of a register, in the two lists of registers
 abbrev pub reg_in : List ℕ → List ℕ → ℕ → ℕ
 reg_in d a r = cond (ltb r 16) (get_or d r 0) (get_or a (r - 16) 0)
 
@@ -116,24 +116,24 @@ registers_lowered m k x false lt = registers_same m k
 registers_lowered m k x true lt = registers_with m m (reg m) x (moved (reg m x) (2 ^ 32 - 1)) lt (registers_same m k)
 
 -- ---- instructions
--- m with other registers, place, IE and memory
+-- m with other registers, pc, IE and memory
 abbrev pub changed : Machine → List ℕ → List ℕ → ℕ → Bool → Memory → Machine
 changed m d a pc ie mem = record m { d = d; a = a; pc = pc; ie = ie; mem = mem }
 
--- n is m with registers of these words, at this place, with this IE and memory
+-- n is m with registers of these words, and with this pc, IE and memory
 pub record Went (m n : Machine) (word : ℕ → ℕ) (pc : ℕ) (ie : Bool) (mem : Memory) : Type 0 where
   pub d : List ℕ
   pub a : List ℕ
   pub is : n ≡ changed m d a pc ie mem
   pub words : (r : ℕ) → reg_in d a r ≡ word r
 
--- what is done to a machine with other registers
+-- a change of a machine with other registers
 went_by : (m k : Machine) (word word2 : ℕ → ℕ) (pc : ℕ) (ie : Bool) (mem : Memory) (f : Machine → Machine) → ((d a : List ℕ) → f (record m { d = d; a = a }) ≡ changed m d a pc ie mem) → word ≡ word2 → Registers m k word
     → Went m (f k) word2 pc ie mem
 went_by m k word word2 pc ie mem f gives same h = record { d = h.d; a = h.a; is = ap f h.is ∙ gives h.d h.a; words = λ r. h.words r ∙ ap (λ g. g r) same }
 
 module _ (m : Machine) (k : IsMachine m) (e : Event) (n : ℕ) where
-  -- the next instruction, after register r was set
+  -- on to the next instruction, after register r was set
   went_set : (word word2 : ℕ → ℕ) (base : Machine) (r w : ℕ) → r < 32 → set_word word r w ≡ word2 → Registers m base word → Went m (advanced n (with_reg base r w)) word2 (moved m.pc n) m.ie m.mem
   went_set word word2 base r w lt same h = went_by m (with_reg base r w) (set_word word r w) word2 (moved m.pc n) m.ie m.mem (advanced n) (λ d a. refl) same (registers_with m base word r w lt h)
 

@@ -1,4 +1,4 @@
--- A store in one ram range or one device range leaves rom, the save areas and what is mapped.
+-- A store in one ram range or one device range keeps rom, the save areas and what is mapped.
 use Rattle.std.proofs.Common.{◌≡◌, ℕ, ◌+◌, ◌-◌, ◌<◌, ◌≤◌, ◌⊎◌, inl, inr, true, List, [], ◌∷◌, ◌++◌, map, sym, ap, ◌∙◌, subst, arith, append_assoc}
 use Rattle.std.proofs.lemmas.Bool.{cases_lt}
 use Rattle.std.specs.FinMap as memory_map
@@ -20,7 +20,7 @@ module _ (plan : PlanData) (ok : IsPlan plan) where
   abbrev devices : List Range
   devices = map (λ (d : Device). d.range) plan.devices
 
-  -- no address that may be stored at lies in rom
+  -- no address at which a store is allowed is in rom
   unwritten_rom : (y : ℕ) → IsInOne y 1 plan.ram ⊎ IsInOne y 1 devices → IsInOne y 1 plan.rom → ⊥
   unwritten_rom y at rom =
       let apart : all_apart (plan.rom ++ (plan.ram ++ (devices ++ areas_range plan ∷ []))) ≡ true =
@@ -32,7 +32,7 @@ module _ (plan : PlanData) (ok : IsPlan plan) where
         | inr device ↦ IsInOne-behind y 1 plan.ram (devices ++ areas_range plan ∷ []) (IsInOne-front y 1 devices (areas_range plan ∷ []) device)
       ])
 
-  -- nor in the areas
+  -- nor in the save areas
   unwritten_areas : (y : ℕ) → IsInOne y 1 plan.ram ⊎ IsInOne y 1 devices → IsInAreas plan y → ⊥
   unwritten_areas y at inside =
       let within : IsWithin y 1 (areas_range plan) = (inside.0, (let lt = inside.1 in omega arith)) in
@@ -43,7 +43,7 @@ module _ (plan : PlanData) (ok : IsPlan plan) where
       ])
       (inl within)
 
-  -- an address of a store is one that may be stored at
+  -- each address of a store is one at which a store is allowed
   stored_at : (x n y : ℕ) → IsStoreInRange plan (x, n) → x ≤ y → y < x + n → IsInOne y 1 plan.ram ⊎ IsInOne y 1 devices
   stored_at x n y range low high =
       let is : x + (y - x) ≡ y = omega arith in

@@ -1,5 +1,5 @@
--- Assignments: what is known at the points and exits of frames, without needs. The least closed one is what the certificate
--- maker looks for; a certificate that is accepted is a closed one.
+-- Assignments: what is known at the points and exits of frames, without needs. The certificate
+-- maker looks for the least closed assignment. A certificate that is accepted is a closed one.
 use Rattle.std.specs.Prelude.{◌≡◌, ℕ, Bool, false, ◌==◌, ◌&&◌, if◌then◌else◌, find, Option, Some, None, option_map, option_and_then, Contains}
 use Rattle.elf_image.specs.Images.{ImageData}
 use Rattle.tcd_plan.specs.PlanData.{PlanData}
@@ -23,18 +23,18 @@ pub data Place : Type 0 where
   point : Key → ℕ → Place
   exit : Key → Place
 
--- what is known at each place where anything is
+-- what is known at each place, if anything is
 abbrev pub Assignment : Type 0
 Assignment = Place → Option Known
 
--- one place
+-- two places are equal
 abbrev pub same_place : Place → Place → Bool
 same_place (point k p) (point j q) = same_key k j && p == q
 same_place (exit k) (exit j) = same_key k j
 same_place (point k p) (exit j) = false
 same_place (exit k) (point j q) = false
 
--- what a node says of a place of its own frame
+-- what a node states at a place of its own frame
 abbrev pub known_at : Place → NodeData → Option Known
 known_at (point k p) n = option_map (λ q. state q.state) (find_point p n.points)
 known_at (exit k) n = option_map leaving n.exit
@@ -44,39 +44,41 @@ abbrev pub frame_of : Place → Key
 frame_of (point k p) = k
 frame_of (exit k) = k
 
--- what a certificate says, but for its needs
+-- what a certificate states at a place
 abbrev pub known_in : CertData → Assignment
 known_in cert y = option_and_then (known_at y) (find (λ n. same_key n.key (frame_of y)) cert.nodes)
 
--- an assignment has something at a place that covers this
+-- what the assignment has at this place covers this
 pub record CoversAt (a : Assignment) (y : Place) (v : Known) : Type 0 where
   pub known : Known
   pub at : a y ≡ Some known
   pub covers : CoversKnown known v
 
--- an assignment is below another, which has all its places and covers them
+-- the upper assignment covers everything that this one has
 abbrev pub IsBelowAt : Assignment → Assignment → Type 0
 IsBelowAt a upper = (y : Place) (v : Known) → a y ≡ Some v → CoversAt upper y v
 
--- the least that covers what may be known so far and this; none for states with unequal numbers of locals
+-- The least that covers both what is known so far, if anything is, and this; none for states with
+-- different numbers of locals.
 abbrev pub raised : Limits → Option Known → Known → Option Known
 raised b None v = Some v
 raised b (Some w) v = joined_known b w v
 
--- where a frame goes on after one that it entered, with the state after that one's exit; nowhere while no exit is known
+-- Where a frame goes on after a frame that it entered, with the state after that one's exit;
+-- nowhere while no exit is known.
 abbrev pub resumed : Key → State → Key → ℕ → Option Known → Option (Place × Known)
 resumed key s k q (Some (leaving x)) = Some (point key q, state (after_of s x k.kind))
 resumed key s k q (Some (state t)) = None
 resumed key s k q None = None
 
--- what a duty of a frame's point asks for, and where
+-- where a duty of a point asks for something, and for what
 abbrev pub asked : Assignment → Key → State → Duty → Option (Place × Known)
 asked a key s (jump q t) = Some (point key q, state t)
 asked a key s (enter k t) = Some (point k k.entry, state t)
 asked a key s (resume k q) = resumed key s k q (a (exit k))
 asked a key s (leave x) = Some (exit key, leaving x)
 
--- one duty of a point without a fault of its own
+-- a duty of a point at which no rule's own part fails
 pub record HasDuty (b : Limits) (image : ImageData) (plan : PlanData) (a : Assignment) (key : Key) (p : ℕ) (s : State) (d : Duty) : Type 0 where
   pub at : a (point key p) ≡ Some (state s)
   pub faultless : IsFaultless b image plan key p s
@@ -96,7 +98,7 @@ pub record Asks (b : Limits) (image : ImageData) (plan : PlanData) (a : Assignme
   pub has : HasDuty b image plan a key addr before duty
   pub asks : asked a key before duty ≡ Some (y, v)
 
--- one joining: what a duty asks for is joined into its place
+-- one step of the analysis: what a duty asks for is joined into its place
 pub record Joins (b : Limits) (image : ImageData) (plan : PlanData) (a after : Assignment) (y : Place) : Type 0 where
   pub value : Known
   pub asks : Asks b image plan a y value
@@ -108,14 +110,14 @@ pub record Joins (b : Limits) (image : ImageData) (plan : PlanData) (a after : A
 abbrev pub first_place : ImageData → PlanData → Place
 first_place image plan = point (start_key image plan) image.entry
 
--- reached from the start point alone by joinings
+-- the assignment is reached from the start point alone by such steps
 pub data Derived (b : Limits) (image : ImageData) (plan : PlanData) : Assignment → Type 0 where
   begins :
       (a : Assignment) → ((x : Place) → a x ≡ (if same_place x (first_place image plan) then Some (state (start_state plan)) else None))
       → Derived b image plan a
   joins : (a after : Assignment) (y : Place) → Derived b image plan a → Joins b image plan a after y → Derived b image plan after
 
--- the start state and all that duties ask for is covered
+-- the assignment covers the start state and all that duties ask for
 pub record Closed (b : Limits) (image : ImageData) (plan : PlanData) (a : Assignment) : Type 0 where
   pub start : CoversAt a (first_place image plan) (state (start_state plan))
   pub duties : (y : Place) (v : Known) → Asks b image plan a y v → CoversAt a y v

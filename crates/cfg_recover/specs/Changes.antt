@@ -1,4 +1,5 @@
--- What the entries of frames change of the state of the point that enters them, and what stands at a point without a fault.
+-- How the entry of a frame changes the state of the point that enters it, and a point at which no
+-- rule's own part fails.
 use Rattle.std.specs.Prelude.{ℕ, false, true, []}
 use Rattle.elf_image.specs.Images.{ImageData}
 use Rattle.tcd_plan.specs.PlanData.{PlanData}
@@ -19,11 +20,12 @@ use Rattle.cfg_recover.specs.Local.{IsFaultless}
 abbrev pub call_change : State → Change
 call_change s = record (kept_of s) { lower = false; locals = record { items = [] } }
 
--- a system call's handler begins with its caller's, but for A10 (register 26) and the number of the call in D15
+-- A system call's handler begins with the caller's values, except A10 (register 26) and D15, which
+-- has the number of the call.
 abbrev pub system_change : Val → ℕ → State → Change
 system_change sp tin s = record (call_change s) { first = reg_put 26 sp; second = reg_put 15 (word_val tin); ie = false }
 
--- another handler begins with any values but A10
+-- an interrupt's handler begins with unknown values, except A10
 abbrev pub handler_change : Val → ℕ → Change
 handler_change sp ccpn = record {
   base = Any;
@@ -36,11 +38,11 @@ handler_change sp ccpn = record {
   locals = record { items = [] };
 }
 
--- that of misaligned accesses with the trap's number 4 in D15, too
+-- the handler of misaligned accesses does, too, with the trap's number 4 in D15
 abbrev pub misaligned_change : Val → ℕ → Change
 misaligned_change sp ccpn = record (handler_change sp ccpn) { second = reg_put 15 (word_val 4) }
 
--- an instruction of this shape and size is at p, and no rule's own part fails there
+-- An instruction of this shape and size is at p, and no rule's own part fails there.
 pub record StandsFaultless (b : Limits) (image : ImageData) (plan : PlanData) (key : Key) (p : ℕ) (s : State) (found : Located) : Type 0 where
   pub faultless : IsFaultless b image plan key p s
   pub code : IsCode image plan p found.shape found.size

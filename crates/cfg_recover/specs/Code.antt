@@ -7,8 +7,8 @@ use Rattle.tc_isa.specs.Shapes.{shape_of}
 use Rattle.tc_isa.specs.declared.shapes.Shape.{Shape}
 use Rattle.tc_machine.specs.Safe.{SpellsAt}
 
--- The code at p is an instruction of this shape and of n bytes: p is even, and its bytes lie in one rom range and are
--- held by segments of the image.
+-- An instruction of this shape and of n bytes is at p: p is even, and the bytes are in one rom
+-- range and in segments of the image.
 pub record IsCode (image : ImageData) (plan : PlanData) (p : ℕ) (shape : Shape) (n : ℕ) : Type 0 where
   pub even : p % 2 ≡ 0
   pub bytes : List ℕ
@@ -17,7 +17,7 @@ pub record IsCode (image : ImageData) (plan : PlanData) (p : ℕ) (shape : Shape
   pub shaped : shape_of inst ≡ shape
   pub sized : length bytes ≡ n
 
--- there is code at p
+-- there is an instruction at p
 pub record HasCode (image : ImageData) (plan : PlanData) (p : ℕ) : Type 0 where
   pub shape : Shape
   pub size : ℕ

@@ -1,5 +1,5 @@
--- What a point owes: the points, entries and exits that a certificate must have, because the machine may come there from
--- this point, and the states that they must cover.
+-- What a point owes: the points, entries and exits that a certificate must have, because the
+-- machine may come there from this point, and the states that they must cover.
 use Rattle.std.specs.Prelude.{◌==◌, ℕ, true, false, nat_lt, if◌then◌else◌, List, [], ◌∷◌, ◌++◌, map, filter, Option, Some, None, unwrap_or}
 use Rattle.std.specs.List.{flat_map}
 use Rattle.depth_cert.specs.Keys.{sys_kind}
@@ -21,9 +21,12 @@ use Rattle.cfg_recover.specs.Entries.{call_key, irq_key, sys_key, aln_key, call_
 use Rattle.depth_cert.specs.Exits.{exit_of}
 use Rattle.cfg_recover.specs.Local.{targets_of, are_aligned}
 
--- One duty. A jump: the same node has a point at this address that covers the state. An entry: the node of this key stands,
--- and its point at its entry covers the state. A resuming: where the node of this key has an exit, the same node has a point
--- at this address that covers the state after that exit. A leaving: the node has an exit that covers this one.
+-- One duty, met in this way:
+-- - jump: the same node has a point at this address, and its state covers this one
+-- - enter: there is a node of this key, and its point at its entry covers the state
+-- - resume: if the node of this key has an exit, the same node has a point at this address, and its
+--   state covers the one after that exit
+-- - leave: the node has an exit, and it covers this one
 pub data Duty : Type 0 where
   jump : ℕ → State → Duty
   enter : Key → State → Duty
@@ -39,7 +42,7 @@ pub record Owed : Type 0 where
 abbrev pub owed : ℕ → Duty → Owed
 owed rule duty = record { rule = rule; duty = duty }
 
--- what is loaded at a load; nothing else uses it
+-- what a load loads; other instructions don't use it
 abbrev pub loaded_at : Limits → ImageData → PlanData → State → Shape → Val
 loaded_at b image plan s (Load dst base offset size signed after) =
     loaded_of b image plan (address_of b plan (Load dst base offset size signed after) s) size signed
@@ -49,7 +52,7 @@ loaded_at b image plan s _ = any_val
 abbrev pub jumps_to : State → List ℕ → List Owed
 jumps_to s targets = map (λ t. owed 4 (jump t s)) targets
 
--- a jump on a side of a branch that is possible
+-- a jump on a side of a branch, if that side is possible
 abbrev pub jump_on : ℕ → Option State → List Owed
 jump_on q None = []
 jump_on q (Some s) = owed 4 (jump q s) ∷ []
@@ -58,7 +61,7 @@ jump_on q (Some s) = owed 4 (jump q s) ∷ []
 abbrev pub next_of : Limits → ImageData → PlanData → ℕ → State → Shape → ℕ → List Owed
 next_of b image plan p s shape n = owed 4 (jump (moved p n) (transfer_of b plan shape s (loaded_at b image plan s shape))) ∷ []
 
--- the successors in the same frame, without those after a call or a system call (rule 4)
+-- the successors in the same frame (rule 4), without the one after a call or a system call
 abbrev pub successors_of : Limits → ImageData → PlanData → ℕ → State → Shape → ℕ → List Owed
 successors_of b image plan p s (Branch cond x y by lowers) n =
     jump_on (moved p n) (refine_of b plan (Branch cond x y by lowers) s false) ++ jump_on (moved p by) (refine_of b plan (Branch cond x y by lowers) s true)
@@ -70,7 +73,7 @@ successors_of b image plan p s (Syscall tin) n = []
 successors_of b image plan p s (Mtcr src number) n = []
 successors_of b image plan p s shape n = next_of b image plan p s shape n
 
--- an entry by a call (rule 5) or a system call (rule 12), and its coming back (rule 4)
+-- an entry by a call (rule 5) or a system call (rule 12), and the return from it (rule 4)
 abbrev pub entered_and_back : ℕ → Key → State → ℕ → List Owed
 entered_and_back rule key s back = owed rule (enter key s) ∷ owed 4 (resume key back) ∷ []
 
@@ -84,18 +87,19 @@ entries_of plan key p s _ n = []
 abbrev pub misaligned_entry : PlanData → Key → State → Owed
 misaligned_entry plan key s = owed 10 (enter (aln_key plan key) (aln_entry plan key s))
 
--- that entry, where an address may be no multiple of the size
+-- that entry, if some address is no multiple of the size
 abbrev pub misaligned_at : PlanData → Key → State → Val → ℕ → List Owed
 misaligned_at plan key s at size = if are_aligned at size then [] else misaligned_entry plan key s ∷ []
 
--- the same for an instruction: only loads and stores have an address
+-- that entry for an instruction: only loads and stores have an address
 abbrev pub misaligned_of : Limits → PlanData → Key → State → Shape → List Owed
 misaligned_of b plan key s (Load dst base offset size signed after) =
     misaligned_at plan key s (address_of b plan (Load dst base offset size signed after) s) size
 misaligned_of b plan key s (Store src base offset size after) = misaligned_at plan key s (address_of b plan (Store src base offset size after) s) size
 misaligned_of b plan key s _ = []
 
--- the interrupts that may be taken: where interrupts may be on, each stated one above the number that CCPN isn't below
+-- The interrupts that may be taken: if interrupts may be enabled, each interrupt of the plan above
+-- the lower bound of CCPN.
 abbrev pub irqs_of : PlanData → State → List ℕ
 irqs_of plan s = if s.ie then filter (λ p. nat_lt s.ccpn p) plan.irqs else []
 
@@ -103,13 +107,14 @@ irqs_of plan s = if s.ie then filter (λ p. nat_lt s.ccpn p) plan.irqs else []
 abbrev pub interrupts_of : PlanData → Key → State → List Owed
 interrupts_of plan key s = map (λ p. owed 11 (enter (irq_key plan p) (irq_entry plan key s p))) (irqs_of plan s)
 
--- the leavings: of a call (rule 6), and of a system call's handler (rule 7)
+-- the exits: of a function, by RET (rule 6), and of the handler of system calls, by RFE (rule 7)
 abbrev pub leavings_of : Key → State → Shape → List Owed
 leavings_of key s Ret = owed 6 (leave (exit_of s)) ∷ []
 leavings_of key s Rfe = if key.kind == sys_kind then owed 7 (leave (exit_of s)) ∷ [] else []
 leavings_of key s _ = []
 
--- all that the point p of a node with this key owes, by its state and by the shape and the size of its instruction
+-- All that a point of a node with this key owes, by its address p, its state, and the shape and the
+-- size of its instruction.
 unfoldable pub duties_of : Limits → ImageData → PlanData → Key → ℕ → State → Shape → ℕ → List Owed
 duties_of b image plan key p s shape n =
     successors_of b image plan p s shape n ++ entries_of plan key p s shape n ++ misaligned_of b plan key s shape ++ interrupts_of plan key s ++ leavings_of key s shape

@@ -1,4 +1,5 @@
--- The frames that an instruction, an interrupt or a trap enters: their keys, and the states at their entries.
+-- The frames that an instruction, an interrupt or a trap enters: their keys, and the states at
+-- their entries.
 use Rattle.std.specs.Prelude.{◌*◌, ◌^◌, ℕ, Bool, true, false, if◌then◌else◌, [], replicate, bit_or}
 use Rattle.depth_cert.specs.Keys.{start_kind, call_kind, irq_kind, sys_kind, aln_kind}
 use Rattle.elf_image.specs.Images.{ImageData}
@@ -10,7 +11,8 @@ use Rattle.vd_transfer.specs.Registers.{reg_of, set_reg, word_val}
 use Rattle.depth_cert.specs.declared.keys.Key.{Key}
 
 -- ---- keys: kind 0 is the start, 1 a call, 2 an interrupt, 3 a system call, 4 a misaligned access
--- the start frame begins at the entry of the image, at priority 0, on the stack that the plan names
+-- The start frame begins at the entry of the image, at priority 0, on the stack that the plan
+-- names.
 abbrev pub start_key : ImageData → PlanData → Key
 start_key image plan = record { kind = start_kind; entry = image.entry; prio = 0; is = plan.start_is }
 
@@ -18,13 +20,13 @@ start_key image plan = record { kind = start_kind; entry = image.entry; prio = 0
 abbrev pub call_key : Key → ℕ → Key
 call_key key target = record { kind = call_kind; entry = target; prio = key.prio; is = key.is }
 
--- the handler of an interrupt lies at BIV with the priority in bits 12:5 (TriCore 1 architecture manual, volume 1,
--- interrupts), and runs on the interrupt stack
+-- The handler of an interrupt is at BIV with the priority in bits 12:5 (TriCore 1 architecture
+-- manual, volume 1, interrupts). It runs on the interrupt stack.
 abbrev pub irq_key : PlanData → ℕ → Key
 irq_key plan p = record { kind = irq_kind; entry = bit_or plan.biv (p * 2 ^ 5); prio = p; is = true }
 
--- the handlers of traps lie at BTV with the class in bits 7:5 (TriCore 1 architecture manual, volume 1, traps): class 6
--- for system calls, class 2 for misaligned accesses
+-- The handlers of traps are at BTV with the class in bits 7:5 (TriCore 1 architecture manual,
+-- volume 1, traps): class 6 for system calls, class 2 for misaligned accesses.
 abbrev pub sys_key : PlanData → Key → Key
 sys_key plan key = record { kind = sys_kind; entry = bit_or plan.btv (6 * 2 ^ 5); prio = key.prio; is = true }
 
@@ -33,11 +35,12 @@ abbrev pub aln_key : PlanData → Key → Key
 aln_key plan key = record { kind = aln_kind; entry = bit_or plan.btv (2 * 2 ^ 5); prio = key.prio; is = true }
 
 -- ---- states at entries
--- A10 is register 26; the stack pointer of a handler is the interrupt stack's, or A10 where that stack is in use already
+-- The stack pointer of a handler is the interrupt stack's, or A10 (register 26) if that stack is in
+-- use.
 abbrev pub stack_of : PlanData → Key → State → Val
 stack_of plan key s = if key.is then reg_of plan s 26 else word_val plan.isp
 
--- a state without locals of which nothing is known but A10
+-- a state without locals in which only A10 is known
 abbrev pub entry_with : Val → Bool → ℕ → Bool → State
 entry_with sp ie ccpn lower =
     set_reg (record { regs = replicate 27 any_val; ie = ie; ccpn = ccpn; lower = lower; locals = record { items = [] } }) 26 sp
@@ -46,19 +49,21 @@ entry_with sp ie ccpn lower =
 abbrev pub start_state : PlanData → State
 start_state plan = entry_with (word_val plan.sp) plan.start_ie plan.start_ccpn false
 
--- the state at the entry of a called function: the caller's, without its locals
+-- at the entry of a called function: the caller's state, without its locals
 abbrev pub call_entry : State → State
 call_entry s = record s { lower = false; locals = record { items = [] } }
 
--- at the entry of the handler of interrupt p: interrupts are off, and the lower registers are the entry's
+-- At the entry of the handler of interrupt p, interrupts are off, and the lower registers are the
+-- entry's.
 abbrev pub irq_entry : PlanData → Key → State → ℕ → State
 irq_entry plan key s p = entry_with (stack_of plan key s) false p true
 
--- at that of the handler of misaligned accesses, with the trap's number 4 in D15
+-- At the entry of the handler of misaligned accesses, D15 has the trap's number 4, too.
 abbrev pub aln_entry : PlanData → Key → State → State
 aln_entry plan key s = set_reg (entry_with (stack_of plan key s) false s.ccpn true) 15 (word_val 4)
 
--- at that of system calls: the caller's state, with the system call's number in D15
+-- At the entry of the handler of system calls, the state is the caller's. D15 has the number of the
+-- call.
 abbrev pub sys_entry : PlanData → Key → State → ℕ → State
 sys_entry plan key s tin =
     record (set_reg (set_reg s 26 (stack_of plan key s)) 15 (word_val tin)) { ie = false; lower = false; locals = record { items = [] } }

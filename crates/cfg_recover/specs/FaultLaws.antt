@@ -1,5 +1,5 @@
--- What the first fault and the certified need are, in the words of the lines that are printed: the statements of the laws
--- that guard these definitions.
+-- What the first fault and the certified need are, in the words of the printed lines: the
+-- statements of the laws that guard these definitions.
 use Rattle.std.specs.Prelude.{◌≡◌, ◌^◌, ◌<◌, ◌≤◌, ◌⊎◌, ℕ, Contains, Some}
 use Rattle.elf_image.specs.Images.{ImageData}
 use Rattle.tcd_plan.specs.PlanData.{PlanData}
@@ -10,7 +10,8 @@ use Rattle.depth_cert.specs.Nodes.{NodeData}
 use Rattle.depth_cert.specs.Certs.{CertData, IsCert, find_node}
 use Rattle.cfg_recover.specs.Accepting.{Accepts, RuleHolds, HoldsAtStart, HoldsAtEntry, IsFirstFault, certified_need, limits_in}
 
--- The place of a fault: the start's entry for rule 1, the entry of a node for rule 2, or a point of a node.
+-- The place of a fault: the start's entry for rule 1, the entry of a node for rule 2, or a point of
+-- a node.
 pub data IsPlace (image : ImageData) (plan : PlanData) (cert : CertData) : ℕ → Key → ℕ → Type 0 where
   start : (HoldsAtStart image plan cert → ⊥) → IsPlace image plan cert 1 (record { kind = 0; entry = image.entry; prio = 0; is = plan.start_is }) image.entry
   entry : (node : NodeData) → Contains cert.nodes node → (HoldsAtEntry (limits_in plan cert) node → ⊥) → IsPlace image plan cert 2 node.key (node.key).entry
@@ -18,13 +19,14 @@ pub data IsPlace (image : ImageData) (plan : PlanData) (cert : CertData) : ℕ �
       (node : NodeData) (point : Point) (r : ℕ) → Contains cert.nodes node → Contains node.points point
       → (RuleHolds image plan cert node point r → ⊥) → IsPlace image plan cert r node.key point.addr
 
--- one fault comes before another, or is it: by key (by its kind, entry, prio and is), then by address, then by rule
+-- One fault comes before another, or is it: by key (by its kind, entry, prio and is), then by
+-- address, then by rule.
 abbrev pub IsBefore : ℕ → Key → ℕ → ℕ → Key → ℕ → Type 0
 IsBefore r k p q j x =
     (number_of_key k < number_of_key j) ⊎ (number_of_key k ≡ number_of_key j) × ((p < x) ⊎ (p ≡ x) × (r ≤ q))
 
--- The printed rule is 1 to 14 and the printed address a word, and they name a place where that rule doesn't hold; rule 1
--- stands at the start. Unless it is that one, all other faults come later.
+-- The printed rule is 1 to 14 and the printed address is a word. They name a place where that rule
+-- doesn't hold; rule 1 is at the start. If rule 1 holds, all other faults come later.
 pub record FirstFaultSays (image : ImageData) (plan : PlanData) (cert : CertData) (r : ℕ) (k : Key) (p : ℕ) : Type 0 where
   pub some : 1 ≤ r
   pub most : r ≤ 14

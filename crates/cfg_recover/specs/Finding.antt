@@ -10,22 +10,22 @@ use Rattle.tcd_base.specs.Ranges.{IsInOne}
 use Rattle.cfg_recover.specs.declared.local.Located.{Located}
 use Rattle.cfg_recover.specs.Code.{IsCode, HasCode}
 
--- the n bytes from x on, where segments hold them all
+-- the n bytes from x on, if segments hold them all
 abbrev pub held_bytes : ImageData → ℕ → ℕ → Option (List ℕ)
 held_bytes image x zero = Some []
 held_bytes image x (suc n) = option_and_then (λ b. option_map (λ bs. b ∷ bs) (held_bytes image (x + 1) n)) (image_byte image x)
 
--- these bytes stand in the segment from x on
+-- the segment has these bytes from x on
 abbrev pub StandIn : SegmentData → ℕ → List ℕ → Type 0
 StandIn s x [] = Unit {0}
 StandIn s x (b ∷ bs) = (s.at ≤ x) × (slice_get s.bytes (x - s.at) ≡ Some b) × StandIn s (x + 1) bs
 
--- n bytes in one rom range and held by segments, or none
+-- n bytes in one rom range and in segments, or none
 abbrev pub FindsInRom : ImageData → PlanData → ℕ → ℕ → Option (List ℕ) → Type 0
 FindsInRom image plan x n (Some bytes) = IsInOne x n plan.rom × (held_bytes image x n ≡ Some bytes)
 FindsInRom image plan x n None = IsInOne x n plan.rom → held_bytes image x n ≡ None
 
--- the instruction with which bytes begin, and its length, or none
+-- the instruction that bytes begin with, and its length, or none
 abbrev pub FindsBytes : List ℕ → Option (InstData × ℕ) → Type 0
 FindsBytes bytes (Some (inst, n)) = decoded_of bytes ≡ Ok (inst, n)
 FindsBytes bytes None = (inst : InstData) (n : ℕ) → decoded_of bytes ≡ Ok (inst, n) → ⊥

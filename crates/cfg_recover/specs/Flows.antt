@@ -1,4 +1,4 @@
--- The duties that a Flow tells.
+-- The duties in a Flow.
 use Rattle.std.specs.Prelude.{◌≡◌, ◌==◌, ℕ, true, if◌then◌else◌, List, [], ◌∷◌, ◌++◌, map, Option, Some, None}
 use Rattle.std.specs.List.{flat_map}
 use Rattle.depth_cert.specs.Keys.{call_kind, sys_kind}
@@ -20,25 +20,25 @@ use Rattle.depth_cert.specs.Exits.{exit_of}
 use Rattle.cfg_recover.specs.Local.{IsFaultless}
 use Rattle.cfg_recover.specs.Duties.{Owed, owed, enter, resume, leave, jumps_to, duties_of}
 
--- the duties of one told jump
+-- the duties of a jump
 abbrev pub told_jump : Option Jump → List Owed
 told_jump None = []
 told_jump (Some j) = jumps_to j.state j.targets.items
 
--- the duties of the told jumps
+-- the duties of jumps
 abbrev pub told_jumps : List (Option Jump) → List Owed
 told_jumps jumps = flat_map told_jump jumps
 
--- a frame that is entered by a call runs on the same stack, every other one on the interrupt stack
+-- A frame that is entered by a call runs on the same stack, every other one on the interrupt stack.
 abbrev pub entered_key : Key → ℕ → ℕ → Key
 entered_key key kind target = record { kind = kind; entry = target; prio = key.prio; is = if kind == call_kind then key.is else true }
 
--- where an entered frame comes back, if it does
+-- where an entered frame returns to, if it returns
 abbrev pub told_back : Key → Option ℕ → List Owed
 told_back key None = []
 told_back key (Some q) = owed 4 (resume key q) ∷ []
 
--- an entry at each of its targets, and its coming back, asked for by a rule
+-- an entry at each target, and the return from it; this rule asks for the entry
 abbrev pub told_entry : ℕ → Key → Option Enter → List Owed
 told_entry rule key None = []
 told_entry rule key (Some e) =
@@ -49,7 +49,7 @@ abbrev pub rule_of_entry : Option Enter → ℕ
 rule_of_entry None = 5
 rule_of_entry (Some e) = if e.kind == call_kind then 5 else 12
 
--- the state at an interrupt's entry is the told one with the interrupt's priority
+-- the state at an interrupt's entry is this one with the interrupt's priority
 abbrev pub told_irqs : PlanData → State → List ℕ → List Owed
 told_irqs plan entry irqs = map (λ p. owed 11 (enter (irq_key plan p) (record entry { ccpn = p }))) irqs
 
@@ -59,7 +59,7 @@ told_leaving key s Stays = []
 told_leaving key s Ret = owed 6 (leave (exit_of s)) ∷ []
 told_leaving key s Rfe = if key.kind == sys_kind then owed 7 (leave (exit_of s)) ∷ [] else []
 
--- the duties of a point with this key and state that a flow tells
+-- the duties of a point with this key and state, as the Flow has them
 abbrev pub told_by : PlanData → Key → State → Flow → List Owed
 told_by plan key s f =
     told_jumps f.jumps ++ told_entry (rule_of_entry f.enter) key f.enter ++ told_entry 10 key f.aln ++ told_irqs plan f.irq_entry f.irqs.items ++ told_leaving key s f.leave
@@ -70,8 +70,8 @@ leave_of shape.Ret = Ret
 leave_of shape.Rfe = Rfe
 leave_of _ = Stays
 
--- the flow of a point without a fault of its own: it tells the point's duties, the
--- state at an interrupt's entry but for its CCPN, and how the frame is left
+-- The Flow of a point at which no rule's own part fails. It has the point's duties, the state at an
+-- interrupt's entry except its CCPN, and how the frame is left.
 pub record Tells (b : Limits) (image : ImageData) (plan : PlanData) (key : Key) (p : ℕ) (s : State) (f : Flow) : Type 0 where
   pub faultless : IsFaultless b image plan key p s
   pub shape : Shape

@@ -1,5 +1,5 @@
--- What edges, frames and the promises on them say, in the machine's own words: the statements of the laws that guard
--- these definitions.
+-- What edges, frames and the promises about them say, in the machine's own words: the statements of
+-- the laws that guard these definitions.
 use Rattle.std.specs.Prelude.{◌≡◌, ◌%◌, ◌<◌, ◌≤◌, ℕ, Bool, true, false, not, ◌&&◌, ◌==◌, List, [], ◌∷◌, ◌++◌, IsSome, All, Contains, Some, Ok}
 use Rattle.elf_image.specs.Images.{ImageData}
 use Rattle.tcd_plan.specs.PlanData.{PlanData}
@@ -27,7 +27,7 @@ use Rattle.cfg_recover.specs.Moves.{traps}
 use Rattle.cfg_recover.specs.Frames.{Standing, to, call, irq, sys, aln, ret, rfe, way_of_step, edge_of_step, frames, FramesHeld, EdgesOwed}
 
 -- ---- steps
--- the machine takes no interrupt, and the instruction at its pc has this shape and so many bytes
+-- the machine takes no interrupt, and the instruction at its pc has this shape and n bytes
 pub record Meets (m : Machine) (e : Event) (shape : Shape) (n : ℕ) : Type 0 where
   pub free : is_taken m e ≡ false
   pub there : fetched m ≡ Ok (shape, n)
@@ -40,9 +40,9 @@ KeepsFrame Rfe = ⊥
 KeepsFrame (Syscall tin) = ⊥
 KeepsFrame _ = Unit {0}
 
--- A load or a store traps where its address is no multiple of its size and the event says so. The edge of a step begins at
--- pc. It goes to the new pc: of an interrupt that is taken, of the handler of an access that traps, of a call, of a system
--- call, or in the frame; RET and RFE stand alone.
+-- A load or a store traps if its address is no multiple of its size and the event says so. The edge
+-- of a step begins at pc. It goes to the new pc: of an interrupt that is taken, of the handler of
+-- an access that traps, of a call, of a system call, or in the frame. RET and RFE have no address.
 pub record EdgeIs (m : Machine) (e : Event) : Type 0 where
   pub load :
       (dst : ℕ) (base : Arg) (offset size : ℕ) (signed after : Bool)
@@ -65,7 +65,8 @@ abbrev pub EdgesAre : Type 0
 EdgesAre = (m : Machine) (e : Event) → EdgeIs m e
 
 -- ---- frames
--- the frame that is entered at an address: 1 by a call, 2 by an interrupt, 3 by a system call, 4 by a misaligned access
+-- the frame that is entered at an address: kind 1 by a call, 2 by an interrupt, 3 by a system call,
+-- 4 by a misaligned access
 abbrev pub entered : ℕ → ℕ → ℕ → Bool → Standing
 entered kind at prio is = record { key = record { kind = kind; entry = at; prio = prio; is = is }; at = at }
 
@@ -73,9 +74,10 @@ entered kind at prio is = record { key = record { kind = kind; entry = at; prio 
 abbrev pub going_on : Standing → ℕ → Standing
 going_on f at = record { key = f.key; at = at }
 
--- The frames after a step from newest and older ones. A call and a system call come back to the next instruction, an
--- interrupt and a misaligned access to the one at pc. Handlers run on the interrupt stack; an interrupt brings its
--- priority, and all others keep that of the frame that enters.
+-- The frames after a step, from the newest one and the older ones. A call and a system call return
+-- to the next instruction, an interrupt and a misaligned access to the one at pc. Handlers run on
+-- the interrupt stack. An interrupt brings its priority; all other entries keep that of the frame
+-- that enters.
 pub record FramesNext (m : Machine) (e : Event) (f : Standing) (older next : List Standing) : Type 0 where
   pub interrupted : is_taken m e ≡ true → next ≡ entered 2 (step m e).pc e.irq true ∷ going_on f m.pc ∷ older
   pub misaligned :
@@ -93,7 +95,8 @@ pub record FramesNext (m : Machine) (e : Event) (f : Standing) (older next : Lis
       (shape : Shape) (n : ℕ) → Meets m e shape n → traps m e shape ≡ false → KeepsFrame shape
       → next ≡ going_on f (step m e).pc ∷ older
 
--- at the start there is one frame, of the start's key, and each event of a run makes the next ones
+-- At the start there is one frame, of the start's key, and each event of a run makes the next
+-- frames.
 pub record FramesFollow (image : ImageData) (plan : PlanData) (m : Machine) : Type 0 where
   pub start : frames image plan m [] ≡ record { key = record { kind = 0; entry = image.entry; prio = 0; is = plan.start_is }; at = m.pc } ∷ []
   pub step :
@@ -105,9 +108,10 @@ abbrev pub FramesAre : Type 0
 FramesAre = (image : ImageData) (plan : PlanData) (m : Machine) → FramesFollow image plan m
 
 -- ---- what frames that are held say
--- The newest frame is at pc and has PSW.IS in its key. Its node stands and has a point at pc whose state the machine lies
--- in: each register is a member of its value, and so A0, A1, A8 and A9 are the plan's; interrupts are on only where they
--- may be, and CCPN isn't below the state's. The nodes of all older frames stand.
+-- The newest frame is at pc, and its key has PSW.IS. Its node has a point at pc, and that point's
+-- state holds the machine. Each register is a member of its value, so A0, A1, A8 and A9 are the
+-- plan's. Interrupts are enabled only if the state allows it, and CCPN isn't below the state's. All
+-- older frames have nodes.
 pub record FramesSay (plan : PlanData) (cert : CertData) (m : Machine) (all : List Standing) : Type 0 where
   pub newest : Standing
   pub older : List Standing
@@ -137,16 +141,16 @@ abbrev pub Enters : List Owed → ℕ → ℕ → ℕ → ℕ → Bool → Type 
 Enters ds rule kind entry prio is =
     (t : State) × Contains ds (record { rule = rule; duty = enter (record { kind = kind; entry = entry; prio = prio; is = is }) t })
 
--- there is a frame before, and it goes on at this address
+-- there is an older frame, and it goes on at this address
 pub record GoesBack (older : List Standing) (q : ℕ) : Type 0 where
   pub caller : Standing
   pub rest : List Standing
   pub are : older ≡ caller ∷ rest
   pub at : caller.at ≡ q
 
--- Where a step goes is among the duties of the point that the newest frame stands at: an entry of the handler of an
--- interrupt or of a misaligned access, or of a call or a system call, or a jump in the frame. RET and RFE go back to the
--- frame before.
+-- Where a step goes is among the duties of the newest frame's point: an entry of the handler of an
+-- interrupt or of a misaligned access, of a call or a system call, or a jump in the frame. RET and
+-- RFE go back to the frame before.
 pub record StepOwed (ds : List Owed) (newest : Standing) (older : List Standing) (m : Machine) (e : Event) : Type 0 where
   pub interrupted : is_taken m e ≡ true → Enters ds 11 2 (step m e).pc e.irq true
   pub misaligned : (shape : Shape) (n : ℕ) → Meets m e shape n → traps m e shape ≡ true → Enters ds 10 4 (step m e).pc (newest.key).prio true
@@ -158,7 +162,8 @@ pub record StepOwed (ds : List Owed) (newest : Standing) (older : List Standing)
       (shape : Shape) (n : ℕ) → Meets m e shape n → traps m e shape ≡ false → KeepsFrame shape
       → (t : State) × Contains ds (record { rule = 4; duty = jump (step m e).pc t })
 
--- the newest frame stands at a point at pc, with the image's instruction there, and the step is owed by it
+-- The newest frame is at a point at pc, where the image has an instruction, and that point owes the
+-- step.
 pub record EdgeSays (image : ImageData) (plan : PlanData) (cert : CertData) (m : Machine) (e : Event) (all : List Standing) : Type 0 where
   pub newest : Standing
   pub older : List Standing

@@ -1,4 +1,4 @@
--- The edges of steps, and the frames that a run stands in.
+-- The edges of steps, and the frames of a run.
 use Rattle.std.specs.Prelude.{◌≡◌, ℕ, true, if◌then◌else◌, List, [], ◌∷◌, IsSome, IsSomeAnd, All, Contains, Some, Result, Ok, Err}
 use Rattle.elf_image.specs.Images.{ImageData}
 use Rattle.tcd_plan.specs.PlanData.{PlanData}
@@ -24,8 +24,8 @@ use Rattle.cfg_recover.specs.Accepting.{limits_in}
 use Rattle.cfg_recover.specs.Moves.{InState, traps}
 
 -- ---- edges
--- how a step goes on: to an address in its frame; into the frame of a call, an interrupt, a system call or a misaligned
--- access, at its entry; or out of its frame
+-- How a step goes on: to an address in its frame; into the frame of a call, an interrupt, a system
+-- call or a misaligned access, at its entry; or out of its frame.
 pub data Way : Type 0 where
   to : ℕ → Way
   call : ℕ → Way
@@ -48,16 +48,16 @@ way_of_shape Rfe q = rfe
 way_of_shape (Syscall tin) q = sys q
 way_of_shape _ q = to q
 
--- by the instruction, or the misaligned trap where it meets one
+-- by the instruction, or by its misaligned access if that traps
 abbrev pub way_by : Machine → Event → Shape → ℕ → Way
 way_by m e shape q = if traps m e shape then aln q else way_of_shape shape q
 
--- by what was fetched; where nothing is, the machine stays
+-- by what was fetched; if nothing is, the machine stays
 abbrev pub way_in : Machine → Event → Result (Shape × ℕ) Cause → ℕ → Way
 way_in m e (Ok found) q = way_by m e found.0 q
 way_in m e (Err cause) q = to q
 
--- by an interrupt where one is taken, else by what was fetched
+-- by an interrupt if one is taken, else by what was fetched
 abbrev pub way_of_step : Machine → Event → Way
 way_of_step m e = if is_taken m e then irq (step m e).pc else way_in m e (fetched m) (step m e).pc
 
@@ -76,7 +76,8 @@ abbrev pub frames_at : ℕ → List Standing → List Standing
 frames_at q [] = []
 frames_at q (f ∷ fs) = record { key = f.key; at = q } ∷ fs
 
--- the newest frame will go on at `back`, and enters another, whose key its own tells
+-- The newest frame will go on at `back`, and enters a frame at q. The new frame's key follows from
+-- the newest one's.
 abbrev pub frames_entered : (Key → Key) → ℕ → ℕ → List Standing → List Standing
 frames_entered key back q [] = []
 frames_entered key back q (f ∷ fs) = record { key = key f.key; at = q } ∷ record { key = f.key; at = back } ∷ fs
@@ -86,12 +87,12 @@ abbrev pub frames_left : List Standing → List Standing
 frames_left [] = []
 frames_left (f ∷ fs) = fs
 
--- the key of a frame that an interrupt enters, and that of a trap's handler
+-- the key of a handler of an interrupt or a trap
 abbrev pub handler_key : ℕ → ℕ → ℕ → Key
 handler_key kind entry prio = record { kind = kind; entry = entry; prio = prio; is = true }
 
--- The frames, the newest first, after a step from p: a call and a system call come back to the next instruction, an
--- interrupt and a misaligned access to p itself.
+-- The frames, the newest first, after a step from p. A call and a system call return to the next
+-- instruction, an interrupt and a misaligned access to p itself.
 abbrev pub frames_by : ℕ → ℕ → ℕ → Way → List Standing → List Standing
 frames_by p next prio (to q) fs = frames_at q fs
 frames_by p next prio (call q) fs = frames_entered (λ k. call_key k q) next q fs
@@ -101,7 +102,7 @@ frames_by p next prio (aln q) fs = frames_entered (λ k. handler_key 4 q k.prio)
 frames_by p next prio ret fs = frames_left fs
 frames_by p next prio rfe fs = frames_left fs
 
--- the bytes of what was fetched
+-- the size of what was fetched
 abbrev pub size_in : Result (Shape × ℕ) Cause → ℕ
 size_in (Ok found) = found.1
 size_in (Err cause) = 0
@@ -120,12 +121,12 @@ abbrev pub frames : ImageData → PlanData → Machine → List Event → List S
 frames image plan m es = frames_from m es (record { key = start_key image plan; at = m.pc } ∷ [])
 
 -- ---- what an accepted certificate says of them
--- a node's point at an address has a state in which the machine lies
+-- a node's point at this address has a state that holds the machine
 abbrev pub LiesAt : PlanData → CertData → Machine → Standing → Type 0
 LiesAt plan cert m f = IsSomeAnd (find_node f.key cert.nodes) (λ n. IsSomeAnd (find_point f.at n.points) (λ p. InState plan m p.state))
 
--- the newest frame is at the machine's pc, each frame's node stands, the newest one's point holds the machine, and its key's
--- `is` is PSW.IS
+-- The newest frame is at the machine's pc, each frame has a node, the newest one's point holds the
+-- machine, and `is` of its key is PSW.IS.
 pub record AreHeld (plan : PlanData) (cert : CertData) (m : Machine) (f : Standing) (fs : List Standing) : Type 0 where
   pub at : f.at ≡ m.pc
   pub nodes : All (λ g. IsSome (find_node g.key cert.nodes)) (f ∷ fs)
@@ -137,7 +138,7 @@ abbrev pub HoldFrames : PlanData → CertData → Machine → List Standing → 
 HoldFrames plan cert m [] = ⊥
 HoldFrames plan cert m (f ∷ fs) = AreHeld plan cert m f fs
 
--- so in every run from every start state
+-- the frames are held in every run from every start state
 abbrev pub FramesHeld : ImageData → PlanData → CertData → Type 0
 FramesHeld image plan cert = (m : Machine) (es : List Event) → Starts image plan m → AllFit plan m es → HoldFrames plan cert (run m es) (frames image plan m es)
 
@@ -147,15 +148,16 @@ IsReturn q [] = ⊥
 IsReturn q (f ∷ []) = ⊥
 IsReturn q (f ∷ g ∷ fs) = g.at ≡ q
 
--- some state is owed a jump to an address, or the entry of a key
+-- a jump to this address is owed, with some state
 abbrev pub OwesJump : List Owed → ℕ → Type 0
 OwesJump ds q = (t : State) × Contains ds (owed 4 (jump q t))
 
--- with some state an entry of this key is owed, asked for by this rule
+-- this rule asks for an entry of this key, with some state
 abbrev pub OwesEntry : List Owed → ℕ → Key → Type 0
 OwesEntry ds rule key = (t : State) × Contains ds (owed rule (enter key t))
 
--- A step's way is a duty of the newest frame's point, or the return to the frame before it, at the address q where it goes.
+-- The way of a step is a duty of the newest frame's point, or the return to the frame before it, at
+-- the address q where the step goes.
 abbrev pub IsOwed : List Owed → Key → ℕ → List Standing → ℕ → Way → Type 0
 IsOwed ds key prio fs q (to x) = OwesJump ds x
 IsOwed ds key prio fs q (call x) = OwesEntry ds 5 (call_key key x)
@@ -176,12 +178,12 @@ pub record IsEdgeOwed (image : ImageData) (plan : PlanData) (cert : CertData) (m
   pub code : IsCode image plan m.pc shape size
   pub owed : IsOwed (duties_of (limits_in plan cert) image plan f.key m.pc point.state shape size) f.key e.irq (f ∷ fs) (step m e).pc (way_of_step m e)
 
--- there is a newest frame, and the step's edge is among its duties or the return
+-- there is a newest frame, and the step's edge is among its duties or is the return
 abbrev pub EdgeOwed : ImageData → PlanData → CertData → Machine → Event → List Standing → Type 0
 EdgeOwed image plan cert m e [] = ⊥
 EdgeOwed image plan cert m e (f ∷ fs) = IsEdgeOwed image plan cert m e f fs
 
--- so the edge of each step of every run from every start state
+-- the edge of each step of every run from every start state is owed
 abbrev pub EdgesOwed : ImageData → PlanData → CertData → Type 0
 EdgesOwed image plan cert =
     (m : Machine) (es : List Event) (e : Event) → Starts image plan m → AllFit plan m es → Fits plan (run m es) e

@@ -1,4 +1,5 @@
--- What the rules ask of the instruction at a point itself, whatever other points the certificate has.
+-- The own parts of rules: what they ask of a point's instruction alone, whatever other points the
+-- certificate has.
 use Rattle.std.specs.Prelude.{◌≡◌, ◌<◌, ◌*◌, ◌/◌, ◌%◌, ◌==◌, ◌⊎◌, ℕ, Bool, true, List, [], ◌∷◌, length, map, Option, Some, None, IsSome}
 use Rattle.std.specs.List.{list_all}
 use Rattle.depth_cert.specs.Keys.{call_kind, irq_kind, aln_kind, sys_kind}
@@ -23,18 +24,20 @@ use Rattle.depth_cert.specs.declared.keys.Key.{Key}
 use Rattle.cfg_recover.specs.Code.{IsCode, HasCode}
 
 -- ---- targets
--- the addresses that a register's words name, ascending, each once: bit 0 is dropped. A Span is no list of targets.
+-- The addresses that a register's words name, in ascending order, each once: bit 0 is dropped. A
+-- span is no list of targets.
 abbrev pub named_by : Val → Option (List ℕ)
 named_by (Set ws) = Some (distinct (map (λ w. w / 2 * 2) ws))
 named_by (Span lo last step) = None
 
--- where a jump or a call at p may go, if that is known
+-- the targets of a jump or a call at p, if they are known
 abbrev pub targets_of : PlanData → State → ℕ → Target → Option (List ℕ)
 targets_of plan s p (target.Rel by) = Some (moved p by ∷ [])
 targets_of plan s p (target.Abs x) = Some (x ∷ [])
 targets_of plan s p (target.Reg r) = named_by (reg_of plan s r)
 
--- the one address to which a jump or a call at p goes whatever the registers hold, or none where it goes by a register
+-- The only target of a jump or a call at p, whatever the registers hold; none if it goes by a
+-- register.
 abbrev pub direct_target : ℕ → Target → Option ℕ
 direct_target p (target.Rel by) = Some (moved p by)
 direct_target p (target.Abs x) = Some x
@@ -46,30 +49,33 @@ abbrev pub are_aligned : Val → ℕ → Bool
 are_aligned v size = list_all (λ x. x % size == 0) (members v)
 
 -- ---- the rules' own parts, by shape; all other shapes have nothing to meet
--- rule 5: where a jump or a call goes is a known list of addresses
+-- rule 5: the targets of a jump or a call are a known list of addresses
 abbrev pub KnowsTargets : PlanData → State → ℕ → Shape → Type 0
 KnowsTargets plan s p (Jump to) = IsSome (targets_of plan s p to)
 KnowsTargets plan s p (Call to) = IsSome (targets_of plan s p to)
 KnowsTargets plan s p _ = Unit {0}
 
--- rule 6: only a called function returns, and has restored all lower contexts
+-- rule 6: only a called function returns, and it has restored all lower contexts
 abbrev pub MayReturn : Key → State → Shape → Type 0
 MayReturn key s Ret = (key.kind ≡ call_kind) × (length s.locals.items ≡ 0)
 MayReturn key s _ = Unit {0}
 
--- rule 7: only a handler returns from an exception, and has restored all lower contexts; where the interrupted code may
--- stand anywhere, with the lower registers that it was entered with
+-- Rule 7: only a handler returns from an exception, and it has restored all lower contexts. The
+-- handler of an interrupt or of a misaligned access, which may come anywhere, returns with the
+-- lower registers of its entry.
 abbrev pub MayReturnFromException : Key → State → Shape → Type 0
 MayReturnFromException key s Rfe =
     (length s.locals.items ≡ 0) × ((((key.kind ≡ irq_kind) ⊎ (key.kind ≡ aln_kind)) × (s.lower ≡ true)) ⊎ (key.kind ≡ sys_kind))
 MayReturnFromException key s _ = Unit {0}
 
--- rule 9: each possible store lies wholly in one ram range or one device range, without passing 2^32
+-- Rule 9: each possible store is in one ram range or one device range as a whole, and doesn't pass
+-- 2^32.
 abbrev pub StoresInRange : Limits → PlanData → State → Shape → Type 0
 StoresInRange b plan s (Store src base offset size after) = AreStoresInRange plan (address_of b plan (Store src base offset size after) s) size
 StoresInRange b plan s _ = Unit {0}
 
--- rule 10: each possible address is a multiple of the size, or the trap of misaligned accesses is stated
+-- Rule 10: each possible address is a multiple of the size, or the plan states the trap of
+-- misaligned accesses.
 abbrev pub MayAccess : Limits → PlanData → State → Shape → Type 0
 MayAccess b plan s (Load dst base offset size signed after) =
     (are_aligned (address_of b plan (Load dst base offset size signed after) s) size ≡ true) ⊎ (plan.aln ≡ true)
@@ -77,13 +83,14 @@ MayAccess b plan s (Store src base offset size after) =
     (are_aligned (address_of b plan (Store src base offset size after) s) size ≡ true) ⊎ (plan.aln ≡ true)
 MayAccess b plan s _ = Unit {0}
 
--- rule 12: the trap of system calls is stated
+-- rule 12: the plan states the trap of system calls
 abbrev pub MayCallSystem : PlanData → Shape → Type 0
 MayCallSystem plan (Syscall tin) = plan.sys ≡ true
 MayCallSystem plan _ = Unit {0}
 
--- The own part of rule r at an instruction of this shape. Rule 8: lower contexts are saved only where there is room for a
--- local, and restored only where there is one. Rule 13: the instruction isn't MTCR and writes none of A0, A1, A8, A9, A11.
+-- The own part of rule r at an instruction of this shape. Rule 8: a lower context is saved only if
+-- there is room for a local, and restored only if there is one. Rule 13: the instruction isn't
+-- MTCR, and writes none of A0, A1, A8, A9 and A11.
 pub record LocalRule (b : Limits) (plan : PlanData) (key : Key) (p : ℕ) (s : State) (shape : Shape) (r : ℕ) : Type 0 where
   pub targets : r ≡ 5 → KnowsTargets plan s p shape
   pub returns : r ≡ 6 → MayReturn key s shape
@@ -94,7 +101,8 @@ pub record LocalRule (b : Limits) (plan : PlanData) (key : Key) (p : ℕ) (s : S
   pub system : r ≡ 12 → MayCallSystem plan shape
   pub writes : r ≡ 13 → WritesNoFixedRegister shape
 
--- The own part of rule r holds at the point p of a node with this key and state. Rule 3: there is code.
+-- The own part of rule r holds at the point p of a node with this key and state. Rule 3: there is
+-- an instruction.
 pub record LocalHolds (b : Limits) (image : ImageData) (plan : PlanData) (key : Key) (p : ℕ) (s : State) (r : ℕ) : Type 0 where
   pub code : r ≡ 3 → HasCode image plan p
   pub own : (shape : Shape) (n : ℕ) → IsCode image plan p shape n → LocalRule b plan key p s shape r

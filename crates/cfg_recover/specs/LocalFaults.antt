@@ -1,4 +1,4 @@
--- Which rule's own part is the first to fail.
+-- The least rule whose own part fails.
 use Rattle.std.specs.Prelude.{◌≡◌, ◌<◌, ◌⊎◌, ℕ, true, Option, Some, None}
 use Rattle.elf_image.specs.Images.{ImageData}
 use Rattle.tcd_plan.specs.PlanData.{PlanData}
@@ -14,7 +14,8 @@ use Rattle.depth_cert.specs.declared.keys.Key.{Key}
 use Rattle.cfg_recover.specs.Code.{IsCode}
 use Rattle.cfg_recover.specs.Local.{are_aligned, StoresInRange, MayAccess, LocalRule, IsFaultless}
 
--- the own part of this rule fails for the shape, and that of each lower one holds; all hold where there is none
+-- The own part of this rule fails for the shape, and that of each lesser one holds; if there is no
+-- such rule, all hold.
 abbrev pub IsLeastBroken : Limits → PlanData → Key → ℕ → State → Shape → Option ℕ → Type 0
 IsLeastBroken b plan key p s shape (Some r) = (LocalRule b plan key p s shape r → ⊥) × ((q : ℕ) → q < r → LocalRule b plan key p s shape q)
 IsLeastBroken b plan key p s shape None = (r : ℕ) → LocalRule b plan key p s shape r
@@ -25,19 +26,20 @@ pub record FindsFaultless (b : Limits) (image : ImageData) (plan : PlanData) (ke
   pub code : IsCode image plan p (shape_of found.0) found.1
 
 -- ---- rules 9 and 10
--- the lesser of them that an instruction of this shape breaks; both hold where there is none
+-- the lesser of rules 9 and 10 that an instruction of this shape breaks; if none, both hold
 abbrev pub IsAccessFault : Limits → PlanData → State → Shape → Option ℕ → Type 0
 IsAccessFault b plan s shape (Some r) =
     ((r ≡ 9) × (StoresInRange b plan s shape → ⊥)) ⊎ ((r ≡ 10) × StoresInRange b plan s shape × (MayAccess b plan s shape → ⊥))
 IsAccessFault b plan s shape None = StoresInRange b plan s shape × MayAccess b plan s shape
 
 -- ---- the same, where the address of the access is one of these
--- rule 9: each possible store lies wholly in one ram range or one device range
+-- Rule 9: each possible store is in one ram range or one device range as a whole.
 abbrev pub StoresInRangeAt : PlanData → Val → Shape → Type 0
 StoresInRangeAt plan at (Store src base offset size after) = AreStoresInRange plan at size
 StoresInRangeAt plan at _ = Unit {0}
 
--- rule 10: the address is a multiple of the size, or the plan states the misaligned trap
+-- Rule 10: the address is a multiple of the size, or the plan states the trap of misaligned
+-- accesses.
 abbrev pub MayAccessAt : PlanData → Val → Shape → Type 0
 MayAccessAt plan at (Load dst base offset size signed after) = (are_aligned at size ≡ true) ⊎ (plan.aln ≡ true)
 MayAccessAt plan at (Store src base offset size after) = (are_aligned at size ≡ true) ⊎ (plan.aln ≡ true)

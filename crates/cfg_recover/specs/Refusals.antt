@@ -1,4 +1,5 @@
--- Why no certificate can be made: faults of derived assignments, the least assignment and its needs.
+-- Why no certificate can be made: faults of derived assignments, the least assignment and its
+-- needs.
 use Rattle.std.specs.Prelude.{◌≡◌, ◌≤◌, ◌<◌, ◌+◌, ◌-◌, ◌*◌, ◌^◌, ◌⊎◌, ℕ, List, length, Some, None, IsSome, Contains}
 use Rattle.std.specs.List.{IsDistinct}
 use Rattle.elf_image.specs.Images.{ImageData}
@@ -34,7 +35,7 @@ pub record HasManyPoints (a : Assignment) : Type 0 where
 abbrev pub IsTooLarge : Assignment → Type 0
 IsTooLarge a = HasManyNodes a ⊎ HasManyPoints a
 
--- one joining passes a limit, by the point that it adds
+-- one step of the analysis passes a limit, by the point that it adds
 pub record Passes (b : Limits) (image : ImageData) (plan : PlanData) (k : Key) (p : ℕ) : Type 0 where
   pub before : Assignment
   pub after : Assignment
@@ -45,31 +46,32 @@ pub record Passes (b : Limits) (image : ImageData) (plan : PlanData) (k : Key) (
   pub more : IsTooLarge after
 
 -- ---- faults
--- the rule's own part fails at a point; or states with unequal numbers of locals meet there
+-- The rule's own part fails at a point, or states with different numbers of locals meet there.
 pub data HasFault (b : Limits) (image : ImageData) (plan : PlanData) (a : Assignment) : ℕ → Key → ℕ → Type 0 where
   own : (r : ℕ) (k : Key) (p : ℕ) (s : State) → a (point k p) ≡ Some (state s) → IsLocalFault b image plan k p s r → HasFault b image plan a r k p
   locals :
       (k : Key) (p : ℕ) (s t : State) → a (point k p) ≡ Some (state s) → Asks b image plan a (point k p) (state t) → joined_states b s t ≡ None
       → HasFault b image plan a 8 k p
 
--- a fault of a derived assignment; number 15 is the limits'
+-- a fault of a derived assignment; number 15 is for the limits
 pub data IsFault (b : Limits) (image : ImageData) (plan : PlanData) : ℕ → Key → ℕ → Type 0 where
   derived : (a : Assignment) (r : ℕ) (k : Key) (p : ℕ) → Derived b image plan a → HasFault b image plan a r k p → IsFault b image plan r k p
   limits : (k : Key) (p : ℕ) → Passes b image plan k p → IsFault b image plan 15 k p
 
--- the least assignment: derived and closed, where no derived one has a fault
+-- the least assignment: it is derived and closed, and no derived one has a fault
 pub record IsLeast (b : Limits) (image : ImageData) (plan : PlanData) (a : Assignment) : Type 0 where
   pub derived : Derived b image plan a
   pub closed : Closed b image plan a
   pub faultless : (r : ℕ) (k : Key) (p : ℕ) → IsFault b image plan r k p → ⊥
 
 -- ---- needs
--- the point p of frame k, which has this state, enters the frame t
+-- the point p of frame k has this state, and enters the frame t
 pub record Enters (b : Limits) (image : ImageData) (plan : PlanData) (a : Assignment) (k : Key) (p : ℕ) (s : State) (t : Key) : Type 0 where
   pub entered : State
   pub has : HasDuty b image plan a k p s (enter t entered)
 
--- numbers of areas for frames: at each point room for the locals, and for each entry with what is entered
+-- Numbers of areas for frames: at each point enough for the locals, and at each entry enough for
+-- the locals, the entry, and the entered frame.
 pub record MeetsNeeds (b : Limits) (image : ImageData) (plan : PlanData) (a : Assignment) (need : Key → ℕ) : Type 0 where
   pub locals : (k : Key) (p : ℕ) (s : State) → a (point k p) ≡ Some (state s) → length s.locals.items ≤ need k
   pub entered : (k : Key) (p : ℕ) (s : State) (t : Key) → Enters b image plan a k p s t → length s.locals.items + 1 + need t ≤ need k
@@ -95,24 +97,25 @@ pub record Recurs (b : Limits) (image : ImageData) (plan : PlanData) (a : Assign
 abbrev pub point_number : Key → ℕ → ℕ
 point_number k p = number_of_key k * 2 ^ 32 + p
 
--- the first point that does
+-- the first point that enters such a frame
 pub record RecursFirst (b : Limits) (image : ImageData) (plan : PlanData) (a : Assignment) (k : Key) (p : ℕ) : Type 0 where
   pub recurs : Recurs b image plan a k p
   pub first : (j : Key) (q : ℕ) → Recurs b image plan a j q → point_number k p ≤ point_number j q
 
 -- ---- the refusal
--- No frame is reached from itself, and whatever numbers meet the needs, the start's is above the areas without the reserve.
+-- No frame is reached from itself. Whatever numbers meet the needs, the start's is above the areas
+-- without the reserve.
 pub record NeedsTooMany (b : Limits) (image : ImageData) (plan : PlanData) (a : Assignment) : Type 0 where
   pub ends : (k : Key) (p : ℕ) → Recurs b image plan a k p → ⊥
   pub above : (need : Key → ℕ) → MeetsNeeds b image plan a need → plan.areas - plan.reserve < need (start_key image plan)
 
--- A refusal names a fault of a derived assignment; where there is none it is rule 14, at the first recursion of the least
--- assignment, or at the start where its need is too great.
+-- A refusal names a fault of a derived assignment. If there is none, it is rule 14: at the first
+-- recursion of the least assignment, or at the start, if its need is too great.
 pub data IsRefusalWith (b : Limits) (image : ImageData) (plan : PlanData) : ℕ → Key → ℕ → Type 0 where
   fault : (r : ℕ) (k : Key) (p : ℕ) → IsFault b image plan r k p → IsRefusalWith b image plan r k p
   recursion : (a : Assignment) (k : Key) (p : ℕ) → IsLeast b image plan a → RecursFirst b image plan a k p → IsRefusalWith b image plan 14 k p
   need : (a : Assignment) → IsLeast b image plan a → NeedsTooMany b image plan a → IsRefusalWith b image plan 14 (start_key image plan) image.entry
 
--- the same for certificates of a version
+-- a refusal to make a certificate of this version
 abbrev pub IsRefusal : ImageData → PlanData → ℕ → ℕ → Key → ℕ → Type 0
 IsRefusal image plan version = IsRefusalWith (limits_for plan version) image plan

@@ -1,4 +1,4 @@
-// States that are built: what changes make of others. And the addresses of instructions.
+// States that a change makes of another, and the addresses of accesses.
 ghost use Rattle.std.specs.Prelude.{◌≡◌, IfSome};
 ghost use Rattle.value_domain.specs.Values.{IsValue};
 ghost use Rattle.value_domain.specs.State.{AreValues};
@@ -13,7 +13,7 @@ use tcd_plan::Plan;
 use value_domain::{Bounds, State, Val};
 use vd_transfer::{Change, address_by, change_of, change_on, changed_value, unchanged};
 
-/// The addresses of a load or a store.
+/// The addresses that a load or a store may access.
 pub fn address(b: &Bounds, plan: &Plan, inst: &Inst, s: &State) -> Val
     requires { AreValues b.now s.now.regs }
     ensures address { result ≡ address_of b.now plan.now (shape_of inst.now) s.now }
@@ -22,7 +22,7 @@ pub fn address(b: &Bounds, plan: &Plan, inst: &Inst, s: &State) -> Val
     address_by(b, plan, shape(inst), s)
 }
 
-/// The state on a side of a branch, or nothing where the side isn't possible.
+/// The state on a side of a branch, or `None` if that side isn't possible.
 pub fn refine(b: &Bounds, plan: &Plan, inst: &Inst, s: &State, side: bool) -> Option<State>
     requires { AreValues b.now s.now.regs }
     ensures refine { result ≡ refine_of b.now plan.now (shape_of inst.now) s.now side }
@@ -36,8 +36,9 @@ pub fn refine(b: &Bounds, plan: &Plan, inst: &Inst, s: &State, side: bool) -> Op
     }
 }
 
-/// The state after an instruction that stays in its frame and isn't a branch or a jump. A load writes `loaded`, which
-/// nothing else uses. There is room where it saves a lower context, and one to restore where it restores one.
+/// The state after an instruction that stays in its frame and isn't a branch or a jump. A load
+/// writes `loaded`; other instructions don't use it. If the instruction saves a lower context,
+/// there is room for it; if it restores one, there is one.
 pub fn transfer(b: &Bounds, plan: &Plan, inst: &Inst, s: &State, loaded: &Val) -> State
     requires values { AreValues b.now s.now.regs }
     requires loaded { IsValue b.now loaded.now }
@@ -51,18 +52,6 @@ pub fn transfer(b: &Bounds, plan: &Plan, inst: &Inst, s: &State, loaded: &Val) -
     changed_state(s, &c)
 }
 
-fn changed_regs(s: &State, c: &Change) -> [Val; 27]
-    ensures { result ≡ (state_after s.now c.now).regs }
-{
-    let _regs = &s.regs[..];
-    let any = Val::any();
-    let mut out = std::array::from_fn(|_| Val::any());
-    for i in 0..27 {
-        out[i] = changed_value(s, c, &any, i).copy();
-    }
-    out
-}
-
 /// The state that a change makes of another.
 pub fn changed_state(s: &State, c: &Change) -> State
     ensures { result ≡ state_after s.now c.now }
@@ -74,4 +63,16 @@ pub fn changed_state(s: &State, c: &Change) -> State
         lower: c.lower,
         locals: copy_of(&c.locals),
     }
+}
+
+fn changed_regs(s: &State, c: &Change) -> [Val; 27]
+    ensures { result ≡ (state_after s.now c.now).regs }
+{
+    let _regs = &s.regs[..];
+    let any = Val::any();
+    let mut out = std::array::from_fn(|_| Val::any());
+    for i in 0..27 {
+        out[i] = changed_value(s, c, &any, i).copy();
+    }
+    out
 }

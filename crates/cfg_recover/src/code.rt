@@ -10,81 +10,8 @@ use tc_isa::Inst;
 use tcd_base::any_holds;
 use tcd_plan::Plan;
 
-/// Whether `count` bytes from the address on lie in one rom range.
-#[inline(always)]
-fn is_in_rom(plan: &Plan, addr: u32, count: u32) -> bool
-    ensures decides { IsTrue result ↔ IsInOne addr count plan.now.rom }
-    ensures fits { IsTrue result → addr + count ≤ 2 ^ 32 }
-{
-    any_holds(plan.rom.as_slice(), addr, count)
-}
-
-/// Two bytes of the image, where segments hold them.
-#[inline(always)]
-fn two_bytes(image: &Image, addr: u32) -> Option<[u8; 2]>
-    requires { addr + 2 ≤ 2 ^ 32 }
-    ensures { result ≡ held_bytes image.now addr 2 }
-{
-    let first = image.byte(addr)?;
-    let second = image.byte(addr + 1)?;
-    Some([first, second])
-}
-
-/// Four bytes of a segment from an address on, where it holds them all.
-#[inline(always)]
-fn four_of(segment: &Segment, addr: u32) -> Option<[u8; 4]>
-    ensures { IfSome result (StandIn (segment_data segment.now) addr) }
-{
-    if addr < segment.at {
-        return None;
-    }
-    let at = (addr - segment.at) as usize;
-    let bytes = segment.bytes.as_slice();
-    if bytes.len() < 4 || bytes.len() - 4 < at {
-        return None;
-    }
-    Some([bytes[at], bytes[at + 1], bytes[at + 2], bytes[at + 3]])
-}
-
-/// Four bytes of the image, where segments hold them, each looked for by itself.
-#[inline(never)]
-fn four_apart(image: &Image, addr: u32) -> Option<[u8; 4]>
-    requires { addr + 4 ≤ 2 ^ 32 }
-    ensures { result ≡ held_bytes image.now addr 4 }
-{
-    let first = image.byte(addr)?;
-    let second = image.byte(addr + 1)?;
-    let third = image.byte(addr + 2)?;
-    let fourth = image.byte(addr + 3)?;
-    Some([first, second, third, fourth])
-}
-
-/// Four bytes of the image, where segments hold them. Mostly one segment has them all: that is asked first.
-#[inline(always)]
-fn four_bytes(image: &Image, addr: u32) -> Option<[u8; 4]>
-    requires { addr + 4 ≤ 2 ^ 32 }
-    ensures { result ≡ held_bytes image.now addr 4 }
-{
-    for segment in &image.segments {
-        if let Some(bytes) = four_of(segment, addr) {
-            return Some(bytes);
-        }
-    }
-    four_apart(image, addr)
-}
-
-/// The instruction with which the bytes begin, and its length.
-#[inline(always)]
-fn inst_in(bytes: &[u8]) -> Option<(Inst, u32)>
-    ensures { FindsBytes bytes.now result }
-{
-    match decode(bytes) {
-        Ok(found) => Some((found.0, found.1 as u32)),
-        Err(_) => None,
-    }
-}
-
-/// The instruction at an address, with its length: at an even one, in one rom range, and held by segments.
+/// The instruction at an address, and its length. The address is even; the bytes are in one rom
+/// range and in segments of the image.
 pub fn code_at(image: &Image, plan: &Plan, addr: u32) -> Option<(Inst, u32)>
     ensures { FindsCode image.now plan.now addr result }
 {
@@ -121,5 +48,81 @@ fn two_in_rom(image: &Image, plan: &Plan, addr: u32) -> Option<[u8; 2]>
         two_bytes(image, addr)
     } else {
         None
+    }
+}
+
+/// Returns true if `count` bytes from the address on are in one rom range.
+#[inline(always)]
+fn is_in_rom(plan: &Plan, addr: u32, count: u32) -> bool
+    ensures decides { IsTrue result ↔ IsInOne addr count plan.now.rom }
+    ensures fits { IsTrue result → addr + count ≤ 2 ^ 32 }
+{
+    any_holds(plan.rom.as_slice(), addr, count)
+}
+
+/// Four bytes of the image, if segments hold them. Mostly one segment holds all four: that is tried
+/// first.
+#[inline(always)]
+fn four_bytes(image: &Image, addr: u32) -> Option<[u8; 4]>
+    requires { addr + 4 ≤ 2 ^ 32 }
+    ensures { result ≡ held_bytes image.now addr 4 }
+{
+    for segment in &image.segments {
+        if let Some(bytes) = four_of(segment, addr) {
+            return Some(bytes);
+        }
+    }
+    four_apart(image, addr)
+}
+
+/// Four bytes of a segment from an address on, if it holds them all.
+#[inline(always)]
+fn four_of(segment: &Segment, addr: u32) -> Option<[u8; 4]>
+    ensures { IfSome result (StandIn (segment_data segment.now) addr) }
+{
+    if addr < segment.at {
+        return None;
+    }
+    let at = (addr - segment.at) as usize;
+    let bytes = segment.bytes.as_slice();
+    if bytes.len() < 4 || bytes.len() - 4 < at {
+        return None;
+    }
+    Some([bytes[at], bytes[at + 1], bytes[at + 2], bytes[at + 3]])
+}
+
+/// Four bytes of the image, if segments hold them. Each byte is looked for by itself, since
+/// segments may meet within the four.
+#[inline(never)]
+fn four_apart(image: &Image, addr: u32) -> Option<[u8; 4]>
+    requires { addr + 4 ≤ 2 ^ 32 }
+    ensures { result ≡ held_bytes image.now addr 4 }
+{
+    let first = image.byte(addr)?;
+    let second = image.byte(addr + 1)?;
+    let third = image.byte(addr + 2)?;
+    let fourth = image.byte(addr + 3)?;
+    Some([first, second, third, fourth])
+}
+
+/// Two bytes of the image, if segments hold them.
+#[inline(always)]
+fn two_bytes(image: &Image, addr: u32) -> Option<[u8; 2]>
+    requires { addr + 2 ≤ 2 ^ 32 }
+    ensures { result ≡ held_bytes image.now addr 2 }
+{
+    let first = image.byte(addr)?;
+    let second = image.byte(addr + 1)?;
+    Some([first, second])
+}
+
+/// The instruction that the bytes begin with, and its length.
+#[inline(always)]
+fn inst_in(bytes: &[u8]) -> Option<(Inst, u32)>
+    ensures { FindsBytes bytes.now result }
+{
+    match decode(bytes) {
+        Ok(found) => Some((found.0, found.1 as u32)),
+        Err(_) => None,
     }
 }

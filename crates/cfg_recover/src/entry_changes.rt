@@ -1,4 +1,4 @@
-// What the entries of frames change of a state.
+// How the entry of a frame changes the state of the point that enters it.
 ghost use Rattle.std.specs.Prelude.{◌≡◌, false, true};
 ghost use Rattle.value_domain.specs.Values.{IsValue};
 ghost use Rattle.value_domain.specs.State.{AreValues};
@@ -14,30 +14,16 @@ use tcd_plan::Plan;
 use value_domain::{Bounds, State, Val};
 use vd_transfer::{Base, Change, put_register, reg, unchanged};
 
-/// The stack pointer of a handler: that of the interrupt stack, or A10 where that stack is in use already.
-fn stack(b: &Bounds, plan: &Plan, key: &Key, s: &State) -> Val
-    requires { AreValues b.now s.now.regs }
-    ensures stack { result ≡ stack_of plan.now key.now s.now }
-    ensures value { IsValue b.now result }
-{
-    let _most_words = b.most_words();
-    let _globals = &plan.globals;
-    if key.is {
-        reg(plan, s, 26)
-    } else {
-        Val::one(plan.isp)
-    }
-}
+/// The number of A10, the stack pointer, among registers.
+const A10: u8 = 26;
 
-pub(crate) fn constant(b: &Bounds, x: u32) -> Val
-    ensures word { result ≡ word_val x }
-    ensures value { IsValue b.now result }
-{
-    let _most_words = b.most_words();
-    Val::one(x)
-}
+/// The number of D15, which has a trap's identification number at the entry of its handler.
+const D15: u8 = 15;
 
-/// The entry of a called function.
+/// The identification number of the trap of misaligned accesses.
+const ALN_TIN: u32 = 4;
+
+/// The change at the entry of a called function.
 pub fn call_change(b: &Bounds, s: &State) -> Change
     requires { AreValues b.now s.now.regs }
     ensures change { result ≡ changes.call_change s.now }
@@ -50,33 +36,20 @@ pub fn call_change(b: &Bounds, s: &State) -> Change
     c
 }
 
-/// The entry of the handler of the system call `tin`.
+/// The change at the entry of the handler of system calls, for the call with number `tin`.
 pub fn system_change(b: &Bounds, plan: &Plan, key: &Key, s: &State, tin: u8) -> Change
     requires { AreValues b.now s.now.regs }
     ensures entry { state_after s.now result ≡ sys_entry plan.now key.now s.now tin }
     ensures values { AreValues b.now (state_after s.now result).regs }
 {
     let mut c = call_change(b, s);
-    c.first = put_register(26, stack(b, plan, key, s));
-    c.second = put_register(15, constant(b, u32::from(tin)));
+    c.first = put_register(A10, stack(b, plan, key, s));
+    c.second = put_register(D15, constant(b, u32::from(tin)));
     c.ie = false;
     c
 }
 
-fn handler_with(s: &State, sp: Val, ccpn: u8) -> Change
-    ensures { result ≡ changes.handler_change sp ccpn }
-{
-    let mut c = unchanged(s);
-    c.base = Base::Any;
-    c.first = put_register(26, sp);
-    c.ie = false;
-    c.ccpn = ccpn;
-    c.lower = true;
-    c.locals = ArrayVec::new();
-    c
-}
-
-/// The entry of a handler at this CCPN.
+/// The change at the entry of an interrupt's handler, with this CCPN.
 pub fn handler_change(b: &Bounds, plan: &Plan, key: &Key, s: &State, ccpn: u8) -> Change
     requires { AreValues b.now s.now.regs }
     ensures entry { state_after s.now result
@@ -87,7 +60,7 @@ pub fn handler_change(b: &Bounds, plan: &Plan, key: &Key, s: &State, ccpn: u8) -
     handler_with(s, stack(b, plan, key, s), ccpn)
 }
 
-/// The entry of the handler of misaligned accesses.
+/// The change at the entry of the handler of misaligned accesses.
 pub fn misaligned_change(b: &Bounds, plan: &Plan, key: &Key, s: &State) -> Change
     requires { AreValues b.now s.now.regs }
     ensures entry { state_after s.now result ≡ aln_entry plan.now key.now s.now }
@@ -95,6 +68,42 @@ pub fn misaligned_change(b: &Bounds, plan: &Plan, key: &Key, s: &State) -> Chang
 {
     let _most_words = b.most_words();
     let mut c = handler_with(s, stack(b, plan, key, s), s.ccpn);
-    c.second = put_register(15, constant(b, 4));
+    c.second = put_register(D15, constant(b, ALN_TIN));
     c
+}
+
+fn handler_with(s: &State, sp: Val, ccpn: u8) -> Change
+    ensures { result ≡ changes.handler_change sp ccpn }
+{
+    let mut c = unchanged(s);
+    c.base = Base::Any;
+    c.first = put_register(A10, sp);
+    c.ie = false;
+    c.ccpn = ccpn;
+    c.lower = true;
+    c.locals = ArrayVec::new();
+    c
+}
+
+/// The stack pointer of a handler: the interrupt stack's, or A10 if that stack is in use.
+fn stack(b: &Bounds, plan: &Plan, key: &Key, s: &State) -> Val
+    requires { AreValues b.now s.now.regs }
+    ensures stack { result ≡ stack_of plan.now key.now s.now }
+    ensures value { IsValue b.now result }
+{
+    let _most_words = b.most_words();
+    let _globals = &plan.globals;
+    if key.is {
+        reg(plan, s, A10)
+    } else {
+        Val::one(plan.isp)
+    }
+}
+
+fn constant(b: &Bounds, x: u32) -> Val
+    ensures word { result ≡ word_val x }
+    ensures value { IsValue b.now result }
+{
+    let _most_words = b.most_words();
+    Val::one(x)
 }

@@ -1,4 +1,4 @@
-// The frames that an instruction itself may enter, and whether it leaves its own.
+// The frames that an instruction itself may enter, and how it leaves its own.
 ghost use Rattle.std.specs.Prelude.{◌≡◌, Some};
 ghost use Rattle.tc_isa.specs.Shapes.{shape_of};
 ghost use Rattle.value_domain.specs.Values.{IsValue};
@@ -13,6 +13,7 @@ use crate::built_states::{address, changed_state};
 use crate::entry_changes::{call_change, misaligned_change, system_change};
 use crate::flow_targets::{one, targets};
 use crate::inst_at::InstAt;
+use crate::keys::{ALN_VECTOR, SYS_VECTOR};
 use crate::{Enter, Leave};
 use depth_cert::{ALN, CALL, Key, SYS};
 use store_ranges::aligned;
@@ -38,7 +39,7 @@ pub(crate) fn entry(b: &Bounds, plan: &Plan, key: &Key, s: &State, at: InstAt<'_
         }),
         Shape::Syscall { tin } => Some(Enter {
             kind: SYS,
-            targets: one(plan.btv | 6 * 32),
+            targets: one(plan.btv | SYS_VECTOR),
             state: changed_state(s, &system_change(b, plan, key, s, tin)),
             resume,
         }),
@@ -46,7 +47,7 @@ pub(crate) fn entry(b: &Bounds, plan: &Plan, key: &Key, s: &State, at: InstAt<'_
     }
 }
 
-/// The entry of the handler of misaligned accesses, where the access of the instruction may be one.
+/// The entry of the handler of misaligned accesses, if the instruction's access may be misaligned.
 pub(crate) fn misaligned(
     b: &Bounds,
     plan: &Plan,
@@ -60,24 +61,17 @@ pub(crate) fn misaligned(
     ensures values { EntersWithValues b.now result }
 {
     match shape(inst) {
-        Shape::Load { size, .. } => {
-            unless_aligned(b, plan, key, s, &address(b, plan, inst, s), size)
-        }
+        Shape::Load { size, .. } => { aln_entry(b, plan, key, s, &address(b, plan, inst, s), size) }
         Shape::Store { size, .. } => {
-            unless_aligned(b, plan, key, s, &address(b, plan, inst, s), size)
+            aln_entry(b, plan, key, s, &address(b, plan, inst, s), size)
         }
         _ => None,
     }
 }
 
-fn unless_aligned(
-    b: &Bounds,
-    plan: &Plan,
-    key: &Key,
-    s: &State,
-    at: &Val,
-    size: u8,
-) -> Option<Enter>
+/// The entry of the handler of misaligned accesses, unless all these addresses are multiples of the
+/// size.
+fn aln_entry(b: &Bounds, plan: &Plan, key: &Key, s: &State, at: &Val, size: u8) -> Option<Enter>
     requires values { AreValues b.now s.now.regs }
     requires at { IsValue b.now at.now }
     requires size { IsSize size }
@@ -90,13 +84,13 @@ fn unless_aligned(
     }
     Some(Enter {
         kind: ALN,
-        targets: one(plan.btv | 2 * 32),
+        targets: one(plan.btv | ALN_VECTOR),
         state: changed_state(s, &misaligned_change(b, plan, key, s)),
         resume: None,
     })
 }
 
-/// Whether each address is a multiple of the size.
+/// Returns true if each address is a multiple of the size.
 pub fn is_aligned(b: &Bounds, at: &Val, size: u8) -> bool
     requires at { IsValue b.now at.now }
     requires size { IsSize size }
@@ -106,7 +100,7 @@ pub fn is_aligned(b: &Bounds, at: &Val, size: u8) -> bool
     aligned(at, size)
 }
 
-/// Whether the instruction leaves its frame.
+/// How the instruction leaves its frame, if it does.
 #[tactic(auto, unfolding(crate::specs::Flows::leave_of))]
 pub(crate) fn leaving(key: &Key, s: &State, inst: &Inst) -> Leave
     ensures told { told_leaving key.now s.now result

@@ -6,18 +6,18 @@ use arrayvec::ArrayVec;
 use tcd_plan::Plan;
 use value_domain::State;
 
-/// The stated interrupts that may be taken in a state.
+/// The plan's interrupts that may be taken in a state.
 pub fn interrupts(plan: &Plan, s: &State) -> ArrayVec<u8, 32>
     ensures { result.items ≡ irqs_of plan.now s.now }
 {
     if s.ie {
-        above(plan.irqs.as_slice(), s.ccpn)
+        irqs_above(plan.irqs.as_slice(), s.ccpn)
     } else {
         ArrayVec::new()
     }
 }
 
-fn above(irqs: &[u8], ccpn: u8) -> ArrayVec<u8, 32>
+fn irqs_above(irqs: &[u8], ccpn: u8) -> ArrayVec<u8, 32>
     requires { length irqs.now ≤ 32 }
     ensures { result.items ≡ filter (λ p. nat_lt ccpn p) irqs.now }
 {

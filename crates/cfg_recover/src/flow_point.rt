@@ -1,4 +1,4 @@
-// What follows a point.
+// What may follow a point.
 ghost use Rattle.std.specs.Prelude.{◌≡◌, IfErr, IfOk};
 ghost use Rattle.tc_isa.specs.Shapes.{shape_of};
 ghost use Rattle.value_domain.specs.State.{AreValues};
@@ -22,8 +22,8 @@ use elf_image::Image;
 use tcd_plan::Plan;
 use value_domain::{Bounds, State};
 
-/// What may follow a point with this state, where no rule's own part fails there: all that a certificate must have because
-/// of it. Else the least rule whose own part fails.
+/// What may follow a point with this state: everything that a certificate must have because of it.
+/// If a rule's own part fails at the point, the least such rule.
 pub fn flow(
     b: &Bounds,
     image: &Image,
@@ -46,7 +46,7 @@ pub fn flow(
     }
 }
 
-/// The duties of a point, by its instruction.
+/// What may follow a point, by its instruction.
 fn flow_of(b: &Bounds, image: &Image, plan: &Plan, key: &Key, s: &State, at: InstAt<'_>) -> Flow
     requires values { AreValues b.now s.now.regs }
     requires room { HasRoom b.now (shape_of at.inst.now) s.now }

@@ -24,7 +24,7 @@ use tcd_plan::Plan;
 use value_domain::{Bounds, State, Val, write_any};
 use vd_transfer::{Base, Change, change_of, unchanged, write_address};
 
-/// Where the instruction may go on in its frame, without what follows a call or a system call.
+/// The successors of the instruction in its frame, without the one after a call or a system call.
 pub(crate) fn successors(
     b: &Bounds,
     image: &Image,
@@ -58,7 +58,7 @@ pub(crate) fn successors(
     }
 }
 
-/// A jump on a side of a branch, if that side is possible.
+/// The jump on a side of a branch, if that side is possible.
 fn side(b: &Bounds, plan: &Plan, inst: &Inst, s: &State, taken: bool, to: u32) -> Option<Jump>
     requires { AreValues b.now s.now.regs }
     ensures values { JumpsWithValues b.now result }
@@ -72,7 +72,7 @@ fn side(b: &Bounds, plan: &Plan, inst: &Inst, s: &State, taken: bool, to: u32) -
     })
 }
 
-/// The step to the next instruction.
+/// The jump to the next instruction.
 fn step(b: &Bounds, image: &Image, plan: &Plan, s: &State, at: InstAt<'_>) -> Jump
     requires values { AreValues b.now s.now.regs }
     requires room { HasRoom b.now (shape_of at.inst.now) s.now }
@@ -89,8 +89,8 @@ fn step(b: &Bounds, image: &Image, plan: &Plan, s: &State, at: InstAt<'_>) -> Ju
     }
 }
 
-/// Writes what an instruction of this shape loads from these addresses over a value; by itself, so that steps without a load
-/// have no room of a value to fill.
+/// Writes what an instruction of this shape loads from these addresses into `out`. It is a function
+/// of its own, so that steps without a load don't fill the room of a value.
 #[inline(never)]
 fn write_loaded(b: &Bounds, image: &Image, plan: &Plan, shape: Shape, at: &Val, out: &mut Val)
     requires shape { IsShape shape }
@@ -106,7 +106,7 @@ fn write_loaded(b: &Bounds, image: &Image, plan: &Plan, shape: Shape, at: &Val, 
     }
 }
 
-/// Keeps all of a state. Where it has no locals, as mostly, none are copied.
+/// Writes the change that keeps a state. Mostly a state has no locals, and then none are copied.
 #[inline(always)]
 fn keep_all(s: &State, c: &mut Change)
     ensures { state_after s.now c.new ≡ s.now }
@@ -125,9 +125,9 @@ fn keep_all(s: &State, c: &mut Change)
     c.locals = ArrayVec::new();
 }
 
-/// What the step over an instruction of this shape makes of the state, where it stays in its frame and isn't a branch or a
-/// jump, written into `c`, whatever that was. There is room where it saves a lower context, and one to restore where it
-/// restores one.
+/// Writes into `c` how an instruction of this shape changes the state, whatever `c` was. The
+/// instruction stays in its frame and isn't a branch or a jump. If it saves a lower context, there
+/// is room for it; if it restores one, there is one.
 pub fn step_change(b: &Bounds, image: &Image, plan: &Plan, shape: Shape, s: &State, c: &mut Change)
     requires shape { IsShape shape }
     requires values { AreValues b.now s.now.regs }

@@ -1,4 +1,4 @@
-// Where jumps and calls may go.
+// The targets of jumps and calls.
 ghost use Rattle.std.specs.Prelude.{◌≡◌, ◌<◌, ◌≤◌, ◌-◌, ◌*◌, ◌/◌, ◌↔◌, [], ◌∷◌, ℕ, IsTrue, Some, length, map, slice_get, unwrap_or, IfSome};
 ghost use Rattle.tcd_plan.specs.PlanData.{PlanData};
 ghost use Rattle.tc_isa.specs.Bounded.{IsTarget};
@@ -14,7 +14,8 @@ use tcd_plan::Plan;
 use value_domain::{State, Val};
 use vd_transfer::reg;
 
-/// The one address to which a jump or a call at `addr` goes whatever the registers hold; nothing where it goes by a register.
+/// The only address to which a jump or a call at `addr` goes, whatever the registers hold; `None`
+/// if it goes by a register.
 #[inline(always)]
 pub fn direct_target(addr: u32, to: Target) -> Option<u32>
     ensures target { result ≡ rules.direct_target addr to }
@@ -28,7 +29,7 @@ pub fn direct_target(addr: u32, to: Target) -> Option<u32>
     }
 }
 
-/// The addresses to which a jump or a call at `addr` may go, as far as they are known.
+/// The addresses to which a jump or a call at `addr` may go; none if they are unknown.
 pub fn targets(plan: &Plan, s: &State, addr: u32, to: Target) -> ArrayVec<u32, 128>
     requires { IsTarget to }
     ensures { result.items ≡ unwrap_or (targets_of plan.now s.now addr to) [] }
@@ -36,20 +37,21 @@ pub fn targets(plan: &Plan, s: &State, addr: u32, to: Target) -> ArrayVec<u32, 1
     match to {
         Target::Rel(by) => one(addr.wrapping_add(by)),
         Target::Abs(x) => one(x),
-        Target::Reg(r) => named_in(plan, s, r),
+        Target::Reg(r) => addresses_in(plan, s, r),
     }
 }
 
-/// The addresses that a register names; by itself, so that where none is read there is no value to fill.
+/// The addresses that a register names. It is a function of its own, so that where no register is
+/// read no room of a value is filled.
 #[inline(never)]
-fn named_in(plan: &Plan, s: &State, r: u8) -> ArrayVec<u32, 128>
+fn addresses_in(plan: &Plan, s: &State, r: u8) -> ArrayVec<u32, 128>
     requires { r < 32 }
     ensures { result.items ≡ unwrap_or (named_by (reg_of plan.now s.now r)) [] }
 {
-    named(&reg(plan, s, r))
+    addresses_of(&reg(plan, s, r))
 }
 
-/// One address.
+/// A list of one address.
 pub(crate) fn one(x: u32) -> ArrayVec<u32, 128>
     ensures { result.items ≡ x ∷ [] }
 {
@@ -58,18 +60,18 @@ pub(crate) fn one(x: u32) -> ArrayVec<u32, 128>
     targets
 }
 
-/// The addresses that the words of a value name.
-fn named(v: &Val) -> ArrayVec<u32, 128>
+/// The addresses that the words of a value name; none for a span.
+fn addresses_of(v: &Val) -> ArrayVec<u32, 128>
     ensures { result.items ≡ unwrap_or (named_by v.now) [] }
 {
     match v {
-        Val::Set(words) => evened(words.as_slice()),
+        Val::Set(words) => even_words(words.as_slice()),
         Val::Span { .. } => ArrayVec::new(),
     }
 }
 
-/// The words with bit 0 cleared, each once: where neighbours become equal, one of them.
-fn evened(words: &[u32]) -> ArrayVec<u32, 128>
+/// The words with bit 0 cleared. If two neighbours become equal, one of them is left out.
+fn even_words(words: &[u32]) -> ArrayVec<u32, 128>
     requires { AreWords words.now }
     ensures { result.items ≡ distinct (map (λ w. w / 2 * 2) words.now) }
 {
@@ -80,7 +82,7 @@ fn evened(words: &[u32]) -> ArrayVec<u32, 128>
     evened
 }
 
-/// Adds a word that isn't below the others, unless it is there already.
+/// Adds a word that isn't below the others, unless it is the last one.
 fn add_once(words: &mut ArrayVec<u32, 128>, x: u32)
     requires room { length words.old.items < 128 }
     requires rising { Rising words.old.items }

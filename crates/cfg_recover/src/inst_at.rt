@@ -1,7 +1,7 @@
-// An instruction where it stands.
+// An instruction and its address.
 use tc_isa::Inst;
 
-/// The instruction at an address, and its size in bytes.
+/// An instruction, its address, and its size in bytes.
 #[derive(Clone, Copy)]
 pub(crate) struct InstAt<'a> {
     pub(crate) addr: u32,

@@ -1,11 +1,17 @@
-// The keys of the frames that are entered.
+// The keys of frames.
 ghost use Rattle.std.specs.Prelude.{◌≡◌};
 ghost use Rattle.cfg_recover.specs.Entries as entries;
 ghost use Rattle.cfg_recover.specs.Flows as flows;
 
-use depth_cert::{ALN, IRQ, Key, START, SYS};
+use depth_cert::{ALN, CALL, IRQ, Key, START, SYS};
 use elf_image::Image;
 use tcd_plan::Plan;
+
+/// The place of the handler of system calls, class 6, in the vector table of traps.
+pub(crate) const SYS_VECTOR: u32 = 6 * 32;
+
+/// The place of the handler of misaligned accesses, class 2, in the vector table of traps.
+pub(crate) const ALN_VECTOR: u32 = 2 * 32;
 
 /// The key of the frame in which a run starts.
 pub fn start_key(image: &Image, plan: &Plan) -> Key
@@ -19,8 +25,9 @@ pub fn start_key(image: &Image, plan: &Plan) -> Key
     }
 }
 
-/// The key of the frame that a frame enters at `entry` by a call (kind 1), a system call (3) or a misaligned access (4): it keeps
-/// the priority, and all but calls run on the stack of interrupts.
+/// The key of the frame that a frame enters at `entry` by a call (`kind` is CALL), a system call
+/// (SYS) or a misaligned access (ALN). The priority stays. A called function runs on the caller's
+/// stack, a handler on the interrupt stack.
 pub fn entered_key(key: &Key, kind: u8, entry: u32) -> Key
     ensures { result ≡ flows.entered_key key.now kind entry }
 {
@@ -28,22 +35,22 @@ pub fn entered_key(key: &Key, kind: u8, entry: u32) -> Key
         kind,
         entry,
         prio: key.prio,
-        is: if kind == 1 { key.is } else { true },
+        is: if kind == CALL { key.is } else { true },
     }
 }
 
-/// The key of the handler of system calls, entered from a frame.
+/// The key of the handler of system calls, as a frame enters it.
 pub fn sys_key(plan: &Plan, key: &Key) -> Key
     ensures { result ≡ entries.sys_key plan.now key.now }
 {
-    entered_key(key, SYS, plan.btv | 6 * 32)
+    entered_key(key, SYS, plan.btv | SYS_VECTOR)
 }
 
-/// The key of the handler of misaligned accesses, entered from a frame.
+/// The key of the handler of misaligned accesses, as a frame enters it.
 pub fn aln_key(plan: &Plan, key: &Key) -> Key
     ensures { result ≡ entries.aln_key plan.now key.now }
 {
-    entered_key(key, ALN, plan.btv | 2 * 32)
+    entered_key(key, ALN, plan.btv | ALN_VECTOR)
 }
 
 /// The key of the handler of interrupts of a priority.

@@ -1,4 +1,4 @@
-// What words of code are, kept from point to point.
+// Instructions that were decoded lately, by their words.
 ghost use Rattle.std.specs.Prelude.{◌≡◌, ◌<◌, ◌^◌, ℕ, IfSome, slice_index};
 ghost use Rattle.std.specs.Coded.{Coded-set};
 ghost use Rattle.tc_isa.specs.Bounded.{IsShape};
@@ -13,7 +13,14 @@ use tc_encode::decode;
 use tc_isa::shape;
 use tcd_plan::Plan;
 
-/// A word of code, and what its bytes are.
+/// Words of code that were decoded lately, whatever their addresses. The word gives the place, so a
+/// later word replaces an earlier one at its place.
+#[derive(Drop)]
+pub struct KnownCodes {
+    codes: [KnownCode; 256],
+}
+
+/// A word of code, and the instruction that its bytes begin with.
 #[derive(Clone, Copy)]
 pub(crate) struct KnownCode {
     word: u32,
@@ -21,67 +28,8 @@ pub(crate) struct KnownCode {
     ghost known: { IsKnown word found } by { Coded-set found-code found (located_in word) },
 }
 
-/// Words of code that were met lately, wherever they stand, each at a place that the word gives; one that is met later takes
-/// the place of one before it.
-#[derive(Drop)]
-pub struct KnownCodes {
-    codes: [KnownCode; 256],
-}
-
-/// The place of a word: the highest byte of its product with 01010101, which is the sum of its bytes but for what is carried.
-#[inline(always)]
-fn place_of(word: u32) -> usize
-    ensures { result < 256 }
-{
-    (word.wrapping_mul(0x0101_0101) / 0x100_0000) as usize
-}
-
-/// Bytes are below 256, as their type says.
-fn are_bytes(bytes: &[u8])
-    ensures { (k : ℕ) → slice_index bytes.now k < 2 ^ 8 }
-{}
-
-/// The word of the instruction with which four bytes begin: all of them, or the first two alone, as it has only these where the
-/// first is even.
-#[inline(always)]
-fn code_word(bytes: [u8; 4]) -> u32
-    ensures { located_in result ≡ located_of (decoded_of bytes) }
-{
-    are_bytes(&bytes);
-    let word = u32::from_le_bytes(bytes);
-    if word % 2 == 1 { word } else { word % 0x1_0000 }
-}
-
-/// What the bytes of a word are, decoded.
-#[inline(never)]
-fn known_code(word: u32) -> KnownCode
-    ensures { result.word ≡ word }
-{
-    let found = match decode(&word.to_le_bytes()) {
-        Ok(found) => Some(Located {
-            shape: shape(&found.0),
-            size: found.1 as u32,
-        }),
-        Err(_) => None,
-    };
-    KnownCode { word, found }
-}
-
-/// What stands at an address, decoded.
-#[inline(never)]
-fn decoded_at(image: &Image, plan: &Plan, addr: u32) -> Option<Located>
-    ensures code { LocatesCode image.now plan.now addr result }
-    ensures shape { IfSome result (λ found. IsShape found.shape) }
-{
-    let (inst, size) = code_at(image, plan, addr)?;
-    Some(Located {
-        shape: shape(&inst),
-        size,
-    })
-}
-
 impl KnownCodes {
-    /// Nothing is known but what 00 00 is.
+    /// Only the word 0 is known.
     #[inline(never)]
     pub fn new() -> KnownCodes {
         KnownCodes {
@@ -89,7 +37,8 @@ impl KnownCodes {
         }
     }
 
-    /// What stands at an address: as it is known of the word there, else decoded, and known from then on.
+    /// The instruction at an address. If its word is known, nothing is decoded; else it is decoded,
+    /// and known from then on.
     #[inline(always)]
     pub fn located(&mut self, image: &Image, plan: &Plan, addr: u32) -> Option<Located>
         ensures code { LocatesCode image.now plan.now addr result }
@@ -111,4 +60,57 @@ impl KnownCodes {
         self.codes[place] = code;
         code.found
     }
+}
+
+/// Decodes the instruction at an address.
+#[inline(never)]
+fn decoded_at(image: &Image, plan: &Plan, addr: u32) -> Option<Located>
+    ensures code { LocatesCode image.now plan.now addr result }
+    ensures shape { IfSome result (λ found. IsShape found.shape) }
+{
+    let (inst, size) = code_at(image, plan, addr)?;
+    Some(Located {
+        shape: shape(&inst),
+        size,
+    })
+}
+
+/// Decodes the bytes of a word.
+#[inline(never)]
+fn known_code(word: u32) -> KnownCode
+    ensures { result.word ≡ word }
+{
+    let found = match decode(&word.to_le_bytes()) {
+        Ok(found) => Some(Located {
+            shape: shape(&found.0),
+            size: found.1 as u32,
+        }),
+        Err(_) => None,
+    };
+    KnownCode { word, found }
+}
+
+/// The word of the instruction that four bytes begin with. If the first byte is even, the
+/// instruction has two bytes, and the word is those two alone.
+#[inline(always)]
+fn code_word(bytes: [u8; 4]) -> u32
+    ensures { located_in result ≡ located_of (decoded_of bytes) }
+{
+    are_bytes(&bytes);
+    let word = u32::from_le_bytes(bytes);
+    if word % 2 == 1 { word } else { word % 0x1_0000 }
+}
+
+/// Establishes that bytes are below 256, which their type says.
+fn are_bytes(bytes: &[u8])
+    ensures { (k : ℕ) → slice_index bytes.now k < 2 ^ 8 }
+{}
+
+/// The place of a word: the highest byte of its product with 01010101. Except for carries, this is
+/// the sum of the word's bytes.
+#[inline(always)]
+fn place_of(word: u32) -> usize
+    ensures { result < 256 }
+{
+    (word.wrapping_mul(0x0101_0101) / 0x100_0000) as usize
 }

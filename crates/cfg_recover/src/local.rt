@@ -1,4 +1,5 @@
-// The first rule whose own part fails at a point.
+// The least rule whose own part fails at a point. A rule's own part is what it asks of the point's
+// instruction alone.
 ghost use Rattle.std.specs.Prelude.{◌≡◌, ℕ, IfErr, IfOk, IfSome, MatchResult, None, Some, if◌then◌else◌};
 ghost use Rattle.elf_image.specs.Images.{ImageData};
 ghost use Rattle.tc_isa.specs.Bounded.{IsShape};
@@ -21,14 +22,43 @@ use tcd_plan::Plan;
 use value_domain::{Bounds, State};
 use vd_transfer::address_by;
 
-/// What stands at a point: the shape of its instruction, and that one's size in bytes.
+// The rules that have an own part, by what fails there.
+
+/// Rule 3: there is no instruction.
+const NO_CODE: u8 = 3;
+
+/// Rule 5: the targets of a jump or a call are unknown.
+const UNKNOWN_TARGETS: u8 = 5;
+
+/// Rule 6: RET may not return.
+const BAD_RETURN: u8 = 6;
+
+/// Rule 7: RFE may not return.
+const BAD_EXCEPTION_RETURN: u8 = 7;
+
+/// Rule 8: there is no room for a lower context, or none to restore.
+const BAD_LOCALS: u8 = 8;
+
+/// Rule 9: a store may be out of range.
+const STORE_OUT_OF_RANGE: u8 = 9;
+
+/// Rule 10: an access may be misaligned, and the plan doesn't state its trap.
+const MISALIGNED: u8 = 10;
+
+/// Rule 12: the plan doesn't state the trap of system calls.
+const NO_SYSTEM_CALLS: u8 = 12;
+
+/// Rule 13: the instruction is MTCR, or writes A0, A1, A8, A9 or A11.
+const FIXED_REGISTER: u8 = 13;
+
+/// An instruction that was decoded: its shape, and its size in bytes.
 #[derive(Clone, Copy)]
 pub struct Located {
     pub shape: Shape,
     pub size: u32,
 }
 
-/// What stands at a point, where no rule's own part fails there; else the least that fails.
+/// The instruction at a point, if no rule's own part fails there; else the least rule that fails.
 pub fn local_check(
     b: &Bounds,
     image: &Image,
@@ -42,7 +72,7 @@ pub fn local_check(
     ensures fault { IfErr result (IsLocalFault b.now image.now plan.now key.now addr s.now) }
 {
     let Some(found) = code_at(image, plan, addr) else {
-        return Err(3);
+        return Err(NO_CODE);
     };
     let shape = shape(&found.0);
     match first_fault(b, plan, key, s, &shape) {
@@ -54,7 +84,9 @@ pub fn local_check(
     }
 }
 
-/// The same for what stands at a point, found before, whichever image and address that is.
+/// Returns `located`, the instruction that was found at a point, if no rule's own part fails there;
+/// else the least rule that fails. The contract holds for each image and address at which it was
+/// found.
 pub fn check_located<'a>(
     b: &Bounds,
     plan: &Plan,
@@ -70,7 +102,7 @@ pub fn check_located<'a>(
         → IfErr result (IsLocalFault b.now image plan.now key.now p s.now) }
 {
     let Some(found) = located else {
-        return Err(3);
+        return Err(NO_CODE);
     };
     match first_fault(b, plan, key, s, &found.shape) {
         Some(rule) => Err(rule),
@@ -78,7 +110,8 @@ pub fn check_located<'a>(
     }
 }
 
-/// The instruction at an address, and its length, where no rule's own part fails there; else the least that fails.
+/// The instruction at an address and its length, if no rule's own part fails there; else the least
+/// rule that fails.
 pub(crate) fn local_or_code(
     b: &Bounds,
     image: &Image,
@@ -93,7 +126,7 @@ pub(crate) fn local_or_code(
         (IsLocalFault b.now image.now plan.now key.now addr s.now) }
 {
     let Some(found) = code_at(image, plan, addr) else {
-        return Err(3);
+        return Err(NO_CODE);
     };
     match local_fault(b, plan, key, s, &found.0) {
         Some(rule) => Err(rule),
@@ -117,8 +150,8 @@ fn unless(holds: bool, rule: u8) -> Option<u8>
     if holds { None } else { Some(rule) }
 }
 
-/// Tries rules 9 and 10 in this order, for an access. The address is worked out here, so that where there is no access no
-/// value is made.
+/// Tries rule 9, then rule 10, for an access. The addresses are computed here, so that other
+/// instructions make no value.
 #[inline(never)]
 fn broken_by_access(b: &Bounds, plan: &Plan, s: &State, shape: Shape) -> Option<u8>
     requires shape { IsShape shape }
@@ -127,24 +160,24 @@ fn broken_by_access(b: &Bounds, plan: &Plan, s: &State, shape: Shape) -> Option<
 {
     let at = address_by(b, plan, shape, s);
     if !stores_in_range(plan, &at, shape) {
-        return Some(9);
+        return Some(STORE_OUT_OF_RANGE);
     }
     if !may_access(plan, &at, shape) {
-        return Some(10);
+        return Some(MISALIGNED);
     }
     None
 }
 
-/// The least rule that fails, for an instruction of this shape. Its shape tells which rule may fail: for a store three may, for a
-/// load two, for any other one at most.
+/// The least rule whose own part fails at an instruction of this shape. Three rules can fail at a
+/// store, two at a load, and at most one at each other shape.
 fn first_fault(b: &Bounds, plan: &Plan, key: &Key, s: &State, shape: &Shape) -> Option<u8>
     requires shape { IsShape shape.now }
     requires values { AreValues b.now s.now.regs }
     ensures { (p : ℕ) → IsLeastBroken b.now plan.now key.now p s.now shape.now result }
 {
     match *shape {
-        Shape::Compute { dst, .. } => unless(has_value(dst), 13),
-        Shape::Scaled { dst, .. } => unless(has_value(dst), 13),
+        Shape::Compute { dst, .. } => unless(has_value(dst), FIXED_REGISTER),
+        Shape::Scaled { dst, .. } => unless(has_value(dst), FIXED_REGISTER),
         Shape::Load {
             dst,
             base,
@@ -152,25 +185,25 @@ fn first_fault(b: &Bounds, plan: &Plan, key: &Key, s: &State, shape: &Shape) -> 
             ..
         } => {
             let loading = broken_by_access(b, plan, s, *shape);
-            loading.or(unless(loads_into_values(dst, base, after), 13))
+            loading.or(unless(loads_into_values(dst, base, after), FIXED_REGISTER))
         }
         Shape::Store { base, after, .. } => {
             let storing = broken_by_access(b, plan, s, *shape);
-            storing.or(unless(has_base_value(base, after), 13))
+            storing.or(unless(has_base_value(base, after), FIXED_REGISTER))
         }
-        Shape::Branch { x, lowers, .. } => unless(lowers_a_value(x, lowers), 13),
-        Shape::Jump { to } => unless(knows_target(plan, s, to), 5),
-        Shape::Call { to } => unless(knows_target(plan, s, to), 5),
-        Shape::Ret => unless(may_return(key, s), 6),
-        Shape::Rfe => unless(may_return_from_exception(key, s), 7),
-        Shape::Svlcx => unless(may_save(b, s), 8),
-        Shape::Rslcx => unless(may_restore(s), 8),
-        Shape::Bisr { .. } => unless(may_save(b, s), 8),
+        Shape::Branch { x, lowers, .. } => unless(lowers_a_value(x, lowers), FIXED_REGISTER),
+        Shape::Jump { to } => unless(knows_target(plan, s, to), UNKNOWN_TARGETS),
+        Shape::Call { to } => unless(knows_target(plan, s, to), UNKNOWN_TARGETS),
+        Shape::Ret => unless(may_return(key, s), BAD_RETURN),
+        Shape::Rfe => unless(may_return_from_exception(key, s), BAD_EXCEPTION_RETURN),
+        Shape::Svlcx => unless(may_save(b, s), BAD_LOCALS),
+        Shape::Rslcx => unless(may_restore(s), BAD_LOCALS),
+        Shape::Bisr { .. } => unless(may_save(b, s), BAD_LOCALS),
         Shape::Enable => None,
         Shape::Disable => None,
-        Shape::Syscall { .. } => unless(may_call_system(plan), 12),
-        Shape::Mfcr { dst, .. } => unless(has_value(dst), 13),
-        Shape::Mtcr { .. } => Some(13),
+        Shape::Syscall { .. } => unless(may_call_system(plan), NO_SYSTEM_CALLS),
+        Shape::Mfcr { dst, .. } => unless(has_value(dst), FIXED_REGISTER),
+        Shape::Mtcr { .. } => Some(FIXED_REGISTER),
         Shape::Nothing => None,
     }
 }

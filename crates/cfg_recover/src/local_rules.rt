@@ -1,4 +1,4 @@
-// The own parts of rules at an instruction, each where the instruction's shape lets it fail.
+// The own parts of rules, each for the shapes of instructions at which it can fail.
 ghost use Rattle.std.specs.Prelude.{◌≡◌, ◌<◌, ◌≤◌, ◌⊎◌, ◌↔◌, ℕ, true, length, IsTrue, IsSome};
 ghost use Rattle.tc_isa.specs.Bounded.{IsShape, IsSize, IsTarget};
 ghost use Rattle.tc_isa.specs.declared.shapes.Shape.TheVariants.{Ret, Rfe};
@@ -7,14 +7,14 @@ ghost use Rattle.vd_transfer.specs.Holding.{HasValue, HasBaseValue};
 ghost use Rattle.cfg_recover.specs.Local.{are_aligned, named_by, targets_of, MayReturn, MayReturnFromException};
 ghost use Rattle.cfg_recover.specs.LocalFaults.{StoresInRangeAt, MayAccessAt};
 
-use depth_cert::Key;
+use depth_cert::{ALN, CALL, IRQ, Key, SYS};
 use store_ranges::{aligned, store_ok};
 use tc_isa::{Arg, Shape, Target};
 use tcd_plan::Plan;
 use value_domain::{Bounds, State, Val};
 use vd_transfer::reg;
 
-/// Rule 5: where a jump or a call goes is a known list of addresses.
+/// Rule 5: the targets of a jump or a call are a known list of addresses.
 pub(crate) fn knows_target(plan: &Plan, s: &State, to: Target) -> bool
     requires { IsTarget to }
     ensures { (p : ℕ) → IsTrue result ↔ IsSome (targets_of plan.now s.now p to) }
@@ -34,14 +34,15 @@ fn is_list(v: &Val) -> bool
     }
 }
 
-/// Rule 6, at RET: only a called function returns, and has restored all lower contexts.
+/// Rule 6, at RET: only a called function returns, and it has restored all lower contexts.
 pub(crate) fn may_return(key: &Key, s: &State) -> bool
     ensures { IsTrue result ↔ MayReturn key.now s.now Ret }
 {
-    key.kind == 1 && has_no_locals(s)
+    key.kind == CALL && has_no_locals(s)
 }
 
-/// Rule 7, at RFE: only a handler returns from an exception, and has restored all lower contexts.
+/// Rule 7, at RFE: only a handler returns from an exception, and it has restored all lower
+/// contexts.
 pub(crate) fn may_return_from_exception(key: &Key, s: &State) -> bool
     ensures { IsTrue result ↔ MayReturnFromException key.now s.now Rfe }
 {
@@ -54,35 +55,37 @@ fn has_no_locals(s: &State) -> bool
     s.locals.is_empty()
 }
 
-/// Whether the handler may go back by its registers: that of a system call is awaited by its caller; that of an interrupt or
-/// of a misaligned access, which may come anywhere, has the lower registers that it was entered with.
+/// Returns true if the handler's registers allow its return. The caller of a system call expects
+/// other registers. The handler of an interrupt or of a misaligned access may come anywhere, so its
+/// lower registers must be those of its entry.
 fn is_done(key: &Key, s: &State) -> bool
     ensures { IsTrue result
         ↔ ((((key.now.kind ≡ 2) ⊎ (key.now.kind ≡ 4)) × (s.now.lower ≡ true))
         ⊎ (key.now.kind ≡ 3)) }
 {
     match key.kind {
-        2 | 4 => s.lower,
-        3 => true,
+        IRQ | ALN => s.lower,
+        SYS => true,
         _ => false,
     }
 }
 
-/// Rule 8, where a lower context is saved: there is room for a local.
+/// Rule 8, at an instruction that saves a lower context: there is room for a local.
 pub(crate) fn may_save(b: &Bounds, s: &State) -> bool
     ensures { IsTrue result ↔ (length s.now.locals.items < b.now.most_locals) }
 {
     s.locals.len() < b.most_locals()
 }
 
-/// Rule 8, where a lower context is restored: there is one.
+/// Rule 8, at an instruction that restores a lower context: there is one.
 pub(crate) fn may_restore(s: &State) -> bool
     ensures { IsTrue result ↔ (1 ≤ length s.now.locals.items) }
 {
     1 <= s.locals.len()
 }
 
-/// Rule 9: each possible store lies wholly in one ram range or one device range, without passing 2^32.
+/// Rule 9: each possible store is in one ram range or one device range as a whole, and doesn't pass
+/// 2^32.
 pub(crate) fn stores_in_range(plan: &Plan, at: &Val, shape: Shape) -> bool
     requires shape { IsShape shape }
     requires well { IsWell at.now }
@@ -94,7 +97,8 @@ pub(crate) fn stores_in_range(plan: &Plan, at: &Val, shape: Shape) -> bool
     }
 }
 
-/// Rule 10: each possible address is a multiple of the size, or the trap of misaligned accesses is stated.
+/// Rule 10: each possible address is a multiple of the size, or the plan states the trap of
+/// misaligned accesses.
 pub(crate) fn may_access(plan: &Plan, at: &Val, shape: Shape) -> bool
     requires shape { IsShape shape }
     requires well { IsWell at.now }
@@ -115,7 +119,7 @@ fn is_allowed(plan: &Plan, at: &Val, size: u8) -> bool
     plan.aln || aligned(at, size)
 }
 
-/// Rule 12, at SYSCALL: the trap of system calls is stated.
+/// Rule 12, at SYSCALL: the plan states the trap of system calls.
 pub(crate) fn may_call_system(plan: &Plan) -> bool
     ensures { IsTrue result ↔ (plan.now.sys ≡ true) }
 {
@@ -124,21 +128,21 @@ pub(crate) fn may_call_system(plan: &Plan) -> bool
 
 // Rule 13: the instruction isn't MTCR, and writes none of A0, A1, A8, A9 and A11.
 
-/// Whether a load writes only registers of which a state has values.
+/// Returns true if a state has a value for each register that a load writes.
 pub(crate) fn loads_into_values(dst: u8, base: Arg, after: bool) -> bool
     ensures { IsTrue result ↔ (HasValue dst × HasBaseValue base after) }
 {
     has_value(dst) && has_base_value(base, after)
 }
 
-/// Whether a state has a value for the register that a branch lowers, if it lowers one.
+/// Returns true if a state has a value for the register that a branch decrements, if it does.
 pub(crate) fn lowers_a_value(x: u8, lowers: bool) -> bool
     ensures { IsTrue result ↔ (IsTrue lowers → HasValue x) }
 {
     !lowers || has_value(x)
 }
 
-/// Whether a state has a value for the base register, if the access increases it.
+/// Returns true if a state has a value for the base register, if the access increases it.
 pub(crate) fn has_base_value(base: Arg, after: bool) -> bool
     ensures { IsTrue result ↔ HasBaseValue base after }
 {
@@ -148,7 +152,7 @@ pub(crate) fn has_base_value(base: Arg, after: bool) -> bool
     }
 }
 
-/// Whether a state has a value for the register.
+/// Returns true if a state has a value for the register.
 #[tactic(auto, unfolding(vd_transfer::specs::Registers::slot))]
 pub(crate) fn has_value(r: u8) -> bool
     ensures { IsTrue result ↔ HasValue r }

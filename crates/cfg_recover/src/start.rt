@@ -5,18 +5,15 @@ ghost use Rattle.cfg_recover.specs.Entries as entries;
 
 use arrayvec::ArrayVec;
 use tcd_plan::Plan;
-use value_domain::{State, Val};
+use value_domain::{A10_SLOT, State, Val};
 
-/// Where a state has the value of A10.
-const STACK: usize = 22;
-
-/// The state at the start: nothing is known but A10, IE and CCPN.
+/// The state at the start: only A10, IE and CCPN are known.
 #[tactic(auto, unfolding(vd_transfer::specs::Registers::slot))]
 pub fn start_state(plan: &Plan) -> State
     ensures { result ≡ entries.start_state plan.now }
 {
     let mut regs = any_regs();
-    regs[STACK] = Val::one(plan.sp);
+    regs[A10_SLOT] = Val::one(plan.sp);
     State {
         regs,
         ie: plan.start_ie,

@@ -10,13 +10,13 @@ use Rattle.cfg_recover.proofs.flow_after.are_below.Goals as goal
 pub leq-requires-clause-left : goal.leq-requires-clause-left
 leq-requires-clause-left c =
     let i = c.loop-i.i in
-    let v = c.restored.ensures ∙ ap (λ (u : Val). restored_at i c.args.lower.now u) (get_or_default c.args.regs.now i c.index-regs-i.result any_val (omega arith)) ∙ sym (after-at c.args.lower.now c.args.regs.now i (omega arith)) in
+    let v = c.value_after.ensures ∙ ap (λ (u : Val). restored_at i c.args.lower.now u) (get_or_default c.args.regs.now i c.index-regs-i.result any_val (omega arith)) ∙ sym (after-at c.args.lower.now c.args.regs.now i (omega arith)) in
     rw v (c.requires.low i (omega (arith, with_lower_length c.args.lower.now c.args.regs.now)))
 
 pub returns-then-not-leq : goal.returns-then-not-leq
 returns-then-not-leq c =
     let i = c.loop-i.i in
-    let v = c.restored.ensures ∙ ap (λ (u : Val). restored_at i c.args.lower.now u) (get_or_default c.args.regs.now i c.index-regs-i.result any_val (omega arith)) ∙ sym (after-at c.args.lower.now c.args.regs.now i (omega arith)) in
+    let v = c.value_after.ensures ∙ ap (λ (u : Val). restored_at i c.args.lower.now u) (get_or_default c.args.regs.now i c.index-regs-i.result any_val (omega arith)) ∙ sym (after-at c.args.lower.now c.args.regs.now i (omega arith)) in
     let f = read_at c.args.high.now i c.index-high-i.result any_val (omega arith) c.index-high-i.is in (
       (λ t. absurd (let g : false ≡ true = t in cc)),
       (λ below.
@@ -27,7 +27,7 @@ returns-then-not-leq c =
 pub loop-i-preserved : goal.loop-i-preserved
 loop-i-preserved c =
     let i = c.loop-i.i in
-    let v = c.restored.ensures ∙ ap (λ (u : Val). restored_at i c.args.lower.now u) (get_or_default c.args.regs.now i c.index-regs-i.result any_val (omega arith)) ∙ sym (after-at c.args.lower.now c.args.regs.now i (omega arith)) in
+    let v = c.value_after.ensures ∙ ap (λ (u : Val). restored_at i c.args.lower.now u) (get_or_default c.args.regs.now i c.index-regs-i.result any_val (omega arith)) ∙ sym (after-at c.args.lower.now c.args.regs.now i (omega arith)) in
     let f = read_at c.args.high.now i c.index-high-i.result any_val (omega arith) c.index-high-i.is in
     below_more (with_lower_from 0 c.args.lower.now c.args.regs.now) c.args.high.now i c.loop-i.invariant
     (rw f (rw (v, ← c.index-high-i.is) at (c.leq.ensures.0 c.if-not-leq.false)))

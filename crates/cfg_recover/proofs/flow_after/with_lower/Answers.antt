@@ -12,7 +12,7 @@ loop-i-preserved c =
     let i = c.loop-i.i in
     let regs = c.args.regs.now in
     let v = c.index-regs-i.result in
-    let value = c.copy.ensures ∙ c.restored.ensures ∙ ap (λ (u : Val). restored_at i c.args.lower.now u) (get_or_default regs i v any_val (omega arith)) in
+    let value = c.copy.ensures ∙ c.value_after.ensures ∙ ap (λ (u : Val). restored_at i c.args.lower.now u) (get_or_default regs i v any_val (omega arith)) in
     (lower_more c.args.lower.now regs c.loop-i.out i c.copy.result (omega arith) (omega (arith, c.loop-i.invariant.1)) value c.loop-i.invariant.0, simp length-set c.loop-i.invariant.1)
 
 pub returns : goal.returns

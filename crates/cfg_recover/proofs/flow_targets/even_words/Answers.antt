@@ -2,7 +2,7 @@ use Rattle.std.proofs.Common.{ℕ, List, length, sym, ◌∙◌, ap, arith, subs
 use Rattle.value_domain.specs.Sets.{Among, Rising, sorted_insert}
 use Rattle.value_domain.proofs.SetLaws.{rising_distinct}
 use Rattle.cfg_recover.proofs.FlowTargets.{length_evens, evens_before, evens-more, evens-none, even_of}
-use Rattle.cfg_recover.proofs.flow_targets.evened.Goals as goal
+use Rattle.cfg_recover.proofs.flow_targets.even_words.Goals as goal
 
 pub loop-word-init : goal.loop-word-init
 loop-word-init c = c.new-evened.ensures ∙ sym (evens-none c.args.words.now)
