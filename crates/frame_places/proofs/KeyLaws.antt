@@ -1,4 +1,4 @@
--- Keys that are one.
+-- Equal keys.
 use Rattle.std.proofs.Common.{◌≡◌, Bool, true, false, refl, ◌&&◌, eqb}
 use Rattle.std.proofs.lemmas.Bool.{and_parts, eqb-true, eq-eqb}
 use Rattle.depth_cert.specs.declared.keys.Key.{Key}
@@ -14,7 +14,7 @@ flag_same : (a : Bool) → eqb (byte_of a) (byte_of a) ≡ true
 flag_same false = refl
 flag_same true = refl
 
--- keys that are told to be one are
+-- keys that compare as equal are equal
 pub key_tells : (k j : Key) → same_key k j ≡ true → k ≡ j
 key_tells k j e =
     let h = and_parts (eqb k.kind j.kind && eqb k.entry j.entry && eqb k.prio j.prio) (eqb (byte_of k.is) (byte_of j.is)) e in

@@ -13,7 +13,7 @@ use Rattle.frame_places.specs.declared.places.Mark.TheVariants.{Queued}
 use Rattle.frame_places.specs.Nearby.{StandsAt}
 use Rattle.frame_places.specs.Spots.{spot_eq}
 use Rattle.frame_places.proofs.SpotLemmas.{spot_tells, spot_refl}
-use Rattle.frame_places.specs.Marks.{AllListed, AreKnown, KeepsNumbers, MarksAs, Puts, Tells, is_queued, mark_for, value_for}
+use Rattle.frame_places.specs.Marks.{AllListed, AreKnown, KeepsNumbers, MarksAs, Puts, Requeues, is_queued, mark_for, value_for}
 
 -- which side of an if
 pub sides : {X : Type 0} (b : Bool) (x y o : X) → o ≡ (if b then x else y) → ((b ≡ true) × (o ≡ x)) ⊎ ((b ≡ false) × (o ≡ y))
@@ -32,7 +32,7 @@ module _ {V S : Type 0} (a b : IndexMap Spot (Marked V) S) (x : Spot) (w : Marke
   pub marks_after : (q : Spot) → mark_for b q ≡ (if spot_eq x q then Some w.mark else mark_for a q)
   marks_after q = ap (option_map (λ (m : Marked V). m.mark)) (is q) ∙ picked (λ (m : Marked V). m.mark) (spot_eq x q) w (get spot_eq a q)
 
-  -- it has another mark alone
+  -- only its mark changes
   pub marks_as : value_for a x ≡ Some w.value → KeepsNumbers a b → MarksAs a b x w.mark
   marks_as had numbers = record {
     values = λ q.
@@ -44,7 +44,7 @@ module _ {V S : Type 0} (a b : IndexMap Spot (Marked V) S) (x : Spot) (w : Marke
     numbers = numbers;
   }
 
-  -- or another value
+  -- or its value
   pub puts_as : w.mark ≡ Queued → KeepsNumbers a b → Puts a b x w.value
   puts_as queued numbers = record {
     values = values_after;
@@ -91,12 +91,12 @@ module _ {V S : Type 0} (a b : IndexMap Spot (Marked V) S) (work : List ℕ) (nu
     known = λ n c. (let f = h.known n c in (f.0, numbers n f.0 f.1));
   }
 
--- ---- telling
-pub Tells-none : {V S : Type 0} (a : IndexMap Spot (Marked V) S) (these : Spot → Type 0) → ((q : Spot) → these q → ⊥) → Tells a a these
-Tells-none a these none = record { values = λ q. refl; marks = λ q. inr (refl, none q); numbers = λ n q h. h }
+-- ---- queueing readers
+pub Requeues-none : {V S : Type 0} (a : IndexMap Spot (Marked V) S) (these : Spot → Type 0) → ((q : Spot) → these q → ⊥) → Requeues a a these
+Requeues-none a these none = record { values = λ q. refl; marks = λ q. inr (refl, none q); numbers = λ n q h. h }
 
-pub Tells-push : {V S : Type 0} (a b c : IndexMap Spot (Marked V) S) (ps : List Spot) (x : Spot) → Tells a b (Contains ps) → MarksAs b c x Queued → Tells a c (Contains (ps ++ x ∷ []))
-Tells-push a b c ps x t is = record {
+pub Requeues-push : {V S : Type 0} (a b c : IndexMap Spot (Marked V) S) (ps : List Spot) (x : Spot) → Requeues a b (Contains ps) → MarksAs b c x Queued → Requeues a c (Contains (ps ++ x ∷ []))
+Requeues-push a b c ps x t is = record {
   values = λ q. is.values q ∙ t.values q;
   marks = λ q.
       elim (sides (spot_eq x q) (Some Queued) (mark_for b q) (mark_for c q) (is.marks q)) [
@@ -115,11 +115,11 @@ Tells-push a b c ps x t is = record {
   numbers = λ n q h. is.numbers n q (t.numbers n q h);
 }
 
--- what is known stays so
-pub known_told : {V S : Type 0} (a b : IndexMap Spot (Marked V) S) (these all : Spot → Type 0) → Tells a b these → AreKnown a all → AreKnown b all
-known_told {V} a b these all t h q i = subst (λ (o : Option V). IsSome o) (sym (t.values q)) (h q i)
+-- known places stay known
+pub known_requeued : {V S : Type 0} (a b : IndexMap Spot (Marked V) S) (these all : Spot → Type 0) → Requeues a b these → AreKnown a all → AreKnown b all
+known_requeued {V} a b these all t h q i = subst (λ (o : Option V). IsSome o) (sym (t.values q)) (h q i)
 
--- nothing is known where a place isn't found
+-- a place that isn't found is unknown
 nothing : {V : Type 0} (o : Option (Marked V)) → is_some o ≡ false → option_map (λ m. m.value) o ≡ None
 nothing None e = refl
 nothing (Some m) e = cc
@@ -128,7 +128,7 @@ pub unknown_place : {V : Type 0} (o : Option (Marked V)) → option_map (λ m. m
 unknown_place None e = refl
 unknown_place (Some m) e = (let no : Some m.value ≡ None = e in cc)
 
--- by what is had for a place
+-- from the place that is found
 pub work_had : {V S : Type 0} (places : IndexMap Spot (Marked V) S) (q : Spot) (m : Marked V) → get spot_eq places q ≡ Some m → is_queued (mark_for places q) ≡ is_queued (Some m.mark)
 work_had places q m e = ap (λ o. is_queued (option_map (λ k. k.mark) o)) e
 

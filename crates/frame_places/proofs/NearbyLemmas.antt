@@ -30,7 +30,7 @@ spot_equiv = record {
 }
 
 module _ {X S : Type 0} (m : IndexMap Spot X S) (number : ℕ) (x : Spot) where
-  -- an entry of the map, and the place of its number
+  -- an entry of the map, and the place with its number
   pub there : (v : X) → slice_get m.entries number ≡ Some (x, v) → StandsAt m number x
   there v e = slice_get-map (λ (p : Spot × X). p.0) m.entries number ∙ ap (option_map (λ (p : Spot × X). p.0)) e
 
@@ -51,21 +51,21 @@ module _ {X S : Type 0} (m : IndexMap Spot X S) (number : ℕ) (x : Spot) where
   pub one_there : (k : Spot) (v : X) → slice_get m.entries number ≡ Some (k, v) → StandsAt m number x → k ≡ x
   one_there k v e h = same_Some k x (sym (slice_get-map (λ (p : Spot × X). p.0) m.entries number ∙ ap (option_map (λ (p : Spot × X). p.0)) e) ∙ h)
 
-  -- what stands there is had for x
+  -- the value there is the value of x
   pub had_at : (k : Spot) (v : X) → slice_get m.entries number ≡ Some (k, v) → get spot_eq m k ≡ Some v → StandsAt m number x → get spot_eq m x ≡ Some v
   had_at k v e had h = subst (λ (z : Spot). get spot_eq m z ≡ Some v) (one_there k v e h) had
 
-  -- where x is found it stands
+  -- x is at the number that is found for it
   pub index_there : index_of spot_eq m x ≡ Some number → StandsAt m number x
   index_there e =
       let h = position-Some (spot_eq x) (keys m) number x e in
       slice_get-get_or (keys m) number x h.0 ∙ ap (λ (k : Spot). Some k) (sym (spot_tells x (get_or (keys m) number x) h.1))
 
-  -- what is written there is had for x, and the others stay
+  -- a value that is written there is the value of x, and the others stay
   pub written_there : (w : X) → IsUnique spot_eq m → StandsAt m number x → (q : Spot) → get spot_eq (with_value_at m number w) q ≡ (if spot_eq x q then Some w else get spot_eq m q)
   written_there w unique h q = let e = entry_at h in (updates-with_value_at m number w spot_equiv unique x e.0 e.1).0 q
 
-  -- what is among the values at the number is had for x
+  -- a value at the number is the value of x
   pub value_had : IsUnique spot_eq m → (v : X) → Some v ≡ slice_get (values m) number → StandsAt m number x → get spot_eq m x ≡ Some v
   value_had unique v at h =
       let e = entry_at h in
@@ -76,7 +76,7 @@ module _ {X S : Type 0} (m : IndexMap Spot X S) (number : ℕ) (x : Spot) where
       let e = entry_at h in
       let no : None ≡ Some e.0 = none ∙ slice_get-map (λ (p : Spot × X). p.1) m.entries number ∙ ap (option_map (λ (p : Spot × X). p.1)) e.1 in cc
 
--- where a place is that something is known at
+-- a known place is found
 first_there : {X : Type 0} (y : Spot) (es : List (Spot × X)) → IsSome (lookup (spot_eq y) es) → slice_get (keys_of es) (position_or_len (spot_eq y) (keys_of es)) ≡ Some y
 first_there y [] h = cc
 first_there {X} y (e ∷ es) h = by (spot_eq y e.0) refl (λ i. first_there y es i) where
@@ -93,7 +93,7 @@ first_there {X} y (e ∷ es) h = by (spot_eq y e.0) refl (λ i. first_there y es
 pub found_there : {X S : Type 0} (m : IndexMap Spot X S) (y : Spot) (number : ℕ) → number ≡ insert_index spot_eq m y → IsSome (get spot_eq m y) → StandsAt m number y
 found_there m y number is h = subst (λ (n : ℕ). StandsAt m n y) (sym is) (first_there y m.entries h)
 
--- ---- one place more
+-- ---- one more place
 slice_left : {X : Type 0} (xs ys : List X) (n : ℕ) (x : X) → slice_get xs n ≡ Some x → slice_get (xs ++ ys) n ≡ Some x
 slice_left [] ys n x e = (let no : None ≡ Some x = e in cc)
 slice_left (y ∷ xs) ys zero x e = e
@@ -107,7 +107,7 @@ module _ {X S : Type 0} (m new : IndexMap Spot X S) (y : Spot) (w : X) (none : g
   keys_more : keys new ≡ keys m ++ y ∷ []
   keys_more = ap (λ (es : List (Spot × X)). keys_of es) (entries ∙ insert_entry-new spot_eq m y w none) ∙ map-append (λ (p : Spot × X). p.0) m.entries ((y, w) ∷ [])
 
-  -- it stands last, and the others where they stood
+  -- it is the last, and the others stay
   pub added_last : StandsAt new (length m.entries) y
   added_last =
       subst (λ (n : ℕ). slice_get (keys new) n ≡ Some y) (length-map m.entries (λ (p : Spot × X). p.0))
@@ -116,11 +116,11 @@ module _ {X S : Type 0} (m new : IndexMap Spot X S) (y : Spot) (w : X) (none : g
   pub added_numbers : (n : ℕ) (q : Spot) → StandsAt m n q → StandsAt new n q
   added_numbers n q h = ap (λ (ks : List Spot). slice_get ks n) keys_more ∙ slice_left (keys m) (y ∷ []) n q h
 
--- places have the numbers that they had
+-- places keep their numbers
 pub written_numbers : {X S : Type 0} (m : IndexMap Spot X S) (number : ℕ) (w : X) → (n : ℕ) (q : Spot) → StandsAt m n q → StandsAt (with_value_at m number w) n q
 written_numbers m number w n q h = ap (λ (ks : List Spot). slice_get ks n) (keys-with_value_at m number w) ∙ h
 
--- a place that is marked as having work
+-- a place that is marked as queued
 pub queued_mark : (o : Option Mark) → is_queued o ≡ true → o ≡ Some Queued
 queued_mark (Some Queued) e = refl
 queued_mark _ e = cc

@@ -27,7 +27,7 @@ number_here : (t : Bool) (n : ℕ) → t ≡ true → (if t then 0 else n + 1) �
 number_here true n e = refl
 number_here false n e = cc
 
--- a frame of the list stands at its number
+-- a frame of the list is at its number
 pub numbered_at : (frames : List Key) (k d : Key) → Contains frames k → (number_in frames k < length frames) × (get_or frames (number_in frames k) d ≡ k)
 numbered_at [] k d c = absurd (omega (arith, c.1))
 numbered_at (j ∷ js) k d c = at (λ h. numbered_at js k d h) (same_key j k) refl where
@@ -43,7 +43,7 @@ numbered_at (j ∷ js) k d c = at (λ h. numbered_at js k d h) (same_key j k) re
       let n : number_in (j ∷ js) k ≡ suc (number_in js k) = number_step (same_key j k) (number_in js k) e ∙ omega arith in
       (omega (arith, n, r.0), ap (λ i. get_or (j ∷ js) i d) n ∙ r.1)
 
--- so does what has a number below the length
+-- a frame with a number below the length is in the list
 pub number_below : (frames : List Key) (k d : Key) → number_in frames k < length frames → get_or frames (number_in frames k) d ≡ k
 number_below [] k d lt = absurd (omega arith)
 number_below (j ∷ js) k d lt = at (λ h. number_below js k d h) (same_key j k) refl where
@@ -53,7 +53,7 @@ number_below (j ∷ js) k d lt = at (λ h. number_below js k d h) (same_key j k)
       let n : number_in (j ∷ js) k ≡ suc (number_in js k) = number_step (same_key j k) (number_in js k) e ∙ omega arith in
       ap (λ i. get_or (j ∷ js) i d) n ∙ more (omega (arith, n))
 
--- each stands once
+-- each is there once
 each_of : (P : Key → Type 0) (js : List Key) (i : ℕ) (d : Key) → AllByRecursion P js → i < length js → P (get_or js i d)
 each_of P [] i d all lt = absurd (omega arith)
 each_of P (j ∷ js) zero d all lt = all.0

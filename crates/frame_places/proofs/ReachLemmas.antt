@@ -8,11 +8,11 @@ use Rattle.std.proofs.lemmas.List.Elements.{Contains-append_left, Contains-appen
 use Rattle.std.specs.declared.vec.Vec.{Vec}
 use Rattle.std.specs.declared.alloc.Global.{Global}
 use Rattle.indexmap.specs.IndexMap.{IndexMap, get}
-use Rattle.frame_places.specs.declared.needs.reach.Edge.{Edge}
-use Rattle.frame_places.specs.declared.needs.row.Row.{Row}
+use Rattle.frame_places.specs.declared.needs.reach.FrameEdge.{FrameEdge}
+use Rattle.frame_places.specs.declared.needs.row.NeedRow.{NeedRow}
 use Rattle.frame_places.specs.Reaching.{edge_eq, edge_to, AreEdges, AddsEdges, AreBetween, Leads, here, along, IsRecurring, IsMarked, unmarked, HasSource, AreSources, AreBelow, AddsSource, MarksNodes, IsMarking, AreReaching, IsFirstBefore, IsFirstRecurring}
 
--- ---- one mark more
+-- ---- one more mark
 marked_set : (marks : List Bool) (i k : ℕ) → IsMarked (set marks i true) k → IsMarked marks k ⊎ (k ≡ i)
 marked_set marks i k m =
     elim (cases_eq k i) [
@@ -43,7 +43,7 @@ one_node node k c = at c.0 c.1 c.2 where
   at zero lt same = same
   at (suc i) lt same = absurd (omega arith)
 
--- ---- one node more
+-- ---- one more node
 pub node_new : (node : ℕ) (marks : List Bool) (work : List ℕ) → node < length marks → get_or marks node false ≡ false → MarksNodes (node ∷ []) marks (set marks node true) work (work ++ node ∷ [])
 node_new node marks work lt free = record {
   keeps = λ k m. marked_keeps marks node k lt m;
@@ -109,9 +109,9 @@ nodes_more ns n a b d w x y h g = record {
   same = g.same ∙ h.same;
 }
 
--- ---- all that reach a node
--- the sources of a node of the list are marked
-pub marking_more : {S : Type 0} (edges : List Edge) (sources : IndexMap ℕ (Vec ℕ Global) S) (nodes j t : ℕ) (list : Vec ℕ Global) (a b : List Bool) (w x : List ℕ) → AreSources edges sources
+-- ---- all from which a node is reached
+-- the sources of a queued node are marked
+pub marking_more : {S : Type 0} (edges : List FrameEdge) (sources : IndexMap ℕ (Vec ℕ Global) S) (nodes j t : ℕ) (list : Vec ℕ Global) (a b : List Bool) (w x : List ℕ) → AreSources edges sources
     → get nat_eq sources t ≡ Some list → MarksNodes list.items a b w x → IsMarking edges nodes j a (w ++ t ∷ []) → IsMarking edges nodes j b x
 marking_more edges sources nodes j t list a b w x are at m old = record {
   all = m.same ∙ old.all;
@@ -139,8 +139,8 @@ marking_more edges sources nodes j t list a b w x are at m old = record {
       ];
 }
 
--- one that has none is passed over
-pub marking_past : {S : Type 0} (edges : List Edge) (sources : IndexMap ℕ (Vec ℕ Global) S) (nodes j t : ℕ) (a : List Bool) (w : List ℕ) → AreSources edges sources
+-- a node without sources is skipped
+pub marking_past : {S : Type 0} (edges : List FrameEdge) (sources : IndexMap ℕ (Vec ℕ Global) S) (nodes j t : ℕ) (a : List Bool) (w : List ℕ) → AreSources edges sources
     → get nat_eq sources t ≡ None → IsMarking edges nodes j a (w ++ t ∷ []) → IsMarking edges nodes j a w
 marking_past edges sources nodes j t a w are none old = record {
   all = old.all;
@@ -157,14 +157,14 @@ marking_past edges sources nodes j t a w are none old = record {
       ];
 }
 
-pub sources_below : {S : Type 0} (edges : List Edge) (sources : IndexMap ℕ (Vec ℕ Global) S) (nodes : ℕ) → AreSources edges sources → AreBetween edges nodes → AreBelow sources nodes
+pub sources_below : {S : Type 0} (edges : List FrameEdge) (sources : IndexMap ℕ (Vec ℕ Global) S) (nodes : ℕ) → AreSources edges sources → AreBetween edges nodes → AreBelow sources nodes
 sources_below edges sources nodes are between k t h = between.node (edge_to k t) (are.sound k t h)
 
-closed_marks : (edges : List Edge) (nodes j : ℕ) (marks : List Bool) → IsMarking edges nodes j marks [] → (k : ℕ) → Leads edges j k → IsMarked marks k
+closed_marks : (edges : List FrameEdge) (nodes j : ℕ) (marks : List Bool) → IsMarking edges nodes j marks [] → (k : ℕ) → Leads edges j k → IsMarked marks k
 closed_marks edges nodes j marks m _ here = m.goal
 closed_marks edges nodes j marks m _ (along k t c r) = elim (m.done k t c (closed_marks edges nodes j marks m t r)) [ inl i ↦ absurd (omega (arith, i.1)) | inr h ↦ h ]
 
-pub marking_done : (edges : List Edge) (nodes j : ℕ) (marks : List Bool) → IsMarking edges nodes j marks [] → AreReaching edges nodes j marks
+pub marking_done : (edges : List FrameEdge) (nodes j : ℕ) (marks : List Bool) → IsMarking edges nodes j marks [] → AreReaching edges nodes j marks
 marking_done edges nodes j marks m = record { each = m.all; sound = m.sound; complete = closed_marks edges nodes j marks m }
 
 zeros : (n k : ℕ) → get_or (replicate n false) k false ≡ false
@@ -179,7 +179,7 @@ only_goal nodes j k m =
       | inr e ↦ e
     ]
 
-pub marking_begins : (edges : List Edge) (nodes j : ℕ) → j < nodes → length (replicate nodes false) ≡ nodes → IsMarking edges nodes j (set (replicate nodes false) j true) (j ∷ [])
+pub marking_begins : (edges : List FrameEdge) (nodes j : ℕ) → j < nodes → length (replicate nodes false) ≡ nodes → IsMarking edges nodes j (set (replicate nodes false) j true) (j ∷ [])
 marking_begins edges nodes j lt len = record {
   all = length-set (replicate nodes false) j true ∙ len;
   sound = λ k m. subst (Leads edges j) (sym (only_goal nodes j k m)) here;
@@ -188,8 +188,8 @@ marking_begins edges nodes j lt len = record {
   done = λ k t e m. inl (subst (λ (n : ℕ). Contains (j ∷ []) n) (sym (only_goal nodes j t m)) (0, omega arith, refl));
 }
 
--- a node recurs where it enters one from which it is reached
-pub recurring_marks : (edges : List Edge) (nodes node : ℕ) (marks : List Bool) (r : Bool) → AreReaching edges nodes node marks
+-- a node is recursive if it enters one from which it is reached
+pub recurring_marks : (edges : List FrameEdge) (nodes node : ℕ) (marks : List Bool) (r : Bool) → AreReaching edges nodes node marks
     → (IsTrue r → (t : ℕ) × Contains edges (edge_to node t) × IsMarked marks t) × (((t : ℕ) × Contains edges (edge_to node t) × IsMarked marks t) → IsTrue r)
     → (IsTrue r → IsRecurring edges node) × (IsRecurring edges node → IsTrue r)
 recurring_marks edges nodes node marks r are tells = (
@@ -198,30 +198,30 @@ recurring_marks edges nodes node marks r are tells = (
 )
 
 -- ---- the first so far
-pub first_done : (orders : List ℕ) (edges : List Edge) (first : Option ℕ) (n : ℕ) → AreBetween edges (length orders) → length orders ≤ n → IsFirstBefore orders edges n first → IsFirstRecurring orders edges first
+pub first_done : (orders : List ℕ) (edges : List FrameEdge) (first : Option ℕ) (n : ℕ) → AreBetween edges (length orders) → length orders ≤ n → IsFirstBefore orders edges n first → IsFirstRecurring orders edges first
 first_done orders edges None n between le h = λ k r. h k (omega (arith, between.node (edge_to k r.next) r.enters)) r
 first_done orders edges (Some k) n between le h = (h.0, h.1, (λ j r. h.2 j (omega (arith, between.node (edge_to j r.next) r.enters)) r))
 
--- an order that isn't below the first one's is passed over
-pub first_past : (orders : List ℕ) (edges : List Edge) (k n : ℕ) → IsFirstBefore orders edges n (Some k) → slice_index orders k ≤ slice_index orders n → IsFirstBefore orders edges (n + 1) (Some k)
+-- an order that isn't below the first one's is skipped
+pub first_past : (orders : List ℕ) (edges : List FrameEdge) (k n : ℕ) → IsFirstBefore orders edges n (Some k) → slice_index orders k ≤ slice_index orders n → IsFirstBefore orders edges (n + 1) (Some k)
 first_past orders edges k n h le = (h.0, h.1, below_more _ n h.2 (λ r. le))
 
--- a node that doesn't recur
-pub first_not : (orders : List ℕ) (edges : List Edge) (first : Option ℕ) (n : ℕ) → IsFirstBefore orders edges n first → (IsRecurring edges n → ⊥) → IsFirstBefore orders edges (n + 1) first
+-- a node that isn't recursive
+pub first_not : (orders : List ℕ) (edges : List FrameEdge) (first : Option ℕ) (n : ℕ) → IsFirstBefore orders edges n first → (IsRecurring edges n → ⊥) → IsFirstBefore orders edges (n + 1) first
 first_not orders edges None n h apart = below_more _ n h apart
 first_not orders edges (Some k) n h apart = (h.0, h.1, below_more _ n h.2 (λ r. absurd (apart r)))
 
--- one that does
-pub first_here : (orders : List ℕ) (edges : List Edge) (first : Option ℕ) (n : ℕ) → n < length orders → IsFirstBefore orders edges n first → ((k : ℕ) → first ≡ Some k → slice_index orders n < slice_index orders k) → IsRecurring edges n
+-- a node that is
+pub first_here : (orders : List ℕ) (edges : List FrameEdge) (first : Option ℕ) (n : ℕ) → n < length orders → IsFirstBefore orders edges n first → ((k : ℕ) → first ≡ Some k → slice_index orders n < slice_index orders k) → IsRecurring edges n
     → IsFirstBefore orders edges (n + 1) (Some n)
 first_here orders edges None n lt h less r = (lt, r, below_more _ n (λ j b q. absurd (h j b q)) (λ q. omega arith))
 first_here orders edges (Some k) n lt h less r = (lt, r, below_more _ n (λ j b q. let below = less k refl in let f = h.2 j b q in omega (arith, below, f)) (λ q. omega arith))
 
 -- ---- edges
-pub adds_none : (edges : List Edge) (node : ℕ) → AddsEdges edges edges node []
+pub adds_none : (edges : List FrameEdge) (node : ℕ) → AddsEdges edges edges node []
 adds_none edges node = record { keeps = λ e c. c; sound = λ e c. inl c; complete = λ t c. absurd (omega (arith, c.1)) }
 
-pub edges_more : (rows : List Row) (row : Row) (old new : List Edge) → AreEdges rows old → AddsEdges old new row.node row.into.items → AreEdges (rows ++ row ∷ []) new
+pub edges_more : (rows : List NeedRow) (row : NeedRow) (old new : List FrameEdge) → AreEdges rows old → AddsEdges old new row.node row.into.items → AreEdges (rows ++ row ∷ []) new
 edges_more rows row old new are adds = record {
   sound = λ k t c.
       elim (adds.sound (edge_to k t) c) [
@@ -231,38 +231,38 @@ edges_more rows row old new are adds = record {
   complete = λ k t h.
       elim (Contains-push_cases rows row h.0 h.1) [
         | inl i ↦ adds.keeps (edge_to k t) (are.complete k t (h.0, i, h.2, h.3))
-        | inr e ↦ subst (λ (n : ℕ). Contains new (edge_to n t)) (ap (λ (r : Row). r.node) e ∙ h.2) (adds.complete t (subst (λ (r : Row). Contains r.into.items t) (sym e) h.3))
+        | inr e ↦ subst (λ (n : ℕ). Contains new (edge_to n t)) (ap (λ (r : NeedRow). r.node) e ∙ h.2) (adds.complete t (subst (λ (r : NeedRow). Contains r.into.items t) (sym e) h.3))
       ];
 }
 
-key_sides : (t : Bool) (es : List Edge) (e x : Edge) → Contains (if t then es else es ++ e ∷ []) x → Contains es x ⊎ (e ≡ x)
+key_sides : (t : Bool) (es : List FrameEdge) (e x : FrameEdge) → Contains (if t then es else es ++ e ∷ []) x → Contains es x ⊎ (e ≡ x)
 key_sides true es e x c = inl c
 key_sides false es e x c = Contains-push_cases es e x c
 
-key_kept : (t : Bool) (es : List Edge) (e x : Edge) → Contains es x → Contains (if t then es else es ++ e ∷ []) x
+key_kept : (t : Bool) (es : List FrameEdge) (e x : FrameEdge) → Contains es x → Contains (if t then es else es ++ e ∷ []) x
 key_kept true es e x c = c
 key_kept false es e x c = Contains-append_left es (e ∷ []) x c
 
--- one edge more, unless it is there
-pub adds_more : (t : Bool) (old new after : List Edge) (node i x d : ℕ) (into : List ℕ) → AddsEdges old new node (take i into) → i < length into → x ≡ get_or into i d
+-- one more edge, unless it is there
+pub adds_more : (t : Bool) (old new after : List FrameEdge) (node i x d : ℕ) (into : List ℕ) → AddsEdges old new node (take i into) → i < length into → x ≡ get_or into i d
     → after ≡ (if t then new else new ++ edge_to node x ∷ []) → Contains after (edge_to node x) → AddsEdges old after node (take (i + 1) into)
 adds_more t old new after node i x d into adds lt is after_is has = record {
-  keeps = λ e c. subst (λ (l : List Edge). Contains l e) (sym after_is) (key_kept t new (edge_to node x) e (adds.keeps e c));
+  keeps = λ e c. subst (λ (l : List FrameEdge). Contains l e) (sym after_is) (key_kept t new (edge_to node x) e (adds.keeps e c));
   sound = λ e c.
-      elim (key_sides t new (edge_to node x) e (subst (λ (l : List Edge). Contains l e) after_is c)) [
+      elim (key_sides t new (edge_to node x) e (subst (λ (l : List FrameEdge). Contains l e) after_is c)) [
         | inl h ↦ (elim (adds.sound e h) [
           | inl o ↦ inl o
           | inr m ↦ inr (m.0, subst (λ (l : List ℕ). Contains l e.into) (sym (take_more into i d lt)) (Contains-append_left (take i into) (get_or into i d ∷ []) e.into m.1))
         ])
         | inr h ↦ inr (
-          sym (ap (λ (z : Edge). z.node) h),
-          (let f : get_or into i d ≡ e.into = sym is ∙ ap (λ (z : Edge). z.into) h in
+          sym (ap (λ (z : FrameEdge). z.node) h),
+          (let f : get_or into i d ≡ e.into = sym is ∙ ap (λ (z : FrameEdge). z.into) h in
               subst (λ (l : List ℕ). Contains l e.into) (sym (take_more into i d lt)) (subst (λ (n : ℕ). Contains (take i into ++ n ∷ []) e.into) (sym f) (Contains-push (take i into) e.into))),
         )
       ];
   complete = λ y c.
       elim (Contains-push_cases (take i into) (get_or into i d) y (subst (λ (l : List ℕ). Contains l y) (take_more into i d lt) c)) [
-        | inl h ↦ subst (λ (l : List Edge). Contains l (edge_to node y)) (sym after_is) (key_kept t new (edge_to node x) (edge_to node y) (adds.complete y h))
+        | inl h ↦ subst (λ (l : List FrameEdge). Contains l (edge_to node y)) (sym after_is) (key_kept t new (edge_to node x) (edge_to node y) (adds.complete y h))
         | inr e ↦ subst (λ (n : ℕ). Contains after (edge_to node n)) (is ∙ e) has
       ];
 }
@@ -271,7 +271,7 @@ pub take_front : (n : ℕ) (s xs : List Bool) → n ≡ length s → take n (s +
 take_front n s xs e = subst (λ (k : ℕ). take k (s ++ xs) ≡ s) (sym e) (take-append_seam s xs)
 
 -- ---- edges as sets compare them
-pub edge_tells : (e f : Edge) → edge_eq e f ≡ true → e ≡ f
+pub edge_tells : (e f : FrameEdge) → edge_eq e f ≡ true → e ≡ f
 edge_tells e f h =
     let p = and_parts (eqb e.node f.node) (eqb e.into f.into) h in
     let node : e.node ≡ f.node = eqb-true e.node f.node p.0 in
@@ -279,7 +279,7 @@ edge_tells e f h =
     λ i. record { node = node i; into = into i }
 
 -- ---- sources
-pub sources_more : {S T : Type 0} (edges : List Edge) (edge : Edge) (old : IndexMap ℕ (Vec ℕ Global) S) (new : IndexMap ℕ (Vec ℕ Global) T) → AreSources edges old → AddsSource old new edge.node edge.into → AreSources (edges ++ edge ∷ []) new
+pub sources_more : {S T : Type 0} (edges : List FrameEdge) (edge : FrameEdge) (old : IndexMap ℕ (Vec ℕ Global) S) (new : IndexMap ℕ (Vec ℕ Global) T) → AreSources edges old → AddsSource old new edge.node edge.into → AreSources (edges ++ edge ∷ []) new
 sources_more edges edge old new are adds = record {
   sound = λ k t h.
       elim (adds.sound k t h) [
@@ -289,7 +289,7 @@ sources_more edges edge old new are adds = record {
   complete = λ k t c.
       elim (Contains-push_cases edges edge (edge_to k t) c) [
         | inl i ↦ adds.keeps k t (are.complete k t i)
-        | inr e ↦ subst (λ (z : Edge). HasSource (get nat_eq new z.into) z.node) e adds.there
+        | inr e ↦ subst (λ (z : FrameEdge). HasSource (get nat_eq new z.into) z.node) e adds.there
       ];
 }
 

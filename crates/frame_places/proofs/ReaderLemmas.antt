@@ -13,7 +13,7 @@ use Rattle.frame_places.proofs.SpotLemmas.{spot_tells, spot_refl}
 use Rattle.frame_places.specs.Marks.{Reads, Registered}
 use Rattle.frame_places.proofs.MarkLemmas.{sides}
 
--- what is told at z is what it was told before and x, elsewhere what it was
+-- the readers of z are those before and x; others stay
 pub registered : {S : Type 0} (old new : IndexMap Spot (Vec Spot Global) S) (z x : Spot) (more : Vec Spot Global) → ((q : Spot) → get spot_eq new q ≡ (if spot_eq z q then Some more else get spot_eq old q))
     → Contains more.items x → ((q : Spot) → Reads (get spot_eq old z) q → Contains more.items q) → ((q : Spot) → Contains more.items q → Reads (get spot_eq old z) q ⊎ (q ≡ x)) → Registered old new z x
 registered old new z x more is has keeps from = record {
@@ -34,7 +34,7 @@ registered old new z x more is has keeps from = record {
       ];
 }
 
--- x is told besides those that are told already
+-- x is added to the readers
 pub registered_by : {S : Type 0} (old new : IndexMap Spot (Vec Spot Global) S) (z x : Spot) (list more : Vec Spot Global) → get spot_eq old z ≡ Some list
     → ((q : Spot) → Contains more.items q ↔ (Contains list.items q ⊎ (q ≡ x))) → ((q : Spot) → get spot_eq new q ≡ (if spot_eq z q then Some more else get spot_eq old q)) → Registered old new z x
 registered_by old new z x list more at adds is =
@@ -45,8 +45,8 @@ registered_by old new z x list more at adds is =
       | inr e ↦ inr e
     ])
 
--- ---- doubles
--- where x was put behind, or stood there already, these are all places up to it
+-- ---- duplicates
+-- with x appended, or there already, these are all places up to it
 pub one_more : (out new list : List Spot) (x : Spot) → ((q : Spot) → Contains new q ↔ (Contains out q ⊎ (q ≡ x))) → ((q : Spot) → Contains out q ↔ Contains list q) → (q : Spot) → Contains new q ↔ Contains (list ++ x ∷ []) q
 one_more out new list x step before q = (
   (λ h.
@@ -62,7 +62,7 @@ one_more out new list x step before q = (
       ])),
 )
 
--- x was put behind, and then doubles were dropped
+-- x is appended, and then duplicates are dropped
 pub pushed_more : (old pushed new : List Spot) (x : Spot) → pushed ≡ old ++ x ∷ [] → ((q : Spot) → Contains new q ↔ Contains pushed q) → (q : Spot) → Contains new q ↔ (Contains old q ⊎ (q ≡ x))
 pushed_more old pushed new x e same q = (
   (λ h.
@@ -83,7 +83,7 @@ pushed_more old pushed new x e same q = (
 pub ordered_same : (old new : List Spot) → IsPermutation old new → (q : Spot) → Contains new q ↔ Contains old q
 ordered_same old new p q = (Contains-permutation new old q (IsPermutation-sym old new p), Contains-permutation old new q p)
 
--- the same in another order, without doubles
+-- the same in another order, without duplicates
 pub fewer_same : (old sorted seen out : List Spot) → IsPermutation old sorted → seen ≡ sorted → ((q : Spot) → Contains out q ↔ Contains seen q) → (q : Spot) → Contains out q ↔ Contains old q
 fewer_same old sorted seen out p e same q = (
   (λ h. (ordered_same old sorted p q).0 (subst (λ (l : List Spot). Contains l q) e ((same q).0 h))),

@@ -1,4 +1,4 @@
--- Places that are one.
+-- Equal places.
 use Rattle.std.specs.Prelude.{◌≡◌, Bool, refl, true, false, ◌&&◌, nat_eq}
 use Rattle.std.proofs.Math.Bool.{beq}
 use Rattle.std.proofs.lemmas.Bool.{eq-eqb}

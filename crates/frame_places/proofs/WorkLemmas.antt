@@ -1,4 +1,4 @@
--- The list of work: what is put on it and taken off it, whichever part it is in.
+-- The work list: what is put on it and taken off it, in any part.
 use Rattle.std.proofs.Common.{◌≡◌, ◌⊎◌, inl, inr, arith, ℕ, Bool, true, false, List, [], ◌∷◌, ◌++◌, Option, None, Some, length, refl, sym, ap, ◌∙◌, subst, Contains}
 use Rattle.std.specs.Prelude.{IfSome, IfNone}
 use Rattle.std.proofs.lemmas.List.{append_assoc, append-nil}
@@ -7,7 +7,7 @@ use Rattle.std.proofs.lemmas.List.Sorted.{Contains-permutation, IsPermutation-ap
 use Rattle.std.specs.List.Sorted.{IsPermutation}
 use Rattle.frame_places.specs.Work.{BeginsRound, HasNoNext, Lists, PutsAs, PutsEntry, PutsNew, PutsNext, PutsWaiting, Takes, TakesFirst, TakesLast, TakesRound, Turns, all_work}
 
--- a list has what another has, and one number
+-- a list has the elements of another, and one number
 abbrev pub Adds : List ℕ → List ℕ → ℕ → Type 0
 Adds old new number = IsPermutation (number ∷ old) new
 
@@ -44,7 +44,7 @@ parts w first next round waiting a b c d =
     ap (λ (xs : List ℕ). xs ++ (w.next ++ (w.round ++ w.waiting))) a ∙ ap (λ (xs : List ℕ). first ++ (xs ++ (w.round ++ w.waiting))) b
     ∙ ap (λ (xs : List ℕ). first ++ (next ++ (xs ++ w.waiting))) c ∙ ap (λ (xs : List ℕ). first ++ (next ++ (round ++ xs))) d
 
--- one more behind some lists, and before others
+-- one more after some lists, and before others
 more_between : (xs ys zs : List ℕ) (number : ℕ) → IsPermutation (number ∷ (xs ++ (ys ++ zs))) (xs ++ ((ys ++ number ∷ []) ++ zs))
 more_between xs ys zs number =
     subst (λ (l : List ℕ). IsPermutation (number ∷ l) (xs ++ ((ys ++ number ∷ []) ++ zs))) (append_assoc xs ys zs)
@@ -70,7 +70,7 @@ pub adds_either : (waits : Bool) (old new : Lists) (number : ℕ) → PutsAs wai
 adds_either true old new number puts = adds_waiting old new number puts
 adds_either false old new number puts = adds_next old new number puts
 
--- others in the midst of lists
+-- others between lists
 between_same : (front xs ys back : List ℕ) → IsPermutation xs ys → IsPermutation (front ++ (xs ++ back)) (front ++ (ys ++ back))
 between_same front xs ys back h =
     IsPermutation-trans (front ++ (xs ++ back)) ((xs ++ back) ++ front) (front ++ (ys ++ back)) (IsPermutation-append_comm front (xs ++ back))
@@ -93,12 +93,12 @@ pub adds_new : (entry : Bool) (old new : Lists) (number : ℕ) → PutsNew entry
 adds_new true old new number puts = adds_entry old new number puts
 adds_new false old new number puts = adds_next old new number puts
 
--- ---- what is taken
--- the last of a list comes to its front
+-- ---- taking
+-- the last of a list moves to its front
 from_end : (xs ys : List ℕ) (number : ℕ) → IsPermutation ((xs ++ number ∷ []) ++ ys) (number ∷ (xs ++ ys))
 from_end xs ys number = IsPermutation-append_left ys (xs ++ number ∷ []) (number ∷ xs) (IsPermutation-to_front xs number)
 
--- by all that there is
+-- from the whole list
 taken_of : (old new : Lists) (number : ℕ) (before after : List ℕ) → all_work old ≡ before → all_work new ≡ after → IsPermutation before (number ∷ after) → Takes old new number
 taken_of old new number before after a b h =
     subst (λ (l : List ℕ). IsPermutation l (number ∷ all_work new)) (sym a) (subst (λ (l : List ℕ). IsPermutation before (number ∷ l)) (sym b) h)
@@ -124,14 +124,14 @@ takes_last old new number none takes =
     (parts old [] (new.next ++ number ∷ []) new.round new.waiting none takes.next (sym takes.round) (sym takes.waiting))
     (parts new [] new.next new.round new.waiting (takes.first ∙ none) refl refl refl) (from_end new.next rest number)
 
--- those that are next were turned
+-- the places that are next were reversed
 turned_all : (old mid : Lists) → old.first ≡ [] → Turns old mid → IsPermutation (all_work old) (all_work mid)
 turned_all old mid none turns =
     let rest = old.round ++ old.waiting in
     same_of old mid (old.next ++ rest) (mid.first ++ rest) (parts old [] old.next old.round old.waiting none refl refl refl)
     (parts mid mid.first [] old.round old.waiting refl (turns.next ∙ none) turns.round turns.waiting) (IsPermutation-append_left rest old.next mid.first turns.first)
 
--- as a call answers
+-- for the result of a call
 pub last_some : (old mid new : Lists) (r : Option ℕ) → mid ≡ old → old.first ≡ [] → IfSome r (TakesLast mid new) → IfSome r (Takes old new)
 last_some old mid new None same none takes = takes
 last_some old mid new (Some number) same none takes =
@@ -196,7 +196,7 @@ begun_empty old mid begun new None has over begins left =
     ap all_work left.1 ∙ parts begun [] [] [] [] (begins.first ∙ has.first) (begins.next ∙ has.next) left.0 (begins.waiting ∙ over)
 begun_empty old mid begun new (Some number) has over begins left = left
 
--- nor was any
+-- nor was any before
 pub begun_none : (old mid begun new : Lists) (r : Option ℕ) → HasNoNext old mid → mid.round ≡ [] → BeginsRound mid begun → IfNone r ((begun.round ≡ []) × (new ≡ begun)) → IfNone r (all_work old ≡ [])
 begun_none old mid begun new None has over begins left =
     let same = length_permutation (all_work old) (all_work begun) (begun_all old mid begun has over begins).same in
@@ -204,11 +204,11 @@ begun_none old mid begun new None has over begins left =
     empty_list (all_work old) (omega (arith, same, gone))
 begun_none old mid begun new (Some number) has over begins left = left
 
--- what was taken was there
+-- the place that was taken was listed
 pub takes_there : (old new : Lists) (number : ℕ) → Takes old new number → Contains (all_work old) number
 takes_there old new number takes = adds_there (all_work new) (all_work old) number (IsPermutation-sym (all_work old) (number ∷ all_work new) takes)
 
--- so was all that is left
+-- all that is left was listed
 pub takes_left : (old new : Lists) (number n : ℕ) → Takes old new number → Contains (all_work new) n → Contains (all_work old) n
 takes_left old new number n takes c = adds_kept (all_work new) (all_work old) number n (IsPermutation-sym (all_work old) (number ∷ all_work new) takes) c
 

@@ -1,4 +1,4 @@
--- The points and the frames that are counted, and the limits of certificates.
+-- The points and frames that are counted, and the limits of certificates.
 use Rattle.std.specs.Prelude.{◌≡◌, ◌⊎◌, ◌==◌, ◌^◌, Bool, false, List, [], ◌∷◌, ◌++◌, length, if◌then◌else◌}
 use Rattle.depth_cert.specs.declared.keys.Key.{Key}
 use Rattle.frame_places.specs.declared.places.Spot.{Spot}
@@ -11,12 +11,12 @@ abbrev pub with_point : List Spot → Spot → List Spot
 with_point ps (Point k p) = ps ++ Point k p ∷ []
 with_point ps (Exit k) = ps
 
--- the frames with that of one more place, if it is the entry point
+-- the frames with that of one more place, if it is an entry point
 abbrev pub with_entered : List Key → Spot → List Key
 with_entered ks (Point k p) = if p == k.entry then ks ++ k ∷ [] else ks
 with_entered ks (Exit k) = ks
 
--- a point passes a limit: it would be the 65,537th, or the entry of the 2,049th frame
+-- a point passes a limit: it would be point 65,537, or the entry of frame 2,049
 abbrev pub IsPassing : List Spot → List Key → Spot → Type 0
 IsPassing ps ks (Point k p) = (length ps ≡ 2 ^ 16) ⊎ ((p ≡ k.entry) × (length ks ≡ 2048))
 IsPassing ps ks (Exit k) = ⊥
@@ -26,10 +26,10 @@ abbrev pub Passing : Bool → List Spot → List Key → Spot → Refusal → Ty
 Passing known ps ks y (Fault rule x) = (rule ≡ 15) × (x ≡ y) × (known ≡ false) × IsPassing ps ks y
 Passing known ps ks y NoMemory = Unit {0}
 
--- the points after a rise at y: a place that was known is counted already
+-- the points after a join at y; a known place is counted already
 abbrev pub points_after : Bool → List Spot → Spot → List Spot
 points_after known ps y = if known then ps else with_point ps y
 
--- so are the frames
+-- the frames after a join at y
 abbrev pub frames_after : Bool → List Key → Spot → List Key
 frames_after known ks y = if known then ks else with_entered ks y

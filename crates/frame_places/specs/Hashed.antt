@@ -1,4 +1,4 @@
--- What a place is hashed by: places that are equal have one word of eight bytes.
+-- How places are hashed: equal places have the same word of eight bytes.
 use Rattle.std.specs.Prelude.{◌≡◌, ◌+◌, ◌*◌, ◌^◌, ◌%◌, ℕ, Bool, refl, true, false, ◌&&◌, nat_eq}
 use Rattle.std.specs.Hash as fed
 use Rattle.std.proofs.Common.{ap}
@@ -45,6 +45,6 @@ abbrev pub word_of : Spot → ℕ
 word_of (Point k p) = number_of_key k % 2 ^ 32 * 2 ^ 32 + p
 word_of (Exit k) = number_of_key k % 2 ^ 32 * 2 ^ 32
 
--- places that are equal are hashed alike
+-- equal places have the same hash input
 pub hashed_alike : (x y : Spot) → spot_eq x y ≡ true → fed.u64 (word_of x) ≡ fed.u64 (word_of y)
 hashed_alike x y e = ap (λ (z : Spot). fed.u64 (word_of z)) (spot_tells x y e)

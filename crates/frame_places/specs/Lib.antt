@@ -1,4 +1,4 @@
--- Places of frames in a table; rows of needs, and the graph of their entries.
+-- Places of frames in a table, rows of needs, and the graph of their entries.
 pub mod Spots
 pub mod Entries
 pub mod Hashed

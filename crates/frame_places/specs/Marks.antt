@@ -1,4 +1,4 @@
--- Which places have work, and who is told of a rise.
+-- Which places have work, and which read which exits.
 use Rattle.std.specs.Prelude.{◌≡◌, ◌⊎◌, ℕ, Option, Some, None, IsSome, List, Contains, Bool, true, false, if◌then◌else◌}
 use Rattle.std.specs.declared.vec.Vec.{Vec}
 use Rattle.std.specs.declared.alloc.Global.{Global}
@@ -12,51 +12,53 @@ use Rattle.frame_places.specs.Nearby.{StandsAt}
 use Rattle.frame_places.specs.Spots.{spot_eq}
 use Rattle.frame_places.specs.Work.{Lists, all_work}
 
--- what is known at a place
+-- the value of a place
 abbrev pub value_for : {V S : Type 0} → IndexMap Spot (Marked V) S → Spot → Option V
 value_for places q = option_map (λ m. m.value) (get spot_eq places q)
 
--- what a known place is marked as
+-- the mark of a known place
 abbrev pub mark_for : {V S : Type 0} → IndexMap Spot (Marked V) S → Spot → Option Mark
 mark_for places q = option_map (λ m. m.mark) (get spot_eq places q)
 
--- each place has the number that it had
+-- each place keeps its number
 abbrev pub KeepsNumbers : {V S : Type 0} → IndexMap Spot (Marked V) S → IndexMap Spot (Marked V) S → Type 0
 KeepsNumbers old new = (number : ℕ) (q : Spot) → StandsAt old number q → StandsAt new number q
 
--- something is known at each of these places
+-- each of these places is known
 abbrev pub AreKnown : {V S : Type 0} → IndexMap Spot (Marked V) S → (Spot → Type 0) → Type 0
 AreKnown places these = (q : Spot) → these q → IsSome (value_for places q)
 
--- each place that is marked as having work is on the list of work, by its number, and the list has numbers of places
+-- each place that is marked as queued is listed, by its number; each number that is listed is a
+-- place's
 pub record AllListed {V S : Type 0} (places : IndexMap Spot (Marked V) S) (work : List ℕ) : Type 0 where
   pub listed : (q : Spot) → mark_for places q ≡ Some Queued → (number : ℕ) × Contains work number × StandsAt places number q
   pub known : (number : ℕ) → Contains work number → (q : Spot) × StandsAt places number q
 
--- x is marked so, and no other mark, no value and no number changes
+-- x gets this mark; no other mark, no value and no number changes
 pub record MarksAs {V S : Type 0} (old new : IndexMap Spot (Marked V) S) (x : Spot) (mark : Mark) : Type 0 where
   pub values : (q : Spot) → value_for new q ≡ value_for old q
   pub marks : (q : Spot) → mark_for new q ≡ (if spot_eq x q then Some mark else mark_for old q)
   pub numbers : KeepsNumbers old new
 
--- this is known at y, which has work, and nothing else changes
+-- y gets this value and is queued; nothing else changes
 pub record Puts {V S : Type 0} (old new : IndexMap Spot (Marked V) S) (y : Spot) (value : V) : Type 0 where
   pub values : (q : Spot) → value_for new q ≡ (if spot_eq y q then Some value else value_for old q)
   pub marks : (q : Spot) → mark_for new q ≡ (if spot_eq y q then Some Queued else mark_for old q)
   pub numbers : KeepsNumbers old new
 
--- nothing was known at y, and now this value is, and y is on the list; or y has this number already, and nothing changes
+-- y was unknown, and now has this value and is queued; or it has this number already, and nothing
+-- changes
 abbrev pub AddsOrFinds : {V S : Type 0} → IndexMap Spot (Marked V) S → IndexMap Spot (Marked V) S → Lists → Lists → Spot → V → Option ℕ → Type 0
 AddsOrFinds old new before after y value None = (value_for old y ≡ None) × Puts old new y value × AllListed new (all_work after)
 AddsOrFinds old new before after y value (Some number) = StandsAt old number y × (new.entries ≡ old.entries) × (after ≡ before)
 
--- these have work now, and nothing else changes
-pub record Tells {V S : Type 0} (old new : IndexMap Spot (Marked V) S) (these : Spot → Type 0) : Type 0 where
+-- these are queued now, and nothing else changes
+pub record Requeues {V S : Type 0} (old new : IndexMap Spot (Marked V) S) (these : Spot → Type 0) : Type 0 where
   pub values : (q : Spot) → value_for new q ≡ value_for old q
   pub marks : (q : Spot) → ((mark_for new q ≡ Some Queued) × these q) ⊎ ((mark_for new q ≡ mark_for old q) × (these q → ⊥))
   pub numbers : KeepsNumbers old new
 
--- a place is marked as having no work
+-- the mark of a place without work
 abbrev pub is_idle : Option Mark → Bool
 is_idle None = false
 is_idle (Some Idle) = true
@@ -64,7 +66,7 @@ is_idle (Some Plain) = true
 is_idle (Some Queued) = false
 is_idle (Some Open) = false
 
--- a place is marked as having work
+-- the mark of a queued place
 abbrev pub is_queued : Option Mark → Bool
 is_queued None = false
 is_queued (Some Idle) = false
@@ -72,20 +74,20 @@ is_queued (Some Plain) = false
 is_queued (Some Queued) = true
 is_queued (Some Open) = false
 
--- what a place without work is marked as
+-- the mark of a place without work, which may be plain
 abbrev pub idle_mark : Bool → Mark
 idle_mark plain = if plain then Plain else Idle
 
--- what a place is marked as when its visit is over: where it was put on the list meanwhile it has work
+-- the mark after a visit; a place that was queued during it stays queued
 abbrev pub settled_mark : Bool → Option Mark → Mark
 settled_mark plain o = if is_queued o then Queued else idle_mark plain
 
--- a place is among those that are told of a rise
+-- a place is among the readers
 abbrev pub Reads : Option (Vec Spot Global) → Spot → Type 0
 Reads None x = ⊥
 Reads (Some ps) x = Contains ps.items x
 
--- x is told of z too, and nobody else of anything else
+-- x reads z too; no other place reads more than before
 pub record Registered {R : Type 0} (old new : IndexMap Spot (Vec Spot Global) R) (z x : Spot) : Type 0 where
   pub kept : (p q : Spot) → Reads (get spot_eq old p) q → Reads (get spot_eq new p) q
   pub there : Reads (get spot_eq new z) x

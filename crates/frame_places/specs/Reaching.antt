@@ -1,47 +1,47 @@
--- A graph by the numbers of its nodes: which nodes are reached from which.
+-- The graph of entries, by the numbers of its nodes: which nodes are reached from which.
 use Rattle.std.specs.Prelude.{◌≡◌, ◌<◌, ◌≤◌, ◌+◌, ◌*◌, ◌⊎◌, nat_eq, ℕ, Bool, true, false, List, [], ◌∷◌, length, Contains, slice_index, slice_index_or, Option, Some, None}
 use Rattle.std.specs.declared.vec.Vec.{Vec}
 use Rattle.std.specs.declared.alloc.Global.{Global}
 use Rattle.indexmap.specs.IndexMap.{IndexMap, get}
-use Rattle.frame_places.specs.contracts.needs.reach.EdgePartialEq.TheImpl as block
-use Rattle.frame_places.specs.declared.needs.reach.Edge.{Edge}
-use Rattle.frame_places.specs.declared.needs.row.Row.{Row}
+use Rattle.frame_places.specs.contracts.needs.reach.FrameEdgePartialEq.TheImpl as block
+use Rattle.frame_places.specs.declared.needs.reach.FrameEdge.{FrameEdge}
+use Rattle.frame_places.specs.declared.needs.row.NeedRow.{NeedRow}
 
 -- the edge from one node to another
-abbrev pub edge_to : ℕ → ℕ → Edge
+abbrev pub edge_to : ℕ → ℕ → FrameEdge
 edge_to k t = record { node = k; into = t }
 
--- one edge, as sets compare them
-abbrev pub edge_eq : Edge → Edge → Bool
+-- edge equality, as sets compare edges
+abbrev pub edge_eq : FrameEdge → FrameEdge → Bool
 edge_eq = (block.ghosts).eq
 
 -- some row of the node k enters the node t
-abbrev pub HasEntry : List Row → ℕ → ℕ → Type 0
-HasEntry rows k t = (row : Row) × Contains rows row × (row.node ≡ k) × Contains row.into.items t
+abbrev pub HasEntry : List NeedRow → ℕ → ℕ → Type 0
+HasEntry rows k t = (row : NeedRow) × Contains rows row × (row.node ≡ k) × Contains row.into.items t
 
 -- the edges are the entries of the rows
-pub record AreEdges (rows : List Row) (edges : List Edge) : Type 0 where
+pub record AreEdges (rows : List NeedRow) (edges : List FrameEdge) : Type 0 where
   pub sound : (k t : ℕ) → Contains edges (edge_to k t) → HasEntry rows k t
   pub complete : (k t : ℕ) → HasEntry rows k t → Contains edges (edge_to k t)
 
--- the edges of one more row were added
-pub record AddsEdges (old new : List Edge) (node : ℕ) (into : List ℕ) : Type 0 where
-  pub keeps : (e : Edge) → Contains old e → Contains new e
-  pub sound : (e : Edge) → Contains new e → Contains old e ⊎ ((e.node ≡ node) × Contains into e.into)
+-- the edges of one more row are added
+pub record AddsEdges (old new : List FrameEdge) (node : ℕ) (into : List ℕ) : Type 0 where
+  pub keeps : (e : FrameEdge) → Contains old e → Contains new e
+  pub sound : (e : FrameEdge) → Contains new e → Contains old e ⊎ ((e.node ≡ node) × Contains into e.into)
   pub complete : (t : ℕ) → Contains into t → Contains new (edge_to node t)
 
--- the edges are between so many nodes
-pub record AreBetween (edges : List Edge) (nodes : ℕ) : Type 0 where
-  pub node : (e : Edge) → Contains edges e → e.node < nodes
-  pub into : (e : Edge) → Contains edges e → e.into < nodes
+-- the edges are between `nodes` nodes
+pub record AreBetween (edges : List FrameEdge) (nodes : ℕ) : Type 0 where
+  pub node : (e : FrameEdge) → Contains edges e → e.node < nodes
+  pub into : (e : FrameEdge) → Contains edges e → e.into < nodes
 
 -- the node j is reached from k along edges, none or more
-pub data Leads (edges : List Edge) (j : ℕ) : ℕ → Type 0 where
+pub data Leads (edges : List FrameEdge) (j : ℕ) : ℕ → Type 0 where
   here : Leads edges j j
   along : (k t : ℕ) → Contains edges (edge_to k t) → Leads edges j t → Leads edges j k
 
--- the node is reached again from one that it enters
-pub record IsRecurring (edges : List Edge) (k : ℕ) : Type 0 where
+-- the node is reached from one that it enters
+pub record IsRecurring (edges : List FrameEdge) (k : ℕ) : Type 0 where
   pub next : ℕ
   pub enters : Contains edges (edge_to k next)
   pub back : Leads edges k next
@@ -51,14 +51,14 @@ pub record IsRecurring (edges : List Edge) (k : ℕ) : Type 0 where
 abbrev pub IsMarked : List Bool → ℕ → Type 0
 IsMarked marks k = slice_index_or marks k false ≡ true
 
--- the nodes without a mark
+-- the number of nodes without a mark
 abbrev pub unmarked : List Bool → ℕ
 unmarked [] = 0
 unmarked (true ∷ ms) = unmarked ms
 unmarked (false ∷ ms) = unmarked ms + 1
 
 -- from each marked node j is reached
-abbrev pub AllLead : List Edge → ℕ → List Bool → Type 0
+abbrev pub AllLead : List FrameEdge → ℕ → List Bool → Type 0
 AllLead edges j marks = (k : ℕ) → IsMarked marks k → Leads edges j k
 
 -- a node has this source
@@ -66,12 +66,12 @@ abbrev pub HasSource : Option (Vec ℕ Global) → ℕ → Type 0
 HasSource None k = ⊥
 HasSource (Some ks) k = Contains ks.items k
 
--- for each node those that enter it, as far as these edges go
-pub record AreSources {S : Type 0} (edges : List Edge) (sources : IndexMap ℕ (Vec ℕ Global) S) : Type 0 where
+-- the sources of each node, as far as these edges go
+pub record AreSources {S : Type 0} (edges : List FrameEdge) (sources : IndexMap ℕ (Vec ℕ Global) S) : Type 0 where
   pub sound : (k t : ℕ) → HasSource (get nat_eq sources t) k → Contains edges (edge_to k t)
   pub complete : (k t : ℕ) → Contains edges (edge_to k t) → HasSource (get nat_eq sources t) k
 
--- the sources are among so many nodes
+-- the sources are among `nodes` nodes
 abbrev pub AreBelow : {S : Type 0} → IndexMap ℕ (Vec ℕ Global) S → ℕ → Type 0
 AreBelow sources nodes = (k t : ℕ) → HasSource (get nat_eq sources t) k → k < nodes
 
@@ -81,7 +81,7 @@ pub record AddsSource {S T : Type 0} (old : IndexMap ℕ (Vec ℕ Global) S) (ne
   pub there : HasSource (get nat_eq new t) k
   pub sound : (j u : ℕ) → HasSource (get nat_eq new u) j → HasSource (get nat_eq old u) j ⊎ ((j ≡ k) × (u ≡ t))
 
--- these nodes are marked, those that weren't go on the list of work, and nothing else changes
+-- these nodes are marked, those that weren't are queued, and nothing else changes
 pub record MarksNodes (nodes : List ℕ) (old new : List Bool) (work later : List ℕ) : Type 0 where
   pub keeps : (k : ℕ) → IsMarked old k → IsMarked new k
   pub marks : (k : ℕ) → Contains nodes k → IsMarked new k
@@ -92,9 +92,9 @@ pub record MarksNodes (nodes : List ℕ) (old new : List Bool) (work later : Lis
   pub less : 2 * unmarked new + length later ≤ 2 * unmarked old + length work
   pub same : length new ≡ length old
 
--- marks on the way: each marked node leads to j, what is on the list of work is marked, and what
--- enters a marked node that isn't on the list is marked
-pub record IsMarking (edges : List Edge) (nodes j : ℕ) (marks : List Bool) (work : List ℕ) : Type 0 where
+-- Marks on the way: each marked node leads to j, each queued node is marked, and each source of a
+-- marked node that isn't queued is marked.
+pub record IsMarking (edges : List FrameEdge) (nodes j : ℕ) (marks : List Bool) (work : List ℕ) : Type 0 where
   pub all : length marks ≡ nodes
   pub sound : AllLead edges j marks
   pub goal : IsMarked marks j
@@ -104,32 +104,32 @@ pub record IsMarking (edges : List Edge) (nodes j : ℕ) (marks : List Bool) (wo
 -- from marks on the way all marks are set
 abbrev pub SettlesMarks : {S : Type 0} → IndexMap ℕ (Vec ℕ Global) S → List Bool → List Bool → List ℕ → Type 0
 SettlesMarks sources old new work =
-    (edges : List Edge) (j : ℕ) → AreSources edges sources → IsMarking edges (length old) j old work
+    (edges : List FrameEdge) (j : ℕ) → AreSources edges sources → IsMarking edges (length old) j old work
     → IsMarking edges (length old) j new []
 
--- of so many nodes those are marked from which j is reached
-pub record AreReaching (edges : List Edge) (nodes j : ℕ) (marks : List Bool) : Type 0 where
+-- exactly the nodes from which j is reached are marked
+pub record AreReaching (edges : List FrameEdge) (nodes j : ℕ) (marks : List Bool) : Type 0 where
   pub each : length marks ≡ nodes
   pub sound : AllLead edges j marks
   pub complete : (k : ℕ) → Leads edges j k → IsMarked marks k
 
--- the same by the sources of each node
+-- the same, by the sources of each node
 abbrev pub AreReachingBy : {S : Type 0} → IndexMap ℕ (Vec ℕ Global) S → ℕ → ℕ → List Bool → Type 0
-AreReachingBy sources nodes j marks = (edges : List Edge) → AreSources edges sources → AreReaching edges nodes j marks
+AreReachingBy sources nodes j marks = (edges : List FrameEdge) → AreSources edges sources → AreReaching edges nodes j marks
 
 -- some node that this one enters is marked
-abbrev pub HasMarkedNext : List Bool → List Edge → ℕ → Type 0
+abbrev pub HasMarkedNext : List Bool → List FrameEdge → ℕ → Type 0
 HasMarkedNext marks edges k = (t : ℕ) × Contains edges (edge_to k t) × IsMarked marks t
 
 -- ---- the first
--- the recurring node that comes first in an order; none recurs
-abbrev pub IsFirstRecurring : List ℕ → List Edge → Option ℕ → Type 0
+-- the recursive node that is first in an order, or that none is recursive
+abbrev pub IsFirstRecurring : List ℕ → List FrameEdge → Option ℕ → Type 0
 IsFirstRecurring orders edges None = (k : ℕ) → IsRecurring edges k → ⊥
 IsFirstRecurring orders edges (Some k) =
     (k < length orders) × IsRecurring edges k × ((j : ℕ) → IsRecurring edges j → slice_index orders k ≤ slice_index orders j)
 
--- the same among the nodes before this one
-abbrev pub IsFirstBefore : List ℕ → List Edge → ℕ → Option ℕ → Type 0
+-- the same among the nodes before n
+abbrev pub IsFirstBefore : List ℕ → List FrameEdge → ℕ → Option ℕ → Type 0
 IsFirstBefore orders edges n None = (k : ℕ) → k < n → IsRecurring edges k → ⊥
 IsFirstBefore orders edges n (Some k) =
     (k < length orders) × IsRecurring edges k × ((j : ℕ) → j < n → IsRecurring edges j → slice_index orders k ≤ slice_index orders j)

@@ -4,29 +4,30 @@ use Rattle.std.specs.Prelude.{Option, Some, None, Result, Ok, Err}
 use Rattle.std.specs.declared.vec.Vec.{Vec}
 use Rattle.std.specs.declared.alloc.Global.{Global}
 use Rattle.std.specs.declared.alloc.AllocError.{AllocError}
-use Rattle.frame_places.specs.declared.needs.row.Row.{Row}
+use Rattle.frame_places.specs.declared.needs.row.NeedRow.{NeedRow}
 
--- the node's need is at least the areas held, and one more than these and the need of each node entered
-pub record MeetsRow (need : ℕ → ℕ) (row : Row) : Type 0 where
+-- the node's need is at least the areas held, and at least one more than these and the need of each
+-- node entered
+pub record MeetsRow (need : ℕ → ℕ) (row : NeedRow) : Type 0 where
   pub held : row.held ≤ need row.node
   pub into : (t : ℕ) → Contains row.into.items t → row.held + 1 + need t ≤ need row.node
 
 -- needs that meet each row
-abbrev pub Meets : (ℕ → ℕ) → List Row → Type 0
-Meets need rows = (row : Row) → Contains rows row → MeetsRow need row
+abbrev pub Meets : (ℕ → ℕ) → List NeedRow → Type 0
+Meets need rows = (row : NeedRow) → Contains rows row → MeetsRow need row
 
--- the rows speak of so many nodes
-pub record IsWithin (rows : List Row) (nodes : ℕ) : Type 0 where
-  pub node : (row : Row) → Contains rows row → row.node < nodes
-  pub held : (row : Row) → Contains rows row → row.held < 2 ^ 8
-  pub into : (row : Row) (t : ℕ) → Contains rows row → Contains row.into.items t → t < nodes
+-- the rows have `nodes` nodes
+pub record IsWithin (rows : List NeedRow) (nodes : ℕ) : Type 0 where
+  pub node : (row : NeedRow) → Contains rows row → row.node < nodes
+  pub held : (row : NeedRow) → Contains rows row → row.held < 2 ^ 8
+  pub into : (row : NeedRow) (t : ℕ) → Contains rows row → Contains row.into.items t → t < nodes
 
 -- these needs are at most any that meet the rows
-abbrev pub IsLow : List ℕ → List Row → Type 0
+abbrev pub IsLow : List ℕ → List NeedRow → Type 0
 IsLow needs rows = (other : ℕ → ℕ) → Meets other rows → (k : ℕ) → k < length needs → slice_index needs k ≤ other k
 
--- the row is met as far as the cap
-pub record MeetsCapped (cap : ℕ) (needs : List ℕ) (row : Row) : Type 0 where
+-- the row is met up to the cap
+pub record MeetsCapped (cap : ℕ) (needs : List ℕ) (row : NeedRow) : Type 0 where
   pub held : min row.held (cap + 1) ≤ slice_index needs row.node
   pub into : (t : ℕ) → Contains row.into.items t → min (row.held + 1 + slice_index needs t) (cap + 1) ≤ slice_index needs row.node
 
@@ -34,8 +35,8 @@ pub record MeetsCapped (cap : ℕ) (needs : List ℕ) (row : Row) : Type 0 where
 abbrev pub AllAtMost : List ℕ → (ℕ → ℕ) → Type 0
 AllAtMost needs other = (k : ℕ) → k < length needs → slice_index needs k ≤ other k
 
--- one row's step
-pub record PassesRow (cap : ℕ) (old new : List ℕ) (row : Row) (changed : Bool) : Type 0 where
+-- the step of one row
+pub record PassesRow (cap : ℕ) (old new : List ℕ) (row : NeedRow) (changed : Bool) : Type 0 where
   pub low : (other : ℕ → ℕ) → MeetsRow other row → AllAtMost old other → AllAtMost new other
   pub capped : (k : ℕ) → slice_index new k ≤ cap + 1
   pub grows : changed ≡ true → sum old < sum new
@@ -43,15 +44,15 @@ pub record PassesRow (cap : ℕ) (old new : List ℕ) (row : Row) (changed : Boo
   pub met : changed ≡ false → MeetsCapped cap new row
 
 -- the steps of these rows, one after another
-pub record Passes (cap : ℕ) (old new : List ℕ) (rows : List Row) (changed : Bool) : Type 0 where
+pub record PassesRows (cap : ℕ) (old new : List ℕ) (rows : List NeedRow) (changed : Bool) : Type 0 where
   pub low : (other : ℕ → ℕ) → Meets other rows → AllAtMost old other → AllAtMost new other
   pub capped : (k : ℕ) → slice_index new k ≤ cap + 1
   pub grows : changed ≡ true → sum old < sum new
   pub same : changed ≡ false → new ≡ old
-  pub met : changed ≡ false → (row : Row) → Contains rows row → MeetsCapped cap new row
+  pub met : changed ≡ false → (row : NeedRow) → Contains rows row → MeetsCapped cap new row
 
--- the least needs of the nodes that meet the rows, none above the cap; or no needs meet the rows without passing it
-abbrev pub LeastNeeds : ℕ → List Row → ℕ → Result (Option (Vec ℕ Global)) AllocError → Type 0
+-- the least needs that meet the rows, none above the cap; or any needs that meet the rows pass it
+abbrev pub LeastNeeds : ℕ → List NeedRow → ℕ → Result (Option (Vec ℕ Global)) AllocError → Type 0
 LeastNeeds nodes rows cap (Ok (Some needs)) = (length needs.items ≡ nodes) × Meets (λ k. slice_index needs.items k) rows × IsLow needs.items rows × ((k : ℕ) → slice_index needs.items k ≤ cap)
 LeastNeeds nodes rows cap (Ok None) = (other : ℕ → ℕ) → Meets other rows → (k : ℕ) × (k < nodes) × (cap < other k)
 LeastNeeds nodes rows cap (Err e) = Unit {0}

@@ -1,4 +1,4 @@
--- Places of frames: which are the same, and how they are ordered.
+-- Places of frames: which are the same, and their order.
 use Rattle.std.specs.Prelude.{◌≡◌, ◌<◌, ◌+◌, ◌*◌, ◌^◌, ◌==◌, ℕ, Bool, false, List, Option, Some, None, Contains}
 use Rattle.depth_cert.specs.declared.keys.Key.{Key}
 use Rattle.depth_cert.specs.Keys.{IsKey, number_of_key, same_key}
@@ -6,7 +6,7 @@ use Rattle.frame_places.specs.contracts.places.SpotPartialEq.TheImpl as block
 use Rattle.frame_places.specs.declared.places.Spot.{Spot}
 use Rattle.frame_places.specs.declared.places.Spot.TheVariants.{Point, Exit}
 
--- one place
+-- place equality, as maps compare places
 abbrev pub spot_eq : Spot → Spot → Bool
 spot_eq = (block.ghosts).eq
 
@@ -15,7 +15,7 @@ abbrev pub spot_number : Spot → ℕ
 spot_number (Point k p) = number_of_key k * 2 ^ 32 + p
 spot_number (Exit k) = number_of_key k * 2 ^ 32 + 0
 
--- a point's address
+-- the address of a point
 abbrev pub spot_address : Spot → ℕ
 spot_address (Point k p) = p
 spot_address (Exit k) = 0

@@ -1,15 +1,16 @@
--- The list of work: places by their numbers, in four parts.
+-- The work list: places by their numbers, in four parts.
 use Rattle.std.specs.Prelude.{◌≡◌, ℕ, Bool, true, false, List, [], ◌∷◌, ◌++◌}
 use Rattle.std.specs.List.Sorted.{IsPermutation}
 
--- the first places, those that are next behind them, those of this round, which come when none is next, and those that wait for the next round
+-- the first places, those that are next after them, those of this round, which follow when none is
+-- next, and those that wait for the next round
 pub record Lists : Type 0 where
   pub first : List ℕ
   pub next : List ℕ
   pub round : List ℕ
   pub waiting : List ℕ
 
--- all numbers that are listed: those of places that have work, and maybe others, or the same again
+-- all numbers that are listed: those of places with work, and maybe others, or some twice
 abbrev pub all_work : Lists → List ℕ
 all_work work = work.first ++ (work.next ++ (work.round ++ work.waiting))
 
@@ -27,14 +28,14 @@ pub record PutsWaiting (old new : Lists) (number : ℕ) : Type 0 where
   pub round : new.round ≡ old.round
   pub waiting : new.waiting ≡ old.waiting ++ number ∷ []
 
--- this place comes in this round too, whatever its place there
+-- this place is in this round too, at any position
 pub record PutsEntry (old new : Lists) (number : ℕ) : Type 0 where
   pub first : new.first ≡ old.first
   pub next : new.next ≡ old.next
   pub round : IsPermutation (number ∷ old.round) new.round
   pub waiting : new.waiting ≡ old.waiting
 
--- this place comes in this round too, if it is an entry point, or is next too
+-- this place is in this round too if it is an entry point; otherwise it is next too
 abbrev pub PutsNew : Bool → Lists → Lists → ℕ → Type 0
 PutsNew true old new number = PutsEntry old new number
 PutsNew false old new number = PutsNext old new number
@@ -44,14 +45,14 @@ abbrev pub PutsAs : Bool → Lists → Lists → ℕ → Type 0
 PutsAs true old new number = PutsWaiting old new number
 PutsAs false old new number = PutsNext old new number
 
--- those that wait come in this round, of which none is left
+-- the places that wait become this round, which was empty
 pub record BeginsRound (old new : Lists) : Type 0 where
   pub first : new.first ≡ old.first
   pub next : new.next ≡ old.next
   pub round : IsPermutation old.waiting new.round
   pub waiting : new.waiting ≡ old.round
 
--- those that are next are the first now, in some order, and the first ones are next
+-- the places that are next become the first, in some order, and the first ones are next
 pub record Turns (old new : Lists) : Type 0 where
   pub first : IsPermutation old.next new.first
   pub next : new.next ≡ old.first
@@ -65,14 +66,14 @@ pub record TakesFirst (old new : Lists) (number : ℕ) : Type 0 where
   pub round : new.round ≡ old.round
   pub waiting : new.waiting ≡ old.waiting
 
--- this place, the last of those that are next, is taken off the list
+-- this place, the last of those that are next, is taken
 pub record TakesLast (old new : Lists) (number : ℕ) : Type 0 where
   pub first : new.first ≡ old.first
   pub next : old.next ≡ new.next ++ number ∷ []
   pub round : new.round ≡ old.round
   pub waiting : new.waiting ≡ old.waiting
 
--- this place of the round is taken off the list
+-- this place of the round is taken
 pub record TakesRound (old new : Lists) (number : ℕ) : Type 0 where
   pub first : new.first ≡ old.first
   pub next : new.next ≡ old.next
@@ -83,7 +84,7 @@ pub record TakesRound (old new : Lists) (number : ℕ) : Type 0 where
 abbrev pub Takes : Lists → Lists → ℕ → Type 0
 Takes old new number = IsPermutation (all_work old) (number ∷ all_work new)
 
--- no place is the first nor next, and none was taken off the list
+-- no place is first or next, and none was taken
 pub record HasNoNext (old new : Lists) : Type 0 where
   pub first : new.first ≡ []
   pub next : new.next ≡ []

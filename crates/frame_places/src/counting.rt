@@ -1,18 +1,19 @@
-// The points and the frames that are known, within the limits of certificates.
+// Counts the known points and frames, within the limits of certificates.
 ghost use Rattle.std.specs.Prelude.{◌≡◌, ◌≤◌, ◌^◌, OnOk, IfErr, false, length};
 ghost use Rattle.frame_places.specs.declared.places.Spot.TheVariants.{Point};
 ghost use Rattle.frame_places.specs.Counting.{Passing, frames_after, points_after, with_entered, with_point};
 
 use crate::places::Spot;
-use crate::refusals::Refusal;
+use crate::refusals::{LIMITS_RULE, Refusal};
 use depth_cert::Key;
 
-/// The most points of all frames, and the most frames, that a certificate has.
+/// The greatest number of points in a certificate.
 const MOST_POINTS: usize = 65536;
 
+/// The greatest number of frames in a certificate.
 const MOST_FRAMES: usize = 2048;
 
-/// Counts a point of which nothing was known, and its frame where it is the entry point.
+/// Counts a new point, and its frame if it is the frame's entry point.
 fn count_point(
     points: &mut Vec<Spot>,
     frames: &mut Vec<Key>,
@@ -29,11 +30,11 @@ fn count_point(
     ensures err { IfErr result (Passing false points.old.items frames.old.items (Point key addr)) }
 {
     if points.len() == MOST_POINTS {
-        return Err(Refusal::Fault(15, Spot::Point(key, addr)));
+        return Err(Refusal::Fault(LIMITS_RULE, Spot::Point(key, addr)));
     }
     if addr == key.entry {
         if frames.len() == MOST_FRAMES {
-            return Err(Refusal::Fault(15, Spot::Point(key, addr)));
+            return Err(Refusal::Fault(LIMITS_RULE, Spot::Point(key, addr)));
         }
         frames.push(key)?;
     }

@@ -1,4 +1,4 @@
-// Which places have work. A place is listed by its number in the order of the map.
+// The work of places. A place is queued by its number in the order of the map.
 ghost use Rattle.std.specs.Prelude.{◌≡◌, ◌↔◌, IfOk, IsSome, IsTrue, None, OnOk, Contains, Some};
 ghost use Rattle.indexmap.specs.IndexMap.{get};
 ghost use Rattle.frame_places.specs.declared.places.Spot.{Spot};
@@ -6,7 +6,7 @@ ghost use Rattle.frame_places.specs.declared.places.Mark.TheVariants.{Open, Plai
 ghost use Rattle.frame_places.specs.Nearby.{StandsAt};
 ghost use Rattle.frame_places.specs.Spots.{spot_eq};
 ghost use Rattle.frame_places.specs.Work.{PutsAs, PutsNew, all_work};
-ghost use Rattle.frame_places.specs.Marks.{AddsOrFinds, AllListed, AreKnown, MarksAs, Puts, Reads, Tells, idle_mark, is_queued, mark_for, settled_mark, value_for};
+ghost use Rattle.frame_places.specs.Marks.{AddsOrFinds, AllListed, AreKnown, MarksAs, Puts, Reads, Requeues, idle_mark, is_queued, mark_for, settled_mark, value_for};
 
 use crate::places::{Mark, Marked, Spot};
 use crate::work::Work;
@@ -14,10 +14,10 @@ use indexmap::IndexMap;
 use indexmap::map::Entry;
 use std::alloc::AllocError;
 
-/// Puts a place that was found just now on the list: it is next, or comes before all that was found before if it is the entry
-/// point of a frame.
+/// Queues a new place: the entry point of a frame goes before the places found earlier, any other
+/// is next.
 #[inline(always)]
-fn list_new(work: &mut Work, number: usize, entry: bool) -> Result<(), AllocError>
+fn enqueue_new(work: &mut Work, number: usize, entry: bool) -> Result<(), AllocError>
     ensures { OnOk result (PutsNew entry work.old work.new number) }
 {
     if entry {
@@ -27,7 +27,7 @@ fn list_new(work: &mut Work, number: usize, entry: bool) -> Result<(), AllocErro
     }
 }
 
-/// Adds y, of which nothing is known, with work.
+/// Adds the unknown place `y`, with work.
 #[inline(always)]
 pub fn add<V: Drop>(
     places: &mut IndexMap<Spot, Marked<V>>,
@@ -48,11 +48,11 @@ pub fn add<V: Drop>(
         visits: 0,
     };
     places.insert(y, place)?;
-    list_new(work, number, entry)?;
+    enqueue_new(work, number, entry)?;
     Ok(())
 }
 
-/// Adds y with this value and work, where nothing is known there. Else tells the number that it has.
+/// Adds `y` with this value and work if it is unknown. Otherwise returns its number.
 #[inline(always)]
 pub fn add_or_find<V: Drop>(
     places: &mut IndexMap<Spot, Marked<V>>,
@@ -73,15 +73,15 @@ pub fn add_or_find<V: Drop>(
                 mark: Mark::Queued,
                 visits: 0,
             });
-            list_new(work, number, entry)?;
+            enqueue_new(work, number, entry)?;
             Ok(None)
         }
     }
 }
 
-/// Puts a place on the list, where it waits or is next.
+/// Queues a place: it waits for the next round, or is next.
 #[inline(always)]
-fn list(work: &mut Work, number: usize, waits: bool) -> Result<(), AllocError>
+fn enqueue(work: &mut Work, number: usize, waits: bool) -> Result<(), AllocError>
     ensures { OnOk result (PutsAs waits work.old work.new number) }
 {
     if waits {
@@ -91,14 +91,16 @@ fn list(work: &mut Work, number: usize, waits: bool) -> Result<(), AllocError>
     }
 }
 
-/// Whether a place on the list comes to the front where it is raised: an entry point of a frame that wasn't visited yet.
+/// Returns whether a queued place moves to the front when its state rises: an entry point that
+/// wasn't visited yet.
 #[inline(always)]
 fn is_front(entry: bool, visits: u8) -> bool {
     entry && visits == 0
 }
 
-/// Sets what is known at the place of this number, and puts it on the list, unless it is there. It waits, if it is the entry point
-/// of a frame, or is next; an entry point on the list that wasn't visited yet comes before all that was found before, once more.
+/// Sets the value of the place with this number, and queues it unless it is queued. An entry point
+/// waits for the next round, any other place is next. An entry point that is queued and wasn't
+/// visited yet is queued again, before the places found earlier.
 #[inline(always)]
 pub fn put<V: Drop>(
     places: &mut IndexMap<Spot, Marked<V>>,
@@ -124,11 +126,11 @@ pub fn put<V: Drop>(
         return Ok(());
     }
     place.mark = Mark::Queued;
-    list(work, number, entry)?;
+    enqueue(work, number, entry)?;
     Ok(())
 }
 
-/// Marks the place of this number.
+/// Marks the place with this number.
 #[inline(always)]
 fn mark_at<V>(places: &mut IndexMap<Spot, Marked<V>>, number: usize, mark: Mark)
     ensures { (x : Spot) → StandsAt places.old number x → MarksAs places.old places.new x mark }
@@ -138,21 +140,23 @@ fn mark_at<V>(places: &mut IndexMap<Spot, Marked<V>>, number: usize, mark: Mark)
     }
 }
 
-/// How often a place is visited before it waits wherever it is told of a rise.
+/// The number of visits after which a place waits for the next round whenever an exit that it reads
+/// rises.
 const PATIENT: u8 = 2;
 
-/// Whether the place of this number waits where it is told of a rise: it is to wait, or was visited often. So a call of many
-/// functions, each of whose exits tells it, goes on when all of them have risen as far as they do for now.
+/// Returns whether the place with this number waits for the next round: it is told to, or it was
+/// visited often. So a call of many functions waits until all their exits have risen as far as they
+/// do for now.
 #[inline(always)]
-fn waits_there<V>(places: &IndexMap<Spot, Marked<V>>, number: usize, waits: bool) -> bool {
+fn must_wait<V>(places: &IndexMap<Spot, Marked<V>>, number: usize, waits: bool) -> bool {
     match places.get_index(number) {
         None => waits,
         Some((_, place)) => waits || place.visits >= PATIENT,
     }
 }
 
-/// Puts x, which is known, on the list, unless it is there; it waits or is next.
-fn touch<V>(
+/// Queues the known place `x` unless it is queued. It waits for the next round, or is next.
+fn requeue<V>(
     places: &mut IndexMap<Spot, Marked<V>>,
     work: &mut Work,
     x: Spot,
@@ -167,33 +171,33 @@ fn touch<V>(
         return Ok(());
     };
     if !has_work(&*places, number) {
-        let later = waits_there(&*places, number, waits);
+        let later = must_wait(&*places, number, waits);
         mark_at(places, number, Mark::Queued);
-        list(work, number, later)?;
+        enqueue(work, number, later)?;
     }
     Ok(())
 }
 
-/// Puts each of them, which are known, on the list; they wait or are next.
-fn touch_all<V>(
+/// Queues each of these known places.
+fn requeue_all<V>(
     places: &mut IndexMap<Spot, Marked<V>>,
     work: &mut Work,
-    told: &[Spot],
+    readers: &[Spot],
     waits: bool,
 ) -> Result<(), AllocError>
     requires listed { AllListed places.old (all_work work.old) }
-    requires known { AreKnown places.old (Contains told.now) }
-    ensures marks { OnOk result (Tells places.old places.new (Contains told.now)) }
+    requires known { AreKnown places.old (Contains readers.now) }
+    ensures marks { OnOk result (Requeues places.old places.new (Contains readers.now)) }
     ensures work { OnOk result (AllListed places.new (all_work work.new)) }
 {
-    for x in told {
-        touch(places, work, *x, waits)?;
+    for x in readers {
+        requeue(places, work, *x, waits)?;
     }
     Ok(())
 }
 
-/// Puts all that read y, which are known, on the list; they wait or are next.
-pub fn wake<V>(
+/// Queues all places that read `y`. They are known.
+pub fn requeue_readers_of<V>(
     places: &mut IndexMap<Spot, Marked<V>>,
     work: &mut Work,
     readers: &IndexMap<Spot, Vec<Spot>>,
@@ -202,16 +206,17 @@ pub fn wake<V>(
 ) -> Result<(), AllocError>
     requires listed { AllListed places.old (all_work work.old) }
     requires known { AreKnown places.old (Reads (get spot_eq readers.now y)) }
-    ensures marks { OnOk result (Tells places.old places.new (Reads (get spot_eq readers.now y))) }
+    ensures marks { OnOk result
+        (Requeues places.old places.new (Reads (get spot_eq readers.now y))) }
     ensures work { OnOk result (AllListed places.new (all_work work.new)) }
 {
     match readers.get(&y) {
         None => Ok(()),
-        Some(told) => touch_all(places, work, told.as_slice(), waits),
+        Some(readers) => requeue_all(places, work, readers.as_slice(), waits),
     }
 }
 
-/// Whether the place of this number is on the list.
+/// Returns whether the place with this number is queued.
 #[inline(always)]
 pub fn has_work<V>(places: &IndexMap<Spot, Marked<V>>, number: usize) -> bool
     ensures { (x : Spot) → StandsAt places.now number x
@@ -223,9 +228,9 @@ pub fn has_work<V>(places: &IndexMap<Spot, Marked<V>>, number: usize) -> bool
     }
 }
 
-/// Begins the visit of the place of this number.
+/// Begins the visit of the place with this number.
 #[inline(always)]
-pub fn open<V>(places: &mut IndexMap<Spot, Marked<V>>, number: usize)
+pub fn begin_visit<V>(places: &mut IndexMap<Spot, Marked<V>>, number: usize)
     ensures { (x : Spot) → StandsAt places.old number x → MarksAs places.old places.new x Open }
 {
     if let Some(place) = places.get_index_mut(number) {
@@ -234,7 +239,7 @@ pub fn open<V>(places: &mut IndexMap<Spot, Marked<V>>, number: usize)
     }
 }
 
-/// Whether a mark is that of a place without work that is plain.
+/// Returns whether a mark is `Plain`.
 #[inline(always)]
 pub fn is_plain(mark: Mark) -> bool
     ensures { IsTrue result ↔ (mark ≡ Plain) }
@@ -242,7 +247,7 @@ pub fn is_plain(mark: Mark) -> bool
     matches!(mark, Mark::Plain)
 }
 
-/// What a place is marked as when its visit is over.
+/// Returns the mark of a place whose visit ends.
 #[inline(always)]
 fn mark_after(mark: Mark, plain: bool) -> Mark
     ensures { result ≡ settled_mark plain (Some mark) }
@@ -253,7 +258,7 @@ fn mark_after(mark: Mark, plain: bool) -> Mark
     }
 }
 
-/// What a place without work is marked as.
+/// Returns the mark of a place without work.
 #[inline(always)]
 fn mark_without_work(plain: bool) -> Mark
     ensures { result ≡ idle_mark plain }
@@ -261,9 +266,10 @@ fn mark_without_work(plain: bool) -> Mark
     if plain { Mark::Plain } else { Mark::Idle }
 }
 
-/// Ends the visit of the place of this number, which may be plain: it has no work, unless it was put on the list meanwhile.
+/// Ends the visit of the place with this number: it has no work, unless it was queued during the
+/// visit. `plain` may be set if the instruction there enters no frame by itself.
 #[inline(always)]
-pub fn settle<V>(places: &mut IndexMap<Spot, Marked<V>>, number: usize, plain: bool)
+pub fn end_visit<V>(places: &mut IndexMap<Spot, Marked<V>>, number: usize, plain: bool)
     ensures { (x : Spot) → StandsAt places.old number x
         → MarksAs places.old places.new x (settled_mark plain (mark_for places.old x)) }
 {

@@ -1,4 +1,4 @@
-// What the calls of frames come to, by numbers: no key and no table is named here.
+// The calls between frames, by numbers: the least needs, and recursion.
 pub(crate) mod least;
 pub(crate) mod reach;
 pub(crate) mod row;

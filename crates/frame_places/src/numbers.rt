@@ -1,4 +1,4 @@
-// Frames by numbers: their places in the list of frames.
+// Numbers of frames: their places in the list of frames.
 ghost use Rattle.std.specs.Prelude.{◌≡◌, List, Contains, IfOk, map};
 ghost use Rattle.std.specs.List.{IsDistinct};
 ghost use Rattle.depth_cert.specs.Keys.{same_key};
@@ -9,8 +9,8 @@ use depth_cert::Key;
 use indexmap::IndexMap;
 use std::alloc::{AllocError, AllocFailed, Global};
 
-/// The numbers of the frames.
-pub fn numbered(
+/// Returns the numbers of the frames.
+pub fn number_frames(
     alloc: Global,
     frames: &[Key],
 ) -> Result<IndexMap<Key, usize>, AllocFailed<(Key, usize)>>
@@ -24,7 +24,7 @@ pub fn numbered(
     Ok(numbers)
 }
 
-/// The number of a frame; 0 where it has none.
+/// Returns the number of a frame, or 0 if it has none.
 pub fn number_of(numbers: &IndexMap<Key, usize>, key: Key) -> usize
     ensures { (frames : List keys.Key) → AreNumbers numbers.now frames frames → Contains frames key
         → result ≡ number_in frames key }
@@ -35,7 +35,7 @@ pub fn number_of(numbers: &IndexMap<Key, usize>, key: Key) -> usize
     }
 }
 
-/// The number of a frame, which is likely to be `near`; 0 where it has none.
+/// Returns the number of a frame, or 0 if it has none. It is likely to be `near`.
 #[inline(always)]
 pub fn number_near(numbers: &IndexMap<Key, usize>, near: usize, key: &Key) -> usize
     ensures { (frames : List keys.Key) → AreNumbers numbers.now frames frames
@@ -49,7 +49,7 @@ pub fn number_near(numbers: &IndexMap<Key, usize>, near: usize, key: &Key) -> us
     number_of(numbers, *key)
 }
 
-/// The numbers of these frames, with room for so many more.
+/// Returns the numbers of these frames, with room for `more` others.
 pub fn numbers_of(
     alloc: Global,
     numbers: &IndexMap<Key, usize>,

@@ -1,4 +1,4 @@
-// Places of frames, and what they are for the list of work.
+// Places of frames, and their marks for the work list.
 ghost use Rattle.std.specs.Prelude.{◌≡◌};
 ghost use Rattle.std.specs.Hash as fed;
 ghost use Rattle.frame_places.specs.Spots.{is_entry_point, spot_number};
@@ -10,15 +10,17 @@ use std::hash::{Hash, Hasher};
 /// One more than the greatest address.
 pub(crate) const ADDRESSES: u128 = 4_294_967_296;
 
-/// A point of a frame, by its address, or the frame's exit.
+/// A place of a frame.
 #[derive(Clone, Copy, Debug, PartialEq, Eq)]
 pub enum Spot {
+    /// The point of a frame at an address.
     Point(Key, u32),
+    /// The exit of a frame.
     Exit(Key),
 }
 
 impl Spot {
-    /// The place's number, which orders places.
+    /// Returns the number that orders places.
     #[inline(always)]
     pub(crate) fn number(&self) -> u128
         ensures { result ≡ spot_number self.now }
@@ -29,7 +31,7 @@ impl Spot {
         }
     }
 
-    /// Whether it is the entry point of its frame.
+    /// Returns whether it is the entry point of its frame.
     pub fn is_entry(&self) -> bool
         ensures { result ≡ is_entry_point self.now }
     {
@@ -39,7 +41,7 @@ impl Spot {
         }
     }
 
-    /// What the place is hashed by: its address, and of its frame's number the low four bytes.
+    /// Returns the word for hashing: the low four bytes of the frame's number, and the address.
     #[inline(always)]
     fn word(&self) -> u64
         ensures { result ≡ word_of self.now }
@@ -52,7 +54,7 @@ impl Spot {
     }
 }
 
-/// By one write of eight bytes.
+/// Hashing is one write of eight bytes.
 impl Hash for Spot {
     ghost use Rattle.frame_places.specs.Hashed.{hashed_alike, word_of};
 
@@ -65,20 +67,24 @@ impl Hash for Spot {
     }
 }
 
-/// What is known at a place, the place's mark, and how often the place was visited, as far as it is counted.
+/// The value of a place, and its mark.
 #[derive(Drop)]
 pub struct Marked<V> {
     pub value: V,
     pub mark: Mark,
+    /// The number of visits, up to 255.
     pub visits: u8,
 }
 
-/// What a place is for the list of work: all that it owes is covered; the same, and the instruction there enters no frame by
-/// itself; it is on the list; it is visited now.
+/// What a place is for the work list.
 #[derive(Clone, Copy, Debug, PartialEq, Eq)]
 pub enum Mark {
+    /// All that it owes is covered.
     Idle,
+    /// All that it owes is covered, and its instruction enters no frame by itself.
     Plain,
+    /// It is on the work list.
     Queued,
+    /// It is being visited.
     Open,
 }

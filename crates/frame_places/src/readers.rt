@@ -1,4 +1,4 @@
-// Who reads which exit.
+// Which points read which exits.
 ghost use Rattle.std.specs.Prelude.{◌↔◌, ◌⊎◌, ◌≡◌, Contains, IfOk, OnOk};
 ghost use Rattle.frame_places.specs.declared.places.Spot as spots;
 ghost use Rattle.frame_places.specs.Marks.{Registered};
@@ -7,10 +7,10 @@ use crate::places::Spot;
 use indexmap::IndexMap;
 use std::alloc::{AllocError, Global};
 
-/// How many readers a list has at least where doubles are looked for.
+/// The least number of readers for which a list is searched for duplicates.
 const MANY: usize = 1024;
 
-/// Puts x behind these, unless it is the last of them.
+/// Appends `x`, unless it is the last one.
 fn push_other(out: &mut Vec<Spot>, x: Spot) -> Result<(), AllocError>
     ensures { OnOk result ((q : spots.Spot)
         → Contains out.new.items q ↔ (Contains out.old.items q ⊎ (q ≡ x))) }
@@ -24,7 +24,7 @@ fn push_other(out: &mut Vec<Spot>, x: Spot) -> Result<(), AllocError>
     Ok(())
 }
 
-/// The same without a place that stands right behind itself.
+/// Returns a list without the places that equal the one before them.
 fn without_doubles(alloc: Global, list: &[Spot]) -> Result<Vec<Spot>, AllocError>
     ensures { IfOk result (λ out. (q : spots.Spot)
         → Contains out.items q ↔ Contains list.now q) }
@@ -36,10 +36,11 @@ fn without_doubles(alloc: Global, list: &[Spot]) -> Result<Vec<Spot>, AllocError
     Ok(out)
 }
 
-/// Drops what is listed twice, where that is half of the list at least; the list is put in order. By itself, as it is seldom asked for.
+/// Sorts the list, and drops its duplicates if they are at least half of it.
 #[inline(never)]
 fn drop_doubles(alloc: Global, list: &mut Vec<Spot>) -> Result<(), AllocError>
-    ensures { OnOk result ((q : spots.Spot) → Contains list.new.items q ↔ Contains list.old.items q) }
+    ensures { OnOk result ((q : spots.Spot)
+        → Contains list.new.items q ↔ Contains list.old.items q) }
 {
     list.sort_by_key(|x| x.number())?;
     let out = without_doubles(alloc, list.as_slice())?;
@@ -49,8 +50,9 @@ fn drop_doubles(alloc: Global, list: &mut Vec<Spot>) -> Result<(), AllocError>
     Ok(())
 }
 
-/// Puts x behind the readers of a place. A point is put there at each of its visits: where as many are listed as a power of two,
-/// doubles are looked for, so that a list has four times its readers at most, or is short.
+/// Appends `x` to the readers of a place. Each visit of a point does so. When the length is a power
+/// of two, the list is searched for duplicates: it stays short, or at most four times as long as
+/// its number of readers.
 #[inline(always)]
 fn push_reader(alloc: Global, list: &mut Vec<Spot>, x: Spot) -> Result<(), AllocError>
     ensures { OnOk result ((q : spots.Spot)
@@ -63,7 +65,7 @@ fn push_reader(alloc: Global, list: &mut Vec<Spot>, x: Spot) -> Result<(), Alloc
     Ok(())
 }
 
-/// Writes down that x reads z, and no more.
+/// Records that `x` reads `z`.
 pub fn register(
     alloc: Global,
     readers: &mut IndexMap<Spot, Vec<Spot>>,

@@ -5,7 +5,16 @@ ghost use Rattle.frame_places.specs.declared.refusals.Refusal.TheVariants.{NoMem
 use crate::places::Spot;
 use std::alloc::{AllocError, AllocFailed};
 
-/// A fault of a derived assignment, by its rule and its place; or want of memory.
+/// The number of the rule on locals: states that meet at a point have equally many.
+pub const LOCALS_RULE: u8 = 8;
+
+/// The number of the rule on needs: none is above the areas without the reserve.
+pub const NEEDS_RULE: u8 = 14;
+
+/// The number of the rule on the greatest numbers of points and frames.
+pub const LIMITS_RULE: u8 = 15;
+
+/// A fault of a derived assignment, by its rule and its place, or out of memory.
 #[derive(Debug, Drop)]
 pub enum Refusal {
     Fault(u8, Spot),

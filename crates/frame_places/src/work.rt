@@ -1,4 +1,4 @@
-// The list of work.
+// The work list.
 ghost use Rattle.std.specs.Prelude.{◌≡◌, ◌<◌, ◌^◌, ◌==◌, IfSome, IfNone, OnOk, [], length};
 ghost use Rattle.frame_places.specs.Work.{BeginsRound, HasNoNext, PutsEntry, PutsNext, PutsWaiting, Takes, TakesFirst, TakesLast, TakesRound, Turns, all_work};
 
@@ -6,17 +6,20 @@ use std::alloc::{AllocError, Global};
 use std::marker::Model;
 use std::mem::swap;
 
-/// How many places are shifted at most where one is put behind them.
+/// The greatest number of places that are moved when one is put before them.
 const MOST_SHIFTED: usize = 64;
 
-/// Numbers of places. Each place that has work is listed; some are listed twice or have no work any more, and are passed over then.
-/// Most are next, first in, first out: `first` has the first of them, the least last, from where they are taken, and `next` those
-/// behind them. When none is next the last one of `round` is taken, and when that is empty those that wait are the round, in the
-/// order of their numbers, in which they were found. So what an exit that rises again wakes goes on once, when that exit has risen
-/// as far as it does for now; and a frame that is entered anew is walked through when those found before it, which may enter it
-/// too, were. Entry points that weren't visited yet are put into `round` above its first `base` places, which were left when one
-/// of it was taken last: so the frame that was found last is walked through first, with all that it enters, and of those found
-/// since then the first one, as long as they are 64 at most.
+/// Numbers of places. Each place with work is listed. Some are listed twice, or have no work any
+/// more; these are skipped.
+/// Most places are next, first in, first out: `first` holds the first of them in reverse, and is
+/// taken from its end; `next` holds the others. When none is next, the last one of `round` is
+/// taken. When `round` is empty, the places in `waiting` become the round, in the order of their
+/// numbers, which is the order in which they were found. So the readers of an exit that rises again
+/// are visited once, after the exit has risen as far as it does for now. And a frame is visited
+/// after the frames found before it, which may enter it too.
+/// Entry points that weren't visited yet are put into `round` above its first `base` places, which
+/// are those that were left when a place of it was taken last. So the frame that was found last is
+/// visited first, with all that it enters; of up to 64 frames found since then, the first one.
 #[derive(Drop)]
 pub struct Work {
     first: Vec<usize>,
@@ -35,7 +38,7 @@ impl Model for Work {
 }
 
 impl Work {
-    /// No work.
+    /// Returns an empty list.
     pub fn new(alloc: Global) -> Work
         ensures { all_work result ≡ [] }
     {
@@ -48,7 +51,7 @@ impl Work {
         }
     }
 
-    /// How many places are listed.
+    /// Returns the number of places that are listed.
     pub fn len(&self) -> u128
         ensures listed { result ≡ length (all_work self.now) }
         ensures few { result < 2 ^ 66 }
@@ -57,7 +60,7 @@ impl Work {
         next + (self.round.len() as u128 + self.waiting.len() as u128)
     }
 
-    /// Whether no place is listed.
+    /// Returns whether no place is listed.
     pub fn is_empty(&self) -> bool
         ensures { result ≡ (length (all_work self.now) == 0) }
     {
@@ -67,7 +70,7 @@ impl Work {
             && self.waiting.is_empty()
     }
 
-    /// Puts a place behind those that are next.
+    /// Puts a place after those that are next.
     #[inline(always)]
     pub(crate) fn push(&mut self, number: usize) -> Result<(), AllocError>
         ensures { OnOk result (PutsNext self.old self.new number) }
@@ -85,9 +88,10 @@ impl Work {
         Ok(())
     }
 
-    /// Puts an entry point that wasn't visited yet before what is left of the round, behind those that were found since a place of
-    /// it was taken, or behind 64 of them. Where it is listed already it is listed once more: each time its state rose, so that
-    /// the list never has more places than there were rises.
+    /// Puts an entry point that wasn't visited yet before what is left of the round, after the
+    /// places found since a place of it was taken, or after 64 of them. If it is listed, it is
+    /// listed again: once for each rise of its state, so the list never has more places than there
+    /// were rises.
     #[inline(always)]
     pub(crate) fn push_entry(&mut self, number: usize) -> Result<(), AllocError>
         ensures { OnOk result (PutsEntry self.old self.new number) }
@@ -98,7 +102,8 @@ impl Work {
         Ok(())
     }
 
-    /// Those that wait come in this round, of which none is left; the least number last, from where they are taken.
+    /// Begins a round with the places that wait. The least number is the last, where places are
+    /// taken.
     fn begin_round(&mut self)
         ensures { BeginsRound self.old self.new }
     {
@@ -107,7 +112,7 @@ impl Work {
             .sort_unstable_by_key(|number| usize::MAX - *number);
     }
 
-    /// Takes one of this round off the list.
+    /// Takes a place of this round.
     #[inline(always)]
     fn pop_round(&mut self) -> Option<usize>
         ensures some { IfSome result (TakesRound self.old self.new) }
@@ -118,8 +123,8 @@ impl Work {
         number
     }
 
-    /// Makes those that are next the first ones, and these, of which none is left, next; the first of them last, from where they
-    /// are taken.
+    /// Makes the places that are next the first ones, in reverse, since they are taken from the
+    /// end.
     fn turn(&mut self)
         ensures { Turns self.old self.new }
     {
@@ -127,7 +132,7 @@ impl Work {
         self.first.reverse();
     }
 
-    /// Takes the first one off the list.
+    /// Takes the first place.
     #[inline(always)]
     fn pop_first(&mut self) -> Option<usize>
         ensures some { IfSome result (TakesFirst self.old self.new) }
@@ -136,7 +141,7 @@ impl Work {
         self.first.pop()
     }
 
-    /// Takes the last of those that are next off the list.
+    /// Takes the last of the places that are next.
     #[inline(always)]
     fn pop_last(&mut self) -> Option<usize>
         ensures some { IfSome result (TakesLast self.old self.new) }
@@ -145,7 +150,7 @@ impl Work {
         self.next.pop()
     }
 
-    /// Takes the first of all that are next off the list; where there is but one, it is the last too.
+    /// Takes the first of the places that are next. A single one is also the last.
     #[inline(always)]
     fn pop_next(&mut self) -> Option<usize>
         ensures some { IfSome result (Takes self.old self.new) }
@@ -161,7 +166,7 @@ impl Work {
         self.pop_last()
     }
 
-    /// Takes a place off the list.
+    /// Takes a place.
     #[inline(always)]
     pub fn pop(&mut self) -> Option<usize>
         ensures some { IfSome result (Takes self.old self.new) }

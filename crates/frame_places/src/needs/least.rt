@@ -1,14 +1,14 @@
 // The least needs.
 
 ghost use Rattle.std.specs.Prelude.{Ok, IfOk, IfSome, IsTrue, Some, ℕ, ◌+◌, ◌<◌, ◌≤◌, ◌^◌, Contains, length, slice_index, min, MatchOption, EachIndex};
-ghost use Rattle.frame_places.specs.Rows.{MeetsRow, IsWithin, IsLow, MeetsCapped, PassesRow, Passes, LeastNeeds};
-ghost use Rattle.frame_places.specs.declared.needs.row.Row.{Row};
+ghost use Rattle.frame_places.specs.Rows.{MeetsRow, IsWithin, IsLow, MeetsCapped, PassesRow, PassesRows, LeastNeeds};
+ghost use Rattle.frame_places.specs.declared.needs.row.NeedRow.{NeedRow};
 
-use crate::needs::row::Row;
+use crate::needs::row::NeedRow;
 use std::alloc::{AllocError, Global};
 
-/// The need that one row asks for, at most one more than the cap.
-fn need_of(needs: &[u32], row: &Row, cap: u32) -> u32
+/// Returns the need that one row asks for, at most one more than the cap.
+fn need_of(needs: &[u32], row: &NeedRow, cap: u32) -> u32
     requires cap { cap < 2 ^ 16 }
     requires held { row.now.held < 2 ^ 8 }
     requires low { (k : ℕ) → slice_index needs.now k ≤ cap + 1 }
@@ -30,8 +30,8 @@ fn need_of(needs: &[u32], row: &Row, cap: u32) -> u32
     need.min(cap + 1)
 }
 
-/// Raises the need of one row's node, and says whether it was too low.
-fn raise_row(needs: &mut [u32], row: &Row, cap: u32) -> bool
+/// Raises the need of one row's node if it is too low, and returns whether it was.
+fn raise_row(needs: &mut [u32], row: &NeedRow, cap: u32) -> bool
     requires cap { cap < 2 ^ 16 }
     requires nodes { length needs.old < 2 ^ 16 }
     requires node { row.now.node < length needs.old }
@@ -48,14 +48,15 @@ fn raise_row(needs: &mut [u32], row: &Row, cap: u32) -> bool
     false
 }
 
-/// One pass over the rows, the last one first, as rows of what is entered mostly stand behind those of what enters it: raises
-/// needs that are too low, and says whether there were any.
-fn pass(needs: &mut [u32], rows: &[Row], cap: u32) -> bool
+/// Makes one pass over the rows: raises needs that are too low, and returns whether there were any.
+/// The last row is first, since the rows of entered frames mostly come after those of the frames
+/// that enter them.
+fn pass(needs: &mut [u32], rows: &[NeedRow], cap: u32) -> bool
     requires cap { cap < 2 ^ 16 }
     requires nodes { length needs.old < 2 ^ 16 }
     requires within { IsWithin rows.now (length needs.old) }
     requires capped { (k : ℕ) → slice_index needs.old k ≤ cap + 1 }
-    ensures pass { Passes cap needs.old needs.new rows.now result }
+    ensures pass { PassesRows cap needs.old needs.new rows.now result }
 {
     let mut changed = false;
     for i in (0..rows.len()).rev() {
@@ -66,31 +67,32 @@ fn pass(needs: &mut [u32], rows: &[Row], cap: u32) -> bool
     changed
 }
 
-/// Passes until nothing changes.
-fn settle(needs: &mut [u32], rows: &[Row], cap: u32)
+/// Makes passes until nothing changes.
+fn run_passes(needs: &mut [u32], rows: &[NeedRow], cap: u32)
     requires cap { cap < 2 ^ 16 }
     requires nodes { length needs.old < 2 ^ 16 }
     requires within { IsWithin rows.now (length needs.old) }
     requires capped { (k : ℕ) → slice_index needs.old k ≤ cap + 1 }
     requires low { IsLow needs.old rows.now }
     ensures low { IsLow needs.new rows.now }
-    ensures met { (row : Row) → Contains rows.now row → MeetsCapped cap needs.new row }
+    ensures met { (row : NeedRow) → Contains rows.now row → MeetsCapped cap needs.new row }
 {
     while pass(needs, rows, cap) {}
 }
 
-/// How many passes mostly do: one or two for frames that were found before what they enter.
+/// The number of passes that is mostly enough: one or two for frames that were found before those
+/// that they enter.
 const FEW: u32 = 64;
 
-/// A few passes; says whether nothing changes any more.
-fn settle_soon(needs: &mut [u32], rows: &[Row], cap: u32) -> bool
+/// Makes a few passes, and returns whether the last one changed nothing.
+fn run_few_passes(needs: &mut [u32], rows: &[NeedRow], cap: u32) -> bool
     requires cap { cap < 2 ^ 16 }
     requires nodes { length needs.old < 2 ^ 16 }
     requires within { IsWithin rows.now (length needs.old) }
     requires capped { (k : ℕ) → slice_index needs.old k ≤ cap + 1 }
     requires low { IsLow needs.old rows.now }
     ensures low { IsLow needs.new rows.now }
-    ensures met { IsTrue result → (row : Row) → Contains rows.now row
+    ensures met { IsTrue result → (row : NeedRow) → Contains rows.now row
         → MeetsCapped cap needs.new row }
 {
     for _done in 0..FEW {
@@ -101,8 +103,8 @@ fn settle_soon(needs: &mut [u32], rows: &[Row], cap: u32) -> bool
     false
 }
 
-/// The first need above the cap.
-fn above(needs: &[u32], cap: u32) -> Option<usize>
+/// Returns the first node with a need above the cap.
+fn first_above(needs: &[u32], cap: u32) -> Option<usize>
     ensures { MatchOption result
         (EachIndex needs.now (λ k. slice_index needs.now k ≤ cap))
         (λ k. (k < length needs.now) × (cap < slice_index needs.now k)) }
@@ -110,11 +112,11 @@ fn above(needs: &[u32], cap: u32) -> Option<usize>
     needs.iter().position(|need| *need > cap)
 }
 
-/// The least needs, or `None` where some need has to be above the cap.
+/// Returns the least needs, or `None` if some need has to be above the cap.
 pub fn least_needs(
     alloc: Global,
     nodes: usize,
-    rows: &[Row],
+    rows: &[NeedRow],
     cap: u32,
 ) -> Result<Option<Vec<u32>>, AllocError>
     requires cap { cap < 2 ^ 16 }
@@ -123,30 +125,32 @@ pub fn least_needs(
     ensures { LeastNeeds nodes rows.now cap result }
 {
     let mut needs = vec![in alloc; 0u32; nodes]?;
-    settle(&mut needs, rows, cap);
-    match above(&needs, cap) {
+    run_passes(&mut needs, rows, cap);
+    match first_above(&needs, cap) {
         None => Ok(Some(needs)),
         Some(_) => Ok(None),
     }
 }
 
-/// The same where a few passes tell, else `None`. Where a frame recurs needs rise to the cap, by one or some in a pass.
+/// Returns the least needs if a few passes find them. If a frame is recursive, needs rise to the
+/// cap in many passes.
 pub fn soon_needs(
     alloc: Global,
     nodes: usize,
-    rows: &[Row],
+    rows: &[NeedRow],
     cap: u32,
 ) -> Result<Option<Vec<u32>>, AllocError>
     requires cap { cap < 2 ^ 16 }
     requires nodes { nodes < 2 ^ 16 }
     requires within { IsWithin rows.now nodes }
-    ensures { IfOk result (λ o. IfSome o (λ needs. LeastNeeds nodes rows.now cap (Ok (Some needs)))) }
+    ensures { IfOk result (λ o. IfSome o
+        (λ needs. LeastNeeds nodes rows.now cap (Ok (Some needs)))) }
 {
     let mut needs = vec![in alloc; 0u32; nodes]?;
-    if !settle_soon(&mut needs, rows, cap) {
+    if !run_few_passes(&mut needs, rows, cap) {
         return Ok(None);
     }
-    match above(&needs, cap) {
+    match first_above(&needs, cap) {
         None => Ok(Some(needs)),
         Some(_) => Ok(None),
     }

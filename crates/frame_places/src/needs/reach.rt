@@ -1,34 +1,37 @@
-// A graph by the numbers of its nodes: which nodes are reached from which.
+// The graph of entries, by the numbers of its nodes: which nodes are reached from which.
 ghost use Rattle.std.specs.Prelude.{◌≡◌, ◌<◌, ◌↔◌, ℕ, IsTrue, IfOk, OnOk, length, slice_index_or, false, Contains, [], ◌∷◌, ◌+◌};
 ghost use Rattle.frame_places.specs.Reaching.{AddsEdges, AddsSource, AreBelow, AreBetween, AreEdges, AreReaching, AreReachingBy, AreSources, HasMarkedNext, IsFirstBefore, IsFirstRecurring, IsMarked, IsRecurring, MarksNodes, SettlesMarks};
 
-use crate::needs::row::Row;
+use crate::needs::row::NeedRow;
 use indexmap::{IndexMap, IndexSet};
 use std::alloc::{AllocError, AllocFailed, Global};
 
 /// A node, and one that it enters.
 #[derive(Clone, Copy, Debug, PartialEq, Eq, Hash)]
-pub struct Edge {
+pub struct FrameEdge {
     pub node: usize,
     pub into: usize,
 }
 
-/// Adds the edges of a node to these.
+/// Adds the edges of a node.
 fn add_edges(
-    edges: &mut IndexSet<Edge>,
+    edges: &mut IndexSet<FrameEdge>,
     node: usize,
     into: &[usize],
-) -> Result<(), AllocFailed<Edge>>
+) -> Result<(), AllocFailed<FrameEdge>>
     ensures { OnOk result (AddsEdges edges.old.keys edges.new.keys node into.now) }
 {
     for t in into {
-        edges.insert(Edge { node, into: *t })?;
+        edges.insert(FrameEdge { node, into: *t })?;
     }
     Ok(())
 }
 
-/// The edges of the rows, each once.
-pub fn edges_of(alloc: Global, rows: &[Row]) -> Result<IndexSet<Edge>, AllocFailed<Edge>>
+/// Returns the edges of the rows, each once.
+pub fn edges_of(
+    alloc: Global,
+    rows: &[NeedRow],
+) -> Result<IndexSet<FrameEdge>, AllocFailed<FrameEdge>>
     ensures { IfOk result (λ edges. AreEdges rows.now edges.keys) }
 {
     let mut edges = IndexSet::new(alloc);
@@ -38,11 +41,11 @@ pub fn edges_of(alloc: Global, rows: &[Row]) -> Result<IndexSet<Edge>, AllocFail
     Ok(edges)
 }
 
-/// Adds a source of a node.
+/// Adds the source of an edge to those of the node that it enters.
 fn add_source(
     alloc: Global,
     sources: &mut IndexMap<usize, Vec<usize>>,
-    edge: Edge,
+    edge: FrameEdge,
 ) -> Result<(), AllocError>
     ensures { OnOk result (AddsSource sources.old sources.new edge.node edge.into) }
 {
@@ -56,8 +59,8 @@ fn add_source(
     Ok(())
 }
 
-/// For each node those that enter it.
-fn sources_of(alloc: Global, edges: &[Edge]) -> Result<IndexMap<usize, Vec<usize>>, AllocError>
+/// Returns the sources of each node: the nodes that enter it.
+fn sources_of(alloc: Global, edges: &[FrameEdge]) -> Result<IndexMap<usize, Vec<usize>>, AllocError>
     ensures { IfOk result (λ sources. AreSources edges.now sources) }
 {
     let mut sources = IndexMap::new(alloc);
@@ -67,7 +70,7 @@ fn sources_of(alloc: Global, edges: &[Edge]) -> Result<IndexMap<usize, Vec<usize
     Ok(sources)
 }
 
-/// Marks a node, and puts it on the list of work if it had no mark.
+/// Marks a node, and queues it if it had no mark.
 fn mark_node(marks: &mut [bool], work: &mut Vec<usize>, node: usize) -> Result<(), AllocError>
     requires { node < length marks.old }
     ensures { OnOk result
@@ -80,7 +83,7 @@ fn mark_node(marks: &mut [bool], work: &mut Vec<usize>, node: usize) -> Result<(
     Ok(())
 }
 
-/// Marks these nodes, and puts those that had no mark on the list of work.
+/// Marks these nodes, and queues those that had no mark.
 fn mark_nodes(marks: &mut [bool], work: &mut Vec<usize>, nodes: &[usize]) -> Result<(), AllocError>
     requires { (k : ℕ) → Contains nodes.now k → k < length marks.old }
     ensures { OnOk result (MarksNodes nodes.now marks.old marks.new work.old.items work.new.items) }
@@ -91,7 +94,7 @@ fn mark_nodes(marks: &mut [bool], work: &mut Vec<usize>, nodes: &[usize]) -> Res
     Ok(())
 }
 
-/// Marks all that lead to the nodes on the list of work.
+/// Marks all nodes from which a queued one is reached.
 fn settle_marks(
     marks: &mut [bool],
     work: &mut Vec<usize>,
@@ -108,8 +111,8 @@ fn settle_marks(
     Ok(())
 }
 
-/// Which nodes lead to this one, by the sources of each.
-fn reaching_by(
+/// Marks the nodes from which this one is reached, by the sources of each.
+fn nodes_reaching_by(
     alloc: Global,
     nodes: usize,
     sources: &IndexMap<usize, Vec<usize>>,
@@ -127,11 +130,11 @@ fn reaching_by(
     Ok(marks)
 }
 
-/// Which nodes lead to this one.
-pub fn reaching(
+/// Marks the nodes from which this one is reached.
+pub fn nodes_reaching(
     alloc: Global,
     nodes: usize,
-    edges: &[Edge],
+    edges: &[FrameEdge],
     node: usize,
 ) -> Result<Vec<bool>, AllocError>
     requires node { node < nodes }
@@ -139,10 +142,10 @@ pub fn reaching(
     ensures { IfOk result (λ marks. AreReaching edges.now nodes node marks.items) }
 {
     let sources = sources_of(alloc, edges)?;
-    reaching_by(alloc, nodes, &sources, node)
+    nodes_reaching_by(alloc, nodes, &sources, node)
 }
 
-/// Whether the node is marked; one that is no node isn't.
+/// Returns whether the node is marked. A number without a node isn't.
 fn is_marked(marks: &[bool], node: usize) -> bool
     ensures { result ≡ slice_index_or marks.now node false }
 {
@@ -152,7 +155,7 @@ fn is_marked(marks: &[bool], node: usize) -> bool
     }
 }
 
-/// Whether one of these nodes is marked.
+/// Returns whether one of these nodes is marked.
 pub fn has_marked(marks: &[bool], nodes: &[usize]) -> bool
     ensures { IsTrue result ↔ ((t : ℕ) × Contains nodes.now t × IsMarked marks.now t) }
 {
@@ -164,8 +167,8 @@ pub fn has_marked(marks: &[bool], nodes: &[usize]) -> bool
     false
 }
 
-/// Whether the node enters a marked one.
-fn enters_marked(marks: &[bool], edges: &[Edge], node: usize) -> bool
+/// Returns whether the node enters a marked one.
+fn enters_marked(marks: &[bool], edges: &[FrameEdge], node: usize) -> bool
     requires { AreBetween edges.now (length marks.now) }
     ensures { IsTrue result ↔ HasMarkedNext marks.now edges.now node }
 {
@@ -177,11 +180,11 @@ fn enters_marked(marks: &[bool], edges: &[Edge], node: usize) -> bool
     false
 }
 
-/// Whether the node is reached again from one that it enters.
+/// Returns whether the node is reached from one that it enters.
 fn is_recurring(
     alloc: Global,
     nodes: usize,
-    edges: &[Edge],
+    edges: &[FrameEdge],
     sources: &IndexMap<usize, Vec<usize>>,
     node: usize,
 ) -> Result<bool, AllocError>
@@ -190,15 +193,15 @@ fn is_recurring(
     requires sources { AreSources edges.now sources.now }
     ensures { IfOk result (λ recurs. IsTrue recurs ↔ IsRecurring edges.now node) }
 {
-    let marks = reaching_by(alloc, nodes, sources, node)?;
+    let marks = nodes_reaching_by(alloc, nodes, sources, node)?;
     Ok(enters_marked(marks.as_slice(), edges, node))
 }
 
-/// The first recurring node up to this one, by that before it.
+/// Returns the first recursive node up to this one, from the first one before it.
 fn first_with(
     alloc: Global,
     orders: &[u64],
-    edges: &[Edge],
+    edges: &[FrameEdge],
     sources: &IndexMap<usize, Vec<usize>>,
     node: usize,
     first: Option<usize>,
@@ -221,11 +224,11 @@ fn first_with(
     }
 }
 
-/// The recurring node that comes first in this order.
+/// Returns the recursive node that is first in this order.
 pub fn first_recurring(
     alloc: Global,
     orders: &[u64],
-    edges: &[Edge],
+    edges: &[FrameEdge],
 ) -> Result<Option<usize>, AllocError>
     requires { AreBetween edges.now (length orders.now) }
     ensures { IfOk result (IsFirstRecurring orders.now edges.now) }

@@ -1,9 +1,12 @@
-// What one point asks of needs.
+// What a point asks of needs.
 
-/// The place of the frame of a point, the areas of its locals, and the places of the frames that it enters.
+/// What the needs depend on at a point. Frames go by their numbers.
 #[derive(Debug, Drop)]
-pub struct Row {
+pub struct NeedRow {
+    /// The frame of the point.
     pub node: usize,
+    /// The areas of its locals.
     pub held: u8,
+    /// The frames that it enters.
     pub into: Vec<usize>,
 }

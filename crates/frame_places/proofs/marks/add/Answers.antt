@@ -24,4 +24,4 @@ returns-clause-work g c =
     let none = unknown_place _ c.requires.new in
     let p = puts_as m new c.args.y w (λ q. c.in_ok-insert.ensures.updates.0 q) refl (added_numbers m new c.args.y w none c.in_ok-insert.ensures.entries) in
     let last = subst (λ (n : ℕ). StandsAt new n c.args.y) (sym c.len-number.ensures.len) (added_last m new c.args.y w none c.in_ok-insert.ensures.entries) in
-    AllListed-adds m new (all_work c.args.work.now) c.len-number.result c.args.y p.marks p.numbers (all_work c.list_new.new.work) (adds_new c.is_entry-entry.result c.args.work.now c.list_new.new.work c.len-number.result c.in_ok-list_new.ensures) last c.requires.listed
+    AllListed-adds m new (all_work c.args.work.now) c.len-number.result c.args.y p.marks p.numbers (all_work c.enqueue_new.new.work) (adds_new c.is_entry-entry.result c.args.work.now c.enqueue_new.new.work c.len-number.result c.in_ok-enqueue_new.ensures) last c.requires.listed

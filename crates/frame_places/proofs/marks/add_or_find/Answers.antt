@@ -22,8 +22,8 @@ returns-in-Occupied g c =
       refl,
     )
 
-pub returns-in_ok-list_new-in-Vacant : goal.returns-in_ok-list_new-in-Vacant
-returns-in_ok-list_new-in-Vacant g c =
+pub returns-in_ok-enqueue_new-in-Vacant : goal.returns-in_ok-enqueue_new-in-Vacant
+returns-in_ok-enqueue_new-in-Vacant g c =
     let m = c.args.places.now in
     let y = c.args.y in
     let w : Marked g.row.V.Denot = record { value = c.args.value; mark = Queued; visits = 0 } in
@@ -33,8 +33,8 @@ returns-in_ok-list_new-in-Vacant g c =
     let absent = rw c.in-Vacant.is at c.in_ok-known.ensures.found in
     let p = puts_as m new y w (λ q. (update.0 w).0 q) refl (added_numbers m new y w absent (update.1 w)) in
     let last = subst (λ (n : ℕ). StandsAt new n y) (sym c.len-number.ensures.len) (added_last m new y w absent (update.1 w)) in
-    let listed = AllListed-adds m new (all_work c.args.work.now) c.len-number.result y p.marks p.numbers (all_work c.list_new.new.work) (adds_new c.is_entry-entry.result c.args.work.now c.list_new.new.work c.len-number.result c.in_ok-list_new-in-Vacant.ensures) last c.requires.listed in (
+    let listed = AllListed-adds m new (all_work c.args.work.now) c.len-number.result y p.marks p.numbers (all_work c.enqueue_new.new.work) (adds_new c.is_entry-entry.result c.args.work.now c.enqueue_new.new.work c.len-number.result c.in_ok-enqueue_new-in-Vacant.ensures) last c.requires.listed in (
       ap (option_map (λ (k : Marked g.row.V.Denot). k.value)) absent,
       subst (λ z. Puts m z y c.args.value) end p,
-      subst (λ z. AllListed z (all_work c.list_new.new.work)) end listed,
+      subst (λ z. AllListed z (all_work c.enqueue_new.new.work)) end listed,
     )

@@ -47,6 +47,6 @@ returns g c =
       puts = (λ y stands. puts_as m (with_value_at m c.args.number w) y w (written_there m c.args.number y w c.in-Some.ensures.unique stands) refl (written_numbers m c.args.number w));
       work = (λ y stands.
           let p = puts_as m (with_value_at m c.args.number w) y w (written_there m c.args.number y w c.in-Some.ensures.unique stands) refl (written_numbers m c.args.number w) in
-          AllListed-adds m (with_value_at m c.args.number w) (all_work c.args.work.now) c.args.number y p.marks p.numbers (all_work c.list.new.work)
-          (adds_either c.args.entry c.args.work.now c.list.new.work c.args.number c.in_ok-list.ensures) (p.numbers c.args.number y stands) c.requires.listed);
+          AllListed-adds m (with_value_at m c.args.number w) (all_work c.args.work.now) c.args.number y p.marks p.numbers (all_work c.enqueue.new.work)
+          (adds_either c.args.entry c.args.work.now c.enqueue.new.work c.args.number c.in_ok-enqueue.ensures) (p.numbers c.args.number y stands) c.requires.listed);
     }

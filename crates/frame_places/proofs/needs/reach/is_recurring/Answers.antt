@@ -3,8 +3,8 @@ use Rattle.frame_places.specs.Reaching.{AreBetween, AreReaching}
 use Rattle.frame_places.proofs.ReachLemmas.{recurring_marks, sources_below}
 use Rattle.frame_places.proofs.needs.reach.is_recurring.Goals as goal
 
-pub reaching_by-requires-clause-sources : goal.reaching_by-requires-clause-sources
-reaching_by-requires-clause-sources c = sources_below c.args.edges.now c.args.sources.now c.args.nodes c.requires.sources c.requires.edges
+pub nodes_reaching_by-requires-clause-sources : goal.nodes_reaching_by-requires-clause-sources
+nodes_reaching_by-requires-clause-sources c = sources_below c.args.edges.now c.args.sources.now c.args.nodes c.requires.sources c.requires.edges
 
 pub enters_marked-requires : goal.enters_marked-requires
 enters_marked-requires c =

@@ -1,5 +1,5 @@
 use Rattle.std.proofs.Common.{ℕ, ◌<◌, length}
-use Rattle.frame_places.proofs.needs.least.settle_soon.Goals as goal
+use Rattle.frame_places.proofs.needs.least.run_few_passes.Goals as goal
 
 pub loop-done-preserved : goal.loop-done-preserved
 loop-done-preserved c = let p = c.pass.ensures.pass in (λ other m k lt. p.low other m (c.loop-done.invariant.0 other m) k lt, p.capped)

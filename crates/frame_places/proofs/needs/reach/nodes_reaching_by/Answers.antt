@@ -3,7 +3,7 @@ use Rattle.std.specs.Prelude.{replicate}
 use Rattle.std.proofs.lemmas.List.{length-replicate}
 use Rattle.frame_places.specs.Reaching.{AreReaching, IsMarking}
 use Rattle.frame_places.proofs.ReachLemmas.{marking_begins, marking_done, take_front}
-use Rattle.frame_places.proofs.needs.reach.reaching_by.Goals as goal
+use Rattle.frame_places.proofs.needs.reach.nodes_reaching_by.Goals as goal
 
 pub returns : goal.returns
 returns c edges are =

@@ -1,7 +1,7 @@
 use Rattle.std.proofs.Common.{subst, ℕ, ◌*◌, ◌+◌, ◌-◌, ◌<◌, length}
 use Rattle.std.specs.Prelude.{sum}
 use Rattle.frame_places.proofs.RowLemmas.{sum-le, falls}
-use Rattle.frame_places.proofs.needs.least.settle.Goals as goal
+use Rattle.frame_places.proofs.needs.least.run_passes.Goals as goal
 
 pub loop-smaller : goal.loop-smaller
 loop-smaller c =

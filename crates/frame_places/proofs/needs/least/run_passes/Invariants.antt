@@ -1,7 +1,7 @@
 use Rattle.std.proofs.Common.{ℕ, ◌+◌, ◌-◌, ◌*◌, ◌≤◌, length}
 use Rattle.std.specs.Prelude.{sum, slice_index}
 use Rattle.frame_places.specs.Rows.{IsLow}
-use Rattle.frame_places.proofs.needs.least.settle.Given as goal
+use Rattle.frame_places.proofs.needs.least.run_passes.Given as goal
 
 abbrev pub invariant-loop : goal.invariant-loop
 invariant-loop l = IsLow l.needs l.rows × ((k : ℕ) → slice_index l.needs k ≤ l.cap + 1)

@@ -3,7 +3,7 @@ use Rattle.std.proofs.lemmas.List.{take_all}
 use Rattle.depth_cert.specs.declared.keys.Key.{Key}
 use Rattle.frame_places.specs.Numbers.{AreNumbers}
 use Rattle.frame_places.proofs.NumberLemmas.{numbers_none, numbers_more}
-use Rattle.frame_places.proofs.numbers.numbered.Goals as goal
+use Rattle.frame_places.proofs.numbers.number_frames.Goals as goal
 
 pub loop-i-init : goal.loop-i-init
 loop-i-init c = numbers_none _ c.args.frames.now

@@ -4,7 +4,7 @@ use Rattle.frame_places.specs.declared.places.Marked.{Marked}
 use Rattle.frame_places.specs.declared.places.Mark.TheVariants.{Open}
 use Rattle.frame_places.proofs.MarkLemmas.{marks_as}
 use Rattle.frame_places.proofs.NearbyLemmas.{no_value, value_had, written_numbers, written_there}
-use Rattle.frame_places.proofs.marks.open.Goals as goal
+use Rattle.frame_places.proofs.marks.begin_visit.Goals as goal
 
 pub returns-in-Some : goal.returns-in-Some
 returns-in-Some g c x stands =

@@ -1,5 +1,0 @@
-use Rattle.frame_places.proofs.ReachLemmas.{sources_below}
-use Rattle.frame_places.proofs.needs.reach.reaching.Goals as goal
-
-pub reaching_by-requires-clause-sources : goal.reaching_by-requires-clause-sources
-reaching_by-requires-clause-sources c = sources_below c.args.edges.now c.in_ok-sources.sources c.args.nodes c.in_ok-sources.ensures c.requires.edges
