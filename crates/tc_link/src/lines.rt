@@ -9,7 +9,7 @@ ghost use Rattle.tc_link.specs.Seen.{line_data, IsGood};
 
 use crate::text::is_text;
 use tc_object::name_of;
-use tcd_text::{cut_word, hex_number};
+use tcd_text::{Words, hex_number, words_in};
 
 // The end of the address space.
 const ADDRESS_END: u64 = 0x1_0000_0000;
@@ -86,26 +86,22 @@ fn region_line<'a>(word: &[u8], section: &'a [u8], at: &[u8], most: &[u8]) -> Op
 }
 
 /// The contents of a line; None if it has none of the forms.
-#[tactic(auto, using(crate::proofs::LineLaws::five_words), unfolding(crate::specs::Lines::line_of))]
+#[tactic(auto, using(crate::proofs::LineLaws::more), unfolding(crate::specs::Lines::line_of))]
 pub(crate) fn line_of(line: &[u8]) -> Option<Line<'_>>
     ensures line { option_map line_data result ≡ line_of line.now }
     ensures good { IfSome result (λ line. IsGood (line_data line)) }
 {
-    let Some((word, rest)) = cut_word(line) else {
-        return if line.is_empty() {
-            Some(Line::Blank)
-        } else {
-            None
-        };
-    };
-    let Some((second, rest)) = cut_word(rest) else {
-        return entry_line(word, rest);
-    };
-    let Some((third, rest)) = cut_word(rest) else {
-        return None;
-    };
-    match cut_word(rest) {
-        Some((_fourth, _more)) => None,
-        None => region_line(word, second, third, rest),
+    match words_in(line) {
+        Words::One(word) => {
+            if word.is_empty() {
+                Some(Line::Blank)
+            } else {
+                None
+            }
+        }
+        Words::Two(word, name) => entry_line(word, name),
+        Words::Three(_, _, _) => None,
+        Words::Four(word, section, at, most) => region_line(word, section, at, most),
+        Words::More => None,
     }
 }

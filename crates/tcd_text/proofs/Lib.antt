@@ -1,3 +1,3 @@
-mod LineLaws
+pub mod LineLaws
 mod HexLaws
 pub mod DigitLaws
