@@ -1,5 +1,5 @@
 -- What is read fits the plan.
-use Rattle.std.proofs.Common.{◌≡◌, ℕ, zero, suc, ◌+◌, ◌≤◌, ◌⊎◌, inl, inr, Bool, true, false, List, [], ◌∷◌, length, map, set, slice_get, Option, Some, None, Result, Ok, Err, refl, subst, ◌∙◌, arith}
+use Rattle.std.proofs.Common.{◌≡◌, ℕ, zero, suc, ◌+◌, ◌<◌, ◌≤◌, ◌⊎◌, inl, inr, Bool, true, false, List, [], ◌∷◌, length, map, set, slice_get, Option, Some, None, Result, Ok, Err, refl, subst, ◌∙◌, arith}
 use Rattle.std.specs.Prelude.{nat_le, ◌==◌, ◌&&◌, Contains, IfSome, codes}
 use Rattle.std.specs.List.{list_any, list_all}
 use Rattle.std.specs.Option.{option_and_then}
@@ -7,6 +7,8 @@ use Rattle.std.specs.Str.{bytes_eq}
 use Rattle.std.proofs.lemmas.Bool.{and_parts, leb-true, eqb-true, or_cases, cond_both, false≢true}
 use Rattle.std.proofs.lemmas.List.{length-set, length-map}
 use Rattle.std.proofs.lemmas.List.Elements.{All-nil, All-append, All-replicate}
+use Rattle.tcd_text.specs.Lines.{words_of}
+use Rattle.tcd_text.proofs.LineLaws.{more_words}
 use Rattle.tcd_plan.specs.declared.plans.Device.{Device}
 use Rattle.tcd_plan.specs.PlanData.{PlanData, IsPlan, is_device, is_range}
 use Rattle.tc_script.specs.declared.errors.ScriptErr.{ScriptErr}
@@ -16,7 +18,7 @@ use Rattle.tc_script.specs.declared.scripts.AnswerRange.{AnswerRange}
 use Rattle.tc_script.specs.declared.statements.Statement.{Statement}
 use Rattle.tc_script.specs.declared.statements.Statement.TheVariants.{Step, Irq, Aln, In}
 use Rattle.tc_script.specs.Numbers.{number_of}
-use Rattle.tc_script.specs.Statements.{some_if, of_one_number, of_three_numbers, words_of, statement_of, is_blank, IsOrdered}
+use Rattle.tc_script.specs.Statements.{some_if, of_one_number, of_three_numbers, statement_of, is_blank, IsOrdered}
 use Rattle.tc_script.specs.Fitting.{AreInside, FitsPlan}
 use Rattle.tc_script.specs.Reading.{own_bounds, begun, with_turns, is_source, holds_bounds, with_bounds, stated, if_said, line_read, then_read, lines_read}
 
@@ -55,6 +57,11 @@ statement_ordered (verb ∷ x ∷ y ∷ []) = tt
 statement_ordered (verb ∷ x ∷ y ∷ z ∷ []) =
     then_ordered (number_of x) _ (λ device. then_ordered (number_of y) _ (λ lo. then_ordered (number_of z) _ (λ hi. three_ordered verb device lo hi)))
 statement_ordered (verb ∷ x ∷ y ∷ z ∷ w ∷ words) = tt
+
+-- more than four words are no statement
+pub more_words_say_nothing : (words : List (List ℕ)) → 4 < length words → statement_of words ≡ None
+unfolding statement_of
+more_words_say_nothing words = more_words statement_of None (λ a b c d e words. refl) words
 
 -- ---- what is said fits
 abbrev Fits : PlanData → Draft → Type 0

@@ -3,9 +3,7 @@ pub mod Runs
 pub mod Lines
 pub mod Inside
 pub mod Only
-pub mod Cuts
 pub mod Small
-pub mod Words
 pub mod Answered
 pub mod Bounded
 pub mod AreaLaws

@@ -1,5 +1,6 @@
 -- Laws of lines, one after another.
-use Rattle.std.proofs.Common.{◌≡◌, ℕ, ◌+◌, List, [], ◌∷◌, Result, Ok, Err, refl, sym, ap, ◌∙◌}
+use Rattle.std.proofs.Common.{◌≡◌, ℕ, ◌+◌, List, [], ◌∷◌, length, Result, Ok, Err, refl, sym, ap, ◌∙◌, arith}
+use Rattle.tcd_text.specs.Lines.{lines_of}
 use Rattle.tcd_plan.specs.PlanData.{PlanData}
 use Rattle.tc_script.specs.declared.errors.ScriptErr.{ScriptErr}
 use Rattle.tc_script.specs.declared.errors.ScriptErr.TheVariants.{NoMemory}
@@ -27,6 +28,7 @@ module _ (plan : PlanData) (n : ℕ) (parts : List (List ℕ)) (line : List ℕ)
   refused it is = refusal it is
 
 -- all lines are read
-pub all_read : (plan : PlanData) (n : ℕ) (d : Draft) (all : Result Draft ScriptErr) → lines_read plan n [] d ≡ all → all ≡ Ok d
-unfolding lines_read
-all_read plan n d all is = sym is
+pub all_read : (plan : PlanData) (n : ℕ) (rest : List ℕ) (d : Draft) (all : Result Draft ScriptErr) → length rest ≡ 0 → lines_read plan n (lines_of rest) d ≡ all → all ≡ Ok d
+unfolding lines_read lines_of
+all_read plan n [] d all none is = sym is
+all_read plan n (c ∷ cs) d all none is = absurd (omega arith)

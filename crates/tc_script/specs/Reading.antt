@@ -1,6 +1,7 @@
 -- The lines of a script, one after another.
 use Rattle.std.specs.Prelude.{◌≡◌, ℕ, ◌+◌, ◌==◌, ◌&&◌, nat_le, Bool, false, if◌then◌else◌, List, [], ◌∷◌, ◌++◌, length, map, replicate, slice_set, slice_get, Option, Some, None, Result, Ok, Err}
-use Rattle.std.specs.List.{list_any, slice_split}
+use Rattle.std.specs.List.{list_any}
+use Rattle.tcd_text.specs.Lines.{lines_of, words_of}
 use Rattle.tcd_plan.specs.declared.plans.Device.{Device}
 use Rattle.tcd_plan.specs.PlanData.{PlanData}
 use Rattle.tc_script.specs.declared.errors.ScriptErr.{ScriptErr}
@@ -10,7 +11,7 @@ use Rattle.tc_script.specs.declared.scripts.AnswerRange.{AnswerRange}
 use Rattle.tc_script.specs.declared.statements.Statement.{Statement}
 use Rattle.tc_script.specs.declared.statements.Statement.TheVariants.{Blank, Step, Irq, Aln, In}
 use Rattle.tc_script.specs.ScriptData.{ScriptData}
-use Rattle.tc_script.specs.Statements.{words_of, statement_of}
+use Rattle.tc_script.specs.Statements.{statement_of}
 
 -- A device without a line of its own answers its `lo`.
 abbrev pub own_bounds : Device → AnswerRange
@@ -66,10 +67,6 @@ then_read (Err e) next = Err e
 unfoldable pub lines_read : PlanData → ℕ → List (List ℕ) → Draft → Result Draft ScriptErr
 lines_read plan number [] d = Ok d
 lines_read plan number (line ∷ lines) d = then_read (line_read plan number line d) (λ d. lines_read plan (number + 1) lines d)
-
--- the lines of a text; what follows the last line feed is a line too, and may be empty
-abbrev pub lines_of : List ℕ → List (List ℕ)
-lines_of text = slice_split (λ b. b == 10) text
 
 -- the script that the lines give, or their refusal
 abbrev pub script_in : Result Draft ScriptErr → Result ScriptData ScriptErr

@@ -8,7 +8,6 @@ mod errors;
 mod known_words;
 mod laws;
 mod numbers;
-mod parts;
 mod reading;
 mod scripted;
 mod scripts;

@@ -5,12 +5,12 @@ ghost use Rattle.tc_script.specs.Fitting.{FitsPlan};
 ghost use Rattle.tc_script.specs.Statements.{IsOrdered};
 ghost use Rattle.tc_script.specs.Reading.{own_bounds, begun, with_turns, is_source, holds_bounds, with_bounds, stated, line_read, Takes, script_of, Gives};
 
-use crate::parts::cut;
 use crate::statements::{Statement, statement_in};
 use crate::{AnswerRange, Script, ScriptErr, Turn};
 use arrayvec::ArrayVec;
 use std::alloc::Global;
 use tcd_plan::{Device, Plan};
+use tcd_text::cut_line;
 
 /// What was read so far, and whether a misaligned access traps in the turns that follow.
 #[derive(Drop)]
@@ -146,10 +146,10 @@ impl Script {
         ensures fits { IfOk result (FitsPlan plan.now) }
     {
         let mut draft = Draft::new(alloc, plan);
-        let mut rest = Some(bytes);
+        let mut rest = bytes;
         let mut number = 0;
-        'lines: while let Some(text) = rest {
-            let (line, behind) = cut(text, b'\n');
+        'lines: while !rest.is_empty() {
+            let (line, behind) = cut_line(rest);
             number += 1;
             draft.read_line(plan, number, line)?;
             rest = behind;

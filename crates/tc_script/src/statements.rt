@@ -1,9 +1,10 @@
 // Reads the statement of a line.
 ghost use Rattle.std.specs.Prelude.{◌≡◌, [], ◌∷◌, IfSome};
-ghost use Rattle.tc_script.specs.Statements.{of_one_number, of_three_numbers, words_of, statement_of, IsOrdered};
+ghost use Rattle.tcd_text.specs.Lines.{words_of};
+ghost use Rattle.tc_script.specs.Statements.{of_one_number, of_three_numbers, statement_of, IsOrdered};
 
 use crate::numbers::number;
-use crate::parts::cut;
+use tcd_text::{Words, words_in};
 
 /// The statement of a line: nothing; a number of turns without an interrupt; one turn with an
 /// interrupt; whether a misaligned access traps in the turns that follow; or the bounds of a
@@ -71,47 +72,17 @@ fn of_four_words(verb: &[u8], first: &[u8], second: &[u8], third: &[u8]) -> Opti
     of_three_numbers(verb, device, lo, hi)
 }
 
-/// Returns the statement of three words and the rest of the line.
-fn of_last_words(verb: &[u8], first: &[u8], second: &[u8], rest: &[u8]) -> Option<Statement>
-    ensures { result ≡ statement_of (verb.now ∷ first.now ∷ second.now ∷ words_of rest.now) }
-{
-    let (third, rest) = cut(rest, b' ');
-    match rest {
-        Some(_) => None,
-        None => of_four_words(verb, first, second, third),
-    }
-}
-
-/// Returns the statement of two words and the rest of the line.
-fn of_more_words(verb: &[u8], first: &[u8], rest: &[u8]) -> Option<Statement>
-    ensures { result ≡ statement_of (verb.now ∷ first.now ∷ words_of rest.now) }
-{
-    let (second, rest) = cut(rest, b' ');
-    match rest {
-        Some(rest) => of_last_words(verb, first, second, rest),
-        None => None,
-    }
-}
-
-/// Returns the statement of one word and the rest of the line.
-fn of_words(verb: &[u8], rest: &[u8]) -> Option<Statement>
-    ensures { result ≡ statement_of (verb.now ∷ words_of rest.now) }
-{
-    let (first, rest) = cut(rest, b' ');
-    match rest {
-        Some(rest) => of_more_words(verb, first, rest),
-        None => of_two_words(verb, first),
-    }
-}
-
 /// Returns the statement of a line.
+#[tactic(auto, using(crate::proofs::Inside::more_words_say_nothing), unfolding(crate::specs::Statements::statement_of))]
 pub(crate) fn statement_in(line: &[u8]) -> Option<Statement>
     ensures said { result ≡ statement_of (words_of line.now) }
     ensures ordered { IfSome result IsOrdered }
 {
-    let (verb, rest) = cut(line, b' ');
-    match rest {
-        Some(rest) => of_words(verb, rest),
-        None => of_one_word(verb),
+    match words_in(line) {
+        Words::One(word) => of_one_word(word),
+        Words::Two(verb, word) => of_two_words(verb, word),
+        Words::Three(_, _, _) => None,
+        Words::Four(verb, first, second, third) => of_four_words(verb, first, second, third),
+        Words::More => None,
     }
 }

@@ -1,11 +1,14 @@
-use Rattle.std.proofs.Common.{[], ◌∷◌, sym, subst}
+use Rattle.std.proofs.Common.{sym, subst}
 use Rattle.std.specs.Prelude.{IfSome}
-use Rattle.tc_script.specs.Statements.{words_of, IsOrdered}
+use Rattle.tc_script.specs.Statements.{IsOrdered}
 use Rattle.tc_script.proofs.Inside.{statement_ordered}
 use Rattle.tc_script.proofs.statements.statement_in.Goals as goal
 
-pub returns-in-Some-clause-ordered : goal.returns-in-Some-clause-ordered
-returns-in-Some-clause-ordered c = subst (λ o. IfSome o IsOrdered) (sym c.of_words.ensures) (statement_ordered (c.cut.result.0.now ∷ words_of c.in-Some.rest.now))
+pub returns-in-One-clause-ordered : goal.returns-in-One-clause-ordered
+returns-in-One-clause-ordered c = subst (λ o. IfSome o IsOrdered) (sym c.of_one_word.ensures) (statement_ordered _)
 
-pub returns-in-None-clause-ordered : goal.returns-in-None-clause-ordered
-returns-in-None-clause-ordered c = subst (λ o. IfSome o IsOrdered) (sym c.of_one_word.ensures) (statement_ordered (c.cut.result.0.now ∷ []))
+pub returns-in-Two-clause-ordered : goal.returns-in-Two-clause-ordered
+returns-in-Two-clause-ordered c = subst (λ o. IfSome o IsOrdered) (sym c.of_two_words.ensures) (statement_ordered _)
+
+pub returns-in-Four-clause-ordered : goal.returns-in-Four-clause-ordered
+returns-in-Four-clause-ordered c = subst (λ o. IfSome o IsOrdered) (sym c.of_four_words.ensures) (statement_ordered _)
