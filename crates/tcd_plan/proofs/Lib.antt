@@ -10,3 +10,4 @@ pub mod Pieces
 pub mod TellsPlan
 pub mod KeyTexts
 pub mod ApartLaws
+pub mod CutLaws

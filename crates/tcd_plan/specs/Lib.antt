@@ -6,3 +6,4 @@ pub mod Values
 pub mod Objects
 pub mod Plans
 pub mod Regions
+pub mod Cutting

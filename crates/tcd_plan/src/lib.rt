@@ -1,6 +1,7 @@
 //! Plans: what is known of a board, its start state, its interrupts and its traps, read from JSON.
 #![tactic(auto)]
 
+mod cutting;
 mod limits;
 mod objects;
 mod plans;
@@ -11,5 +12,6 @@ mod rows;
 mod texts;
 mod values;
 
+pub use cutting::ranges_without;
 pub use plans::{Device, Plan, PlanErr, PlanKey};
 pub use texts::key_text;
