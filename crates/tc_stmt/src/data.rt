@@ -11,10 +11,8 @@ use crate::item::Item;
 use crate::source_rules::{MISPLACED_SYMBOL, NO_RULE, PAST_LIMITS, WIDE_NUMBER, WRONG_OPERANDS};
 use crate::value_shapes::{HIGH, HUGE, LOW, NUMBER, SUM, WORD};
 use crate::{Reference, shape_index, symbol_rule};
+use tc_isa::WORD32;
 use tc_lex::Operand;
-
-// The relocation that fills a word of data.
-const WORD32: u8 = 7;
 
 // A number of at most 32 bits, modulo 2^32, as little-endian bytes.
 fn word_bytes(minus: bool, size: u32) -> [u8; 4]

@@ -12,26 +12,8 @@ use crate::source_rules::{FAR_TARGET, NO_RULE, ODD_DISPLACEMENT, WIDE_NUMBER, WR
 use crate::symbols::{break_rule, misplace, with_symbol};
 use crate::value_shapes::{ABSENT, HIGH, HUGE, LOW, NUMBER, SUM, WORD, shape_index};
 use crate::want::{Field, Want};
-use tc_isa::{Fields, Form, Row, bounds_of};
+use tc_isa::{ABS24, Fields, Form, HI16, LO16, OFFSET16, REL15, REL24, Row, bounds_of};
 use tc_lex::{Operand, Shape, Value, is_text};
-
-// The relocation of half the displacement of a jump or a call, in 24 bits.
-const REL24: u8 = 1;
-
-// The relocation of bits 31:28 and 20:1 of an address, in 24 bits.
-const ABS24: u8 = 2;
-
-// The relocation of half the displacement of a branch, in 15 bits.
-const REL15: u8 = 3;
-
-// The relocation of the upper half of an address, plus one if its lower half is negative.
-const HI16: u8 = 4;
-
-// The relocation of the lower half of an address, in the constant of an operation.
-const LO16: u8 = 5;
-
-// The relocation of the lower half of an address, in the offset of an access.
-const OFFSET16: u8 = 6;
 
 // The number of a name that is no register: above the numbers of all registers.
 const NO_REGISTER: u8 = 64;
