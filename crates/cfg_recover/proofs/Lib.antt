@@ -25,3 +25,4 @@ pub mod EntryChanges
 pub mod StepChanges
 pub mod RefusalLaws
 pub mod NextLaws
+pub mod OperationLaws

@@ -16,3 +16,4 @@ pub mod Local
 pub mod LocalFaults
 pub mod Refusals
 pub mod RefusalLaws
+pub mod SetOperations

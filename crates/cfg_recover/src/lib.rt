@@ -17,6 +17,7 @@ mod known_codes;
 mod laws;
 mod local;
 mod local_rules;
+mod operation_cache;
 mod start;
 
 pub use built_states::{address, changed_state, refine, transfer};
@@ -33,4 +34,5 @@ pub use keys::{aln_key, entered_key, irq_key, start_key, sys_key};
 pub use known_codes::KnownCodes;
 pub use laws::{fault_laws, frame_laws, move_laws, refusal_laws};
 pub use local::{Located, check_located, local_check};
+pub use operation_cache::OperationCache;
 pub use start::start_state;

@@ -6,7 +6,6 @@ pub mod FirstFaults
 pub mod Forms
 pub mod Headline
 pub mod Judging
-pub mod Keeping
 pub mod NodeFaults
 pub mod Passing
 pub mod Points

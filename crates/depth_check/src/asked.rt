@@ -1,8 +1,7 @@
 // What the entries of interrupts were asked for with.
-ghost use Rattle.std.specs.Prelude.{◌≡◌, ◌↔◌, IsTrue, IfSome, IsSomeAnd, length, slice_index_or};
+ghost use Rattle.std.specs.Prelude.{◌≡◌, IsTrue, IfSome, IsSomeAnd, length, slice_index_or};
 ghost use Rattle.value_domain.specs.Values.{IsWell, IsValue, any_val};
 ghost use Rattle.value_domain.specs.State.{AreValues};
-ghost use Rattle.value_domain.specs.declared.values.Val.TheVariants.{Set};
 ghost use Rattle.tcd_plan.specs.PlanData.{PlanData};
 ghost use Rattle.depth_cert.specs.Certs.{CertData};
 ghost use Rattle.cfg_recover.specs.Accepting.{limits_in};
@@ -126,15 +125,5 @@ fn is_asked(asked: &Option<Asked>, node: &PackedNode<'_>, s: &State) -> bool
     match asked {
         Some(asked) => asked.is_like(node, s) && (!asked.is || leq(&s.regs[22], &asked.sp)),
         None => false,
-    }
-}
-
-/// Whether a value is the set of these words.
-pub(crate) fn is_the_set(v: &Val, words: &[u32]) -> bool
-    ensures { IsTrue result ↔ (v.now ≡ Set words.now) }
-{
-    match v {
-        Val::Set(own) => own.as_slice() == words,
-        Val::Span { .. } => false,
     }
 }

@@ -11,9 +11,9 @@ use crate::any_certs::AnyCert;
 use crate::asked::Asks;
 use crate::covering::has_point;
 use crate::forms::Frame;
-use crate::kept::{BY_NONE, Kept, Room, no_change};
+use crate::kept::{BY_NONE, Room, no_change};
 use crate::nodes::{Scratch, node_fault};
-use cfg_recover::{KnownCodes, start_key, start_state};
+use cfg_recover::{KnownCodes, OperationCache, start_key, start_state};
 use elf_image::Image;
 use packed_cert::PointWalk;
 use tcd_plan::Plan;
@@ -53,10 +53,7 @@ pub(crate) fn judged(image: &Image, plan: &Plan, cert: &AnyCert<'_>) -> Verdict
     let mut scratch = Scratch {
         room: Room {
             change: no_change(),
-            zero: Kept::none(),
-            one: Kept::none(),
-            two: Kept::none(),
-            three: Kept::none(),
+            cache: OperationCache::empty(),
             codes: KnownCodes::new(),
             by: BY_NONE,
         },

@@ -12,10 +12,10 @@ ghost use Rattle.cfg_recover.specs.Local.{targets_of};
 ghost use Rattle.cfg_recover.specs.Duties.{owed, enter, entered_and_back, entries_of, misaligned_at, misaligned_of, irqs_of, interrupts_of, duties_of};
 ghost use Rattle.cfg_recover.specs.Flows as flows;
 ghost use Rattle.cfg_recover.specs.Flows.{told_back, told_irqs};
+ghost use Rattle.cfg_recover.specs.SetOperations.{HoldsResults};
 ghost use Rattle.depth_check.specs.Calling.{IsCalled, AreHeldBy};
 ghost use Rattle.depth_check.specs.Finding.{IsWellNode, Finds, GoesOn, LeavingHolds};
 ghost use Rattle.depth_check.specs.Finding as finding;
-ghost use Rattle.depth_check.specs.Keeping.{AreKept};
 ghost use Rattle.depth_check.specs.Points.{IsAt, Breaks};
 
 use crate::covering::{comes_back, has_changed, has_exit};
@@ -353,12 +353,12 @@ pub(crate) fn broken_by_duties(at: &At<'_, '_>, found: &Located, room: &mut Room
     requires point { IsAt at.now }
     requires found { StandsFaultless at.now.bounds.now at.now.image.now at.now.plan.now
         at.now.node.now.key at.now.point.addr at.now.point.state.now found.now }
-    requires kept { AreKept at.now.bounds.now room.old }
+    requires results { HoldsResults at.now.bounds.now room.old.cache }
     requires by { AreHeldBy at.now room.old.by }
     ensures found { Breaks at.now
         (duties_of at.now.bounds.now at.now.image.now at.now.plan.now at.now.node.now.key
         at.now.point.addr at.now.point.state.now found.now.shape found.now.size) result }
-    ensures kept { AreKept at.now.bounds.now room.new }
+    ensures results { HoldsResults at.now.bounds.now room.new.cache }
     ensures by { AreHeldBy at.now room.new.by }
 {
     let jumps = broken_by_successors(at, found, room);

@@ -3,9 +3,9 @@ ghost use Rattle.std.specs.Prelude.{◌≡◌, ◌<◌, ◌^◌, ◌↔◌, IsTr
 ghost use Rattle.value_domain.specs.Values.{IsValue};
 ghost use Rattle.value_domain.specs.State.{AreValues};
 ghost use Rattle.cfg_recover.specs.Accepting.{limits_in, HoldsAtEntry, HoldsAtNode};
+ghost use Rattle.cfg_recover.specs.SetOperations.{HoldsResults};
 ghost use Rattle.depth_check.specs.Asking.{InterruptsHold, HoldsWith, AreAsked};
 ghost use Rattle.depth_check.specs.Finding.{IsWellNode};
-ghost use Rattle.depth_check.specs.Keeping.{AreKept};
 ghost use Rattle.depth_check.specs.NodeFaults as nodes;
 ghost use Rattle.depth_check.specs.NodeFaults.{IsNodeFault};
 
@@ -105,10 +105,10 @@ fn plain_fault<'a>(
     requires limits { b.now ≡ limits_in plan.now cert.now }
     requires nodes { All IsWellNode cert.now.nodes }
     requires member { Contains cert.now.nodes node.now }
-    requires kept { AreKept b.now room.old }
+    requires results { HoldsResults b.now room.old.cache }
     ensures fault { MatchOption result (HoldsAtNode image.now plan.now cert.now node.now)
         (λ f. IsNodeFault image.now plan.now cert.now node.now f.rule f.addr) }
-    ensures kept { AreKept b.now room.new }
+    ensures results { HoldsResults b.now room.new.cache }
 {
     let entry = node.key.entry;
     let good = plain_holds_at_entry(b, node);
@@ -206,11 +206,11 @@ fn packed_fault<'a>(
     requires nodes { All IsWellNode cert.now.nodes }
     requires member { Contains cert.now.nodes node.now }
     requires asked { AreAsked plan.now cert.now scratch.old.asks }
-    requires kept { AreKept b.now scratch.old.room }
+    requires results { HoldsResults b.now scratch.old.room.cache }
     ensures fault { MatchOption result (HoldsAtNode image.now plan.now cert.now node.now)
         (λ f. IsNodeFault image.now plan.now cert.now node.now f.rule f.addr) }
     ensures asked { AreAsked plan.now cert.now scratch.new.asks }
-    ensures kept { AreKept b.now scratch.new.room }
+    ensures results { HoldsResults b.now scratch.new.room.cache }
 {
     let entry = node.key.entry;
     let good = packed_holds_at_entry(b, node);
@@ -270,11 +270,11 @@ pub(crate) fn node_fault<'a>(
     requires nodes { All IsWellNode cert.now.nodes }
     requires member { Contains cert.now.nodes frame.now }
     requires asked { AreAsked plan.now cert.now scratch.old.asks }
-    requires kept { AreKept b.now scratch.old.room }
+    requires results { HoldsResults b.now scratch.old.room.cache }
     ensures fault { MatchOption result (HoldsAtNode image.now plan.now cert.now frame.now)
         (λ f. IsNodeFault image.now plan.now cert.now frame.now f.rule f.addr) }
     ensures asked { AreAsked plan.now cert.now scratch.new.asks }
-    ensures kept { AreKept b.now scratch.new.room }
+    ensures results { HoldsResults b.now scratch.new.room.cache }
 {
     match &frame.form {
         NodeForm::Plain(node) => plain_fault(b, image, plan, cert, node, &mut scratch.room),

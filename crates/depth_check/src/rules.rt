@@ -6,11 +6,11 @@ ghost use Rattle.tc_isa.specs.declared.shapes.Shape.TheVariants.{Nothing};
 ghost use Rattle.cfg_recover.specs.Accepting.{limits_in, RuleHolds};
 ghost use Rattle.cfg_recover.specs.Code.{IsCode};
 ghost use Rattle.cfg_recover.specs.Local.{IsLocalFault};
+ghost use Rattle.cfg_recover.specs.SetOperations.{HoldsResults};
 ghost use Rattle.depth_check.specs.Finding.{IsWellNode, StandsAt, Finds, HasOwnNeed};
 ghost use Rattle.depth_check.specs.Forms.{point_here};
 ghost use Rattle.depth_check.specs.Asking.{InterruptsHold};
 ghost use Rattle.depth_check.specs.Calling.{HoldBy, AreHeldBy};
-ghost use Rattle.depth_check.specs.Keeping.{AreKept};
 ghost use Rattle.depth_check.specs.Passing.{PassesOn};
 ghost use Rattle.depth_check.specs.Points.{IsAt, LooksAhead};
 
@@ -60,11 +60,11 @@ fn has_values(b: &Bounds, point: Here<'_, '_>) -> bool
 #[inline(never)]
 fn broken_by_any(at: &At<'_, '_>, room: &mut Room) -> Option<u8>
     requires point { IsAt at.now }
-    requires kept { AreKept at.now.bounds.now room.old }
+    requires results { HoldsResults at.now.bounds.now room.old.cache }
     requires by { AreHeldBy at.now room.old.by }
     ensures found { Finds (RuleHolds at.now.image.now at.now.plan.now at.now.cert.now
         at.now.node.now (point_here at.now.point)) result }
-    ensures kept { AreKept at.now.bounds.now room.new }
+    ensures results { HoldsResults at.now.bounds.now room.new.cache }
     ensures by { AreHeldBy at.now room.new.by }
 {
     let node = at.node;
@@ -156,11 +156,11 @@ pub(crate) fn broken_by_point(
     requires next { IfSome point.next (λ a. StandsAt point.node.now a point.state.now) }
     requires walk { IfSome point.walk
         (λ w. LooksAhead point.node.now point.state.now w.now) }
-    requires kept { AreKept b.now room.old }
+    requires results { HoldsResults b.now room.old.cache }
     requires by { HoldBy plan.now cert.now point.node.now point.state.now room.old.by }
     ensures found { Finds (RuleHolds image.now plan.now cert.now point.entry.node.now
         (point_here point.entry)) result }
-    ensures kept { AreKept b.now room.new }
+    ensures results { HoldsResults b.now room.new.cache }
     ensures by { HoldBy plan.now cert.now point.entry.node.now point.entry.state.now
         room.new.by }
 {

@@ -8,17 +8,18 @@ ghost use Rattle.value_domain.specs.State.{AreValues, Covers};
 ghost use Rattle.tc_isa.specs.Bounded.{IsShape, IsTarget};
 ghost use Rattle.vd_transfer.specs.Registers.{reg_of};
 ghost use Rattle.vd_transfer.specs.Branches.{refine_of};
+ghost use Rattle.vd_transfer.specs.Changes.{state_after};
 ghost use Rattle.vd_transfer.specs.Effects.{transfer_of};
 ghost use Rattle.cfg_recover.specs.Changes.{StandsFaultless};
 ghost use Rattle.cfg_recover.specs.Local.{named_by, targets_of};
-ghost use Rattle.cfg_recover.specs.Duties.{owed, jump, jumps_to, jump_on, next_of, successors_of};
+ghost use Rattle.cfg_recover.specs.Duties.{owed, jump, jumps_to, jump_on, loaded_at, next_of, successors_of};
+ghost use Rattle.cfg_recover.specs.SetOperations.{HoldsResults};
 ghost use Rattle.depth_check.specs.Calling.{IsJumped, AreHeldBy};
-ghost use Rattle.depth_check.specs.Keeping.{IsPair, IsKept, AreKept};
 ghost use Rattle.depth_check.specs.Points.{IsAt, Breaks};
 
 use crate::covering::{has_changed_next, has_kept_next, has_next, has_points};
 use crate::duties::{least, unless};
-use crate::kept::{Kept, Pair, Room, change_kept, pair_of};
+use crate::kept::Room;
 use crate::point_at::At;
 use cfg_recover::{Located, step_change, targets};
 use tc_isa::{Shape, Target};
@@ -140,20 +141,56 @@ pub(crate) fn broken_by_pass(at: &At<'_, '_>, next: u32) -> Option<u8>
     unless(has_next(at.node, next, at.point.state, at.point.next), 4)
 }
 
-/// The step to the next instruction.
-#[inline(never)]
-fn broken_by_step(at: &At<'_, '_>, found: &Located, c: &mut Change) -> Option<u8>
+/// Writes what the instruction makes of the state into the room's change. The result of an operation on two sets may be in its
+/// cache.
+#[inline(always)]
+fn change_at(at: &At<'_, '_>, found: &Located, room: &mut Room)
     requires point { IsAt at.now }
     requires found { StandsFaultless at.now.bounds.now at.now.image.now at.now.plan.now
         at.now.node.now.key at.now.point.addr at.now.point.state.now found.now }
-    ensures { Breaks at.now
-        (next_of at.now.bounds.now at.now.image.now at.now.plan.now at.now.point.addr
-        at.now.point.state.now found.now.shape found.now.size) result }
+    requires results { HoldsResults at.now.bounds.now room.old.cache }
+    ensures change { state_after at.now.point.state.now room.new.change
+        ≡ transfer_of at.now.bounds.now at.now.plan.now found.now.shape at.now.point.state.now
+        (loaded_at at.now.bounds.now at.now.image.now at.now.plan.now at.now.point.state.now
+        found.now.shape) }
+    ensures values { AreValues at.now.bounds.now
+        (state_after at.now.point.state.now room.new.change).regs }
+    ensures results { HoldsResults at.now.bounds.now room.new.cache }
+    ensures by { room.new.by ≡ room.old.by }
 {
     let s = at.point.state;
-    step_change(at.bounds, at.image, at.plan, found.shape, s, c);
+    if room
+        .cache
+        .change(at.bounds, at.plan, found.shape, s, &mut room.change)
+    {
+        return;
+    }
+    step_change(
+        at.bounds,
+        at.image,
+        at.plan,
+        found.shape,
+        s,
+        &mut room.change,
+    );
+}
+
+/// The step to the next instruction.
+#[inline(never)]
+fn broken_by_step(at: &At<'_, '_>, found: &Located, room: &mut Room) -> Option<u8>
+    requires point { IsAt at.now }
+    requires found { StandsFaultless at.now.bounds.now at.now.image.now at.now.plan.now
+        at.now.node.now.key at.now.point.addr at.now.point.state.now found.now }
+    requires results { HoldsResults at.now.bounds.now room.old.cache }
+    ensures found { Breaks at.now
+        (next_of at.now.bounds.now at.now.image.now at.now.plan.now at.now.point.addr
+        at.now.point.state.now found.now.shape found.now.size) result }
+    ensures results { HoldsResults at.now.bounds.now room.new.cache }
+    ensures by { room.new.by ≡ room.old.by }
+{
+    change_at(at, found, room);
     let next = at.point.addr.wrapping_add(found.size);
-    unless(has_changed_next(at, next, c), 4)
+    unless(has_changed_next(at, next, &room.change), 4)
 }
 
 /// Whether an instruction of this shape leaves a state as it is: one that changes nothing, and a store that doesn't increase
@@ -169,49 +206,22 @@ fn keeps_state(shape: Shape) -> bool
     }
 }
 
-/// The step over an operation on two sets of many words, which may be the one that is kept.
-#[inline(never)]
-fn broken_by_pair(at: &At<'_, '_>, found: &Located, pair: Pair<'_>, kept: &mut Kept) -> Option<u8>
-    requires point { IsAt at.now }
-    requires found { StandsFaultless at.now.bounds.now at.now.image.now at.now.plan.now
-        at.now.node.now.key at.now.point.addr at.now.point.state.now found.now }
-    requires pair { IsPair found.now.shape at.now.point.state.now pair }
-    requires kept { IsKept at.now.bounds.now kept.old }
-    ensures found { Breaks at.now
-        (next_of at.now.bounds.now at.now.image.now at.now.plan.now at.now.point.addr
-        at.now.point.state.now found.now.shape found.now.size) result }
-    ensures kept { IsKept at.now.bounds.now kept.new }
-{
-    change_kept(at, found.shape, pair, kept);
-    let next = at.point.addr.wrapping_add(found.size);
-    unless(has_changed_next(at, next, &kept.change), 4)
-}
-
 /// The step over an instruction that only goes on to the next one.
 fn broken_by_next(at: &At<'_, '_>, found: &Located, room: &mut Room) -> Option<u8>
     requires point { IsAt at.now }
     requires found { StandsFaultless at.now.bounds.now at.now.image.now at.now.plan.now
         at.now.node.now.key at.now.point.addr at.now.point.state.now found.now }
-    requires kept { AreKept at.now.bounds.now room.old }
+    requires results { HoldsResults at.now.bounds.now room.old.cache }
     ensures found { Breaks at.now
         (next_of at.now.bounds.now at.now.image.now at.now.plan.now at.now.point.addr
         at.now.point.state.now found.now.shape found.now.size) result }
-    ensures kept { AreKept at.now.bounds.now room.new }
+    ensures results { HoldsResults at.now.bounds.now room.new.cache }
     ensures by { room.new.by ≡ room.old.by }
 {
     if keeps_state(found.shape) {
         return broken_by_pass(at, at.point.addr.wrapping_add(found.size));
     }
-    let s = at.point.state;
-    match pair_of(found.shape, s) {
-        Some(pair) => match pair.dst % 4 {
-            0 => broken_by_pair(at, found, pair, &mut room.zero),
-            1 => broken_by_pair(at, found, pair, &mut room.one),
-            2 => broken_by_pair(at, found, pair, &mut room.two),
-            _ => broken_by_pair(at, found, pair, &mut room.three),
-        },
-        None => broken_by_step(at, found, &mut room.change),
-    }
+    broken_by_step(at, found, room)
 }
 
 /// The least rule broken by the successors in the same frame, without those after a call or a system call.
@@ -219,12 +229,12 @@ pub(crate) fn broken_by_successors(at: &At<'_, '_>, found: &Located, room: &mut 
     requires point { IsAt at.now }
     requires found { StandsFaultless at.now.bounds.now at.now.image.now at.now.plan.now
         at.now.node.now.key at.now.point.addr at.now.point.state.now found.now }
-    requires kept { AreKept at.now.bounds.now room.old }
+    requires results { HoldsResults at.now.bounds.now room.old.cache }
     requires by { AreHeldBy at.now room.old.by }
     ensures found { Breaks at.now
         (successors_of at.now.bounds.now at.now.image.now at.now.plan.now at.now.point.addr
         at.now.point.state.now found.now.shape found.now.size) result }
-    ensures kept { AreKept at.now.bounds.now room.new }
+    ensures results { HoldsResults at.now.bounds.now room.new.cache }
     ensures by { AreHeldBy at.now room.new.by }
 {
     let addr = at.point.addr;

@@ -40,7 +40,7 @@ loop-i-preserved c =
                 all_more (HoldsAtNode c.args.image.now c.args.plan.now c.args.cert.now) nodes c.loop-i.i w.in-Some-get.node (slice_get_within nodes c.loop-i.i w.in-Some-get.node found)
                 (sym (get_or_from_slice_get nodes c.loop-i.i w.in-Some-get.node w.in-Some-get.node found)) c.loop-i.invariant.before w.in_default-node_fault.ensures.fault;
             asked = rw w.scratch-is w.node_fault.ensures.asked;
-            kept = rw w.scratch-is w.node_fault.ensures.kept;
+            results = rw w.scratch-is w.node_fault.ensures.results;
           }
       | in_default-get w ↦
           let none : All (HoldsAtNode c.args.image.now c.args.plan.now c.args.cert.now) (take (c.loop-i.i + 1) nodes) =
@@ -49,7 +49,7 @@ loop-i-preserved c =
           let e : None ≡ Some (get_or nodes c.loop-i.i d) = w.in_default-get.ensures ∙ slice_get-get_or nodes c.loop-i.i d within in
           absurd (none-some _ e))
           in
-          record { before = none; asked = rw w.scratch-is c.loop-i.invariant.asked; kept = rw w.scratch-is c.loop-i.invariant.kept }
+          record { before = none; asked = rw w.scratch-is c.loop-i.invariant.asked; results = rw w.scratch-is c.loop-i.invariant.results }
     ]
 
 pub returns : goal.returns

@@ -96,7 +96,7 @@ loop-addr-init c = record {
   all = All-nil (λ (q : Point). (r : ℕ) → RuleHolds c.args.image.now c.args.plan.now c.args.cert.now c.args.node.now q r);
   known = λ t. absurd (let f : false ≡ true = t in cc);
   asked = c.requires.asked;
-  kept = let k = c.requires.kept in record { zero = k.zero; one = k.one; two = k.two; three = k.three };
+  results = c.requires.results;
   by = λ p after e. record { called = tt; jumped = tt };
 }
 
@@ -120,7 +120,7 @@ loop-addr-preserved c =
       all = All-push (λ (q : Point). (r : ℕ) → RuleHolds c.args.image.now c.args.plan.now c.args.cert.now c.args.node.now q r) inv.done p inv.all holds;
       known = λ t. (holds 2).values refl;
       asked = inv.asked;
-      kept = let k = c.broken_by_point-found.ensures.kept in record { zero = k.zero; one = k.one; two = k.two; three = k.three };
+      results = c.broken_by_point-found.ensures.results;
       by = by;
     }
 
@@ -176,7 +176,7 @@ loop-addr-preserved-then-asked c =
           c.add.ensures c.args.plan.now c.args.cert.now inv.asked
           (subst (λ (l : Limits). IsValue l c.held_stack-sp.result) c.requires.limits c.held_stack-sp.ensures.value)
           (subst (λ (s : State). HoldsWith c.args.plan.now c.args.cert.now c.args.node.now s c.held_stack-sp.result) (sym c.state-t.ensures) (rw c.near-frame.ensures at c.held_stack-sp.ensures.holds));
-      kept = let k = c.broken_by_point-found.ensures.kept in record { zero = k.zero; one = k.one; two = k.two; three = k.three };
+      results = c.broken_by_point-found.ensures.results;
       by = by;
     }
 

@@ -33,7 +33,7 @@ loop-point-preserved c = record {
       c.point-item.result c.plain_holds_at_entry-good.result c.broken_by_point-found.result
       (ap (λ (n : NodeData). first_of c.plain_holds_at_entry-good.result (n.key).entry c.point-item.result.addr c.broken_by_point-found.result) (sym c.node.view_is) ∙ sym c.first_of.ensures ∙ c.in_default.is)
       (rw c.plain-frame.ensures at c.broken_by_point-found.ensures.found));
-  kept = c.broken_by_point-found.ensures.kept;
+  results = c.broken_by_point-found.ensures.results;
 }
 
 pub returns-then-good-clause-fault : goal.returns-then-good-clause-fault

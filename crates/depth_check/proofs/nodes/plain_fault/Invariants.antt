@@ -2,11 +2,11 @@ use Rattle.std.proofs.Common.{ℕ, take}
 use Rattle.std.specs.Prelude.{All}
 use Rattle.cfg_recover.specs.Accepting.{RuleHolds}
 use Rattle.depth_cert.specs.declared.points.Point.{Point}
-use Rattle.depth_check.specs.Keeping.{AreKept}
+use Rattle.cfg_recover.specs.SetOperations.{HoldsResults}
 use Rattle.depth_check.proofs.nodes.plain_fault.Given as goal
 
 abbrev pub invariant-loop-point : goal.invariant-loop-point
 invariant-loop-point l = record {
   all : All (λ (p : Point). (r : ℕ) → RuleHolds l.image l.plan l.cert l.node p r) (take l.point-index l.point-items);
-  kept : AreKept l.b l.room;
+  results : HoldsResults l.b (l.room).cache;
 }

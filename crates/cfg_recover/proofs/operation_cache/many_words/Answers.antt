@@ -4,11 +4,11 @@ use Rattle.value_domain.specs.Sets.{AreWords}
 use Rattle.value_domain.specs.Values.{any_val}
 use Rattle.value_domain.proofs.RegLaws.{read_at}
 use Rattle.vd_transfer.specs.Registers.{arg_of}
-use Rattle.depth_check.proofs.KeptLaws.{data_value}
-use Rattle.depth_check.proofs.kept.many_words.Goals as goal
+use Rattle.cfg_recover.proofs.OperationLaws.{data_value}
+use Rattle.cfg_recover.proofs.operation_cache.many_words.Goals as goal
 
-pub returns-else-words-lt-MANY : goal.returns-else-words-lt-MANY
-returns-else-words-lt-MANY c =
+pub returns-else-words-lt-MANY_WORDS : goal.returns-else-words-lt-MANY_WORDS
+returns-else-words-lt-MANY_WORDS c =
     let s = c.args.s.now in
     let r = c.in-Reg.r in
     record {

@@ -1,0 +1,53 @@
+-- Operations on two sets of many words, and a cache of their results.
+use Rattle.std.specs.Prelude.{◌≡◌, ◌<◌, ℕ, List, Some, IfSome}
+use Rattle.tcd_plan.specs.PlanData.{PlanData}
+use Rattle.tc_isa.specs.declared.shapes.Op.{Op}
+use Rattle.tc_isa.specs.declared.shapes.Arg.{Arg}
+use Rattle.tc_isa.specs.declared.shapes.Shape.TheVariants.{Compute}
+use Rattle.value_domain.specs.declared.values.Val.TheVariants.{Set}
+use Rattle.value_domain.specs.declared.states.State.{State}
+use Rattle.value_domain.specs.Sets.{AreWords}
+use Rattle.value_domain.specs.Limits.{Limits}
+use Rattle.value_domain.specs.Values.{IsValue}
+use Rattle.vd_transfer.specs.Operations.{value_of}
+use Rattle.vd_transfer.specs.Registers.{arg_of}
+use Rattle.cfg_recover.specs.declared.operation_cache.SetOperation.{SetOperation}
+use Rattle.cfg_recover.specs.declared.operation_cache.CachedOperation.{CachedOperation}
+use Rattle.cfg_recover.specs.declared.operation_cache.OperationCache.{OperationCache}
+
+-- an operand's value in a state is the set of these words
+pub record IsOperand (s : State) (r : Arg) (ws : List ℕ) : Type 0 where
+  pub value : (plan : PlanData) → arg_of plan s r ≡ Set ws
+  pub words : AreWords ws
+
+-- the instruction computes the operation on two operands whose values in the state are these sets,
+-- and writes a data register
+pub record IsSetOperation (s : State) (o : SetOperation) : Type 0 where
+  pub left : Arg
+  pub right : Arg
+  pub is : o.shape ≡ Compute o.op o.dst left right
+  pub x : IsOperand s left o.x.now
+  pub y : IsOperand s right o.y.now
+  pub small : o.dst < 16
+
+-- an entry of the cache has this operation on these sets
+pub record IsSameOperation (k : CachedOperation) (o : SetOperation) : Type 0 where
+  pub op : k.op ≡ Some o.op
+  pub x : k.x ≡ Set o.x.now
+  pub y : k.y ≡ Set o.y.now
+
+-- the result is that of this operation on the entry's operands, and a value of the limits
+pub record Gives (b : Limits) (k : CachedOperation) (op : Op) : Type 0 where
+  pub gives : k.result ≡ value_of b op k.x k.y
+  pub value : IsValue b k.result
+
+-- an entry is empty, or has the result of its operation
+abbrev pub HoldsResult : Limits → CachedOperation → Type 0
+HoldsResult b k = IfSome k.op (Gives b k)
+
+-- each entry is empty, or has the result of its operation
+pub record HoldsResults (b : Limits) (cache : OperationCache) : Type 0 where
+  pub zero : HoldsResult b cache.zero
+  pub one : HoldsResult b cache.one
+  pub two : HoldsResult b cache.two
+  pub three : HoldsResult b cache.three

@@ -1,0 +1,229 @@
+// The last results of operations on two sets of many words.
+ghost use Rattle.std.specs.Prelude.{◌≡◌, ◌↔◌, IsTrue, IfSome};
+ghost use Rattle.value_domain.specs.declared.values.Val.{Val};
+ghost use Rattle.value_domain.specs.declared.values.Val.TheVariants.{Set};
+ghost use Rattle.value_domain.specs.Limits.{Limits};
+ghost use Rattle.value_domain.specs.State.{AreValues};
+ghost use Rattle.tc_isa.specs.Bounded.{IsShape};
+ghost use Rattle.vd_transfer.specs.Changes.{state_after};
+ghost use Rattle.vd_transfer.specs.Effects.{transfer_of};
+ghost use Rattle.cfg_recover.specs.SetOperations.{IsOperand, IsSetOperation, IsSameOperation, HoldsResult, HoldsResults};
+
+use tc_isa::{Arg, Op, Shape};
+use tcd_plan::Plan;
+use value_domain::{Bounds, State, Val, set_span, set_words};
+use vd_transfer::{Change, change_of};
+
+/// Operands with fewer words aren't cached: comparing and copying them would cost as much as the
+/// operation.
+const MANY_WORDS: usize = 8;
+
+/// An instruction that computes an operation on two sets of many words, and the data register that
+/// it writes.
+#[derive(Clone, Copy)]
+struct SetOperation<'a> {
+    shape: Shape,
+    op: Op,
+    dst: u8,
+    x: &'a [u32],
+    y: &'a [u32],
+}
+
+/// An operation with its operands and its result. An empty entry has no operation.
+#[derive(Drop)]
+struct CachedOperation {
+    op: Option<Op>,
+    x: Val,
+    y: Val,
+    result: Val,
+}
+
+/// The last operation on two sets of many words, for each remainder modulo 4 of the number of the
+/// data register that it writes. An operation on two sets of 64 words takes 24,000 to 56,000
+/// instructions, a hit some hundred.
+// Four fields: an array would be built by itself and then moved.
+#[derive(Drop)]
+pub struct OperationCache {
+    zero: CachedOperation,
+    one: CachedOperation,
+    two: CachedOperation,
+    three: CachedOperation,
+}
+
+/// Whether a value is the set of these words.
+fn is_the_set(v: &Val, words: &[u32]) -> bool
+    ensures { IsTrue result ↔ (v.now ≡ Set words.now) }
+{
+    match v {
+        Val::Set(own) => own.as_slice() == words,
+        Val::Span { .. } => false,
+    }
+}
+
+/// Overwrites `out` with a copy of a value. If both are of one kind, only its parts are written.
+fn copy_value(v: &Val, out: &mut Val)
+    ensures { out.new ≡ v.now }
+{
+    match v {
+        Val::Set(words) => set_words(out, words.as_slice()),
+        Val::Span { lo, last, step } => set_span(out, *lo, *last, *step),
+    }
+}
+
+/// The words of a data register's value, if that is a set of many words.
+fn many_words(s: &State, r: Arg) -> Option<&[u32]>
+    ensures { IfSome result (λ ws. IsOperand s.now r ws.now) }
+{
+    let Arg::Reg(r) = r else {
+        return None;
+    };
+    if r >= 16 {
+        return None;
+    }
+    let regs = &s.regs[..];
+    let Val::Set(words) = &regs[r as usize] else {
+        return None;
+    };
+    let words = words.as_slice();
+    if words.len() < MANY_WORDS {
+        None
+    } else {
+        Some(words)
+    }
+}
+
+/// The operation of an instruction of this shape, if it works on two data registers whose values
+/// are sets of many words, and writes a data register.
+#[inline(always)]
+fn set_operation(shape: Shape, s: &State) -> Option<SetOperation<'_>>
+    ensures shape { IfSome result (λ o. o.shape ≡ shape) }
+    ensures operation { IfSome result (IsSetOperation s.now) }
+{
+    let Shape::Compute { op, dst, x, y } = shape else {
+        return None;
+    };
+    if dst >= 16 {
+        return None;
+    }
+    let x = many_words(s, x)?;
+    let y = many_words(s, y)?;
+    Some(SetOperation {
+        shape,
+        op,
+        dst,
+        x,
+        y,
+    })
+}
+
+impl CachedOperation {
+    /// An empty entry.
+    #[inline(never)]
+    fn empty() -> CachedOperation
+        ensures { (b : Limits) → HoldsResult b result }
+    {
+        CachedOperation {
+            op: None,
+            x: Val::any(),
+            y: Val::any(),
+            result: Val::any(),
+        }
+    }
+
+    /// Whether the entry has this operation with the same operands.
+    fn has(&self, operation: SetOperation<'_>) -> bool
+        ensures { IsTrue result → IsSameOperation self.now operation.entry }
+    {
+        match self.op {
+            Some(op) => op == operation.op
+                && is_the_set(&self.x, operation.x)
+                && is_the_set(&self.y, operation.y),
+            None => false,
+        }
+    }
+
+    /// Writes what an operation changes into `c`. If the entry has this operation with the same
+    /// operands, its result is copied; else the result is computed, and the entry keeps it.
+    #[inline(never)]
+    fn change(
+        &mut self,
+        b: &Bounds,
+        plan: &Plan,
+        s: &State,
+        operation: SetOperation<'_>,
+        c: &mut Change,
+    )
+        requires shape { IsShape operation.shape }
+        requires values { AreValues b.now s.now.regs }
+        requires operation { IsSetOperation s.now operation }
+        requires results { HoldsResult b.now self.old }
+        ensures change { (loaded : Val) → state_after s.now c.new
+            ≡ transfer_of b.now plan.now operation.entry.shape s.now loaded }
+        ensures values { AreValues b.now (state_after s.now c.new).regs }
+        ensures results { HoldsResult b.now self.new }
+    {
+        let _regs = &s.regs[..];
+        let place = operation.dst as usize;
+        if self.has(operation) {
+            c.keep(s);
+            copy_value(&self.result, &mut c.second.value);
+            c.second.at = Some(place);
+            c.lower = s.lower && operation.dst >= 8;
+            return;
+        }
+        self.op = None;
+        change_of(b, plan, operation.shape, s, c);
+        if c.second.at == Some(place) && c.third.at.is_none() {
+            set_words(&mut self.x, operation.x);
+            set_words(&mut self.y, operation.y);
+            copy_value(&c.second.value, &mut self.result);
+            self.op = Some(operation.op);
+        }
+    }
+}
+
+impl OperationCache {
+    /// A cache without results.
+    #[inline(always)]
+    pub fn empty() -> OperationCache
+        ensures { (b : Limits) → HoldsResults b result }
+    {
+        OperationCache {
+            zero: CachedOperation::empty(),
+            one: CachedOperation::empty(),
+            two: CachedOperation::empty(),
+            three: CachedOperation::empty(),
+        }
+    }
+
+    /// Writes what an instruction of this shape changes into `c`, if it is an operation on two sets
+    /// of many words. Returns false if it isn't; then `c` is as it was.
+    #[inline(always)]
+    pub fn change(
+        &mut self,
+        b: &Bounds,
+        plan: &Plan,
+        shape: Shape,
+        s: &State,
+        c: &mut Change,
+    ) -> bool
+        requires shape { IsShape shape }
+        requires values { AreValues b.now s.now.regs }
+        requires results { HoldsResults b.now self.old }
+        ensures change { IsTrue result → (loaded : Val) → state_after s.now c.new
+            ≡ transfer_of b.now plan.now shape s.now loaded }
+        ensures values { IsTrue result → AreValues b.now (state_after s.now c.new).regs }
+        ensures results { HoldsResults b.now self.new }
+    {
+        let Some(operation) = set_operation(shape, s) else {
+            return false;
+        };
+        match operation.dst % 4 {
+            0 => self.zero.change(b, plan, s, operation, c),
+            1 => self.one.change(b, plan, s, operation, c),
+            2 => self.two.change(b, plan, s, operation, c),
+            _ => self.three.change(b, plan, s, operation, c),
+        }
+        true
+    }
+}
