@@ -1,4 +1,4 @@
--- What covers another is the least that covers both.
+-- A value that covers another is the least that covers both.
 use Rattle.std.proofs.Common.{◌≡◌, ◌∙◌, ◌++◌, ◌∷◌, [], ◌&&◌, ◌||◌, Bool, true, false, List, length, suc, Some, inl, inr, refl, ap, sym, arith}
 use Rattle.std.specs.Prelude.{IsTrue, min}
 use Rattle.std.proofs.lemmas.Bool.{eq-eqb}
@@ -14,7 +14,7 @@ use Rattle.value_domain.proofs.RegLaws.{implied_length}
 use Rattle.depth_cert.specs.declared.points.Exit.{Exit}
 use Rattle.depth_cert.specs.Exits.{ExitCovers}
 use Rattle.depth_cert.specs.Known.{CoversKnown, IsProper, IsProperExit, IsProperKnown, Known, joined_exit, joined_known, leaving, state}
-use Rattle.small_states.proofs.AskedLemmas.{values_well}
+use Rattle.small_states.proofs.IncomingLemmas.{values_well}
 
 -- ---- values
 pub join_above : (b : Limits) (v w : Val) → IsWell v → IsValue b w → IsBelow v w → join_of b v w ≡ w
@@ -70,7 +70,7 @@ exit_above b x y px py covers =
     let least : min x.ccpn y.ccpn ≡ y.ccpn = (let h = covers.priority in omega (arith, h)) in
     rw (regs_above b x.lower y.lower (px.regs ∙ sym py.regs) (values_well b x.lower px.values) py.values covers.lower, or_above x.ie y.ie covers.enabled, least) refl
 
--- what covers the other is the least that covers both
+-- if one covers the other, it is the least that covers both
 pub known_above : (b : Limits) (v w : Known) → IsProperKnown b v → IsProperKnown b w → CoversKnown w v → joined_known b v w ≡ Some w
 known_above b (state s) (state t) pv pw covers = ap (option_map state) (state_above b s t pv pw covers)
 known_above b (leaving x) (leaving y) pv pw covers = ap (λ (z : Exit). Some (leaving z)) (exit_above b x y pv pw covers)

@@ -15,7 +15,8 @@ use Rattle.value_domain.proofs.Places.{Below, among_here, not_among, rising_plac
 use Rattle.value_domain.proofs.WordLaws.{among_place}
 use Rattle.small_states.proofs.SameValues.{join_below}
 
--- the first n words are among the others, and those of the others that were passed are below the next word
+-- the first n words are among the others; those of the others that were passed are below the next
+-- word
 pub record IsWalked (own words : List ℕ) (n k : ℕ) : Type 0 where
   pub end : n ≤ length words
   pub within : k ≤ length own
@@ -55,13 +56,13 @@ walk_own own words n k lk le other w = record {
       ];
 }
 
--- the next of the others is above the word: it is none of them
+-- the next of the others is above the word, so the word isn't among them
 pub walk_past : (own words : List ℕ) (n k : ℕ) → Rising own → (k < length own → get_or words n 0 < get_or own k 0) → IsWalked own words n k → n < length words
     → Among (get_or words n 0) own → ⊥
 walk_past own words n k rising above w h i =
     not_among own k (get_or words n 0) rising (w.below h) (λ lt. let up = above lt in omega (arith, up)) (λ lt e. let up = above lt in omega (arith, up, e)) i
 
--- the value that has these words is their set
+-- the value with these words is their set
 pub set_of : (v : Val) (words : List ℕ) → Some words ≡ words_of v → v ≡ Set words
 set_of (Set own) words e = let same : words ≡ own = cc in ap Set (sym same)
 set_of (Span lo last step) words e = absurd cc
@@ -83,7 +84,7 @@ all_held held words n end have all z i =
     let p = among_place words z i in
     subst (λ (y : ℕ). Among y held) p.2 (have p.0 (omega (arith, p.1)))
 
--- all of the words are held exactly where none is missing
+-- all of the words are held exactly if none is missing
 pub held_all : (held words : List ℕ) (n : ℕ) → n ≤ length words → ((j : ℕ) → j < n → Among (get_or words j 0) held) → (n < length words → Among (get_or words n 0) held → ⊥)
     → IsTrue (nat_eq n (length words)) ↔ Within words held
 held_all held words n end have missing = (
@@ -94,14 +95,14 @@ held_all held words n end have missing = (
   ]),
 )
 
--- a set joined with words of its own
+-- a set joined with some of its own words
 pub join_words : (b : Limits) (v w : Val) (held words : List ℕ) → v ≡ Set held → w ≡ Set words → Within words held → IsValue b v → v ≡ join_of b v w
 join_words b v w held words ve we within value =
     sym
     (join_below b v w value
     (λ z i. subst (λ (u : Val). IsMember z u) (sym ve) (within z (subst (λ (u : Val). Among z (members u)) we i))))
 
--- what isn't held stands behind what is
+-- words that aren't held come after those that are
 pub rest_has : (held words : List ℕ) (n : ℕ) → ((j : ℕ) → j < n → Among (get_or words j 0) held) → (z : ℕ) → Among z words → Among z held ⊎ Among z (drop n words)
 rest_has held [] n have z i = absurd i
 rest_has held (w ∷ ws) zero have z i = inr i
@@ -116,7 +117,7 @@ drop_among words zero z i = i
 drop_among [] (suc n) z i = absurd i
 drop_among (w ∷ ws) (suc n) z i = inr (drop_among ws n z i)
 
--- a set joined with words by those alone that it lacks
+-- a set joined with words, by only those that it lacks
 pub join_rest : (b : Limits) (v w : Val) (held words : List ℕ) (n : ℕ) → v ≡ Set held → w ≡ Set words → ((j : ℕ) → j < n → Among (get_or words j 0) held)
     → cover b (members v ++ take (length words - n) (drop n words)) ≡ join_of b v w
 join_rest b v w held words n ve we have =
@@ -134,7 +135,7 @@ join_rest b v w held words n ve we have =
       ]
     ])
 
--- a set joined with another is added to it
+-- a set joined with another, by adding the other's words
 pub join_others : (b : Limits) (v w : Val) (words held : List ℕ) → v ≡ Set held → w ≡ Set words → cover b (words ++ held) ≡ join_of b v w
 join_others b v w words held ve we =
     cover-same b (words ++ held) (members v ++ members w)

@@ -1,4 +1,4 @@
--- Values that duties ask for.
+-- Incoming values.
 use Rattle.std.proofs.Common.{◌≡◌, ℕ, Bool, true, false, Option, Some, None, List, length, nat_eq, ◌+◌, ◌-◌, ◌++◌, ◌<◌, ◌≤◌, get_or, take, drop, refl, subst, sym, ap, ◌∙◌, arith}
 use Rattle.std.specs.Prelude.{if◌then◌else◌}
 use Rattle.std.specs.Option.{option_eq}
@@ -13,9 +13,9 @@ use Rattle.depth_cert.proofs.ExitValues.{after-at, lower_high, lower_low, with_l
 use Rattle.depth_cert.specs.Known.{Known, state, leaving}
 use Rattle.small_states.specs.Wholes.{values_from}
 use Rattle.small_states.proofs.SparseLemmas.{part_joins}
-use Rattle.small_states.specs.Kept.{asked_for, exit_with, is_exit, known_by, state_with, values_asked}
-use Rattle.small_states.specs.declared.asked.Asked.{Asked}
-use Rattle.small_states.specs.declared.asked.Context.{Context}
+use Rattle.small_states.specs.Incoming.{incoming_known, exit_with, is_exit, known_by, state_with, incoming_values}
+use Rattle.small_states.specs.declared.incoming.Incoming.{Incoming}
+use Rattle.small_states.specs.declared.incoming.Context.{Context}
 
 -- ---- lower registers
 module _ (regs : List Val) (len : length regs ≡ 27) where
@@ -32,18 +32,18 @@ module _ (regs : List Val) (len : length regs ≡ 27) where
 pub values_well : (b : Limits) (vs : List Val) → AreValues b vs → AreWell vs
 values_well b vs values r lt = (values r lt).well
 
--- ---- what is asked for
-module _ (asked : Asked) (k : Context) (t : Bool) (is : t ≡ is_exit asked) (by : asked_for asked ≡ known_by asked k) where
+-- ---- the incoming facts
+module _ (incoming : Incoming) (k : Context) (t : Bool) (is : t ≡ is_exit incoming) (by : incoming_known incoming ≡ known_by incoming k) where
   abbrev known_if : Bool → Known
-  known_if b = if b then leaving (exit_with (values_asked asked) k) else state (state_with (values_asked asked) k)
+  known_if b = if b then leaving (exit_with (incoming_values incoming) k) else state (state_with (incoming_values incoming) k)
 
-  pub asked_exit : t ≡ true → asked_for asked ≡ leaving (exit_with (values_asked asked) k)
-  asked_exit e = by ∙ ap known_if (sym is ∙ e)
+  pub incoming_exit : t ≡ true → incoming_known incoming ≡ leaving (exit_with (incoming_values incoming) k)
+  incoming_exit e = by ∙ ap known_if (sym is ∙ e)
 
-  pub asked_state : t ≡ false → asked_for asked ≡ state (state_with (values_asked asked) k)
-  asked_state e = by ∙ ap known_if (sym is ∙ e)
+  pub incoming_state : t ≡ false → incoming_known incoming ≡ state (state_with (incoming_values incoming) k)
+  incoming_state e = by ∙ ap known_if (sym is ∙ e)
 
--- ---- a place that is told by a test
+-- ---- a place that a test compares
 pub is_place : (at : Option ℕ) (i : ℕ) → option_eq nat_eq at (Some i) ≡ true → at ≡ Some i
 is_place None i e = absurd (let f : false ≡ true = e in cc)
 is_place (Some k) i e = ap Some (eqb-true k i e)
@@ -54,7 +54,7 @@ other_place at i e is =
     let none : nat_eq i i ≡ false = subst (λ (a : Option ℕ). option_eq nat_eq a (Some i) ≡ false) is e in
     cc
 
--- ---- the values after a frame came back
+-- ---- values after a frame returned
 module _ (lower regs : List Val) (i : ℕ) (lt : i < length regs) where
   pub after_low : i < 8 → get_or (with_lower_from 0 lower regs) i any_val ≡ get_or lower i any_val
   after_low h = after-at lower regs i lt ∙ (let e = lt-ltb i 8 h in rw e refl)

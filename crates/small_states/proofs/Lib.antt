@@ -1,7 +1,7 @@
 pub mod SameValues
 pub mod AboveLaws
 pub mod WordTests
-pub mod AskedLemmas
+pub mod IncomingLemmas
 pub mod SparseLemmas
 pub mod WrittenOver
 pub mod HeldWords

@@ -10,7 +10,7 @@ use Rattle.value_domain.proofs.RangeLaws.{members_below}
 use Rattle.value_domain.proofs.CoverLaws.{among_member, cover-same, has_step}
 use Rattle.value_domain.proofs.ExtentLaws.{among_append, append_left}
 
--- what has no word that the other lacks adds none
+-- a value without a word that the other lacks adds nothing
 pub join_below : (b : Limits) (v w : Val) → IsValue b v → ((z : ℕ) → Among z (members w) → IsMember z v) → join_of b v w ≡ v
 join_below b v w value below =
     cover-same b (members v ++ members w) (members v)
@@ -24,7 +24,7 @@ join_held b v w x e m value =
     (ap (λ (u : Val). join_of b v u) e
     ∙ join_below b v (Set (x ∷ [])) value (λ z i. elim i [ inl same ↦ subst (λ (y : ℕ). IsMember y v) (sym same) m | inr none ↦ absurd none ]))
 
--- all words take none
+-- nothing is added to all words
 pub join_all : (b : Limits) (v w : Val) → v ≡ any_val → IsValue b v → IsWell w → join_of b v w ≡ v
 join_all b v w e value well =
     join_below b v w value (λ z i. subst (λ (u : Val). IsMember z u) (sym e) (omega arith, omega (arith, members_below w well z i), omega arith))

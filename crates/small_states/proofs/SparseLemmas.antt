@@ -1,4 +1,4 @@
--- Values of which only those take room of which something is known.
+-- Sparse lists of values.
 use Rattle.std.proofs.Common.{◌≡◌, ◌∙◌, ℕ, zero, suc, ◌+◌, ◌-◌, ◌<◌, ◌≤◌, inl, inr, List, [], ◌∷◌, ◌++◌, length, take, drop, get_or, replicate, set, All, refl, subst, sym, ap, arith}
 use Rattle.std.specs.List.{flat_map}
 use Rattle.std.proofs.lemmas.Bool.{cases_lt}
@@ -28,7 +28,7 @@ more_anys known rest count =
     ap (λ (l : List Val). front known ++ l) (sym (replicate-append-replicate rest count any_val))
     ∙ sym (append_assoc (front known) (replicate rest any_val) (replicate count any_val))
 
--- behind some known values stands one more
+-- one more known value after some
 pub all_parts : (xs ys : List SpacedValue) (s : SpacedValue) (rest : ℕ) → all (xs ++ s ∷ ys) rest ≡ front xs ++ (replicate s.anys any_val ++ s.value ∷ (front ys ++ replicate rest any_val))
 all_parts xs ys s rest =
     ap (λ (l : List Val). l ++ replicate rest any_val) (flat_map-append spaced_values xs (s ∷ ys))
@@ -88,7 +88,7 @@ module _ (known : List SpacedValue) (rest n : ℕ) (here : SpacedValue) (lt : n 
       ∙ get_or_append_left anys (here.value ∷ after) any_val (r - length before) (omega (arith, length-replicate here.anys any_val))
       ∙ get_or-replicate here.anys (r - length before) any_val any_val (omega arith)
 
--- behind the last known value
+-- past the last known value
 replicate_any : (rest i : ℕ) → get_or (replicate rest any_val) i any_val ≡ any_val
 replicate_any rest i =
     elim (cases_lt i rest) [
@@ -100,7 +100,7 @@ pub any_behind : (known : List SpacedValue) (rest r : ℕ) → length (front kno
 any_behind known rest r ge =
     get_or-append_right (front known) (replicate rest any_val) (length (front known)) r any_val refl ge ∙ replicate_any rest (r - length (front known))
 
--- a known value, where the number of those before it and of their places is at hand
+-- a known value, if the numbers of values and of places before it are at hand
 pub known_place : (known : List SpacedValue) (rest n : ℕ) (here : SpacedValue) → n < length known → here ≡ get_or known n here → (at : ℕ) → at ≡ length (front (take n known)) → get_or (all known rest) (at + here.anys) any_val ≡ here.value
 known_place known rest n here lt is at up_to = ap (λ (m : ℕ). get_or (all known rest) (m + here.anys) any_val) up_to ∙ value_there known rest n here lt is
 
@@ -115,7 +115,7 @@ pub none_yet : (vs old : List Val) (from : ℕ) → old ≡ old ++ values_from v
 unfolding values_from
 none_yet vs old from = let e : 0 ≡ from - from = omega arith in sym (append-nil old) ∙ ap (λ (m : ℕ). old ++ values_from vs from m) e
 
--- so many values and one behind them
+-- unknown values and one after them
 pub part_behind : (old part anys : List Val) (v : Val) → ((old ++ part) ++ anys) ++ v ∷ [] ≡ old ++ ((part ++ anys) ++ v ∷ [])
 part_behind old part anys v =
     append_assoc (old ++ part) anys (v ∷ [])
@@ -131,7 +131,7 @@ values_more vs from (suc count) =
     ap (λ (l : List Val). get_or vs from any_val ∷ l) (values_more vs (from + 1) count)
     ∙ ap (λ (m : ℕ). get_or vs from any_val ∷ (values_from vs (from + 1) count ++ get_or vs m any_val ∷ [])) e
 
--- more values of which nothing is known
+-- more unknown values
 values_anys : (vs : List Val) (from k count : ℕ) → ((r : ℕ) → from + k ≤ r → r < from + k + count → get_or vs r any_val ≡ any_val)
     → values_from vs from (k + count) ≡ values_from vs from k ++ replicate count any_val
 values_anys vs from k zero none = let e : k + zero ≡ k = omega arith in ap (λ (m : ℕ). values_from vs from m) e ∙ sym (append-nil (values_from vs from k))
@@ -145,7 +145,7 @@ values_anys vs from k (suc count) none =
     ∙ append_assoc (values_from vs from k) (replicate count any_val) (any_val ∷ [])
     ∙ ap (λ (l : List Val). values_from vs from k ++ l) (replicate_more count any_val ∙ ap (λ (m : ℕ). replicate m any_val) f)
 
--- a part of which nothing more is known from a place on
+-- a part without known values from a place on
 anys_from : (vs : List Val) (from done end : ℕ) → from ≤ done → done ≤ end → ((r : ℕ) → done ≤ r → r < end → get_or vs r any_val ≡ any_val)
     → values_from vs from (done - from) ++ replicate (end - done) any_val ≡ values_from vs from (end - from)
 anys_from vs from done end h k none =
@@ -161,7 +161,7 @@ module _ (known : List SpacedValue) (rest n : ℕ) (here : SpacedValue) (lt : n 
   pub part_gap : (end : ℕ) → done ≤ end → end ≤ at + here.anys → values_from (all known rest) from (done - from) ++ replicate (end - done) any_val ≡ values_from (all known rest) from (end - from)
   part_gap end h k = anys_from (all known rest) from done end begun h (λ r ge lt2. any_there known rest n here lt is r (omega (arith, up_to)) (omega (arith, up_to)))
 
-  -- and it
+  -- and with it
   pub part_more : done ≤ at + here.anys
       → (values_from (all known rest) from (done - from) ++ replicate (at + here.anys - done) any_val) ++ here.value ∷ [] ≡ values_from (all known rest) from (at + here.anys + 1 - from)
   part_more h =
@@ -174,7 +174,7 @@ module _ (known : List SpacedValue) (rest n : ℕ) (here : SpacedValue) (lt : n 
       ∙ sym (values_more vs from (place - from))
       ∙ ap (λ (m : ℕ). values_from vs from m) e
 
--- a part behind the first values, where it goes on as they do
+-- a part after the first values, if it continues them
 pub part_joins : (ws vs : List Val) (k from count : ℕ) → k + count ≤ length ws → ((r : ℕ) → r < count → get_or ws (k + r) any_val ≡ get_or vs (from + r) any_val)
     → take k ws ++ values_from vs from count ≡ take (k + count) ws
 unfolding values_from
@@ -231,7 +231,7 @@ module _ (known : List SpacedValue) (rest : ℕ) (ws : List Val) (long : length 
         ]
 
 -- ---- joining
--- a run of values of which nothing is known
+-- unknown values one after another
 pub take_anys : (vs : List Val) (at k : ℕ) → at + k ≤ length vs → ((r : ℕ) → at ≤ r → r < at + k → get_or vs r any_val ≡ any_val) → take (at + k) vs ≡ take at vs ++ replicate k any_val
 take_anys vs at zero h none = let e : at + zero ≡ at = omega arith in ap (λ (m : ℕ). take m vs) e ∙ sym (append-nil (take at vs))
 take_anys vs at (suc k) h none =
@@ -257,7 +257,7 @@ module _ (b : Limits) (known : List SpacedValue) (rest : ℕ) (ws : List Val) (l
       (get_or_default ws r any_val (get_or ws r any_val) (omega (arith, long)))
       ∙ ap (λ (u : Val). join_of b u (get_or ws r any_val)) is
 
-  -- nothing is known of the join either
+  -- the join is unknown too
   join_any : (r : ℕ) → r < length (all known rest) → get_or (all known rest) r any_val ≡ any_val → get_or joins r any_val ≡ any_val
   join_any r lt is =
       join_at r any_val lt is
@@ -284,7 +284,7 @@ module _ (b : Limits) (known : List SpacedValue) (rest : ℕ) (ws : List Val) (l
         (take_anys joins at here.anys (omega (arith, within, length-joins))
         (λ r ge lt2. join_any r (omega (arith, within)) (any_there known rest n here lt is r (omega arith) (omega arith))))
 
--- what is joined so far has as many values as places were passed
+-- the joined values so far are as many as the places passed
 pub joined_few : (b : Limits) (known : List SpacedValue) (rest : ℕ) (ws : List Val) → length (all known rest) ≡ length ws → (vs : List Val) (at : ℕ) → at ≤ length (all known rest)
     → vs ≡ take at (joined_regs b (all known rest) ws) → length vs ≡ at
 joined_few b known rest ws long vs at h e =
@@ -297,7 +297,7 @@ bytes_of_anys zero = refl
 bytes_of_anys (suc n) = ap (λ (l : List ℕ). 0 ∷ l) (bytes_of_anys n)
 
 -- ---- a value put at a place
--- among values of which nothing is known
+-- among unknown values
 put_anys : (xs ys : List Val) (k p m : ℕ) (v : Val) → m ≡ k + 1 + p → set (xs ++ (replicate m any_val ++ ys)) (length xs + k) v ≡ xs ++ (replicate k any_val ++ v ∷ (replicate p any_val ++ ys))
 put_anys xs ys k p m v e =
     let f : m ≡ k + suc p = omega (arith, e) in
@@ -309,7 +309,7 @@ put_anys xs ys k p m v e =
     ∙ set_at (xs ++ anys) any_val more v (length xs + k) (length-append xs anys ∙ ap (λ (i : ℕ). length xs + i) (length-replicate k any_val))
     ∙ append_assoc xs anys (v ∷ more)
 
--- behind the last known value
+-- after the last known value
 pub put_last : (known : List SpacedValue) (rest k p : ℕ) (s : SpacedValue) → s.anys ≡ k → rest ≡ k + 1 + p → all (known ++ s ∷ []) p ≡ set (all known rest) (length (front known) + k) s.value
 put_last known rest k p s e f =
     all_parts known [] s p
@@ -318,11 +318,11 @@ put_last known rest k p s e f =
     ∙ sym (put_anys (front known) [] k p rest s.value f)
     ∙ ap (λ (l : List Val). set (front known ++ l) (length (front known) + k) s.value) (append-nil (replicate rest any_val))
 
--- behind all places
+-- past all places
 pub put_past : (known : List SpacedValue) (rest k : ℕ) (v : Val) → rest ≤ k → set (all known rest) (length (front known) + k) v ≡ all known rest
 put_past known rest k v h = set_past (all known rest) (length (front known) + k) v (omega (arith, all_few known rest))
 
--- any over any
+-- an unknown value over an unknown one
 pub put_any_last : (known : List SpacedValue) (rest k : ℕ) (v : Val) → v ≡ any_val → set (all known rest) (length (front known) + k) v ≡ all known rest
 put_any_last known rest k v e =
     let i = length (front known) + k in
@@ -366,7 +366,7 @@ module _ (known : List SpacedValue) (rest n : ℕ) (here : SpacedValue) (lt : n 
       let i = length (front (take n known)) + k in
       ap (λ (u : Val). set (all known rest) i u) (e ∙ sym (any_there known rest n here lt is i (omega arith) (omega arith))) ∙ set-get_or (all known rest) i any_val
 
--- ---- a place that is looked for
+-- ---- a place that is searched for
 module _ (known : List SpacedValue) (rest n : ℕ) (here : SpacedValue) (lt : n < length known) (is : here ≡ get_or known n here) (i left : ℕ) (up_to : i ≡ length (front (take n known)) + left) where
   pub found_any : left < here.anys → get_or (all known rest) i any_val ≡ any_val
   found_any h = any_there known rest n here lt is i (omega (arith, up_to)) (omega (arith, up_to))
@@ -379,7 +379,7 @@ module _ (known : List SpacedValue) (rest n : ℕ) (here : SpacedValue) (lt : n 
   pub found_further : here.anys < left → i ≡ length (front (take (n + 1) known)) + (left - here.anys - 1)
   found_further further = omega (arith, up_to, further, length-front known rest n here lt is)
 
--- ---- a known value that is written or spelled behind those before it
+-- ---- a known value that is written or spelled after those before it
 module _ (known : List SpacedValue) (rest n : ℕ) (here : SpacedValue) (lt : n < length known) (is : here ≡ get_or known n here) where
   pub spelled_more : (old : List ℕ)
       → ((old ++ flat_map bytes_of_value (front (take n known))) ++ replicate here.anys 0) ++ bytes_of_value here.value ≡ old ++ flat_map bytes_of_value (front (take (n + 1) known))

@@ -1,4 +1,4 @@
--- A word that is looked for among others.
+-- A word that is searched for among others.
 use Rattle.std.proofs.Common.{◌≡◌, ◌∙◌, ◌↔◌, ℕ, Bool, List, [], ◌∷◌, true, false, nat_eq, IsTrue, inl, inr, sym}
 use Rattle.std.specs.List.{list_any}
 use Rattle.std.proofs.lemmas.Bool.{cases_Bool, eqb-true, eq-eqb, or_left, or_right}
@@ -13,6 +13,6 @@ among_found x [] i = absurd i
 among_found x (y ∷ ys) i =
     elim i [ inl e ↦ or_left (nat_eq y x) (list_any (λ y. nat_eq y x) ys) (eq-eqb y x (sym e)) | inr j ↦ or_right (nat_eq y x) (list_any (λ y. nat_eq y x) ys) (among_found x ys j) ]
 
--- the test finds a word exactly where it is one of them
+-- the test finds a word exactly if it is one of them
 pub found : (b : Bool) (x : ℕ) (ws : List ℕ) → b ≡ list_any (λ y. nat_eq y x) ws → IsTrue b ↔ Among x ws
 found b x ws e = ((λ t. found_among x ws (sym e ∙ t)), (λ i. e ∙ among_found x ws i))

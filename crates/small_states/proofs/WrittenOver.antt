@@ -7,7 +7,7 @@ use Rattle.small_states.specs.declared.sparse.SpacedValue.{SpacedValue}
 use Rattle.small_states.specs.Wholes.{front}
 use Rattle.small_states.proofs.SparseLemmas.{all, all_few, all_parts, is_within, length-front}
 
--- the last values, over which the first n known ones were written
+-- the last values after the first n known ones were written over them
 pub record IsWrittenTo (known last : List SpacedValue) (rest n at : ℕ) (regs : List Val) : Type 0 where
   pub are : regs ≡ all (take n known ++ drop n last) rest
   pub up_to : at ≡ length (front (take n known))
@@ -29,7 +29,7 @@ over xs ys k here rest e =
     ∙ sym (all_parts xs ys here rest)
     ∙ ap (λ (l : List SpacedValue). all l rest) (sym (append_assoc xs (here ∷ []) ys))
 
--- the same value in the place of another
+-- the same value instead of another
 equal : (xs ys : List SpacedValue) (k here : SpacedValue) (rest : ℕ) → k.anys ≡ here.anys → k.value ≡ here.value → all (xs ++ k ∷ ys) rest ≡ all ((xs ++ here ∷ []) ++ ys) rest
 equal xs ys k here rest e v =
     let after = front ys ++ replicate rest any_val in

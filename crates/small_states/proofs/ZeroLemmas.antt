@@ -50,7 +50,7 @@ one_written front rest n x is =
     (ap (λ (l : List ℕ). (front ++ l) ++ rest) (one-bytes x)
     ∙ append_assoc front (1 ∷ x % 256 ∷ x / 256 % 256 ∷ x / 65536 % 256 ∷ x / 16777216 % 256 ∷ []) rest)
 
--- bytes that are so many and then zeros
+-- n bytes and then zeros
 taken : (front bytes : List ℕ) (n : ℕ) → length front ≡ n → bytes ≡ front ++ replicate (192 - n) 0 → take n bytes ≡ front
 taken front bytes n long is =
     ap (λ (l : List ℕ). take n l) is
@@ -66,7 +66,7 @@ behind front bytes n within long is =
       zeros = is ∙ ap (λ (l : List ℕ). l ++ replicate (192 - n) 0) (sym same);
     }
 
--- ---- a byte, a word, zeros behind n bytes
+-- ---- a byte, a word, zeros after n bytes
 module _ (bytes : List ℕ) (n : ℕ) (so_far : AreZerosBehind n bytes) where
   abbrev front : List ℕ
   front = take n bytes
@@ -132,7 +132,7 @@ module _ (bytes : List ℕ) (n : ℕ) (so_far : AreZerosBehind n bytes) where
     pub zeros_taken : take (n + more) bytes ≡ front ++ replicate more 0
     zeros_taken = taken (front ++ replicate more 0) bytes (n + more) zeros_long zeros_are
 
-  -- a word's value behind zeros
+  -- a word's value after zeros
   module _ (anys x : ℕ) (room : n + anys + 5 ≤ 192) where
     abbrev one_set : List ℕ
     one_set =
@@ -162,13 +162,13 @@ module _ (bytes : List ℕ) (n : ℕ) (so_far : AreZerosBehind n bytes) where
     one_taken = taken (one_front ++ bytes_of_value (Set (x ∷ []))) one_set (n + anys + 5) one_long one_is
 
 -- ---- words one after another
--- one word more
+-- one more word
 pub words_more : (words : List ℕ) (i : ℕ) → i < length words → flat_map bytes_of_word (take i words) ++ bytes_of_word (get_or words i 0) ≡ flat_map bytes_of_word (take (i + 1) words)
 words_more words i lt =
     let x : ℕ = get_or words i 0 in
     sym (flat_map-append bytes_of_word (take i words) (x ∷ [])) ∙ ap (λ (l : List ℕ). flat_map bytes_of_word l) (sym (take_more words i 0 lt))
 
--- so many words more
+-- more words
 pub words_further : (words : List ℕ) (i k : ℕ) → flat_map bytes_of_word (take i words) ++ flat_map bytes_of_word (take k (drop i words)) ≡ flat_map bytes_of_word (take (i + k) words)
 words_further words i k =
     sym (flat_map-append bytes_of_word (take i words) (take k (drop i words)))

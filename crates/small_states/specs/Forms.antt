@@ -1,4 +1,4 @@
--- A value in little room, as the value that it is.
+-- The value that a compact form stands for.
 use Rattle.std.specs.Prelude.{[], ◌∷◌}
 use Rattle.value_domain.specs.declared.values.Val.{Val}
 use Rattle.value_domain.specs.declared.values.Val.TheVariants.{Set, Span}
@@ -6,7 +6,7 @@ use Rattle.value_domain.specs.Values.{any_val}
 use Rattle.small_states.specs.declared.small.Form.{Form}
 use Rattle.small_states.specs.declared.small.Form.TheVariants.{Any, One, Many, Range}
 
--- the value that is kept in this form
+-- the value of this form
 abbrev pub val_of : Form → Val
 val_of Any = any_val
 val_of (One x) = Set (x ∷ [])

@@ -1,4 +1,4 @@
--- What is kept at a place, as what is known there, and what duties ask for.
+-- What is known at a place, and what flows into it.
 use Rattle.std.specs.Prelude.{◌≡◌, ◌<◌, ◌^◌, ◌++◌, ℕ, Bool, true, false, List, length, if◌then◌else◌}
 use Rattle.value_domain.specs.declared.values.Val.{Val}
 use Rattle.value_domain.specs.declared.states.State.{State}
@@ -7,78 +7,78 @@ use Rattle.depth_cert.specs.declared.points.Exit.{Exit}
 use Rattle.depth_cert.specs.Exits.{after_of, exit_of, lower_values}
 use Rattle.depth_cert.specs.Spelling.{bytes_of_state}
 use Rattle.depth_cert.specs.Known.{Known, state, leaving}
-use Rattle.small_states.specs.declared.cells.Kept.{Kept}
-use Rattle.small_states.specs.declared.cells.Kept.TheVariants.{Point, Leaves}
-use Rattle.small_states.specs.declared.cells.Outline.{Outline}
+use Rattle.small_states.specs.declared.known.KnownForm.{KnownForm}
+use Rattle.small_states.specs.declared.known.KnownForm.TheVariants.{Point, Leaves}
+use Rattle.small_states.specs.declared.known.Outline.{Outline}
 use Rattle.small_states.specs.Wholes.{exit_in, state_in}
-use Rattle.small_states.specs.declared.asked.Asked.{Asked}
-use Rattle.small_states.specs.declared.asked.Context.{Context}
-use Rattle.small_states.specs.declared.asked.Asked.TheVariants.{Changed, After, Leaving}
-use Rattle.small_states.specs.declared.asked.Given.{Given}
-use Rattle.small_states.specs.declared.asked.Given.TheVariants.{Whole, Packed}
+use Rattle.small_states.specs.declared.incoming.Incoming.{Incoming}
+use Rattle.small_states.specs.declared.incoming.Context.{Context}
+use Rattle.small_states.specs.declared.incoming.Incoming.TheVariants.{Changed, After, Leaving}
+use Rattle.small_states.specs.declared.incoming.Given.{Given}
+use Rattle.small_states.specs.declared.incoming.Given.TheVariants.{Whole, Packed}
 
--- what is kept at a place is known there
-abbrev pub known_of : Kept → Known
+-- the state or the exit of this form
+abbrev pub known_of : KnownForm → Known
 known_of (Point s) = state (state_in s)
 known_of (Leaves x) = leaving (exit_in x)
 
--- what a duty asks for
-abbrev pub asked_for : Asked → Known
-asked_for (Changed s c) = state (state_after s.now c.now)
-asked_for (After s x kind) = state (after_of s.now (exit_in x.now) kind)
-asked_for (Leaving s) = leaving (exit_of s.now)
+-- what flows in
+abbrev pub incoming_known : Incoming → Known
+incoming_known (Changed s c) = state (state_after s.now c.now)
+incoming_known (After s x kind) = state (after_of s.now (exit_in x.now) kind)
+incoming_known (Leaving s) = leaving (exit_of s.now)
 
--- the state of the point that owes the duty
-abbrev pub asking : Asked → State
-asking (Changed s c) = s.now
-asking (After s x kind) = s.now
-asking (Leaving s) = s.now
+-- the state of the point that it comes from
+abbrev pub sender_state : Incoming → State
+sender_state (Changed s c) = s.now
+sender_state (After s x kind) = s.now
+sender_state (Leaving s) = s.now
 
--- the state that is known; nothing is said where it is an exit
+-- u is the known state; nothing is said of an exit
 abbrev pub IsStateAt : Known → State → Type 0
 IsStateAt (state s) u = u ≡ s
 IsStateAt (leaving x) u = Unit {0}
 
--- the values that a duty asks for: a state's 27, or an exit's 14
-abbrev pub values_asked : Asked → List Val
-values_asked (Changed s c) = (state_after s.now c.now).regs
-values_asked (After s x kind) = (after_of s.now (exit_in x.now) kind).regs
-values_asked (Leaving s) = lower_values (s.now).regs
+-- the incoming values: 27 of a state, or 14 of an exit
+abbrev pub incoming_values : Incoming → List Val
+incoming_values (Changed s c) = (state_after s.now c.now).regs
+incoming_values (After s x kind) = (after_of s.now (exit_in x.now) kind).regs
+incoming_values (Leaving s) = lower_values (s.now).regs
 
--- a value, however it is at hand
+-- a value, whole or compact
 abbrev pub given_of : Given → Val
 given_of (Whole v) = v.now
 given_of (Packed v) = v.now
 
--- a duty asks for an exit
-abbrev pub is_exit : Asked → Bool
+-- an exit flows in
+abbrev pub is_exit : Incoming → Bool
 is_exit (Changed s c) = false
 is_exit (After s x kind) = false
 is_exit (Leaving s) = true
 
--- the state, the exit with these values and this context
+-- the state with these values and this context
 abbrev pub state_with : List Val → Context → State
 state_with values k = record { regs = values; ie = k.ie; ccpn = k.ccpn; lower = k.lower; locals = k.locals.now }
 
--- an exit keeps no more than IE and CCPN of a context
+-- the exit with these values; of the context it keeps IE and CCPN
 abbrev pub exit_with : List Val → Context → Exit
 exit_with values k = record { ie = k.ie; ccpn = k.ccpn; lower = values }
 
--- what a duty asks for, by its values and its context
-abbrev pub known_by : Asked → Context → Known
-known_by asked k = if is_exit asked then leaving (exit_with (values_asked asked) k) else state (state_with (values_asked asked) k)
+-- what flows in, by its values and its context
+abbrev pub known_by : Incoming → Context → Known
+known_by incoming k = if is_exit incoming then leaving (exit_with (incoming_values incoming) k) else state (state_with (incoming_values incoming) k)
 
--- what a row of needs asks of a state
+-- the outline is the one of the known state
 abbrev pub IsOutline : Known → Outline → Type 0
 IsOutline (state s) o = (s.ie ≡ o.ie) × (s.ccpn ≡ o.ccpn) × (length s.locals.items ≡ o.held)
 IsOutline (leaving x) o = ⊥
 
--- what is known is no exit
+-- no exit is known
 abbrev pub IsNoExit : Known → Type 0
 IsNoExit (state s) = Unit {0}
 IsNoExit (leaving x) = ⊥
 
--- the state that is known was added to the bytes, and its CCPN is a byte; nothing is said where it is an exit
+-- The bytes of the known state are appended, and its CCPN is a byte. Nothing is said of an exit.
 abbrev pub AddsState : Known → List ℕ → List ℕ → Type 0
 AddsState (state s) old new = (new ≡ old ++ bytes_of_state s) × (s.ccpn < 2 ^ 8)
 AddsState (leaving x) old new = Unit {0}

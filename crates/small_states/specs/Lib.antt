@@ -1,5 +1,5 @@
--- What is in little room, as what it stands for.
+-- What compact values, states and exits stand for.
 pub mod Forms
 pub mod Wholes
-pub mod Kept
+pub mod Incoming
 pub mod Zeros

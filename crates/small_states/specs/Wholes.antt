@@ -1,4 +1,4 @@
--- Values, states and exits in little room, as those that they stand for.
+-- The values, states and exits that compact ones stand for.
 use Rattle.std.specs.Prelude.{◌≡◌, ◌+◌, ◌<◌, ◌≤◌, ℕ, zero, suc, List, [], ◌∷◌, ◌++◌, length, replicate, slice_index_or, take}
 use Rattle.std.specs.List.{flat_map}
 use Rattle.value_domain.specs.declared.values.Val.{Val}
@@ -10,7 +10,7 @@ use Rattle.small_states.specs.declared.sparse.Values.{Values}
 use Rattle.small_states.specs.declared.states.SmallState.{SmallState}
 use Rattle.small_states.specs.declared.states.SmallExit.{SmallExit}
 
--- a value behind those of which nothing is known
+-- a known value after unknown ones
 abbrev pub spaced_values : SpacedValue → List Val
 spaced_values s = replicate s.anys any_val ++ s.value ∷ []
 
@@ -18,17 +18,17 @@ spaced_values s = replicate s.anys any_val ++ s.value ∷ []
 abbrev pub front : List SpacedValue → List Val
 front known = flat_map spaced_values known
 
--- the values in their order
+-- all values in their order
 abbrev pub all_values : Values → List Val
 all_values v = front v.known.items ++ replicate v.rest any_val
 
--- the place i lies behind n known values and so many others, which stand before the next known one if there is one
+-- the place i is after n known values and `others` unknown ones, before the next known value
 pub record IsFoundIn (v : Values) (i n others : ℕ) : Type 0 where
   pub within : n ≤ length v.known.items
   pub at : i ≡ length (front (take n v.known.items)) + others
   pub before : n < length v.known.items → (d : SpacedValue) → others ≤ (slice_index_or v.known.items n d).anys
 
--- so many values from a place on; any_val where there is none
+-- `count` values from a place on; any_val past the end
 unfoldable pub values_from : List Val → ℕ → ℕ → List Val
 values_from vs from zero = []
 values_from vs from (suc count) = slice_index_or vs from any_val ∷ values_from vs (from + 1) count

@@ -1,7 +1,7 @@
--- Bytes behind which zeros stand.
+-- Bytes that end in zeros.
 use Rattle.std.specs.Prelude.{◌≡◌, ◌≤◌, ◌-◌, ◌++◌, ℕ, List, length, replicate, take}
 
--- the first n bytes are any, and those behind them, up to 192, are zeros
+-- the bytes after the first n, up to 192, are zeros
 pub record AreZerosBehind (n : ℕ) (bytes : List ℕ) : Type 0 where
   pub within : n ≤ 192
   pub long : length (take n bytes) ≡ n

@@ -1,4 +1,4 @@
-// Bytes that are put together before they are added to others.
+// A buffer for bytes before they are appended to a list.
 ghost use Rattle.std.specs.Prelude.{◌≡◌, ◌≤◌, ◌<◌, ◌+◌, ◌*◌, ◌∷◌, [], ◌++◌, false, IsTrue, OnOk, length, replicate};
 ghost use Rattle.std.specs.List.{flat_map};
 ghost use Rattle.value_domain.specs.declared.values.Val.TheVariants.{Set};
@@ -9,10 +9,11 @@ use crate::sparse::SpacedValue;
 use std::marker::Model;
 use tcd_base::NoMemory;
 
-/// Bytes that will be added to others at once. All behind those that were put are 0, so zeros are put by passing them.
+/// A buffer for bytes. The rest of the array is always 0, so zeros are added without writing.
 #[derive(Drop)]
 pub(crate) struct Gathered {
     bytes: [u8; 192],
+    /// The number of bytes that were added.
     len: usize,
 }
 
@@ -28,7 +29,7 @@ impl Model for Gathered {
 }
 
 impl Gathered {
-    /// No bytes.
+    /// Returns an empty buffer.
     #[inline(always)]
     pub(crate) fn new() -> Gathered
         ensures { result ≡ [] }
@@ -39,7 +40,7 @@ impl Gathered {
         }
     }
 
-    /// Adds them to `out`.
+    /// Appends its bytes to `out`.
     #[inline(always)]
     pub(crate) fn add_to(&self, out: &mut Vec<u8>) -> Result<(), NoMemory>
         ensures { OnOk result (out.new.items ≡ out.old.items ++ self.now) }
@@ -48,7 +49,7 @@ impl Gathered {
         Ok(())
     }
 
-    /// Adds them to `out` and begins anew; by itself, as few states are so long.
+    /// Appends its bytes to `out` and empties it. Few states are so long that this is called.
     #[inline(never)]
     pub(crate) fn flush(&mut self, out: &mut Vec<u8>) -> Result<(), NoMemory>
         ensures added { OnOk result (out.new.items ≡ out.old.items ++ self.old) }
@@ -59,7 +60,7 @@ impl Gathered {
         Ok(())
     }
 
-    /// Makes room for so many bytes.
+    /// Makes room for `count` bytes.
     #[inline(always)]
     pub(crate) fn make_room(&mut self, out: &mut Vec<u8>, count: usize) -> Result<(), NoMemory>
         requires { count ≤ 192 }
@@ -72,7 +73,7 @@ impl Gathered {
         Ok(())
     }
 
-    /// Puts a byte, for which there is room.
+    /// Adds a byte. There is room for it.
     #[inline(always)]
     pub(crate) fn push(&mut self, x: u8)
         requires { length self.old < 192 }
@@ -82,7 +83,7 @@ impl Gathered {
         self.len += 1;
     }
 
-    /// Puts the bytes of words, for which there is room.
+    /// Adds the bytes of words. There is room for them.
     #[inline(always)]
     fn push_words(&mut self, words: &[u32])
         requires { length self.old + 4 * length words.now ≤ 192 }
@@ -100,7 +101,7 @@ impl Gathered {
         self.len = at;
     }
 
-    /// Puts the value that holds these words, of which 32 at most are put at once.
+    /// Adds the value that holds these words, at most 32 words at a time.
     #[tactic(auto, unfolding(depth_cert::specs::Spelling::bytes_of_value))]
     pub(crate) fn put_set(&mut self, out: &mut Vec<u8>, words: &[u32]) -> Result<(), NoMemory>
         requires { length words.now ≤ 128 }
@@ -119,7 +120,8 @@ impl Gathered {
         Ok(())
     }
 
-    /// Puts a word behind so many values that hold all words; says whether it was one and there was room.
+    /// Adds values that hold all words and then a single word. Returns false, and adds nothing, if
+    /// the value isn't a single word or there is no room.
     #[inline(always)]
     pub(crate) fn put_one(&mut self, here: &SpacedValue) -> bool
         ensures put { IsTrue result
@@ -143,7 +145,7 @@ impl Gathered {
         true
     }
 
-    /// Puts so many values that hold all words: each is a byte, 0.
+    /// Adds `count` values that hold all words. The byte 0 spells each.
     #[inline(always)]
     pub(crate) fn put_anys(&mut self, out: &mut Vec<u8>, count: u32) -> Result<(), NoMemory>
         ensures { OnOk result

@@ -1,89 +1,95 @@
-// What duties ask for.
+// What flows into a place from the duty of a point.
 ghost use Rattle.std.specs.Prelude.{◌≡◌, ◌≤◌, ◌<◌, ◌-◌, ◌==◌, length, nat_lt, slice_index_or, if◌then◌else◌};
 ghost use Rattle.value_domain.specs.Values.{any_val};
 ghost use Rattle.value_domain.specs.State as states;
 ghost use Rattle.depth_cert.specs.Exits.{with_lower_from};
 ghost use Rattle.vd_transfer.specs.Changes.{base_of, state_after};
-ghost use Rattle.small_states.specs.Kept.{asked_for, given_of, is_exit, known_by, values_asked};
+ghost use Rattle.small_states.specs.Incoming.{incoming_known, given_of, is_exit, known_by, incoming_values};
 ghost use Rattle.small_states.specs.Wholes.{all_values};
 ghost use Rattle.depth_cert.specs.Known.{priority_of};
 
 use crate::{Small, SmallExit};
 use arrayvec::ArrayVec;
-use depth_cert::lower_value;
+use depth_cert::{CALL, lower_value};
 use value_domain::{State, Val};
 use vd_transfer::{Base, Change, is_lower_slot};
 
-/// What a duty asks for at a place, told by the state of the point that owes it, so that nothing is built where it is
-/// covered: the changed state; the state after an entered frame of a kind (1 call, 3 system call) that came back by an exit;
-/// the exit by which the frame is left with this state.
+/// What flows into a place, described by the state of the point that it comes from. No state is
+/// built as long as the place covers it.
 #[derive(Drop)]
-pub enum Asked<'a> {
+pub enum Incoming<'a> {
+    /// A state after a change.
     Changed(&'a State, &'a Change),
+    /// A state after a frame of a kind (`CALL` or `SYS`) returned with this exit.
     After(&'a State, &'a SmallExit, u8),
+    /// The exit of a frame that is left with a state.
     Leaving(&'a State),
 }
 
-/// A value that is asked for, as it is at hand: whole, or in little room.
+/// An incoming value: a whole value, or a compact one.
 #[derive(Drop)]
 pub(crate) enum Given<'a> {
     Whole(&'a Val),
     Packed(&'a Small),
 }
 
-/// What is asked for beside values.
+/// The incoming facts beside the values.
 #[derive(Drop)]
 pub(crate) struct Context<'a> {
+    /// Interrupts may be enabled.
     pub ie: bool,
+    /// CCPN is at least this.
     pub ccpn: u8,
+    /// The lower registers are those of the entry.
     pub lower: bool,
+    /// A flag for each lower context that the frame saved itself and hasn't restored.
     pub locals: &'a ArrayVec<bool, 8>,
 }
 
-/// The priority of what is asked for.
+/// Returns the incoming priority.
 #[inline(always)]
-pub fn priority(asked: &Asked) -> u8
-    ensures { result ≡ priority_of (asked_for asked.now) }
+pub fn priority(incoming: &Incoming) -> u8
+    ensures { result ≡ priority_of (incoming_known incoming.now) }
 {
-    match asked {
-        Asked::Changed(_, change) => change.ccpn,
-        Asked::After(s, exit, kind) => { if *kind == 1 { exit.ccpn } else { s.ccpn } }
-        Asked::Leaving(s) => s.ccpn,
+    match incoming {
+        Incoming::Changed(_, change) => change.ccpn,
+        Incoming::After(s, exit, kind) => { if *kind == CALL { exit.ccpn } else { s.ccpn } }
+        Incoming::Leaving(s) => s.ccpn,
     }
 }
 
-/// Whether an exit is asked for.
+/// Returns whether an exit flows in.
 #[inline(always)]
-pub(crate) fn is_leaving(asked: &Asked) -> bool
-    ensures { result ≡ is_exit asked.now }
+pub(crate) fn is_leaving(incoming: &Incoming) -> bool
+    ensures { result ≡ is_exit incoming.now }
 {
-    match asked {
-        Asked::Changed(_, _) => false,
-        Asked::After(_, _, _) => false,
-        Asked::Leaving(_) => true,
+    match incoming {
+        Incoming::Changed(_, _) => false,
+        Incoming::After(_, _, _) => false,
+        Incoming::Leaving(_) => true,
     }
 }
 
-/// What is asked for beside values.
-pub(crate) fn context_of<'a>(asked: &Asked<'a>) -> Context<'a>
-    ensures { asked_for asked.now ≡ known_by asked.now result }
+/// Returns the incoming facts beside the values.
+pub(crate) fn context_of<'a>(incoming: &Incoming<'a>) -> Context<'a>
+    ensures { incoming_known incoming.now ≡ known_by incoming.now result }
 {
-    let ccpn = priority(asked);
-    match asked {
-        Asked::Changed(_, c) => Context {
+    let ccpn = priority(incoming);
+    match incoming {
+        Incoming::Changed(_, c) => Context {
             ie: c.ie,
             ccpn,
             lower: c.lower,
             locals: &c.locals,
         },
-        Asked::After(s, exit, kind) => Context {
-            // a call comes back with its exit's IE, a system call with its caller's
-            ie: if *kind == 1 { exit.ie } else { s.ie },
+        Incoming::After(s, exit, kind) => Context {
+            // A call returns with its exit's IE, a system call with its caller's.
+            ie: if *kind == CALL { exit.ie } else { s.ie },
             ccpn,
             lower: false,
             locals: &s.locals,
         },
-        Asked::Leaving(s) => Context {
+        Incoming::Leaving(s) => Context {
             ie: s.ie,
             ccpn,
             lower: false,
@@ -92,28 +98,28 @@ pub(crate) fn context_of<'a>(asked: &Asked<'a>) -> Context<'a>
     }
 }
 
-/// How many values are asked for: those of a state, or those of an exit.
-pub(crate) fn count_asked(asked: &Asked) -> usize
-    ensures long { result ≡ length (values_asked asked.now) }
+/// Returns the number of incoming values: 27 for a state, 14 for an exit.
+pub(crate) fn count_incoming(incoming: &Incoming) -> usize
+    ensures long { result ≡ length (incoming_values incoming.now) }
     ensures few { result ≤ 27 }
 {
-    match asked {
-        Asked::Changed(s, _) => {
+    match incoming {
+        Incoming::Changed(s, _) => {
             let _regs = &s.regs[..];
             27
         }
-        Asked::After(s, _, _) => {
+        Incoming::After(s, _, _) => {
             let _regs = &s.regs[..];
             27
         }
-        Asked::Leaving(s) => {
+        Incoming::Leaving(s) => {
             let _regs = &s.regs[..];
             14
         }
     }
 }
 
-/// The value that a change starts from at a place.
+/// Returns the value at a place before a change puts others over it.
 #[inline(always)]
 fn base_given<'a>(s: &'a State, base: Base, any: &'a Small, i: usize) -> Given<'a>
     requires place { i < 27 }
@@ -134,7 +140,7 @@ fn base_given<'a>(s: &'a State, base: Base, any: &'a Small, i: usize) -> Given<'
     }
 }
 
-/// The value of a changed state at a place.
+/// Returns the value at a place of a changed state.
 #[inline(always)]
 fn changed_given<'a>(s: &'a State, c: &'a Change, any: &'a Small, i: usize) -> Given<'a>
     requires place { i < 27 }
@@ -154,9 +160,10 @@ fn changed_given<'a>(s: &'a State, c: &'a Change, any: &'a Small, i: usize) -> G
     base_given(s, c.base, any, i)
 }
 
-/// The value of a place after a frame came back: the exit's for a lower register, else the one that it had.
+/// Returns the value at a place after a frame returned: the exit's for a lower register, else the
+/// caller's, `v`.
 #[inline(always)]
-fn restored<'a>(i: usize, exit: &'a SmallExit, any: &'a Small, v: &'a Val) -> Given<'a>
+fn restored_value<'a>(i: usize, exit: &'a SmallExit, any: &'a Small, v: &'a Val) -> Given<'a>
     requires { any.now ≡ any_val }
     ensures { given_of result
         ≡ (if states.is_lower_slot i
@@ -173,7 +180,7 @@ fn restored<'a>(i: usize, exit: &'a SmallExit, any: &'a Small, v: &'a Val) -> Gi
     }
 }
 
-/// The value after a frame came back by an exit.
+/// Returns the value at a place after a frame returned with an exit.
 #[inline(always)]
 fn value_after<'a>(s: &'a State, exit: &'a SmallExit, any: &'a Small, i: usize) -> Given<'a>
     requires place { i < 27 }
@@ -183,26 +190,26 @@ fn value_after<'a>(s: &'a State, exit: &'a SmallExit, any: &'a Small, i: usize) 
         any_val }
 {
     let _regs = &s.regs[..];
-    restored(i, exit, any, &s.regs[i])
+    restored_value(i, exit, any, &s.regs[i])
 }
 
-/// The value that is asked for at a place; `any` stands for each of which nothing is known.
+/// Returns the incoming value at a place. `any` is returned for an unknown value.
 #[inline(always)]
-pub(crate) fn asked_value<'a>(asked: &'a Asked, any: &'a Small, i: usize) -> Given<'a>
-    requires place { i < length (values_asked asked.now) }
+pub(crate) fn incoming_value<'a>(incoming: &'a Incoming, any: &'a Small, i: usize) -> Given<'a>
+    requires place { i < length (incoming_values incoming.now) }
     requires any { any.now ≡ any_val }
-    ensures { given_of result ≡ slice_index_or (values_asked asked.now) i any_val }
+    ensures { given_of result ≡ slice_index_or (incoming_values incoming.now) i any_val }
 {
-    match asked {
-        Asked::Changed(s, c) => {
+    match incoming {
+        Incoming::Changed(s, c) => {
             let _regs = &s.regs[..];
             changed_given(s, c, any, i)
         }
-        Asked::After(s, exit, _) => {
+        Incoming::After(s, exit, _) => {
             let _regs = &s.regs[..];
             value_after(s, exit, any, i)
         }
-        Asked::Leaving(s) => {
+        Incoming::Leaving(s) => {
             let _regs = &s.regs[..];
             Given::Whole(lower_value(&s.regs, i))
         }

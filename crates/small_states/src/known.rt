@@ -5,11 +5,11 @@ ghost use Rattle.value_domain.specs.State.{AreValues, AreWell, Covers, joined_st
 ghost use Rattle.small_states.specs.Wholes.{all_values, exit_in, state_in};
 ghost use Rattle.depth_cert.specs.Exits.{ExitCovers};
 ghost use Rattle.depth_cert.specs.Known.{CoversKnown, joined_exit, joined_known, state, leaving, IsProperKnown};
-ghost use Rattle.small_states.specs.Kept.{AddsState, IsNoExit, IsOutline, IsStateAt, asked_for, asking, exit_with, known_of, state_with, values_asked};
+ghost use Rattle.small_states.specs.Incoming.{AddsState, IsNoExit, IsOutline, IsStateAt, incoming_known, sender_state, exit_with, known_of, state_with, incoming_values};
 
-use crate::asked::{Asked, Context, Given, context_of, is_leaving};
+use crate::incoming::{Context, Given, Incoming, context_of, is_leaving};
 use crate::small::{Form, Small};
-use crate::values::{are_all_below, are_covered, joined, packed, packed_by};
+use crate::values::{are_all_below, are_covered, join_values, pack_for, pack_values};
 use crate::{ScratchState, SmallExit, SmallState, Values, copy_of, join_locals};
 use std::alloc::{AllocError, Global};
 use std::marker::Model;
@@ -20,48 +20,51 @@ use vd_transfer::{Base, Put};
 
 /// A state at a point, or the exit of a frame.
 #[derive(Drop)]
-pub(crate) enum Kept {
+pub(crate) enum KnownForm {
     Point(SmallState),
     Leaves(SmallExit),
 }
 
-/// Whether interrupts may come in a state, above which priority, and how many locals it has.
+/// What needs depend on in a state.
 #[derive(Clone, Copy, Debug, PartialEq, Eq)]
 pub struct Outline {
+    /// Interrupts may be enabled.
     pub ie: bool,
+    /// CCPN is at least this.
     pub ccpn: u8,
+    /// The number of locals.
     pub held: u8,
 }
 
-/// What is known at a place; contracts see the state or the exit, however it is kept.
+/// What is known at a place. Contracts see it as a state or an exit, whatever its form.
 #[derive(Drop)]
-pub struct Cell {
-    kept: Kept,
+pub struct SmallKnown {
+    form: KnownForm,
 }
 
-impl Model for Cell {
+impl Model for SmallKnown {
     ghost use Rattle.depth_cert.specs.Known.{Known};
-    ghost use Rattle.small_states.specs.Kept.{known_of};
+    ghost use Rattle.small_states.specs.Incoming.{known_of};
 
     ghost Value = { Known };
 
-    ghost view = { λ c. known_of c.kept };
+    ghost view = { λ c. known_of c.form };
 }
 
-/// What a duty asks for, by its values.
-fn kept_with(values: Rc<Values>, asked: &Asked) -> Kept
-    requires { all_values values.value ≡ values_asked asked.now }
-    ensures { known_of result ≡ asked_for asked.now }
+/// Returns the incoming state or exit with these values.
+fn form_with(values: Rc<Values>, incoming: &Incoming) -> KnownForm
+    requires { all_values values.value ≡ incoming_values incoming.now }
+    ensures { known_of result ≡ incoming_known incoming.now }
 {
-    let k = context_of(asked);
-    if is_leaving(asked) {
-        return Kept::Leaves(SmallExit {
+    let k = context_of(incoming);
+    if is_leaving(incoming) {
+        return KnownForm::Leaves(SmallExit {
             ie: k.ie,
             ccpn: k.ccpn,
             lower: values,
         });
     }
-    Kept::Point(SmallState {
+    KnownForm::Point(SmallState {
         regs: values,
         ie: k.ie,
         ccpn: k.ccpn,
@@ -70,13 +73,14 @@ fn kept_with(values: Rc<Values>, asked: &Asked) -> Kept
     })
 }
 
-/// Whether a state covers what a duty asks for of one.
-fn covers_state(upper: &SmallState, asked: &Asked, k: &Context) -> bool
+/// Returns whether a state covers the incoming one.
+fn covers_state(upper: &SmallState, incoming: &Incoming, k: &Context) -> bool
     requires upper { AreWell (all_values upper.now.regs.value) }
-    requires asked { AreWell (values_asked asked.now) }
-    requires long { length (all_values upper.now.regs.value) ≡ length (values_asked asked.now) }
+    requires incoming { AreWell (incoming_values incoming.now) }
+    requires long { length (all_values upper.now.regs.value)
+        ≡ length (incoming_values incoming.now) }
     ensures { IsTrue result
-        ↔ Covers (state_in upper.now) (state_with (values_asked asked.now) k.now) }
+        ↔ Covers (state_in upper.now) (state_with (incoming_values incoming.now) k.now) }
 {
     if !upper.covers_context(k.ie, k.ccpn, k.lower) {
         return false;
@@ -84,79 +88,83 @@ fn covers_state(upper: &SmallState, asked: &Asked, k: &Context) -> bool
     if !are_implied(upper.locals.as_slice(), k.locals.as_slice()) {
         return false;
     }
-    are_covered(upper.regs.as_ref(), asked)
+    are_covered(upper.regs.as_ref(), incoming)
 }
 
-/// Whether an exit covers what a duty asks for of one.
-fn covers_exit(upper: &SmallExit, asked: &Asked, k: &Context) -> bool
+/// Returns whether an exit covers the incoming one.
+fn covers_exit(upper: &SmallExit, incoming: &Incoming, k: &Context) -> bool
     requires upper { AreWell (all_values upper.now.lower.value) }
-    requires asked { AreWell (values_asked asked.now) }
-    requires long { length (all_values upper.now.lower.value) ≡ length (values_asked asked.now) }
+    requires incoming { AreWell (incoming_values incoming.now) }
+    requires long { length (all_values upper.now.lower.value)
+        ≡ length (incoming_values incoming.now) }
     ensures { IsTrue result
-        ↔ ExitCovers (exit_in upper.now) (exit_with (values_asked asked.now) k.now) }
+        ↔ ExitCovers (exit_in upper.now) (exit_with (incoming_values incoming.now) k.now) }
 {
     if !upper.covers_context(k.ie, k.ccpn) {
         return false;
     }
-    are_covered(upper.lower.as_ref(), asked)
+    are_covered(upper.lower.as_ref(), incoming)
 }
 
-/// The least state that covers both; `None` for unequal numbers of locals.
+/// Returns the least state that covers both, or `None` if their numbers of locals differ.
 fn join_state(
     alloc: Global,
     b: &Bounds,
     left: &SmallState,
-    asked: &Asked,
+    incoming: &Incoming,
     k: &Context,
-) -> Result<Option<Cell>, AllocError>
+) -> Result<Option<SmallKnown>, AllocError>
     requires left { AreValues b.now (all_values left.now.regs.value) }
-    requires asked { AreValues b.now (values_asked asked.now) }
-    requires long { length (all_values left.now.regs.value) ≡ length (values_asked asked.now) }
+    requires incoming { AreValues b.now (incoming_values incoming.now) }
+    requires long { length (all_values left.now.regs.value)
+        ≡ length (incoming_values incoming.now) }
     ensures { IfOk result
         (λ r. r ≡ option_map state
-        (joined_states b.now (state_in left.now) (state_with (values_asked asked.now) k.now))) }
+        (joined_states b.now (state_in left.now)
+        (state_with (incoming_values incoming.now) k.now))) }
 {
     if left.locals.len() != k.locals.len() {
         return Ok(None);
     }
-    let regs = Rc::new(alloc, joined(alloc, b, left.regs.as_ref(), asked)?)?;
-    let kept = Kept::Point(SmallState {
+    let regs = Rc::new(alloc, join_values(alloc, b, left.regs.as_ref(), incoming)?)?;
+    let form = KnownForm::Point(SmallState {
         regs,
         ie: left.ie || k.ie,
         ccpn: left.ccpn.min(k.ccpn),
         lower: left.lower && k.lower,
         locals: join_locals(left.locals.as_slice(), k.locals.as_slice()),
     });
-    Ok(Some(Cell { kept }))
+    Ok(Some(SmallKnown { form }))
 }
 
-/// The least exit that covers both.
+/// Returns the least exit that covers both.
 fn join_exit(
     alloc: Global,
     b: &Bounds,
     exit: &SmallExit,
-    asked: &Asked,
+    incoming: &Incoming,
     k: &Context,
-) -> Result<Option<Cell>, AllocError>
+) -> Result<Option<SmallKnown>, AllocError>
     requires exit { AreValues b.now (all_values exit.now.lower.value) }
-    requires asked { AreValues b.now (values_asked asked.now) }
-    requires long { length (all_values exit.now.lower.value) ≡ length (values_asked asked.now) }
+    requires incoming { AreValues b.now (incoming_values incoming.now) }
+    requires long { length (all_values exit.now.lower.value)
+        ≡ length (incoming_values incoming.now) }
     ensures { IfOk result
         (λ r. r ≡ Some
         (leaving (joined_exit b.now (exit_in exit.now)
-        (exit_with (values_asked asked.now) k.now)))) }
+        (exit_with (incoming_values incoming.now) k.now)))) }
 {
-    let lower = Rc::new(alloc, joined(alloc, b, exit.lower.as_ref(), asked)?)?;
-    let kept = Kept::Leaves(SmallExit {
+    let lower = Rc::new(alloc, join_values(alloc, b, exit.lower.as_ref(), incoming)?)?;
+    let form = KnownForm::Leaves(SmallExit {
         ie: exit.ie || k.ie,
         ccpn: exit.ccpn.min(k.ccpn),
         lower,
     });
-    Ok(Some(Cell { kept }))
+    Ok(Some(SmallKnown { form }))
 }
 
-/// Whether the value that is put, if one is, is seen to be the one that is known at its place, or to
-/// have more words.
+/// Returns whether the value that is put is the one that is known at its place, or has more words.
+/// The answer is only a hint.
 fn has_grown(known: &SmallState, put: &Put) -> bool {
     let Some(at) = put.at else {
         return true;
@@ -168,14 +176,14 @@ fn has_grown(known: &SmallState, put: &Put) -> bool {
     }
 }
 
-/// Whether what a duty asks for seems to cover what is known, by what is put: if so it is made, and
-/// compared.
+/// Returns whether the incoming state seems to cover the known one. The answer is only a hint,
+/// which saves most comparisons.
 #[inline(always)]
-fn seems_above(known: &Kept, asked: &Asked) -> bool {
-    let Kept::Point(known) = known else {
+fn seems_above(known: &KnownForm, incoming: &Incoming) -> bool {
+    let KnownForm::Point(known) = known else {
         return false;
     };
-    let Asked::Changed(_, c) = asked else {
+    let Incoming::Changed(_, c) = incoming else {
         return false;
     };
     matches!(c.base, Base::Same)
@@ -184,87 +192,92 @@ fn seems_above(known: &Kept, asked: &Asked) -> bool {
         && has_grown(known, &c.third)
 }
 
-impl Cell {
-    /// What a duty asks for.
-    pub fn new(alloc: Global, _b: &Bounds, asked: &Asked) -> Result<Cell, AllocError>
-        requires { IsProperKnown _b.now (asked_for asked.now) }
-        ensures { IfOk result (λ c. c ≡ asked_for asked.now) }
+impl SmallKnown {
+    /// Returns what flows in.
+    pub fn new(alloc: Global, _b: &Bounds, incoming: &Incoming) -> Result<SmallKnown, AllocError>
+        requires { IsProperKnown _b.now (incoming_known incoming.now) }
+        ensures { IfOk result (λ c. c ≡ incoming_known incoming.now) }
     {
-        let values = Rc::new(alloc, packed(alloc, asked)?)?;
-        let kept = kept_with(values, asked);
-        Ok(Cell { kept })
+        let values = Rc::new(alloc, pack_values(alloc, incoming)?)?;
+        let form = form_with(values, incoming);
+        Ok(SmallKnown { form })
     }
 
-    /// What a duty asks for of a point that has this state: as `new`, but what the state keeps is copied, or shared where no
-    /// value is put.
-    pub fn changed(&self, alloc: Global, asked: &Asked) -> Result<Cell, AllocError>
-        requires { self.now ≡ state (asking asked.now) }
-        ensures { IfOk result (λ c. c ≡ asked_for asked.now) }
+    /// Returns what flows in from a point with this state. It keeps a copy of the state's values,
+    /// or shares them if none changes.
+    pub fn apply(&self, alloc: Global, incoming: &Incoming) -> Result<SmallKnown, AllocError>
+        requires { self.now ≡ state (sender_state incoming.now) }
+        ensures { IfOk result (λ c. c ≡ incoming_known incoming.now) }
     {
-        let values = match &self.kept {
-            Kept::Point(own) => packed_by(alloc, &own.regs, asked)?,
-            Kept::Leaves(_) => Rc::new(alloc, packed(alloc, asked)?)?,
+        let values = match &self.form {
+            KnownForm::Point(own) => pack_for(alloc, &own.regs, incoming)?,
+            KnownForm::Leaves(_) => Rc::new(alloc, pack_values(alloc, incoming)?)?,
         };
-        let kept = kept_with(values, asked);
-        Ok(Cell { kept })
+        let form = form_with(values, incoming);
+        Ok(SmallKnown { form })
     }
 
-    /// Whether it covers what a duty asks for.
-    pub fn covers(&self, _b: &Bounds, asked: &Asked) -> bool
+    /// Returns whether it covers what flows in.
+    pub fn covers(&self, _b: &Bounds, incoming: &Incoming) -> bool
         requires known { IsProperKnown _b.now self.now }
-        requires asked { IsProperKnown _b.now (asked_for asked.now) }
-        ensures { IsTrue result ↔ CoversKnown self.now (asked_for asked.now) }
+        requires incoming { IsProperKnown _b.now (incoming_known incoming.now) }
+        ensures { IsTrue result ↔ CoversKnown self.now (incoming_known incoming.now) }
     {
-        let k = context_of(asked);
-        match &self.kept {
-            Kept::Point(upper) => {
-                if is_leaving(asked) {
+        let k = context_of(incoming);
+        match &self.form {
+            KnownForm::Point(upper) => {
+                if is_leaving(incoming) {
                     return false;
                 }
-                covers_state(upper, asked, &k)
+                covers_state(upper, incoming, &k)
             }
-            Kept::Leaves(upper) => {
-                if !is_leaving(asked) {
+            KnownForm::Leaves(upper) => {
+                if !is_leaving(incoming) {
                     return false;
                 }
-                covers_exit(upper, asked, &k)
+                covers_exit(upper, incoming, &k)
             }
         }
     }
 
-    /// The least that covers both; `None` for states with unequal numbers of locals.
-    pub fn join(&self, alloc: Global, b: &Bounds, asked: &Asked) -> Result<Option<Cell>, AllocError>
+    /// Returns the least that covers both, or `None` for states with different numbers of locals.
+    pub fn join(
+        &self,
+        alloc: Global,
+        b: &Bounds,
+        incoming: &Incoming,
+    ) -> Result<Option<SmallKnown>, AllocError>
         requires known { IsProperKnown b.now self.now }
-        requires asked { IsProperKnown b.now (asked_for asked.now) }
-        ensures { IfOk result (λ r. r ≡ joined_known b.now self.now (asked_for asked.now)) }
+        requires incoming { IsProperKnown b.now (incoming_known incoming.now) }
+        ensures { IfOk result (λ r. r ≡ joined_known b.now self.now (incoming_known incoming.now)) }
     {
-        let k = context_of(asked);
-        match &self.kept {
-            Kept::Point(left) => {
-                if is_leaving(asked) {
+        let k = context_of(incoming);
+        match &self.form {
+            KnownForm::Point(left) => {
+                if is_leaving(incoming) {
                     return Ok(None);
                 }
-                join_state(alloc, b, left, asked, &k)
+                join_state(alloc, b, left, incoming, &k)
             }
-            Kept::Leaves(left) => {
-                if !is_leaving(asked) {
+            KnownForm::Leaves(left) => {
+                if !is_leaving(incoming) {
                     return Ok(None);
                 }
-                join_exit(alloc, b, left, asked, &k)
+                join_exit(alloc, b, left, incoming, &k)
             }
         }
     }
 
-    /// Whether both are states, and it is seen to cover the other.
-    fn is_above(&self, low: &Cell, _b: &Bounds) -> bool
+    /// Returns true only if both are states and this one covers the other.
+    fn is_above(&self, low: &SmallKnown, _b: &Bounds) -> bool
         requires own { IsProperKnown _b.now self.now }
         requires low { IsProperKnown _b.now low.now }
         ensures { IsTrue result → CoversKnown self.now low.now }
     {
-        let Kept::Point(upper) = &self.kept else {
+        let KnownForm::Point(upper) = &self.form else {
             return false;
         };
-        let Kept::Point(s) = &low.kept else {
+        let KnownForm::Point(s) = &low.form else {
             return false;
         };
         if !upper.covers_context(s.ie, s.ccpn, s.lower) {
@@ -276,41 +289,41 @@ impl Cell {
         are_all_below(s.regs.as_ref(), upper.regs.as_ref())
     }
 
-    /// The least that covers both, where the point that asks has the state `own`: as `join`, but
-    /// where what is asked covers what is known it is taken as it is, and shares the values of that
-    /// state where none is put.
+    /// Returns the least that covers both. `own` is the state of the point that the flow comes
+    /// from. If what flows in covers what is known, it is the answer, and shares its unchanged
+    /// values with `own`.
     pub fn join_from(
         &self,
         alloc: Global,
         b: &Bounds,
-        own: &Cell,
-        asked: &Asked,
-    ) -> Result<Option<Cell>, AllocError>
+        own: &SmallKnown,
+        incoming: &Incoming,
+    ) -> Result<Option<SmallKnown>, AllocError>
         requires known { IsProperKnown b.now self.now }
-        requires asked { IsProperKnown b.now (asked_for asked.now) }
-        requires own { own.now ≡ state (asking asked.now) }
-        ensures { IfOk result (λ r. r ≡ joined_known b.now self.now (asked_for asked.now)) }
+        requires incoming { IsProperKnown b.now (incoming_known incoming.now) }
+        requires own { own.now ≡ state (sender_state incoming.now) }
+        ensures { IfOk result (λ r. r ≡ joined_known b.now self.now (incoming_known incoming.now)) }
     {
-        if seems_above(&self.kept, asked) {
-            let above = own.changed(alloc, asked)?;
+        if seems_above(&self.form, incoming) {
+            let above = own.apply(alloc, incoming)?;
             if above.is_above(self, b) {
                 return Ok(Some(above));
             }
         }
-        self.join(alloc, b, asked)
+        self.join(alloc, b, incoming)
     }
 
-    /// What a row of needs asks of a state; `None` of an exit.
+    /// Returns what needs depend on, or `None` for an exit.
     pub fn outline(&self) -> Option<Outline>
         ensures { IfSome result (IsOutline self.now) }
     {
-        match &self.kept {
-            Kept::Point(s) => Some(Outline {
+        match &self.form {
+            KnownForm::Point(s) => Some(Outline {
                 ie: s.ie,
                 ccpn: s.ccpn,
                 held: s.locals.len() as u8,
             }),
-            Kept::Leaves(_) => None,
+            KnownForm::Leaves(_) => None,
         }
     }
 
@@ -319,33 +332,33 @@ impl Cell {
         requires { IsProperKnown _b.now self.now }
         ensures { IsStateAt self.now into.new }
     {
-        if let Kept::Point(s) = &self.kept {
+        if let KnownForm::Point(s) = &self.form {
             into.write(s);
         }
     }
 
-    /// Adds the bytes that spell the state to `out`.
+    /// Appends the bytes that spell the state.
     pub fn spell_state(&self, _b: &Bounds, out: &mut Vec<u8>) -> Result<(), NoMemory>
         requires { IsProperKnown _b.now self.now }
         ensures { OnOk result (AddsState self.now out.old.items out.new.items) }
     {
-        match &self.kept {
-            Kept::Point(s) => {
+        match &self.form {
+            KnownForm::Point(s) => {
                 let _ccpn = s.ccpn;
                 s.spell(out)
             }
-            Kept::Leaves(_) => Ok(()),
+            KnownForm::Leaves(_) => Ok(()),
         }
     }
 
-    /// The exit, in little room; `None` of a state.
+    /// Returns the compact exit, or `None` for a state.
     pub fn exit(&self) -> Option<&SmallExit>
         ensures some { IfSome result (λ x. self.now ≡ leaving (exit_in x.now)) }
         ensures none { IfNone result (IsNoExit self.now) }
     {
-        match &self.kept {
-            Kept::Point(_) => None,
-            Kept::Leaves(x) => Some(x),
+        match &self.form {
+            KnownForm::Point(_) => None,
+            KnownForm::Leaves(x) => Some(x),
         }
     }
 }

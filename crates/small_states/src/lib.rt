@@ -1,9 +1,9 @@
-//! States and exits in little room: of a value only its words, or the ends and the step of its range.
+//! Compact states and exits: a value keeps only its words, or the ends and the step of its range.
 #![tactic(auto)]
 
-mod asked;
-mod cells;
 mod gathered;
+mod incoming;
+mod known;
 mod scratch;
 mod small;
 mod sparse;
@@ -11,8 +11,8 @@ mod spelling;
 mod states;
 mod values;
 
-pub use asked::{Asked, priority};
-pub use cells::{Cell, Outline};
+pub use incoming::{Incoming, priority};
+pub use known::{Outline, SmallKnown};
 pub use scratch::ScratchState;
 pub use small::Small;
 pub use sparse::{SpacedValue, Values};

@@ -1,4 +1,4 @@
-// A state that is written over again and again.
+// A state that visits write over.
 ghost use Rattle.std.specs.Prelude.{◌≡◌, IfSome, IsTrue, length};
 ghost use Rattle.small_states.specs.Wholes.{all_values, state_in};
 
@@ -8,8 +8,8 @@ use std::marker::Model;
 use std::rc::Rc;
 use value_domain::{State, Val};
 
-/// A state to write others over, and the values in little room that were written last, if they are at hand: of values with the
-/// same gaps only those are written that differ.
+/// A state that others are written over. It remembers the compact values that were written last, so
+/// that values with the same gaps are written only where they differ.
 #[derive(Drop)]
 pub struct ScratchState {
     state: State,
@@ -28,7 +28,8 @@ impl Model for ScratchState {
     ghost invariant = { λ s. IfSome s.last (λ last. s.state.regs ≡ all_values last.value) };
 }
 
-/// Writes values over others, the last ones: where these have the same gaps, only those that differ. Says whether none was written.
+/// Writes values over the last ones. If both have the same gaps, only the values that differ are
+/// written. Returns true only if none was written.
 #[inline(always)]
 fn write_over(values: &Values, last: &Values, regs: &mut [Val; 27]) -> bool
     requires long { length (all_values values.now) ≡ 27 }
@@ -61,7 +62,7 @@ fn write_over(values: &Values, last: &Values, regs: &mut [Val; 27]) -> bool
     same
 }
 
-/// Writes values over those that were written last, and keeps them as the last ones.
+/// Writes values over the last ones, and remembers them.
 #[inline(always)]
 fn write_values(values: &Rc<Values>, last: &mut Option<Rc<Values>>, regs: &mut [Val; 27])
     requires long { length (all_values values.now.value) ≡ 27 }
@@ -84,14 +85,14 @@ fn write_values(values: &Rc<Values>, last: &mut Option<Rc<Values>>, regs: &mut [
 }
 
 impl ScratchState {
-    /// A state, before others are written over it.
+    /// Returns scratch room that holds this state.
     pub fn new(state: State) -> ScratchState
         ensures { result ≡ state }
     {
         ScratchState { state, last: None }
     }
 
-    /// The state.
+    /// Returns the state.
     #[inline(always)]
     pub fn state(&self) -> &State
         ensures { result.now ≡ self.now }

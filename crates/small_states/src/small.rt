@@ -1,4 +1,4 @@
-// A value in little room.
+// Compact values.
 ghost use Rattle.std.specs.Prelude.{◌≡◌, ◌↔◌, ◌≤◌, ◌<◌, ℕ, IsTrue, IfOk, IfSome, OnOk, ◌∷◌, ◌++◌, [], length, slice_index};
 ghost use Rattle.depth_cert.specs.Spelling.{bytes_of_value};
 ghost use Rattle.value_domain.specs.declared.values.Val.TheVariants.{Set, Span};
@@ -6,9 +6,9 @@ ghost use Rattle.value_domain.specs.Sets.{Among, Rising};
 ghost use Rattle.value_domain.specs.Values.{IsWell, IsValue, IsBelow, IsMember, any_val, cover, members};
 ghost use Rattle.value_domain.specs.State.{join_of};
 ghost use Rattle.small_states.specs.Forms.{val_of};
-ghost use Rattle.small_states.specs.Kept.{given_of};
+ghost use Rattle.small_states.specs.Incoming.{given_of};
 
-use crate::asked::Given;
+use crate::incoming::Given;
 use depth_cert::write_value;
 use std::alloc::{AllocError, Global};
 use std::marker::Model;
@@ -20,7 +20,8 @@ use value_domain::{
 };
 use vd_transfer::only_word;
 
-/// All words, one word, a whole value that copies share (a set of more words), or another range.
+/// All words, a single word, a whole value that copies share (a set of several words), or another
+/// range.
 #[derive(Drop)]
 pub(crate) enum Form {
     Any,
@@ -69,7 +70,8 @@ fn is_the_range(v: &Val, lo: u32, last: u32, step: u8) -> bool
     }
 }
 
-/// Whether two values are sets of the same words. Of sets of the same length all words are compared, several at once.
+/// Returns true only if both values are sets of the same words. It compares all words of sets of
+/// the same length, since that takes several at once.
 #[inline(never)]
 fn have_same_words(v: &Val, w: &Val) -> bool
     ensures { IsTrue result → v.now ≡ w.now }
@@ -92,7 +94,8 @@ fn have_same_words(v: &Val, w: &Val) -> bool
     same
 }
 
-/// How many of the words are among others, up to the first that isn't. Both ascend and are walked once.
+/// Returns the number of words that are among others, up to the first that isn't. Both ascend, and
+/// are walked once.
 fn held_before(own: &[u32], words: &[u32]) -> usize
     requires own { Rising own.now }
     requires words { Rising words.now }
@@ -114,7 +117,8 @@ fn held_before(own: &[u32], words: &[u32]) -> usize
     n
 }
 
-/// Whether each member of a value is one of another; of two sets the greatest words are compared first.
+/// Returns whether each member of a value is one of another. Of two sets it compares the greatest
+/// words first.
 fn are_below(v: &Val, own: &Val) -> bool
     requires value { IsWell v.now }
     requires own { IsWell own.now }
@@ -132,7 +136,8 @@ fn are_below(v: &Val, own: &Val) -> bool
     held_before(held, words) == words.len()
 }
 
-/// A range that isn't all words. The call keeps the test before it a jump, where all words are most of what is tested.
+/// Returns a range that isn't all words. Since this is a call, the test before it stays a jump, and
+/// most tested values are all words.
 #[inline(never)]
 fn range_of(lo: u32, last: u32, step: u8) -> Form
     ensures { val_of result ≡ Span lo last step }
@@ -140,9 +145,10 @@ fn range_of(lo: u32, last: u32, step: u8) -> Form
     Form::Range { lo, last, step }
 }
 
-// What needs room for a whole value stands in functions of its own, so that the others have no such room to fill.
+// Code that needs room for a whole value is in functions of its own, so that the others have no
+// such room to fill.
 impl Small {
-    /// A copy of a whole value.
+    /// Returns a copy of a whole value.
     #[inline(never)]
     fn of_many(alloc: Global, v: &Val) -> Result<Small, AllocError>
         ensures { IfOk result (λ s. s ≡ v.now) }
@@ -151,7 +157,7 @@ impl Small {
         Ok(Small { form })
     }
 
-    /// A value, which isn't copied where it has several words.
+    /// Returns a compact value. If it is a set of several words, it isn't copied.
     #[inline(never)]
     fn of_own(alloc: Global, v: Val) -> Result<Small, AllocError>
         ensures { IfOk result (λ s. s ≡ v) }
@@ -163,7 +169,7 @@ impl Small {
         Small::of(alloc, &v)
     }
 
-    /// A value.
+    /// Returns a copy of a value.
     #[inline(always)]
     pub fn of(alloc: Global, v: &Val) -> Result<Small, AllocError>
         ensures { IfOk result (λ s. s ≡ v.now) }
@@ -178,7 +184,7 @@ impl Small {
                 Small::of_many(alloc, v)
             }
             Val::Span { lo, last, step } => {
-                // all words have a form of their own, which is told at once
+                // All words have a form of their own, which is recognised at once.
                 if *lo == 0 && *last == u32::MAX && *step == 0 {
                     return Ok(Small { form: Form::Any });
                 }
@@ -188,7 +194,7 @@ impl Small {
         }
     }
 
-    /// The value.
+    /// Returns the whole value.
     #[inline(never)]
     pub fn value(&self) -> Val
         ensures { result ≡ self.now }
@@ -205,7 +211,7 @@ impl Small {
         }
     }
 
-    /// Whether it holds all words.
+    /// Returns whether it holds all words.
     #[inline(always)]
     pub fn is_any(&self) -> bool
         ensures { IsTrue result ↔ (self.now ≡ any_val) }
@@ -221,7 +227,7 @@ impl Small {
         }
     }
 
-    /// Whether it is seen at once to be this value.
+    /// Returns true only if it is this value.
     #[inline(always)]
     pub fn is_same(&self, v: &Val) -> bool
         ensures { IsTrue result → v.now ≡ self.now }
@@ -237,7 +243,7 @@ impl Small {
         }
     }
 
-    /// The word that it is, in this form.
+    /// Returns the word if it has the form of a single word.
     #[inline(always)]
     pub(crate) fn word(&self) -> Option<u32>
         ensures { IfSome result (λ x. self.now ≡ Set (x ∷ [])) }
@@ -248,7 +254,8 @@ impl Small {
         }
     }
 
-    /// Whether it is seen at once to be this value in little room, by its form; of a word it is told before the call.
+    /// Returns true only if it is this compact value. The caller has asked for a single word
+    /// before.
     #[inline(never)]
     fn is_equal_form(&self, v: &Small) -> bool
         ensures { IsTrue result → v.now ≡ self.now }
@@ -268,7 +275,7 @@ impl Small {
         }
     }
 
-    /// Whether it is seen at once to be this value in little room.
+    /// Returns true only if it is this compact value.
     #[inline(always)]
     pub(crate) fn is_equal(&self, v: &Small) -> bool
         ensures { IsTrue result → v.now ≡ self.now }
@@ -279,7 +286,7 @@ impl Small {
         self.is_equal_form(v)
     }
 
-    /// A copy, whatever it holds; of all words and of one it is told before the call.
+    /// Returns a copy. The caller has asked for all words and a single word before.
     #[inline(never)]
     fn copy_any(&self) -> Result<Small, AllocError>
         ensures { IfOk result (λ s. s ≡ self.now) }
@@ -297,7 +304,7 @@ impl Small {
         Ok(Small { form })
     }
 
-    /// A copy.
+    /// Returns a copy.
     #[inline(always)]
     pub(crate) fn copy(&self) -> Result<Small, AllocError>
         ensures { IfOk result (λ s. s ≡ self.now) }
@@ -311,7 +318,7 @@ impl Small {
         }
     }
 
-    /// What is given, in little room.
+    /// Returns a compact copy of an incoming value.
     #[inline(always)]
     pub(crate) fn of_given(alloc: Global, v: &Given) -> Result<Small, AllocError>
         ensures { IfOk result (λ s. s ≡ given_of v.now) }
@@ -338,7 +345,7 @@ impl Small {
         }
     }
 
-    /// Adds the value's one spelling to `out`, by the whole value.
+    /// Appends the only bytes that spell the value. It makes the whole value first.
     #[inline(never)]
     pub(crate) fn spell(&self, out: &mut Vec<u8>) -> Result<(), NoMemory>
         requires { IsWell self.now }
@@ -347,7 +354,7 @@ impl Small {
         write_value(out, &self.value())
     }
 
-    /// Whether a word is one of its own.
+    /// Returns whether a word is one of its members.
     #[inline(always)]
     fn has(&self, x: u32) -> bool
         ensures { IsTrue result ↔ IsMember x self.now }
@@ -367,7 +374,7 @@ impl Small {
         }
     }
 
-    /// Whether each member of a value is one of its own, by both values whole.
+    /// Returns whether it has all members of a value. It compares whole values.
     #[inline(never)]
     fn covers_whole(&self, v: &Val) -> bool
         requires own { IsWell self.now }
@@ -377,7 +384,7 @@ impl Small {
         leq(v, &self.value())
     }
 
-    /// Whether each member of a value is one of its own.
+    /// Returns whether it has all members of a value.
     #[inline(always)]
     pub fn covers(&self, v: &Val) -> bool
         requires own { IsWell self.now }
@@ -403,7 +410,7 @@ impl Small {
         }
     }
 
-    /// Whether it is a word or a set, and the other has more words.
+    /// Returns whether it is a word or a set and the other has more words.
     pub(crate) fn has_fewer(&self, v: &Val) -> bool {
         let most = match v.words() {
             Some(words) => words.len(),
@@ -419,7 +426,8 @@ impl Small {
         }
     }
 
-    /// Whether both are ranges, and it is seen by their ends and steps to hold the other.
+    /// Returns true only if both are ranges, and the ends and steps show that it has all members of
+    /// the other.
     #[inline(always)]
     fn is_range_around(&self, v: &Small) -> bool
         ensures { IsTrue result → IsBelow v.now self.now }
@@ -437,7 +445,8 @@ impl Small {
         }
     }
 
-    /// Whether each member of a value in little room is one of its own, by the form of that value. Equal ones are told before.
+    /// Returns whether it has all members of a compact value. The caller has asked for an equal one
+    /// before.
     #[inline(never)]
     fn covers_packed(&self, v: &Small) -> bool
         requires own { IsWell self.now }
@@ -456,7 +465,7 @@ impl Small {
         }
     }
 
-    /// Whether each member of a value in little room is one of its own.
+    /// Returns whether it has all members of a compact value.
     #[inline(always)]
     pub(crate) fn covers_small(&self, v: &Small) -> bool
         requires own { IsWell self.now }
@@ -469,7 +478,7 @@ impl Small {
         self.covers_packed(v)
     }
 
-    /// Whether each member of what is given is one of its own.
+    /// Returns whether it has all members of an incoming value.
     #[inline(always)]
     pub(crate) fn covers_given(&self, v: &Given) -> bool
         requires own { IsWell self.now }
@@ -482,7 +491,7 @@ impl Small {
         }
     }
 
-    /// The least value that holds both, by both values whole.
+    /// Returns the least value with the members of both. It joins whole values.
     #[inline(never)]
     fn join_whole(&self, alloc: Global, b: &Bounds, v: &Val) -> Result<Small, AllocError>
         requires own { IsValue b.now self.now }
@@ -495,7 +504,7 @@ impl Small {
         }
     }
 
-    /// The least value that holds it and these words. They are added to a copy of it.
+    /// Returns the least value with its members and these words. It adds them to a copy.
     #[inline(never)]
     fn with_words(&self, alloc: Global, b: &Bounds, words: &[u32]) -> Result<Small, AllocError>
         requires own { IsValue b.now self.now }
@@ -511,7 +520,7 @@ impl Small {
         Small::of(alloc, &out)
     }
 
-    /// The least value that holds these words, a set's, and others.
+    /// Returns the least value with these words, a set's, and others.
     #[inline(never)]
     fn with_others(
         alloc: Global,
@@ -532,9 +541,8 @@ impl Small {
         Small::of(alloc, &out)
     }
 
-    /// The least value that holds it and these words, a set's. A word is added to them. Of two sets the fewer words are added to the
-    /// others: its own, or those of these from the first on that it hasn't; but where its own aren't fewer and more than sixteen are
-    /// missing, both are joined whole.
+    /// Returns the least value with its members and these words, a set's. Of two sets it adds the
+    /// fewer words to the others. If more than 16 are missing, it joins whole values.
     #[inline(never)]
     fn join_words(
         &self,
@@ -571,7 +579,7 @@ impl Small {
         self.with_words(alloc, b, &words[n..])
     }
 
-    /// The least value that holds both.
+    /// Returns the least value with the members of both.
     #[inline(always)]
     pub fn join(&self, alloc: Global, b: &Bounds, v: &Val) -> Result<Small, AllocError>
         requires own { IsValue b.now self.now }
@@ -592,7 +600,8 @@ impl Small {
         }
     }
 
-    /// The least value that holds both, by the form of the other. Equal ones are told before.
+    /// Returns the least value with the members of both. The caller has asked for an equal one
+    /// before.
     #[inline(never)]
     fn join_packed(&self, alloc: Global, b: &Bounds, v: &Small) -> Result<Small, AllocError>
         requires own { IsValue b.now self.now }
@@ -611,7 +620,7 @@ impl Small {
         }
     }
 
-    /// The least value that holds both.
+    /// Returns the least value with the members of both.
     #[inline(always)]
     pub(crate) fn join_given(
         &self,

@@ -1,30 +1,32 @@
-// Values one after another, of which only those take room of which something is known.
+// Sparse lists of values: only known values take room. A value is unknown if it holds all words.
 ghost use Rattle.std.specs.Prelude.{◌≡◌, ◌+◌, ◌-◌, ◌^◌, ◌<◌, ◌≤◌, ◌++◌, ◌∷◌, [], IfOk, OnOk, length, replicate, take, slice_index_or, slice_set};
 ghost use Rattle.value_domain.specs.Values.{any_val};
-ghost use Rattle.small_states.specs.Kept.{given_of};
+ghost use Rattle.small_states.specs.Incoming.{given_of};
 ghost use Rattle.small_states.specs.declared.sparse.SpacedValue as spaced;
 ghost use Rattle.small_states.specs.Wholes.{IsFoundIn, all_values, front, values_from};
 
-use crate::asked::Given;
+use crate::incoming::Given;
 use crate::small::{Form, Small};
 use std::alloc::{AllocError, Global};
 use value_domain::{Val, write_any};
 
-/// A value behind so many of which nothing is known.
+/// A known value after a number of unknown ones.
 #[derive(Drop)]
 pub struct SpacedValue {
+    /// The number of unknown values before it.
     pub(crate) anys: u32,
     pub(crate) value: Small,
 }
 
-/// Values in their order: those of which something is known, and how many stand behind the last of them.
+/// A list of values: the known ones, and the number of unknown ones after the last of them.
 #[derive(Drop)]
 pub struct Values {
     pub(crate) known: Vec<SpacedValue>,
+    /// The number of unknown values at the end.
     pub(crate) rest: u32,
 }
 
-/// Writes the value that holds all words at the places from one on and before another.
+/// Writes unknown values to the places from `from` to before `to`.
 #[inline(always)]
 fn write_anys(out: &mut [Val; 27], from: usize, to: usize)
     requires ordered { from ≤ to }
@@ -38,7 +40,7 @@ fn write_anys(out: &mut [Val; 27], from: usize, to: usize)
 }
 
 impl Values {
-    /// Adds so many values of which nothing is known.
+    /// Appends `count` unknown values.
     #[inline(always)]
     pub(crate) fn add_anys(&mut self, count: u32)
         requires { length (all_values self.old) + count < 2 ^ 32 }
@@ -47,7 +49,7 @@ impl Values {
         self.rest += count;
     }
 
-    /// Adds a value in little room.
+    /// Appends a compact value.
     #[inline(always)]
     pub(crate) fn add_small(&mut self, value: Small) -> Result<(), AllocError>
         requires { length (all_values self.old) + 1 < 2 ^ 32 }
@@ -63,7 +65,7 @@ impl Values {
         Ok(())
     }
 
-    /// Adds so many values of which nothing is known, and one behind them.
+    /// Appends `anys` unknown values and then a value.
     #[inline(always)]
     pub(crate) fn add_spaced(&mut self, anys: u32, value: Small) -> Result<(), AllocError>
         requires { length (all_values self.old) + anys + 1 < 2 ^ 32 }
@@ -74,7 +76,8 @@ impl Values {
         self.add_small(value)
     }
 
-    /// Where a place lies: behind how many known values, and behind how many others of which nothing is known before the next.
+    /// Finds a place: returns the number of known values before it, and the number of unknown ones
+    /// between.
     #[inline(always)]
     fn find(&self, i: usize) -> (usize, usize)
         ensures { IsFoundIn self.now i result.0 result.1 }
@@ -91,7 +94,7 @@ impl Values {
         (known.len(), left)
     }
 
-    /// The value at a place; `any` stands for each of which nothing is known.
+    /// Returns the value at a place. `any` is returned for an unknown value.
     pub(crate) fn given_at<'a>(&'a self, any: &'a Small, i: usize) -> Given<'a>
         requires { any.now ≡ any_val }
         ensures { given_of result ≡ slice_index_or (all_values self.now) i any_val }
@@ -106,7 +109,8 @@ impl Values {
         Given::Packed(any)
     }
 
-    /// Puts a value behind the last known one and so many others, if there is a place; nothing changes where it holds all words.
+    /// Puts a value after the last known one and `anys` unknown ones. Nothing changes if there is
+    /// no such place.
     fn put_behind(&mut self, anys: usize, value: Small) -> Result<(), AllocError>
         ensures { OnOk result
             (all_values self.new
@@ -124,7 +128,8 @@ impl Values {
         Ok(())
     }
 
-    /// Puts a value behind so many known ones and so many others: over the next known one, or before it.
+    /// Puts a value after `n` known ones and `anys` unknown ones: over the next known value, or
+    /// before it.
     fn put_before(&mut self, n: usize, anys: usize, value: Small) -> Result<(), AllocError>
         requires within { n < length self.old.known.items }
         requires before { (d : spaced.SpacedValue)
@@ -183,14 +188,14 @@ impl Values {
         write_anys(out, at, 27);
     }
 
-    /// A copy, with room for one known value more.
+    /// Returns a copy with room for one more known value.
     pub(crate) fn copy(&self, alloc: Global) -> Result<Values, AllocError>
         ensures { IfOk result (λ copy. all_values copy ≡ all_values self.now) }
     {
         let own = self.known.as_slice();
         let mut known = Vec::with_capacity(alloc, own.len() + 1)?;
 
-        // Values that are one word come first as a rule, and are copied without a look at the other forms.
+        // Single words mostly come first. They are copied without a look at the other forms.
         let mut n = 0;
         while n < own.len() {
             let here = &own[n];
@@ -211,7 +216,7 @@ impl Values {
         Ok(Values { known, rest })
     }
 
-    /// Adds so many values of others, from a place on.
+    /// Appends `count` values of another list, from a place on.
     #[inline(always)]
     pub(crate) fn add_part(
         &mut self,

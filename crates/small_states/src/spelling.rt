@@ -1,4 +1,4 @@
-// The one spelling of values and states in little room, as certificates have it.
+// Writes the only bytes that spell compact values and states in a certificate.
 ghost use Rattle.std.specs.Prelude.{◌≡◌, ◌++◌, All, OnOk, Some, replicate};
 ghost use Rattle.std.specs.List.{flat_map};
 ghost use Rattle.value_domain.specs.Values.{IsWell};
@@ -19,8 +19,7 @@ fn byte_of(x: bool) -> u8
     if x { 1 } else { 0 }
 }
 
-/// Adds the bytes of a value behind so many that hold all words and behind those that were put together, and puts a set's
-/// together with them; by itself, as words are put before the call.
+/// Appends unknown values and then a known one. The caller has tried a single word before.
 #[inline(never)]
 fn put_spaced(
     out: &mut Vec<u8>,
@@ -42,7 +41,7 @@ fn put_spaced(
     v.spell(out)
 }
 
-/// Adds the bytes of values, one after another, behind those that were put together.
+/// Appends the bytes of all values of a list.
 #[inline(always)]
 fn put_values(out: &mut Vec<u8>, gathered: &mut Gathered, values: &Values) -> Result<(), NoMemory>
     requires { All IsWell (all_values values.now) }
@@ -60,7 +59,7 @@ fn put_values(out: &mut Vec<u8>, gathered: &mut Gathered, values: &Values) -> Re
 }
 
 impl SmallState {
-    /// Adds the bytes that spell the state to `out`.
+    /// Appends the bytes that spell the state.
     #[tactic(auto, unfolding(depth_cert::specs::Spelling::bytes_of_state))]
     pub(crate) fn spell(&self, out: &mut Vec<u8>) -> Result<(), NoMemory>
         requires { All IsWell (all_values self.now.regs.value) }
@@ -82,7 +81,7 @@ impl SmallState {
 }
 
 impl SmallExit {
-    /// Adds the bytes that spell the exit to `out`.
+    /// Appends the bytes that spell the exit.
     #[tactic(auto, unfolding(depth_cert::specs::Spelling::bytes_of_exit))]
     pub fn spell(&self, out: &mut Vec<u8>) -> Result<(), NoMemory>
         requires { All IsWell (all_values self.now.lower.value) }

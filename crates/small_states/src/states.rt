@@ -1,4 +1,4 @@
-// States and exits whose values are in little room.
+// States and exits with compact values.
 ghost use Rattle.std.specs.Prelude.{◌≡◌, ◌≤◌, ◌&&◌, ◌↔◌, IsTrue, IfOk, length};
 ghost use Rattle.value_domain.specs.State.{joined_locals};
 ghost use Rattle.small_states.specs.Wholes.{exit_in};
@@ -8,25 +8,33 @@ use arrayvec::ArrayVec;
 use std::alloc::AllocError;
 use std::rc::Rc;
 
-/// A state. Its values may be those of other states too.
+/// A state. Several states may share their values.
 #[derive(Drop)]
 pub struct SmallState {
+    /// The values of the registers, in the order of `State::regs`.
     pub regs: Rc<Values>,
+    /// Interrupts may be enabled.
     pub ie: bool,
+    /// CCPN is at least this.
     pub ccpn: u8,
+    /// The lower registers are those of the entry.
     pub lower: bool,
+    /// A flag for each lower context that the frame saved itself and hasn't restored.
     pub locals: ArrayVec<bool, 8>,
 }
 
-/// An exit. Its values may be those of its copies too.
+/// An exit. Its copies share its values.
 #[derive(Drop)]
 pub struct SmallExit {
+    /// Interrupts may be enabled.
     pub ie: bool,
+    /// CCPN is at least this.
     pub ccpn: u8,
+    /// The values of the lower registers D0 to D7 and A2 to A7.
     pub lower: Rc<Values>,
 }
 
-/// A copy of flags; as a rule there are none.
+/// Returns a copy of flags. Mostly there are none.
 pub fn copy_of(locals: &ArrayVec<bool, 8>) -> ArrayVec<bool, 8>
     ensures { result ≡ locals.now }
 {
@@ -43,7 +51,7 @@ fn and(a: bool, b: bool) -> bool
     a && b
 }
 
-/// The flags that are set in both lists.
+/// Returns the flags that are set in both lists.
 pub fn join_locals(s: &[bool], t: &[bool]) -> ArrayVec<bool, 8>
     requires same { length s.now ≡ length t.now }
     requires few { length s.now ≤ 8 }
@@ -58,7 +66,7 @@ pub fn join_locals(s: &[bool], t: &[bool]) -> ArrayVec<bool, 8>
 }
 
 impl SmallState {
-    /// Whether its context covers this one.
+    /// Returns whether its context covers this one.
     pub fn covers_context(&self, ie: bool, ccpn: u8, lower: bool) -> bool
         ensures { IsTrue result
             ↔ ((IsTrue ie → IsTrue self.now.ie) × (self.now.ccpn ≤ ccpn)
@@ -69,7 +77,7 @@ impl SmallState {
 }
 
 impl SmallExit {
-    /// A copy.
+    /// Returns a copy.
     pub fn copy(&self) -> Result<SmallExit, AllocError>
         ensures { IfOk result (λ x. exit_in x ≡ exit_in self.now) }
     {
@@ -81,7 +89,7 @@ impl SmallExit {
         })
     }
 
-    /// Whether its IE and CCPN cover these.
+    /// Returns whether its IE and CCPN cover these.
     pub fn covers_context(&self, ie: bool, ccpn: u8) -> bool
         ensures { IsTrue result ↔ ((IsTrue ie → IsTrue self.now.ie) × (self.now.ccpn ≤ ccpn)) }
     {

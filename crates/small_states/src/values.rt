@@ -1,11 +1,11 @@
-// Lists of values in little room: made from what duties ask for, compared with it, joined with it.
+// Lists of compact values: made from what flows in, compared with it, joined with it.
 ghost use Rattle.std.specs.Prelude.{◌≡◌, ◌↔◌, IsTrue, IfOk, OnOk, length};
 ghost use Rattle.value_domain.specs.State.{AreBelow, AreValues, AreWell, joined_regs};
 ghost use Rattle.vd_transfer.specs.Changes.{put_in, state_after};
-ghost use Rattle.small_states.specs.Kept.{asking, values_asked};
+ghost use Rattle.small_states.specs.Incoming.{sender_state, incoming_values};
 ghost use Rattle.small_states.specs.Wholes.{all_values};
 
-use crate::asked::{Asked, asked_value, count_asked};
+use crate::incoming::{Incoming, count_incoming, incoming_value};
 use crate::small::{Form, Small};
 use crate::sparse::Values;
 use std::alloc::{AllocError, Global};
@@ -13,37 +13,38 @@ use std::rc::Rc;
 use value_domain::{Bounds, State};
 use vd_transfer::{Base, Change, Put};
 
-/// The values that are asked for, place by place; by itself, as it has room for a whole value.
+/// Returns the incoming values, place by place. It is a call of its own, since it has room for a
+/// whole value.
 #[inline(never)]
-pub(crate) fn packed(alloc: Global, asked: &Asked) -> Result<Values, AllocError>
-    ensures { IfOk result (λ values. all_values values ≡ values_asked asked.now) }
+pub(crate) fn pack_values(alloc: Global, incoming: &Incoming) -> Result<Values, AllocError>
+    ensures { IfOk result (λ values. all_values values ≡ incoming_values incoming.now) }
 {
     let any = Small { form: Form::Any };
-    let count = count_asked(asked);
+    let count = count_incoming(incoming);
     let mut values = Values {
         known: Vec::with_capacity(alloc, 0)?,
         rest: 0,
     };
     for i in 0..count {
-        let value = Small::of_given(alloc, &asked_value(&*asked, &any, i))?;
+        let value = Small::of_given(alloc, &incoming_value(&*incoming, &any, i))?;
         values.add_small(value)?;
     }
     Ok(values)
 }
 
-/// The same for a point whose values are at hand in little room.
+/// Returns the incoming values, from a point whose compact values are at hand.
 #[inline(never)]
-fn packed_own(alloc: Global, own: &Values, asked: &Asked) -> Result<Values, AllocError>
-    requires { all_values own.now ≡ (asking asked.now).regs }
-    ensures { IfOk result (λ values. all_values values ≡ values_asked asked.now) }
+fn pack_own(alloc: Global, own: &Values, incoming: &Incoming) -> Result<Values, AllocError>
+    requires { all_values own.now ≡ (sender_state incoming.now).regs }
+    ensures { IfOk result (λ values. all_values values ≡ incoming_values incoming.now) }
 {
     let mut values = Values {
         known: Vec::with_capacity(alloc, own.known.len())?,
         rest: 0,
     };
-    match asked {
-        Asked::Changed(_, _) => packed(alloc, asked),
-        Asked::After(s, exit, _) => {
+    match incoming {
+        Incoming::Changed(_, _) => pack_values(alloc, incoming),
+        Incoming::After(s, exit, _) => {
             let _regs = &s.regs[..];
             let lower = exit.lower.as_ref();
             values.add_part(lower, 0, 8)?;
@@ -52,7 +53,7 @@ fn packed_own(alloc: Global, own: &Values, asked: &Asked) -> Result<Values, Allo
             values.add_part(own, 22, 5)?;
             Ok(values)
         }
-        Asked::Leaving(s) => {
+        Incoming::Leaving(s) => {
             let _regs = &s.regs[..];
             values.add_part(own, 0, 8)?;
             values.add_part(own, 16, 6)?;
@@ -61,7 +62,7 @@ fn packed_own(alloc: Global, own: &Values, asked: &Asked) -> Result<Values, Allo
     }
 }
 
-/// Puts what a change puts over values, if it puts something.
+/// Puts a value of a change over a list, if there is one.
 #[inline(always)]
 fn put_over(alloc: Global, values: &mut Values, put: &Put) -> Result<(), AllocError>
     ensures { OnOk result (all_values values.new ≡ put_in (all_values values.old) put.now) }
@@ -73,9 +74,10 @@ fn put_over(alloc: Global, values: &mut Values, put: &Put) -> Result<(), AllocEr
     values.put(at, value)
 }
 
-/// The values of a state, and over them what a change puts; where it puts nothing they are shared.
+/// Returns a state's values after a change's values were put over them. If there are none, the list
+/// is shared.
 #[inline(always)]
-fn shared_over(alloc: Global, own: &Rc<Values>, c: &Change) -> Result<Rc<Values>, AllocError>
+fn put_all_over(alloc: Global, own: &Rc<Values>, c: &Change) -> Result<Rc<Values>, AllocError>
     ensures { IfOk result
         (λ values. all_values values.value
         ≡ put_in (put_in (put_in (all_values own.now.value) c.now.first) c.now.second)
@@ -91,8 +93,8 @@ fn shared_over(alloc: Global, own: &Rc<Values>, c: &Change) -> Result<Rc<Values>
     Ok(Rc::new(alloc, values)?)
 }
 
-/// The values of a changed state, which has these.
-fn packed_change(
+/// Returns the values of a changed state, from the state's compact values.
+fn pack_change(
     alloc: Global,
     own: &Rc<Values>,
     s: &State,
@@ -102,47 +104,51 @@ fn packed_change(
     ensures { IfOk result (λ values. all_values values.value ≡ (state_after s.now c.now).regs) }
 {
     match c.base {
-        Base::Same => shared_over(alloc, own, c),
+        Base::Same => put_all_over(alloc, own, c),
         _ => {
-            let values = packed(alloc, &Asked::Changed(s, c))?;
+            let values = pack_values(alloc, &Incoming::Changed(s, c))?;
             Ok(Rc::new(alloc, values)?)
         }
     }
 }
 
-/// The values that are asked for by a point whose state has these.
-pub(crate) fn packed_by(
+/// Returns the incoming values, from a point whose compact values are at hand.
+pub(crate) fn pack_for(
     alloc: Global,
     own: &Rc<Values>,
-    asked: &Asked,
+    incoming: &Incoming,
 ) -> Result<Rc<Values>, AllocError>
-    requires { all_values own.now.value ≡ (asking asked.now).regs }
-    ensures { IfOk result (λ values. all_values values.value ≡ values_asked asked.now) }
+    requires { all_values own.now.value ≡ (sender_state incoming.now).regs }
+    ensures { IfOk result (λ values. all_values values.value ≡ incoming_values incoming.now) }
 {
-    match asked {
-        Asked::Changed(s, c) => packed_change(alloc, own, s, c),
+    match incoming {
+        Incoming::Changed(s, c) => pack_change(alloc, own, s, c),
         _ => {
-            let values = packed_own(alloc, own.as_ref(), asked)?;
+            let values = pack_own(alloc, own.as_ref(), incoming)?;
             Ok(Rc::new(alloc, values)?)
         }
     }
 }
 
-/// Whether each value that is asked for is below the one at its place; where nothing is known there, none is looked up.
-pub(crate) fn are_covered(upper: &Values, asked: &Asked) -> bool
+/// Returns whether each incoming value is below the one at its place. Places of unknown values are
+/// skipped.
+pub(crate) fn are_covered(upper: &Values, incoming: &Incoming) -> bool
     requires upper { AreWell (all_values upper.now) }
-    requires asked { AreWell (values_asked asked.now) }
-    requires long { length (all_values upper.now) ≡ length (values_asked asked.now) }
-    ensures { IsTrue result ↔ AreBelow (values_asked asked.now) (all_values upper.now) }
+    requires incoming { AreWell (incoming_values incoming.now) }
+    requires long { length (all_values upper.now) ≡ length (incoming_values incoming.now) }
+    ensures { IsTrue result ↔ AreBelow (incoming_values incoming.now) (all_values upper.now) }
 {
-    let _count = count_asked(asked);
+    let _count = count_incoming(incoming);
     let any = Small { form: Form::Any };
     let known = upper.known.as_slice();
     let mut at = 0;
     for n in 0..known.len() {
         let here = &known[n];
         let place = at + here.anys as usize;
-        if !here.value.covers_given(&asked_value(&*asked, &any, place)) {
+        if !here
+            .value
+            .covers_given(&incoming_value(&*incoming, &any, place))
+        {
             return false;
         }
         at = place + 1;
@@ -150,8 +156,8 @@ pub(crate) fn are_covered(upper: &Values, asked: &Asked) -> bool
     true
 }
 
-/// Whether each of these values is seen to be below the one at its place among others, which have
-/// the same gaps.
+/// Returns true only if both lists have the same gaps and each value is below the other list's
+/// value at its place.
 pub(crate) fn are_all_below(low: &Values, high: &Values) -> bool
     requires low { AreWell (all_values low.now) }
     requires high { AreWell (all_values high.now) }
@@ -176,21 +182,21 @@ pub(crate) fn are_all_below(low: &Values, high: &Values) -> bool
     true
 }
 
-/// The least values that hold those at each place and those that are asked for there.
-pub(crate) fn joined(
+/// Returns the least values with the members of the known and the incoming ones at each place.
+pub(crate) fn join_values(
     alloc: Global,
     b: &Bounds,
     left: &Values,
-    asked: &Asked,
+    incoming: &Incoming,
 ) -> Result<Values, AllocError>
     requires left { AreValues b.now (all_values left.now) }
-    requires asked { AreValues b.now (values_asked asked.now) }
-    requires long { length (all_values left.now) ≡ length (values_asked asked.now) }
+    requires incoming { AreValues b.now (incoming_values incoming.now) }
+    requires long { length (all_values left.now) ≡ length (incoming_values incoming.now) }
     ensures { IfOk result
         (λ values. all_values values
-        ≡ joined_regs b.now (all_values left.now) (values_asked asked.now)) }
+        ≡ joined_regs b.now (all_values left.now) (incoming_values incoming.now)) }
 {
-    let _count = count_asked(asked);
+    let _count = count_incoming(incoming);
     let any = Small { form: Form::Any };
     let known = left.known.as_slice();
     let mut values = Values {
@@ -204,7 +210,7 @@ pub(crate) fn joined(
         let place = at + anys as usize;
         let value = here
             .value
-            .join_given(alloc, b, &asked_value(&*asked, &any, place))?;
+            .join_given(alloc, b, &incoming_value(&*incoming, &any, place))?;
         values.add_spaced(anys, value)?;
         at = place + 1;
     }

@@ -2,7 +2,7 @@ use Rattle.std.proofs.Common.{◌∙◌, sym, arith}
 use Rattle.std.proofs.lemmas.List.{get_or_default, get_or-replicate}
 use Rattle.value_domain.specs.Values.{any_val}
 use Rattle.vd_transfer.proofs.ChangeLaws.{forgotten-lower, forgotten-other}
-use Rattle.small_states.proofs.asked.base_given.Goals as goal
+use Rattle.small_states.proofs.incoming.base_given.Goals as goal
 
 pub returns-then-is_lower_slot : goal.returns-then-is_lower_slot
 returns-then-is_lower_slot c =

@@ -1,7 +1,7 @@
 use Rattle.std.proofs.Common.{◌∙◌, sym, arith}
 use Rattle.vd_transfer.proofs.ChangeLaws.{value-third, value-second, value-first}
-use Rattle.small_states.proofs.AskedLemmas.{is_place, other_place}
-use Rattle.small_states.proofs.asked.changed_given.Goals as goal
+use Rattle.small_states.proofs.IncomingLemmas.{is_place, other_place}
+use Rattle.small_states.proofs.incoming.changed_given.Goals as goal
 
 pub returns-then-eq : goal.returns-then-eq
 returns-then-eq c =

@@ -1,5 +1,5 @@
 use Rattle.std.proofs.Common.{refl}
-use Rattle.small_states.proofs.asked.context_of.Goals as goal
+use Rattle.small_states.proofs.incoming.context_of.Goals as goal
 
 pub returns-in-Changed : goal.returns-in-Changed
 returns-in-Changed c = rw (c.priority-ccpn.ensures, c.in-Changed.is) refl

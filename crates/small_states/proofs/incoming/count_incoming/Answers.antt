@@ -2,7 +2,7 @@ use Rattle.std.proofs.Common.{sym, arith}
 use Rattle.vd_transfer.proofs.ChangeLaws.{length-changed}
 use Rattle.depth_cert.proofs.ExitValues.{with_lower_length}
 use Rattle.small_states.specs.Wholes.{all_values}
-use Rattle.small_states.proofs.asked.count_asked.Goals as goal
+use Rattle.small_states.proofs.incoming.count_incoming.Goals as goal
 
 pub returns-in-Changed-clause-long : goal.returns-in-Changed-clause-long
 returns-in-Changed-clause-long c = rw c.in-Changed.is (sym (length-changed c.in-Changed.s.now c.in-Changed.field-1.now (omega arith)))

@@ -1,4 +1,4 @@
-use Rattle.small_states.proofs.cells.covers_state.Goals as goal
+use Rattle.small_states.proofs.known.covers_state.Goals as goal
 
 pub returns : goal.returns
 returns c =

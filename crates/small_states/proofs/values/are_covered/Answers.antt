@@ -1,7 +1,7 @@
 use Rattle.std.proofs.Common.{◌≡◌, ◌∙◌, ◌+◌, List, length, true, false, refl, subst, ap, sym, arith}
 use Rattle.std.proofs.lemmas.List.{take_all}
 use Rattle.value_domain.specs.Values.{IsWell}
-use Rattle.small_states.specs.Kept.{values_asked}
+use Rattle.small_states.specs.Incoming.{incoming_values}
 use Rattle.small_states.specs.declared.sparse.SpacedValue.{SpacedValue}
 use Rattle.small_states.specs.Wholes.{front}
 use Rattle.small_states.proofs.SparseLemmas.{covered_all, covered_here, covered_more, length-front, place_there, place_within}
@@ -12,9 +12,9 @@ overflow_add-place c =
     let v = c.as_slice-known.ensures.value in
     omega (
       arith,
-      c.count_asked-count.ensures.long,
-      c.count_asked-count.ensures.few,
-      place_within c.args.upper.now.known.items c.args.upper.now.rest (values_asked c.args.asked.now) c.requires.long c.requires.asked c.loop-n.n c.index-known-n.result
+      c.count_incoming-count.ensures.long,
+      c.count_incoming-count.ensures.few,
+      place_within c.args.upper.now.known.items c.args.upper.now.rest (incoming_values c.args.incoming.now) c.requires.long c.requires.incoming c.loop-n.n c.index-known-n.result
           (rw v at c.loop-n-test.true) (rw v at c.index-known-n.is) c.loop-n.at c.loop-n.invariant.0,
     )
 
@@ -23,16 +23,16 @@ overflow_add-at c =
     let v = c.as_slice-known.ensures.value in
     omega (
       arith,
-      c.count_asked-count.ensures.long,
-      c.count_asked-count.ensures.few,
-      place_within c.args.upper.now.known.items c.args.upper.now.rest (values_asked c.args.asked.now) c.requires.long c.requires.asked c.loop-n.n c.index-known-n.result
+      c.count_incoming-count.ensures.long,
+      c.count_incoming-count.ensures.few,
+      place_within c.args.upper.now.known.items c.args.upper.now.rest (incoming_values c.args.incoming.now) c.requires.long c.requires.incoming c.loop-n.n c.index-known-n.result
           (rw v at c.loop-n-test.true) (rw v at c.index-known-n.is) c.loop-n.at c.loop-n.invariant.0,
     )
 
-pub asked_value-requires-clause-place : goal.asked_value-requires-clause-place
-asked_value-requires-clause-place c =
+pub incoming_value-requires-clause-place : goal.incoming_value-requires-clause-place
+incoming_value-requires-clause-place c =
     let v = c.as_slice-known.ensures.value in
-    place_within c.args.upper.now.known.items c.args.upper.now.rest (values_asked c.args.asked.now) c.requires.long c.requires.asked c.loop-n.n c.index-known-n.result
+    place_within c.args.upper.now.known.items c.args.upper.now.rest (incoming_values c.args.incoming.now) c.requires.long c.requires.incoming c.loop-n.n c.index-known-n.result
     (rw v at c.loop-n-test.true) (rw v at c.index-known-n.is) c.loop-n.at c.loop-n.invariant.0
 
 pub covers_given-requires-clause-own : goal.covers_given-requires-clause-own
@@ -40,20 +40,20 @@ covers_given-requires-clause-own c =
     let v = c.as_slice-known.ensures.value in
     let known = c.args.upper.now.known.items in
     let rest = c.args.upper.now.rest in
-    let ws = values_asked c.args.asked.now in
+    let ws = incoming_values c.args.incoming.now in
     let here = c.index-known-n.result in
     let lt = rw v at c.loop-n-test.true in
     let is = rw v at c.index-known-n.is in
-    let within = place_within known rest ws c.requires.long c.requires.asked c.loop-n.n here lt is c.loop-n.at c.loop-n.invariant.0 in
-    subst IsWell (place_there known rest ws c.requires.long c.requires.asked c.loop-n.n here lt is c.loop-n.at c.loop-n.invariant.0)
+    let within = place_within known rest ws c.requires.long c.requires.incoming c.loop-n.n here lt is c.loop-n.at c.loop-n.invariant.0 in
+    subst IsWell (place_there known rest ws c.requires.long c.requires.incoming c.loop-n.n here lt is c.loop-n.at c.loop-n.invariant.0)
     (c.requires.upper (c.loop-n.at + here.anys) (omega (arith, c.requires.long, within)))
 
 pub covers_given-requires-clause-value : goal.covers_given-requires-clause-value
 covers_given-requires-clause-value c =
     let v = c.as_slice-known.ensures.value in
-    rw c.asked_value.ensures
-    (c.requires.asked (c.loop-n.at + c.index-known-n.result.anys)
-    (place_within c.args.upper.now.known.items c.args.upper.now.rest (values_asked c.args.asked.now) c.requires.long c.requires.asked c.loop-n.n c.index-known-n.result
+    rw c.incoming_value.ensures
+    (c.requires.incoming (c.loop-n.at + c.index-known-n.result.anys)
+    (place_within c.args.upper.now.known.items c.args.upper.now.rest (incoming_values c.args.incoming.now) c.requires.long c.requires.incoming c.loop-n.n c.index-known-n.result
     (rw v at c.loop-n-test.true) (rw v at c.index-known-n.is) c.loop-n.at c.loop-n.invariant.0))
 
 pub returns-then-not-covers_given : goal.returns-then-not-covers_given
@@ -61,13 +61,13 @@ returns-then-not-covers_given c =
     let v = c.as_slice-known.ensures.value in
     let known = c.args.upper.now.known.items in
     let rest = c.args.upper.now.rest in
-    let ws = values_asked c.args.asked.now in
-    let covers = rw c.asked_value.ensures at c.covers_given.ensures in (
+    let ws = incoming_values c.args.incoming.now in
+    let covers = rw c.incoming_value.ensures at c.covers_given.ensures in (
       (λ t. absurd (let g : false ≡ true = t in cc)),
       (λ below.
           sym c.if-not-covers_given.true
           ∙ covers.1
-          (covered_here known rest ws c.requires.long c.requires.asked c.loop-n.n c.index-known-n.result (rw v at c.loop-n-test.true) (rw v at c.index-known-n.is) c.loop-n.at
+          (covered_here known rest ws c.requires.long c.requires.incoming c.loop-n.n c.index-known-n.result (rw v at c.loop-n-test.true) (rw v at c.index-known-n.is) c.loop-n.at
           c.loop-n.invariant.0 below)),
     )
 
@@ -76,13 +76,13 @@ loop-n-preserved c =
     let v = c.as_slice-known.ensures.value in
     let known = c.args.upper.now.known.items in
     let rest = c.args.upper.now.rest in
-    let ws = values_asked c.args.asked.now in
+    let ws = incoming_values c.args.incoming.now in
     let here = c.index-known-n.result in
     let lt = rw v at c.loop-n-test.true in
     let is = rw v at c.index-known-n.is in
-    let covers = rw c.asked_value.ensures at c.covers_given.ensures in (
+    let covers = rw c.incoming_value.ensures at c.covers_given.ensures in (
       omega (arith, c.loop-n.invariant.0, length-front known rest c.loop-n.n here lt is),
-      covered_more known rest ws c.requires.long c.requires.asked c.loop-n.n here lt is c.loop-n.at c.loop-n.invariant.0 c.loop-n.invariant.1
+      covered_more known rest ws c.requires.long c.requires.incoming c.loop-n.n here lt is c.loop-n.at c.loop-n.invariant.0 c.loop-n.invariant.1
           (covers.0 c.if-not-covers_given.false),
     )
 
@@ -90,8 +90,8 @@ pub returns : goal.returns
 returns c =
     let v = c.as_slice-known.ensures.value in
     let known = c.args.upper.now.known.items in
-    let ws = values_asked c.args.asked.now in
+    let ws = incoming_values c.args.incoming.now in
     let whole = ap (λ (l : List SpacedValue). length (front l)) (take_all c.loop-n.n known (rw v at c.loop-n-test.false)) in (
-      (λ t. covered_all known c.args.upper.now.rest ws c.requires.long c.requires.asked (λ r h. c.loop-n.invariant.1 r (omega (arith, c.loop-n.invariant.0, whole, h)))),
+      (λ t. covered_all known c.args.upper.now.rest ws c.requires.long c.requires.incoming (λ r h. c.loop-n.invariant.1 r (omega (arith, c.loop-n.invariant.0, whole, h)))),
       (λ below. refl),
     )

@@ -3,19 +3,19 @@ use Rattle.std.proofs.lemmas.List.{take_all}
 use Rattle.value_domain.specs.declared.values.Val.{Val}
 use Rattle.value_domain.specs.State.{join_of, joined_regs}
 use Rattle.value_domain.specs.Values.{IsValue, any_val}
-use Rattle.small_states.specs.Kept.{values_asked}
+use Rattle.small_states.specs.Incoming.{incoming_values}
 use Rattle.small_states.specs.Wholes.{all_values, front}
 use Rattle.small_states.specs.declared.sparse.SpacedValue.{SpacedValue}
 use Rattle.small_states.proofs.SparseLemmas.{all_few, is_within, joined_few, joined_more, joined_rest, known_place, length-front}
-use Rattle.small_states.proofs.values.joined.Goals as goal
+use Rattle.small_states.proofs.values.join_values.Goals as goal
 
 pub overflow_add-place : goal.overflow_add-place
 overflow_add-place c =
     let v = c.as_slice-known.ensures.value in
     omega (
       arith,
-      c.count_asked-count.ensures.long,
-      c.count_asked-count.ensures.few,
+      c.count_incoming-count.ensures.long,
+      c.count_incoming-count.ensures.few,
       c.requires.long,
       c.loop-n.invariant.0,
       ap (λ (s : SpacedValue). s.anys) c.index-known-n.is,
@@ -27,16 +27,16 @@ overflow_add-at c =
     let v = c.as_slice-known.ensures.value in
     omega (
       arith,
-      c.count_asked-count.ensures.long,
-      c.count_asked-count.ensures.few,
+      c.count_incoming-count.ensures.long,
+      c.count_incoming-count.ensures.few,
       c.requires.long,
       c.loop-n.invariant.0,
       ap (λ (s : SpacedValue). s.anys) c.index-known-n.is,
       is_within c.args.left.now.known.items c.args.left.now.rest c.loop-n.n c.index-known-n.result (rw v at c.loop-n-test.true) (rw v at c.index-known-n.is),
     )
 
-pub asked_value-requires-clause-place : goal.asked_value-requires-clause-place
-asked_value-requires-clause-place c =
+pub incoming_value-requires-clause-place : goal.incoming_value-requires-clause-place
+incoming_value-requires-clause-place c =
     let v = c.as_slice-known.ensures.value in
     omega (
       arith,
@@ -62,8 +62,8 @@ join_given-requires-clause-value c =
     let v = c.as_slice-known.ensures.value in
     let known = c.args.left.now.known.items in
     let here = c.index-known-n.result in
-    rw c.asked_value.ensures
-    (c.requires.asked (c.loop-n.at + here.anys)
+    rw c.incoming_value.ensures
+    (c.requires.incoming (c.loop-n.at + here.anys)
     (omega (
       arith,
       c.requires.long,
@@ -79,13 +79,13 @@ add_spaced-requires c =
     let within = is_within known c.args.left.now.rest c.loop-n.n c.index-known-n.result (rw v at c.loop-n-test.true) (rw v at c.index-known-n.is) in
     omega (
       arith,
-      c.count_asked-count.ensures.long,
-      c.count_asked-count.ensures.few,
+      c.count_incoming-count.ensures.long,
+      c.count_incoming-count.ensures.few,
       c.requires.long,
       c.loop-n.invariant.0,
       ap (λ (s : SpacedValue). s.anys) c.index-known-n.is,
       within,
-      joined_few c.args.b.now known c.args.left.now.rest (values_asked c.args.asked.now) c.requires.long (all_values c.loop-n.values) c.loop-n.at (omega (arith, c.loop-n.invariant.0, within)) c.loop-n.invariant.1,
+      joined_few c.args.b.now known c.args.left.now.rest (incoming_values c.args.incoming.now) c.requires.long (all_values c.loop-n.values) c.loop-n.at (omega (arith, c.loop-n.invariant.0, within)) c.loop-n.invariant.1,
     )
 
 pub loop-n-preserved : goal.loop-n-preserved
@@ -94,29 +94,29 @@ loop-n-preserved c =
     let b = c.args.b.now in
     let known = c.args.left.now.known.items in
     let rest = c.args.left.now.rest in
-    let ws = values_asked c.args.asked.now in
+    let ws = incoming_values c.args.incoming.now in
     let here = c.index-known-n.result in
     let lt = rw v at c.loop-n-test.true in
     let is = rw v at c.index-known-n.is in
-    let joined = joined_regs b (all_values c.args.left.now) ws in (
+    let values = joined_regs b (all_values c.args.left.now) ws in (
       omega (arith, c.loop-n.invariant.0, ap (λ (s : SpacedValue). s.anys) c.index-known-n.is, length-front known rest c.loop-n.n here lt is),
       c.in_ok-add_spaced.ensures
           ∙ ap (λ (l : List Val). (l ++ replicate here.anys any_val) ++ c.in_ok-value.value ∷ []) c.loop-n.invariant.1
-          ∙ ap (λ (u : Val). (take c.loop-n.at joined ++ replicate here.anys any_val) ++ u ∷ [])
-          (c.in_ok-value.ensures ∙ ap (λ (u : Val). join_of b here.value u) c.asked_value.ensures)
-          ∙ sym (joined_more b known rest ws c.requires.long c.requires.left c.requires.asked c.loop-n.n here lt is c.loop-n.at c.loop-n.invariant.0),
+          ∙ ap (λ (u : Val). (take c.loop-n.at values ++ replicate here.anys any_val) ++ u ∷ [])
+          (c.in_ok-value.ensures ∙ ap (λ (u : Val). join_of b here.value u) c.incoming_value.ensures)
+          ∙ sym (joined_more b known rest ws c.requires.long c.requires.left c.requires.incoming c.loop-n.n here lt is c.loop-n.at c.loop-n.invariant.0),
     )
 
 pub add_anys-requires : goal.add_anys-requires
 add_anys-requires c =
     let v = c.as_slice-known.ensures.value in
     let known = c.args.left.now.known.items in
-    let ws = values_asked c.args.asked.now in
+    let ws = incoming_values c.args.incoming.now in
     let whole = ap (λ (l : List SpacedValue). length (front l)) (take_all c.loop-n.n known (rw v at c.loop-n-test.false)) in
     omega (
       arith,
-      c.count_asked-count.ensures.long,
-      c.count_asked-count.ensures.few,
+      c.count_incoming-count.ensures.long,
+      c.count_incoming-count.ensures.few,
       c.requires.long,
       c.loop-n.invariant.0,
       whole,
@@ -130,9 +130,9 @@ returns c =
     let b = c.args.b.now in
     let known = c.args.left.now.known.items in
     let rest = c.args.left.now.rest in
-    let ws = values_asked c.args.asked.now in
-    let joined = joined_regs b (all_values c.args.left.now) ws in
+    let ws = incoming_values c.args.incoming.now in
+    let values = joined_regs b (all_values c.args.left.now) ws in
     let whole = c.loop-n.invariant.0 ∙ ap (λ (l : List SpacedValue). length (front l)) (take_all c.loop-n.n known (rw v at c.loop-n-test.false)) in
     c.add_anys.ensures
-    ∙ ap (λ (l : List Val). l ++ replicate rest any_val) (c.loop-n.invariant.1 ∙ ap (λ (m : ℕ). take m joined) whole)
-    ∙ joined_rest b known rest ws c.requires.long c.requires.left c.requires.asked
+    ∙ ap (λ (l : List Val). l ++ replicate rest any_val) (c.loop-n.invariant.1 ∙ ap (λ (m : ℕ). take m values) whole)
+    ∙ joined_rest b known rest ws c.requires.long c.requires.left c.requires.incoming

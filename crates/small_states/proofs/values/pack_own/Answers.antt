@@ -5,21 +5,21 @@ use Rattle.value_domain.specs.Values.{any_val}
 use Rattle.small_states.specs.Wholes.{all_values, front, values_from}
 use Rattle.small_states.specs.declared.sparse.SpacedValue.{SpacedValue}
 use Rattle.small_states.specs.declared.sparse.Values.{Values}
-use Rattle.small_states.proofs.AskedLemmas.{after_parts, leaving_parts}
+use Rattle.small_states.proofs.IncomingLemmas.{after_parts, leaving_parts}
 use Rattle.small_states.proofs.SparseLemmas.{length-values_from}
-use Rattle.small_states.proofs.values.packed_own.Goals as goal
+use Rattle.small_states.proofs.values.pack_own.Goals as goal
 
 -- no values at first
 begun : (known : List SpacedValue) → known ≡ [] → front known ++ replicate 0 any_val ≡ []
 begun known none = ap (λ (l : List SpacedValue). front l ++ replicate 0 any_val) none
 
--- so many values more
+-- more values
 more : (old new vs : List Val) (from count n : ℕ) → new ≡ old ++ values_from vs from count → length old ≡ n → length new ≡ n + count
 more old new vs from count n e long =
     ap (λ (l : List Val). length l) e ∙ length-append old (values_from vs from count) ∙ ap (λ (m : ℕ). m + length (values_from vs from count)) long
     ∙ ap (λ (m : ℕ). n + m) (length-values_from vs from count)
 
--- a state's values after a call, by their parts
+-- the parts of a state's values after a call
 abbrev parts : List Val → List Val → List Val
 parts lower own = ((values_from lower 0 8 ++ values_from own 8 8) ++ values_from lower 8 6) ++ values_from own 22 5
 

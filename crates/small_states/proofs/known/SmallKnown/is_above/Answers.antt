@@ -1,15 +1,15 @@
 use Rattle.std.proofs.Common.{◌≡◌, ◌∙◌, sym, ap, subst}
 use Rattle.depth_cert.specs.Known.{CoversKnown, Known, state}
-use Rattle.small_states.specs.Kept.{known_of}
+use Rattle.small_states.specs.Incoming.{known_of}
 use Rattle.small_states.specs.Wholes.{state_in}
-use Rattle.small_states.proofs.cells.Cell.is_above.Goals as goal
+use Rattle.small_states.proofs.known.SmallKnown.is_above.Goals as goal
 
 pub returns : goal.returns
 returns c t =
     let upper = c.in-Point.upper in
-    let s = c.in-Point-kept.s in
+    let s = c.in-Point-form.s in
     let u : c.args.self.now ≡ state (state_in upper) = sym c.self.view_is ∙ ap known_of c.in-Point.is in
-    let l : c.args.low.now ≡ state (state_in s) = sym c.low.view_is ∙ ap known_of c.in-Point-kept.is in
+    let l : c.args.low.now ≡ state (state_in s) = sym c.low.view_is ∙ ap known_of c.in-Point-form.is in
     let regs = rw (c.as_ref.ensures, c.as_ref-2.ensures) at (c.are_all_below.ensures t) in
     let locals = rw (c.as_slice.ensures.value, c.as_slice-2.ensures.value) at (c.are_implied.ensures.0 c.if-not-are_implied.false) in
     subst (λ (w : Known). CoversKnown w c.args.low.now) (sym u)

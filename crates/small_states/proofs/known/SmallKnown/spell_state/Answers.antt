@@ -3,7 +3,7 @@ use Rattle.std.proofs.lemmas.List.{get_or_default}
 use Rattle.value_domain.specs.Values.{IsWell, any_val}
 use Rattle.depth_cert.specs.Known.{IsProper}
 use Rattle.small_states.specs.Wholes.{all_values, state_in}
-use Rattle.small_states.proofs.cells.Cell.spell_state.Goals as goal
+use Rattle.small_states.proofs.known.SmallKnown.spell_state.Goals as goal
 
 pub spell-requires : goal.spell-requires
 spell-requires c k d lt =

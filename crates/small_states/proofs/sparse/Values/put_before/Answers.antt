@@ -8,7 +8,7 @@ use Rattle.small_states.proofs.sparse.Values.put_before.Goals as goal
 abbrev anys : SpacedValue → ℕ
 anys s = s.anys
 
--- what is read twice is the same
+-- two reads give the same value
 same : (known : List SpacedValue) (n : ℕ) (s t : SpacedValue) → s ≡ slice_index_or known n s → t ≡ slice_index_or known n t → n < length known → s.anys ≡ t.anys
 same known n s t is is2 lt = ap anys (is ∙ get_or_default known n s t lt ∙ sym is2)
 
