@@ -1,11 +1,10 @@
--- The first place at which rule 16 fails, from what is found at the points one after another.
-use Rattle.std.proofs.Common.{◌≡◌, ℕ, ◌+◌, ◌^◌, ◌<◌, ◌≤◌, Bool, List, length, get_or, take, IsTrue, refl, sym, subst}
+-- The first place at which rule 16 fails, from tests of one point after another.
+use Rattle.std.proofs.Common.{◌≡◌, ℕ, ◌+◌, ◌^◌, ◌<◌, ◌≤◌, Bool, List, ◌∷◌, ◌++◌, length, get_or, take, IsTrue, refl, sym, subst}
 use Rattle.std.specs.Prelude.{All, Contains, ◌↔◌}
-use Rattle.std.proofs.lemmas.List.Elements.{All-contains}
+use Rattle.std.proofs.lemmas.List.Elements.{All-contains, All-same}
 use Rattle.elf_image.specs.Images.{ImageData}
 use Rattle.tcd_plan.specs.PlanData.{PlanData, IsPlan}
-use Rattle.tc_isa.specs.Shapes.{shape_of}
-use Rattle.tc_isa.specs.Insts.{InstData}
+use Rattle.tc_isa.specs.declared.shapes.Shape.{Shape}
 use Rattle.value_domain.specs.Limits.{Limits}
 use Rattle.depth_cert.specs.declared.keys.Key.{Key}
 use Rattle.depth_cert.specs.declared.points.Point.{Point}
@@ -19,15 +18,16 @@ use Rattle.cfg_recover.proofs.CodeLaws.{IsCode-one}
 use Rattle.cfg_recover.proofs.FirstFault.{all_done, least_point, in_cert, least_place, address_small}
 use Rattle.value_cells.specs.declared.cells.Cell.{Cell}
 use Rattle.value_cells.specs.Cells.{AreCells}
+use Rattle.value_cells.proofs.WalkedPoints.{met}
 use Rattle.value_cells.specs.Keeping.{KeepsCellsAt, KeepsCellsAtPoint, KeepsCells, BreaksCells, breaks_at, place_number, IsFirstBreak, IsNodeBreak}
 
 -- ---- a point
 module _ (b : Limits) (image : ImageData) (plan : PlanData) (cells : List Cell) (point : Point) where
   -- the instruction that is found is the one there
-  pub keeps_found : (inst : InstData) (n : ℕ) (r : Bool) → IsCode image plan point.addr (shape_of inst) n → (IsTrue r ↔ KeepsCellsAt b plan cells point.state (shape_of inst)) → IsTrue r ↔ KeepsCellsAtPoint b image plan cells point
-  keeps_found inst n r there both = (
-    λ t shape m code. subst (KeepsCellsAt b plan cells point.state) (IsCode-one image plan point.addr (shape_of inst) shape n m there code).0 (both.0 t),
-    λ keeps. both.1 (keeps (shape_of inst) n there),
+  pub keeps_found : (found : Shape) (n : ℕ) (r : Bool) → IsCode image plan point.addr found n → (IsTrue r ↔ KeepsCellsAt b plan cells point.state found) → IsTrue r ↔ KeepsCellsAtPoint b image plan cells point
+  keeps_found found n r there both = (
+    λ t shape m code. subst (KeepsCellsAt b plan cells point.state) (IsCode-one image plan point.addr found shape n m there code).0 (both.0 t),
+    λ keeps. both.1 (keeps found n there),
   )
 
   pub keeps_nothing : (HasCode image plan point.addr → ⊥) → KeepsCellsAtPoint b image plan cells point
@@ -46,6 +46,14 @@ module _ (b : Limits) (image : ImageData) (plan : PlanData) (cells : List Cell) 
     breaks = breaks;
     least = λ other. least_point Keeps node points same i point other rising lt at before;
   }
+
+-- the first point of a walk that doesn't keep the cells
+pub walked_breaks : (b : Limits) (image : ImageData) (plan : PlanData) (cells : List Cell) (node : NodeData) (done after : List Point) (point : Point) → ArePoints node.points → node.points ≡ done ++ point ∷ after
+    → All (KeepsCellsAtPoint b image plan cells) done → (KeepsCellsAtPoint b image plan cells point → ⊥) → IsNodeBreak b image plan cells node point.addr
+walked_breaks b image plan cells node done after point rising split keep breaks =
+    let m = met done after point in
+    let all : List Point = done ++ point ∷ after in
+    node_breaks b image plan cells node all (sym split) (length done) point rising m.0 m.1 (All-same (KeepsCellsAtPoint b image plan cells) (take (length done) all) done m.2 keep) breaks
 
 -- ---- a certificate
 module _ (image : ImageData) (plan : PlanData) (cells : List Cell) (cert : CertData) (is_cert : IsCert cert) (nodes : List NodeData) (same : nodes ≡ cert.nodes) where

@@ -11,6 +11,7 @@ pub mod CellPlan
 pub mod KeepingLaws
 pub mod LineForms
 pub mod ReadLaws
+pub mod WalkedPoints
 pub mod FaultLaws
 pub mod GrowthLaws
 pub mod PlainWords

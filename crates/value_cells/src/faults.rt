@@ -1,51 +1,42 @@
-// The first point of a certificate at which a store may leave the cells' bounds.
-ghost use Rattle.std.specs.Prelude.{◌≡◌, ◌≤◌, ◌+◌, ◌^◌, ◌↔◌, IsTrue, All, IfNone, IfSome};
+// Rule 16 at each point of a certificate in memory.
+ghost use Rattle.std.specs.Prelude.{◌≤◌, ◌+◌, ◌^◌, All, IfNone, IfSome};
 ghost use Rattle.value_domain.specs.State.{AreValues};
 ghost use Rattle.cfg_recover.specs.Accepting.{Accepts};
 ghost use Rattle.value_cells.specs.Cells as spec;
 ghost use Rattle.value_cells.specs.Cells.{AreCells};
 ghost use Rattle.value_cells.specs.Keeping.{KeepsCells, KeepsCellsAtPoint, IsFirstBreak, IsNodeBreak};
 
-use crate::cells::{Cell, Cells};
-use crate::keeping::keeps_at;
+use crate::cells::Cells;
 use crate::plans::with_cells;
-use cfg_recover::code_at;
-use depth_cert::{Cert, Key, Node, Point};
+use crate::rule::{Rule, keeps_point};
+use cfg_recover::KnownCodes;
+use depth_cert::{Cert, Key, Node};
 use elf_image::Image;
 use tcd_plan::Plan;
 use value_domain::Bounds;
 
-/// Whether the instruction at a point keeps the cells.
-fn keeps_point(b: &Bounds, image: &Image, plan: &Plan, point: &Point, cells: &[Cell]) -> bool
-    requires values { AreValues b.now point.now.state.regs }
-    requires cells { All (λ c. c.at + 4 ≤ 2 ^ 32) cells.now }
-    ensures { IsTrue result ↔ KeepsCellsAtPoint b.now image.now plan.now cells.now point.now }
-{
-    match code_at(image, plan, point.addr) {
-        Some((inst, _)) => keeps_at(b, plan, &inst, &point.state, cells),
-        None => true,
-    }
-}
-
-/// The first address of a node's points at which rule 16 fails.
-fn node_break(b: &Bounds, image: &Image, plan: &Plan, node: &Node, cells: &[Cell]) -> Option<u32>
-    requires values { All (λ p. AreValues b.now p.state.regs) node.now.points }
-    requires cells { All (λ c. c.at + 4 ≤ 2 ^ 32) cells.now }
-    ensures none { IfNone result
-        (All (KeepsCellsAtPoint b.now image.now plan.now cells.now) node.now.points) }
-    ensures some { IfSome result (IsNodeBreak b.now image.now plan.now cells.now node.now) }
+/// Returns the first address of a node's points at which rule 16 fails.
+fn node_break(rule: &Rule, codes: &mut KnownCodes, node: &Node) -> Option<u32>
+    requires values { All (λ p. AreValues rule.now.bounds.now p.state.regs) node.now.points }
+    requires cells { All (λ c. c.at + 4 ≤ 2 ^ 32) rule.now.cells.now }
+    ensures none { let r = rule.now in
+        IfNone result
+        (All (KeepsCellsAtPoint r.bounds.now r.image.now r.plan.now r.cells.now) node.now.points) }
+    ensures some { let r = rule.now in
+        IfSome result
+        (IsNodeBreak r.bounds.now r.image.now r.plan.now r.cells.now node.now) }
 {
     for point in &node.points {
-        if !keeps_point(b, image, plan, point, cells) {
+        if !keeps_point(rule, codes, point.addr, &point.state) {
             return Some(point.addr);
         }
     }
     None
 }
 
-/// The first place, by key and then by address, at which rule 16 fails for a certificate that the rules accept under the
-/// plan in which the cells are devices: some possible store touches a cell and isn't one of the cell's whole word, or may
-/// store a word outside its bounds.
+/// Returns the first key and address at which rule 16 fails: some possible store touches a cell,
+/// and isn't a store of the cell's whole word, or can store a word outside its bounds. The rules
+/// accept the certificate under the plan in which the cells are devices.
 pub fn cells_fault(image: &Image, plan: &Plan, cells: &Cells, cert: &Cert) -> Option<(Key, u32)>
     requires cells { AreCells plan.now cells.now }
     requires accepted { Accepts image.now (spec.with_cells plan.now cells.now) cert.now }
@@ -56,9 +47,16 @@ pub fn cells_fault(image: &Image, plan: &Plan, cells: &Cells, cert: &Cert) -> Op
 {
     let _areas = plan.areas;
     let other = with_cells(plan, cells);
-    let b = Bounds::of(&other, cert.version);
+    let bounds = Bounds::of(&other, cert.version);
+    let rule = Rule {
+        bounds: &bounds,
+        image,
+        plan: &other,
+        cells: cells.list(),
+    };
+    let mut codes = KnownCodes::new();
     for node in &cert.nodes {
-        if let Some(addr) = node_break(&b, image, &other, node, cells.list()) {
+        if let Some(addr) = node_break(&rule, &mut codes, node) {
             return Some((node.key, addr));
         }
     }

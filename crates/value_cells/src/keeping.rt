@@ -1,20 +1,20 @@
-// Whether stores keep the cells.
+// The test of rule 16: stores keep the cells' bounds.
 ghost use Rattle.std.specs.Prelude.{◌≤◌, ◌+◌, ◌^◌, ◌↔◌, ℕ, IsTrue, All};
-ghost use Rattle.tc_isa.specs.Shapes.{shape_of};
+ghost use Rattle.tc_isa.specs.Bounded.{IsShape};
 ghost use Rattle.value_domain.specs.Values.{IsWell, IsMember};
 ghost use Rattle.value_domain.specs.State.{AreValues};
 ghost use Rattle.store_ranges.specs.Accesses.{IsSize};
 ghost use Rattle.value_cells.specs.Keeping.{KeepsAll, KeepsFrom, FitsCell, AreWithin, IsKept, KeepsCellsAt};
 
 use crate::cells::Cell;
-use cfg_recover::address;
-use tc_isa::{Inst, Shape, shape};
+use tc_isa::Shape;
 use tcd_plan::Plan;
 use value_domain::{Bounds, State, Val, extent_of, member};
-use vd_transfer::reg;
+use vd_transfer::{address_by, reg};
 
-/// Whether a store of 1, 2 or 4 bytes (`size`), of any word of a value at any address of another, keeps each cell that it
-/// touches: it stores the cell's whole word, and one inside the cell's bounds.
+/// Returns whether a store keeps each cell that it touches: it stores the cell's whole word, and a
+/// number inside the cell's bounds. The store has 1, 2 or 4 bytes (`size`); its address can be any
+/// word of `at`, and what it stores any word of `stored`.
 pub(crate) fn keeps_cells(at: &Val, size: u8, stored: &Val, cells: &[Cell]) -> bool
     requires at { IsWell at.now }
     requires stored { IsWell stored.now }
@@ -30,7 +30,8 @@ pub(crate) fn keeps_cells(at: &Val, size: u8, stored: &Val, cells: &[Cell]) -> b
     true
 }
 
-/// Only accesses from at most three bytes below the cell to its last byte touch it.
+/// Returns whether a store keeps one cell. Only stores from at most three bytes below the cell up
+/// to its last byte touch it.
 fn keeps_cell(at: &Val, size: u8, stored: &Val, cell: &Cell) -> bool
     requires at { IsWell at.now }
     requires stored { IsWell stored.now }
@@ -49,7 +50,8 @@ fn keeps_cell(at: &Val, size: u8, stored: &Val, cell: &Cell) -> bool
     is_kept(x, at, fits, cell.at)
 }
 
-/// Whether the access is one of a whole word, and the value's words all lie in the cell's bounds.
+/// Returns whether the store is one of a whole word, and all words of the value are in the cell's
+/// bounds.
 fn fits_cell(size: u8, stored: &Val, cell: &Cell) -> bool
     requires { IsWell stored.now }
     ensures { IsTrue result ↔ FitsCell stored.now size cell.now }
@@ -57,7 +59,7 @@ fn fits_cell(size: u8, stored: &Val, cell: &Cell) -> bool
     size == 4 && is_within(stored, cell.lo, cell.hi)
 }
 
-/// Whether all words of a value lie in `lo..=hi`.
+/// Returns whether all words of a value are in `lo..=hi`.
 fn is_within(v: &Val, lo: u32, hi: u32) -> bool
     requires { IsWell v.now }
     ensures { IsTrue result ↔ AreWithin v.now lo hi }
@@ -66,7 +68,7 @@ fn is_within(v: &Val, lo: u32, hi: u32) -> bool
     lo <= words.least && words.greatest <= hi
 }
 
-/// Whether an access from x that is one of a value's is at the cell, and fits it.
+/// Returns whether x is no address of the value, or is the cell's, and the store fits the cell.
 fn is_kept(x: u32, at: &Val, fits: bool, cell: u32) -> bool
     requires { IsWell at.now }
     ensures { IsTrue result ↔ IsKept at.now fits cell x }
@@ -74,15 +76,16 @@ fn is_kept(x: u32, at: &Val, fits: bool, cell: u32) -> bool
     !member(x, at) || fits && x == cell
 }
 
-/// Whether the instruction at a point with this state keeps the cells: each of its possible stores does.
-pub(crate) fn keeps_at(b: &Bounds, plan: &Plan, inst: &Inst, s: &State, cells: &[Cell]) -> bool
+/// Returns whether an instruction of this shape, with this state before it, keeps the cells.
+pub(crate) fn keeps_at(b: &Bounds, plan: &Plan, shape: Shape, s: &State, cells: &[Cell]) -> bool
+    requires shape { IsShape shape }
     requires values { AreValues b.now s.now.regs }
     requires cells { All (λ c. c.at + 4 ≤ 2 ^ 32) cells.now }
-    ensures { IsTrue result ↔ KeepsCellsAt b.now plan.now cells.now s.now (shape_of inst.now) }
+    ensures { IsTrue result ↔ KeepsCellsAt b.now plan.now cells.now s.now shape }
 {
-    match shape(inst) {
+    match shape {
         Shape::Store { src, size, .. } => keeps_cells(
-            &address(b, plan, inst, s),
+            &address_by(b, plan, shape, s),
             size,
             &reg(plan, s, src),
             cells,

@@ -1,4 +1,4 @@
-//! Cells: words of ram that keep their bounds.
+//! Cells: words of ram, each with bounds that every store keeps.
 #![tactic(auto)]
 
 mod cells;
@@ -8,10 +8,13 @@ mod faults;
 mod keeping;
 mod laws;
 mod lines;
+mod packed_faults;
 mod plans;
+mod rule;
 
 pub use cells::{Cell, Cells};
 pub use errors::CellsErr;
 pub use faults::cells_fault;
 pub use laws::{cells_in_words, cells_keep_their_bounds, faults_of_cells};
+pub use packed_faults::cells_fault_packed;
 pub use plans::with_cells;

@@ -15,9 +15,9 @@ use Rattle.value_cells.proofs.faults.cells_fault.Goals as goal
 
 pub node_break-requires-clause-values : goal.node_break-requires-clause-values
 node_break-requires-clause-values c =
-    item_values c.args.image.now c.with_cells-other.result c.args.cert.now c.of-b.result c.deref-node-items.result.now c.loop-node.node-index c.node-item.result
+    item_values c.args.image.now c.with_cells-other.result c.args.cert.now c.of-bounds.result c.deref-node-items.result.now c.loop-node.node-index c.node-item.result
     (subst (λ (p : PlanData). Accepts c.args.image.now p c.args.cert.now) (sym c.with_cells-other.ensures) c.requires.accepted)
-    (c.of-b.ensures ∙ ap (λ (t : CertData). limits_for c.with_cells-other.result t.version) c.cert.view_is) (c.deref-node-items.ensures.value ∙ ap (λ (t : CertData). t.nodes) c.cert.view_is) c.loop-node-test.true c.node-item.is
+    (c.of-bounds.ensures ∙ ap (λ (t : CertData). limits_for c.with_cells-other.result t.version) c.cert.view_is) (c.deref-node-items.ensures.value ∙ ap (λ (t : CertData). t.nodes) c.cert.view_is) c.loop-node-test.true c.node-item.is
 
 pub node_break-requires-clause-cells : goal.node_break-requires-clause-cells
 node_break-requires-clause-cells c =
@@ -25,7 +25,7 @@ node_break-requires-clause-cells c =
 
 pub returns-in-Some-clause-some : goal.returns-in-Some-clause-some
 returns-in-Some-clause-some c =
-    let limits = c.of-b.ensures ∙ ap (λ (t : CertData). limits_for c.with_cells-other.result t.version) c.cert.view_is in
+    let limits = c.of-bounds.ensures ∙ ap (λ (t : CertData). limits_for c.with_cells-other.result t.version) c.cert.view_is in
     let same = c.deref-node-items.ensures.value ∙ ap (λ (t : CertData). t.nodes) c.cert.view_is in
     let found = subst (λ (b : Limits). IsNodeBreak b c.args.image.now c.with_cells-other.result c.list.result.now c.node-item.result c.in-Some.addr) limits c.in-Some.ensures.some in
     let breaks = subst (λ (l : List Cell). IsNodeBreak (limits_in c.with_cells-other.result c.args.cert.now) c.args.image.now c.with_cells-other.result l c.node-item.result c.in-Some.addr) c.list.ensures found in
@@ -37,7 +37,7 @@ returns-in-Some-clause-some c =
 
 pub loop-node-preserved : goal.loop-node-preserved
 loop-node-preserved c =
-    let limits = c.of-b.ensures ∙ ap (λ (t : CertData). limits_for c.with_cells-other.result t.version) c.cert.view_is in
+    let limits = c.of-bounds.ensures ∙ ap (λ (t : CertData). limits_for c.with_cells-other.result t.version) c.cert.view_is in
     let found = subst (λ (b : Limits). All (KeepsCellsAtPoint b c.args.image.now c.with_cells-other.result c.list.result.now) c.node-item.result.points) limits c.in_default.ensures.none in
     let keeps = subst (λ (l : List Cell). All (KeepsCellsAtPoint (limits_in c.with_cells-other.result c.args.cert.now) c.args.image.now c.with_cells-other.result l) c.node-item.result.points) c.list.ensures found in
     all_more (λ (n : NodeData). All (KeepsCellsAtPoint (limits_in c.with_cells-other.result c.args.cert.now) c.args.image.now c.with_cells-other.result c.args.cells.now) n.points)

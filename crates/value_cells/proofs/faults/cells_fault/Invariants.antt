@@ -7,4 +7,4 @@ use Rattle.value_cells.proofs.faults.cells_fault.Given as goal
 
 -- each point of the nodes so far keeps the cells
 abbrev pub invariant-loop-node : goal.invariant-loop-node
-invariant-loop-node l = All (λ (n : NodeData). All (KeepsCellsAtPoint (limits_in l.other l.cert) l.image l.other l.cells) n.points) (take l.node-index l.node-items)
+invariant-loop-node l = All (λ (n : NodeData). All (KeepsCellsAtPoint (limits_in l.rule.plan.now l.cert) l.image l.rule.plan.now l.cells) n.points) (take l.node-index l.node-items)

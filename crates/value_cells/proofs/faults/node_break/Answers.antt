@@ -10,16 +10,19 @@ use Rattle.value_cells.proofs.faults.node_break.Goals as goal
 
 pub returns-then-not-keeps_point-clause-some : goal.returns-then-not-keeps_point-clause-some
 returns-then-not-keeps_point-clause-some c =
-    node_breaks c.args.b.now c.args.image.now c.args.plan.now c.args.cells.now c.args.node.now c.deref-point-items.result.now (c.deref-point-items.ensures.value ∙ ap (λ (n : NodeData). n.points) c.node.view_is)
+    let r = c.args.rule.now in
+    node_breaks r.bounds.now r.image.now r.plan.now r.cells.now c.args.node.now c.deref-point-items.result.now (c.deref-point-items.ensures.value ∙ ap (λ (n : NodeData). n.points) c.node.view_is)
     c.loop-point.point-index c.point-item.result (subst (λ (n : NodeData). ArePoints n.points) c.node.view_is c.node.invariant) c.loop-point-test.true c.point-item.is c.loop-point.invariant
     (broken c.keeps_point.result _ c.if-not-keeps_point.true c.keeps_point.ensures)
 
 pub loop-point-preserved : goal.loop-point-preserved
 loop-point-preserved c =
-    all_more (KeepsCellsAtPoint c.args.b.now c.args.image.now c.args.plan.now c.args.cells.now) c.deref-point-items.result.now c.loop-point.point-index c.point-item.result c.loop-point-test.true c.point-item.is c.loop-point.invariant
+    let r = c.args.rule.now in
+    all_more (KeepsCellsAtPoint r.bounds.now r.image.now r.plan.now r.cells.now) c.deref-point-items.result.now c.loop-point.point-index c.point-item.result c.loop-point-test.true c.point-item.is c.loop-point.invariant
     (c.keeps_point.ensures.0 c.if-not-keeps_point.false)
 
 pub returns-clause-none : goal.returns-clause-none
 returns-clause-none c =
-    subst (λ (l : List Point). All (KeepsCellsAtPoint c.args.b.now c.args.image.now c.args.plan.now c.args.cells.now) l) (c.deref-point-items.ensures.value ∙ ap (λ (n : NodeData). n.points) c.node.view_is)
-    (all_done (KeepsCellsAtPoint c.args.b.now c.args.image.now c.args.plan.now c.args.cells.now) c.deref-point-items.result.now c.loop-point.point-index c.loop-point-test.false c.loop-point.invariant)
+    let r = c.args.rule.now in
+    subst (λ (l : List Point). All (KeepsCellsAtPoint r.bounds.now r.image.now r.plan.now r.cells.now) l) (c.deref-point-items.ensures.value ∙ ap (λ (n : NodeData). n.points) c.node.view_is)
+    (all_done (KeepsCellsAtPoint r.bounds.now r.image.now r.plan.now r.cells.now) c.deref-point-items.result.now c.loop-point.point-index c.loop-point-test.false c.loop-point.invariant)

@@ -5,4 +5,4 @@ use Rattle.value_cells.proofs.faults.node_break.Given as goal
 
 -- each point so far keeps the cells
 abbrev pub invariant-loop-point : goal.invariant-loop-point
-invariant-loop-point l = All (KeepsCellsAtPoint l.b l.image l.plan l.cells) (take l.point-index l.point-items)
+invariant-loop-point l = All (KeepsCellsAtPoint l.rule.bounds.now l.rule.image.now l.rule.plan.now l.rule.cells.now) (take l.point-index l.point-items)

@@ -1,0 +1,10 @@
+use Rattle.std.proofs.Common.{take}
+use Rattle.std.specs.Prelude.{All}
+use Rattle.depth_cert.specs.Nodes.{NodeData}
+use Rattle.cfg_recover.specs.Accepting.{limits_in}
+use Rattle.value_cells.specs.Keeping.{KeepsCellsAtPoint}
+use Rattle.value_cells.proofs.packed_faults.cells_fault_packed.Given as goal
+
+-- each point of the nodes so far keeps the cells
+abbrev pub invariant-loop-i : goal.invariant-loop-i
+invariant-loop-i l = All (λ (n : NodeData). All (KeepsCellsAtPoint (limits_in l.rule.plan.now l.cert) l.image l.rule.plan.now l.cells) n.points) (take l.i (l.cert).nodes)

@@ -1,0 +1,79 @@
+// Rule 16 at each point of a certificate on the bytes of its file.
+ghost use Rattle.std.specs.Prelude.{◌≤◌, ◌+◌, ◌^◌, All, IfNone, IfSome};
+ghost use Rattle.value_domain.specs.State.{AreValues};
+ghost use Rattle.cfg_recover.specs.Accepting.{Accepts};
+ghost use Rattle.value_cells.specs.Cells as spec;
+ghost use Rattle.value_cells.specs.Cells.{AreCells};
+ghost use Rattle.value_cells.specs.Keeping.{KeepsCells, KeepsCellsAtPoint, IsFirstBreak, IsNodeBreak};
+
+use crate::cells::Cells;
+use crate::plans::with_cells;
+use crate::rule::{Rule, keeps_point};
+use cfg_recover::KnownCodes;
+use depth_cert::Key;
+use elf_image::Image;
+use packed_cert::{PackedCert, PackedNode, PointWalk};
+use tcd_plan::Plan;
+use value_domain::Bounds;
+
+/// Returns the first address of a node's points at which rule 16 fails.
+fn node_break<'a>(
+    rule: &Rule,
+    codes: &mut KnownCodes,
+    node: &PackedNode<'a>,
+    walk: &mut PointWalk<'a>,
+) -> Option<u32>
+    requires values { All (λ p. AreValues rule.now.bounds.now p.state.regs) node.now.points }
+    requires cells { All (λ c. c.at + 4 ≤ 2 ^ 32) rule.now.cells.now }
+    ensures none { let r = rule.now in
+        IfNone result
+        (All (KeepsCellsAtPoint r.bounds.now r.image.now r.plan.now r.cells.now) node.now.points) }
+    ensures some { let r = rule.now in
+        IfSome result
+        (IsNodeBreak r.bounds.now r.image.now r.plan.now r.cells.now node.now) }
+{
+    node.walk(walk);
+    while let Some(addr) = walk.step() {
+        if !keeps_point(rule, codes, addr, walk.state()) {
+            return Some(addr);
+        }
+    }
+    None
+}
+
+/// Returns what `cells_fault` returns, for a certificate on the bytes of its file.
+#[inline(never)]
+pub fn cells_fault_packed(
+    image: &Image,
+    plan: &Plan,
+    cells: &Cells,
+    cert: &PackedCert,
+) -> Option<(Key, u32)>
+    requires cells { AreCells plan.now cells.now }
+    requires accepted { Accepts image.now (spec.with_cells plan.now cells.now) cert.now }
+    ensures none { IfNone result
+        (KeepsCells image.now (spec.with_cells plan.now cells.now) cells.now cert.now) }
+    ensures some { let other = spec.with_cells plan.now cells.now in
+        IfSome result (λ f. IsFirstBreak image.now other cells.now cert.now f.0 f.1) }
+{
+    let _areas = plan.areas;
+    let other = with_cells(plan, cells);
+    let bounds = Bounds::of(&other, cert.version());
+    let rule = Rule {
+        bounds: &bounds,
+        image,
+        plan: &other,
+        cells: cells.list(),
+    };
+    let mut codes = KnownCodes::new();
+    let mut walk = PointWalk::none();
+    for i in 0..cert.len() {
+        let Some(node) = cert.get(i) else {
+            unreachable!()
+        };
+        if let Some(addr) = node_break(&rule, &mut codes, &node, &mut walk) {
+            return Some((node.key, addr));
+        }
+    }
+    None
+}
