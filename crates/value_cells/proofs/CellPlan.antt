@@ -72,7 +72,7 @@ apart_front (x ∷ xs) ys h =
 is_range-from : (at len : ℕ) → at % 4 ≡ 0 → len % 4 ≡ 0 → 0 < len → at + len ≤ 2 ^ 32 → is_range (record { at = at; len = len }) ≡ true
 is_range-from at len a l some fits = and_from _ _ (and_from _ _ (and_from _ _ (eq-eqb (at % 4) 0 a) (eq-eqb (len % 4) 0 l)) (lt-ltb 0 len some)) (le-leb (at + len) (2 ^ 32) fits)
 
--- what a range is
+-- what holds of a range
 record AreParts (r : Range) : Type 0 where
   at : r.at % 4 ≡ 0
   len : r.len % 4 ≡ 0
@@ -123,7 +123,7 @@ ranges_left at (r ∷ rs) a h =
     let q = range_is r p.0 in
     all_two is_range (part_below at r ++ part_above at r) (ranges_without at rs) (all_two is_range (part_below at r) (part_above at r) (below_ranges at r a q) (above_ranges at r a q)) (ranges_left at rs a p.1)
 
--- what lies in the parts of a range lies in it
+-- addresses inside the parts of a range are inside the range
 parts_in : (at x : ℕ) (r : Range) → IsInOne x 1 (part_below at r ++ part_above at r) → IsWithin x 1 r
 parts_in at x r h = elim (split x 1 (part_below at r) (part_above at r) h) [ inl b ↦ (below_in at x 1 r b).0 | inr a ↦ (above_in at x 1 r a).0 ]
 
@@ -243,7 +243,7 @@ module _ (plan : PlanData) (ok : IsPlan plan) where
       let q = and_parts (is_range d.range && nat_le d.lo d.hi) (nat_lt d.hi (2 ^ 32)) p.0 in
       and_from _ _ (and_parts (is_range d.range) (nat_le d.lo d.hi) q.0).0 (device_ranges ds p.1)
 
-  -- what lies in the cells' ranges are bytes of cells
+  -- addresses inside the cells' ranges are bytes of cells
   in_cells : (cells : List Cell) (x : ℕ) → IsInOne x 1 (cell_ranges cells) → is_in_cell cells x ≡ true
   in_cells [] x h = absurd h
   in_cells (c ∷ cs) x (inl h) = let low = h.0 in let high = h.1 in rw (le-leb c.at x low, lt-ltb x (c.at + 4) (omega arith)) refl
@@ -352,7 +352,7 @@ module _ {plan : PlanData} (ok : IsPlan plan) (cells : List Cell) (are : AreCell
   take_all [] = refl
   take_all (x ∷ xs) = ap (λ ys. x ∷ ys) (take_all xs)
 
-  -- The plan in which the cells are devices keeps all that a plan keeps.
+  -- The plan in which the cells are devices is a plan.
   pub IsPlan-with_cells : IsPlan (with_cells plan cells)
   IsPlan-with_cells = record {
     ranges = record {
@@ -402,7 +402,7 @@ take_more [] i d lt = absurd (omega arith)
 take_more (c ∷ cs) zero d lt = refl
 take_more (c ∷ cs) (suc i) d lt = let e : suc i + 1 ≡ suc (i + 1) = omega arith in ap (λ k. take k (c ∷ cs)) e ∙ ap (λ l. c ∷ l) (take_more cs i d (omega arith))
 
--- the ranges once one cell more is taken out
+-- the ranges without one more cell
 pub ram_more : (cells : List Cell) (rs : List Range) (i : ℕ) (d : Cell) → i < length cells → ranges_without (get_or cells i d).at (ram_without (take i cells) rs) ≡ ram_without (take (i + 1) cells) rs
 ram_more cells rs i d lt = sym (ap (λ cs. ram_without cs rs) (take_more cells i d lt) ∙ ram_behind (take i cells) (get_or cells i d ∷ []) rs)
 

@@ -1,4 +1,4 @@
--- An accepted certificate that keeps the cells is safe for the plan itself.
+-- If an accepted certificate keeps the cells, the image is safe under the plan itself.
 use Rattle.std.proofs.Common.{◌≡◌, ℕ, suc, ◌+◌, ◌%◌, inl, inr, Bool, true, false, cond, List, [], ◌∷◌, ◌++◌, length, Option, Some, None, Ok, Err, refl, sym, ap, ◌∙◌, subst, arith, ◌==◌, All, Contains}
 use Rattle.std.proofs.lemmas.Bool.{eq-eqb, eqb-true}
 use Rattle.std.proofs.lemmas.List.Elements.{All-contains}
@@ -109,7 +109,7 @@ module _ (image : ImageData) {plan : PlanData} (ok : IsPlan plan) (cells : List 
   abbrev HeldFrom : Machine → List Standing → Type 0
   HeldFrom h fs = (es : List Event) → AllFit other h es → HoldFrames other cert (run h es) (frames_from h es fs)
 
-  -- the machine with the cells goes beside the machine without them
+  -- the machine with the cells takes the steps of the machine without them
   pub record GoesBeside (m : Machine) (fs : List Standing) : Type 0 where
     pub words : IsMachine m
     pub kept : AreKept cells m.mem
@@ -165,7 +165,7 @@ module _ (image : ImageData) {plan : PlanData} (ok : IsPlan plan) (cells : List 
   at_held m (f ∷ fs) h = at_found m f h.at (find_node f.key cert.nodes) refl h.point
 
   -- ---- one event
-  -- what is written keeps the cells, where each possible access does
+  -- if each possible access keeps the cells, what is written does
   written_keeps : (v : Val) (size x w : ℕ) (cs : List Cell) → IsMember w v → KeepsAll v size x cs → KeepsWritten x size w cs
   written_keeps v size x w [] member k = tt
   written_keeps v size x w (c ∷ cs) member k = (
@@ -210,7 +210,7 @@ module _ (image : ImageData) {plan : PlanData} (ok : IsPlan plan) (cells : List 
         (range2.0, reg_lt m b.words src, written_keeps (reg_of other s src) size x (reg m src) cells (((point).inside).regs src is.0) (keeps (point).node (point).point (point).in_cert (point).in_node (Store src base offset size after) n c x in_it))
     store_keeps _ n none h t is c = tt
 
-    -- the machines go on beside each other
+    -- the next states of the two machines match
     pub beside_next : GoesBeside (step m e) (frames_after (hidden cells m) (heard_event cells m e) fs)
     beside_next =
         let shape = shape_of (safe2).code_in_rom.inst in

@@ -41,7 +41,7 @@ module _ (b : Limits) (p : PlanData) (s t : State) (low : IsSetting b p s) (high
 -- ---- the law
 module _ (image : ImageData) (plan : PlanData) (cells : List Cell) (lower upper : CertData) (ok : IsPlan plan) (low_cert : IsCert lower) (up_cert : IsCert upper) (same : lower.version ≡ upper.version)
     (low_ok : Accepts image plan lower) (up_ok : Accepts image plan upper) (below : IsBelowAt (known_in lower) (known_in upper)) where
-  -- a point keeps the cells where the one that covers it does
+  -- if a point keeps the cells, each point that it covers does
   keeps_below : (node : NodeData) (q : Point) → Contains lower.nodes node → Contains node.points q → (a : Above upper node.key q) → KeepsCellsAtPoint (limits_in plan upper) image plan cells a.place
       → KeepsCellsAtPoint (limits_in plan lower) image plan cells q
   keeps_below node q has stands a keeps shape n code =

@@ -72,7 +72,7 @@ room_few plan cells c room = subst (λ (rs : List Range). length rs ≤ 16) (roo
 pub room_lt : (plan : PlanData) (cells : List Cell) (c : Cell) → HasRoom plan cells c → length plan.devices + length cells < 16
 room_lt plan cells c room = omega (arith, room_devices plan cells c, room.devices)
 
--- with few enough ranges the number of devices decides
+-- if there are few enough ranges, the number of devices decides
 pub room_then : (plan fields : PlanData) (cells : List Cell) (c : Cell) (n d m : ℕ) → fields ≡ plan → d ≡ length fields.devices → m ≡ length cells → n ≡ length (ranges_without c.at (ram_without cells plan.ram)) → n ≤ 16
     → (IsTrue (nat_lt (d + m) 16) → HasRoom plan cells c) × (HasRoom plan cells c → IsTrue (nat_lt (d + m) 16))
 room_then plan fields cells c n d m same devices count parts few =
@@ -87,7 +87,7 @@ room_else plan cells c n parts many = (
   λ room. absurd (let few = room_few plan cells c room in omega arith),
 )
 
--- cells with one more are fewer than 16
+-- with one more there are at most 16 cells
 pub room_push : (plan : PlanData) (cells : List Cell) (c : Cell) → AreCells plan (cells ++ c ∷ []) → length cells < 16
 room_push plan cells c are =
     let all = are.few_devices (length (cells ++ c ∷ [])) (omega arith) in

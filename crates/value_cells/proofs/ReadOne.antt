@@ -126,7 +126,7 @@ module _ (plan : PlanData) (cells : List Cell) where
   one_bad n line (TooMany k) (TooMany j) bad worse = one_of_option n (TooMany k) (TooMany j) (cell_of line) bad worse
 
 -- ---- two splits of one text
--- they are one, or the line of one of them stands in the front of the other
+-- they are the same, or the line of one of them is among the first lines of the other
 pub data Splits (before before2 : List (List ℕ)) (line line2 : List ℕ) : Type 0 where
   same : before ≡ before2 → line ≡ line2 → Splits before before2 line line2
   earlier : (rest : List (List ℕ)) → before2 ≡ before ++ line ∷ rest → Splits before before2 line line2

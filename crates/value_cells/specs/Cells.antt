@@ -1,5 +1,5 @@
--- Cells, and the plan in which they are devices: the project's own way to let the rules, which know devices but no memory, speak
--- of words of ram.
+-- Cells, and the plan in which they are devices. The rules of certificates know devices but no
+-- memory; so they can speak of words of ram.
 use Rattle.std.specs.Prelude.{◌≡◌, ◌≢◌, ◌<◌, ◌≤◌, ◌+◌, ◌-◌, ◌%◌, ◌^◌, ◌&&◌, ◌||◌, ℕ, Bool, false, nat_lt, nat_le, if◌then◌else◌, List, [], ◌∷◌, ◌++◌, length, map, take, min, max, All, AllPairs}
 use Rattle.csa_chain.specs.Memory.{Memory, word_at}
 use Rattle.tcd_base.specs.declared.range.Range.{Range}
@@ -17,7 +17,8 @@ part_below at r = if nat_lt r.at at then record { at = r.at; len = min r.len (at
 abbrev pub part_above : ℕ → Range → List Range
 part_above at r = if nat_lt (max r.at (at + 4)) (r.at + r.len) then record { at = max r.at (at + 4); len = r.at + r.len - max r.at (at + 4) } ∷ [] else []
 
--- the ranges without the word at an address: the parts that are left of a range stand in its place, ascending
+-- the ranges without the word at an address: each range is replaced by its parts that are left,
+-- ascending
 abbrev pub ranges_without : ℕ → List Range → List Range
 ranges_without at [] = []
 ranges_without at (r ∷ rs) = part_below at r ++ part_above at r ++ ranges_without at rs
@@ -27,11 +28,12 @@ abbrev pub ram_without : List Cell → List Range → List Range
 ram_without [] rs = rs
 ram_without (c ∷ cs) rs = ram_without cs (ranges_without c.at rs)
 
--- the device that stands for a cell: it answers inside the cell's bounds
+-- the device of a cell: it answers inside the cell's bounds
 abbrev pub cell_device : Cell → Device
 cell_device c = record { range = record { at = c.at; len = 4 }; lo = c.lo; hi = c.hi }
 
--- The plan in which the cells are devices: their words are taken out of ram, and the devices come last, in their order.
+-- The plan in which the cells are devices: their words aren't ram, and they are the last devices,
+-- in their order.
 abbrev pub with_cells : PlanData → List Cell → PlanData
 with_cells plan cells = record plan { ram = ram_without cells plan.ram; devices = plan.devices ++ map cell_device cells }
 
@@ -42,8 +44,8 @@ pub record IsCell (plan : PlanData) (c : Cell) : Type 0 where
   pub word : c.hi < 2 ^ 32
   pub in_ram : IsInOne c.at 4 plan.ram
 
--- Cells of a plan: each is one, no word twice, and the first of them, however many, leave at most 16 ram ranges and 16
--- devices, as many as a plan may have.
+-- Cells of a plan: each is one, and no word is named twice. The first n of them, for each n, leave
+-- at most 16 ram ranges and 16 devices, which are a plan's limits.
 pub record AreCells (plan : PlanData) (cells : List Cell) : Type 0 where
   pub each : All (IsCell plan) cells
   pub once : AllPairs (λ c d. d.at ≢ c.at) cells
@@ -56,11 +58,11 @@ abbrev pub is_in_cell : List Cell → ℕ → Bool
 is_in_cell [] x = false
 is_in_cell (c ∷ cs) x = (nat_le c.at x && nat_lt x (c.at + 4)) || is_in_cell cs x
 
--- each cell's word, the number in its four bytes, is in its bounds
+-- each cell's word, the number in its four bytes, is in the cell's bounds
 abbrev pub AreInBounds : List Cell → Memory → Type 0
 AreInBounds [] mem = Unit {0}
 AreInBounds (c ∷ cs) mem = ((c.lo ≤ word_at mem c.at) × (word_at mem c.at ≤ c.hi)) × AreInBounds cs mem
 
--- the plan in which the cells are devices keeps all that plans keep
+-- the plan in which the cells are devices is a plan
 abbrev pub CellsMakeAPlan : Type 0
 CellsMakeAPlan = (plan : PlanData) (cells : List Cell) → IsPlan plan → AreCells plan cells → IsPlan (with_cells plan cells)

@@ -9,22 +9,23 @@ use Rattle.cfg_recover.specs.Assignments.{IsBelowAt, known_in}
 use Rattle.value_cells.specs.declared.cells.Cell.{Cell}
 use Rattle.value_cells.specs.Keeping.{KeepsCells, BreaksCells}
 
--- Where a certificate is below another, which has all its places and covers what is known there, and both are accepted under a
--- plan, rule 16 fails for the other wherever it fails for the one.
+-- One certificate is below another if the other has all of its places and covers what is known
+-- there. If both are accepted under a plan, rule 16 fails for the upper one wherever it fails for
+-- the lower.
 abbrev pub CellFaultsGrow : Type 0
 CellFaultsGrow =
     (image : ImageData) (plan : PlanData) (cells : List Cell) (lower upper : CertData) (k : Key) (p : ℕ) → IsPlan plan → IsCert lower → IsCert upper
     → lower.version ≡ upper.version → Accepts image plan lower → Accepts image plan upper → IsBelowAt (known_in lower) (known_in upper)
     → BreaksCells image plan cells lower k p → BreaksCells image plan cells upper k p
 
--- So the one keeps the cells where the other does.
+-- So the lower one keeps the cells if the upper does.
 abbrev pub LesserKeepsCells : Type 0
 LesserKeepsCells =
     (image : ImageData) (plan : PlanData) (cells : List Cell) (lower upper : CertData) → IsPlan plan → IsCert lower → IsCert upper
     → lower.version ≡ upper.version → Accepts image plan lower → Accepts image plan upper → IsBelowAt (known_in lower) (known_in upper)
     → KeepsCells image plan cells upper → KeepsCells image plan cells lower
 
--- Where rule 16 fails somewhere, the certificate doesn't keep the cells.
+-- If rule 16 fails somewhere, the certificate doesn't keep the cells.
 abbrev pub CellFaultsRefute : Type 0
 CellFaultsRefute =
     (image : ImageData) (plan : PlanData) (cells : List Cell) (cert : CertData) (k : Key) (p : ℕ) → BreaksCells image plan cells cert k p

@@ -1,4 +1,4 @@
--- What is asked of a certificate so that stores keep the cells' bounds: rule 16, the project's own.
+-- Rule 16 of certificates: stores keep the cells' bounds.
 use Rattle.std.specs.Prelude.{◌≡◌, ◌<◌, ◌≤◌, ◌+◌, ◌*◌, ◌^◌, ℕ, Bool, IsTrue, List, All, Contains}
 use Rattle.elf_image.specs.Images.{ImageData}
 use Rattle.tcd_plan.specs.PlanData.{PlanData}
@@ -23,7 +23,7 @@ use Rattle.value_cells.specs.declared.cells.Cell.{Cell}
 abbrev pub Touches : ℕ → ℕ → Cell → Type 0
 Touches x size c = (x < c.at + 4) × (c.at < x + size)
 
--- a store that touches a cell is one of its whole word, and of a value whose words all lie in its bounds
+-- a store at the cell, of its whole word, of a value whose words are all in its bounds
 pub record KeepsCell (v : Val) (size x : ℕ) (c : Cell) : Type 0 where
   pub word : size ≡ 4
   pub at : x ≡ c.at
@@ -33,7 +33,7 @@ pub record KeepsCell (v : Val) (size x : ℕ) (c : Cell) : Type 0 where
 abbrev pub KeepsAll : Val → ℕ → ℕ → List Cell → Type 0
 KeepsAll v size x cells = All (λ c. Touches x size c → KeepsCell v size x c) cells
 
--- each possible access of a store keeps the cells; other instructions have nothing to keep
+-- each possible access of a store keeps the cells; other instructions always do
 abbrev pub KeepsCellsAt : Limits → PlanData → List Cell → State → Shape → Type 0
 KeepsCellsAt b plan cells s (Store src base offset size after) =
     (x : ℕ) → IsMember x (address_of b plan (Store src base offset size after) s) → KeepsAll (reg_of plan s src) size x cells
@@ -58,12 +58,12 @@ pub data BreaksCells (image : ImageData) (plan : PlanData) (cells : List Cell) (
 abbrev pub place_number : Key → ℕ → ℕ
 place_number k p = number_of_key k * 2 ^ 32 + p
 
--- it fails there, and at no lesser key or address
+-- rule 16 fails there, and at no lesser key or address
 pub record IsFirstBreak (image : ImageData) (plan : PlanData) (cells : List Cell) (cert : CertData) (k : Key) (p : ℕ) : Type 0 where
   pub breaks : BreaksCells image plan cells cert k p
   pub least : (j : Key) (x : ℕ) → BreaksCells image plan cells cert j x → place_number k p ≤ place_number j x
 
--- it fails at an address of a node's points, and at no lesser one
+-- rule 16 fails at an address of a node's points, and at no lesser one
 pub record IsNodeBreak (b : Limits) (image : ImageData) (plan : PlanData) (cells : List Cell) (node : NodeData) (p : ℕ) : Type 0 where
   pub point : Point
   pub stands : Contains node.points point
@@ -75,14 +75,14 @@ pub record IsNodeBreak (b : Limits) (image : ImageData) (plan : PlanData) (cells
 abbrev pub KeepsFrom : Val → ℕ → Val → Cell → Type 0
 KeepsFrom at size v c = (x : ℕ) → IsMember x at → Touches x size c → KeepsCell v size x c
 
--- all words of a value lie in lo..=hi
+-- all words of a value are in lo..=hi
 abbrev pub AreWithin : Val → ℕ → ℕ → Type 0
 AreWithin v lo hi = (w : ℕ) → IsMember w v → (lo ≤ w) × (w ≤ hi)
 
--- a store of the cell's whole word, of words in its bounds alone
+-- a store of the cell's size, and only of words in the cell's bounds
 abbrev pub FitsCell : Val → ℕ → Cell → Type 0
 FitsCell v size c = (size ≡ 4) × AreWithin v c.lo c.hi
 
--- where x is one of the addresses, it is the cell's, and the store fits
+-- if x is one of the addresses, it is the cell's, and the store fits
 abbrev pub IsKept : Val → Bool → ℕ → ℕ → Type 0
 IsKept at fits cell x = IsMember x at → IsTrue fits × (x ≡ cell)

@@ -1,4 +1,4 @@
--- The text of cells: which cells its lines name for a plan, or what is against the first bad one.
+-- The text of cells: the cells that its lines name for a plan, or the error of the first bad line.
 use Rattle.std.specs.Prelude.{◌≡◌, ◌≢◌, ◌<◌, ◌≤◌, ◌+◌, ◌%◌, ◌^◌, ◌==◌, ◌&&◌, ◌⊎◌, ℕ, nat_le, if◌then◌else◌, List, [], ◌∷◌, ◌++◌, length, codes, filter_map, All, Any, Option, None, IsSome, IsSomeAnd, Result, Ok, Err}
 use Rattle.std.specs.Bool.{then_some}
 use Rattle.std.specs.Option.{option_and_then}
@@ -13,7 +13,7 @@ use Rattle.value_cells.specs.declared.errors.CellsErr.TheVariants.{BadLine, NotR
 use Rattle.value_cells.specs.Cells.{with_cells, AreCells}
 
 -- ---- lines; the grammar is the project's own
--- a cell of these numbers: at a multiple of 4, its bounds in order
+-- the cell of these numbers, if it is at a multiple of 4 and its bounds are in order
 abbrev pub cell_of_numbers : ℕ → ℕ → ℕ → Option Cell
 cell_of_numbers at lo hi = then_some (at % 4 == 0 && nat_le lo hi) (record { at = at; lo = lo; hi = hi })
 
@@ -33,7 +33,7 @@ cell_of line = cell_of_words (words_of line)
 abbrev pub IsLine : List ℕ → Type 0
 IsLine line = (line ≡ []) ⊎ IsSome (cell_of line)
 
--- what the cell of a line keeps by its form: aligned, its bounds in order, all of them words
+-- what holds of the cell of each line: it is aligned, and its bounds are words and in order
 pub record IsSaid (c : Cell) : Type 0 where
   pub aligned : c.at % 4 ≡ 0
   pub ordered : c.lo ≤ c.hi
@@ -46,25 +46,25 @@ pub record AreRead (plan : PlanData) (lines : List (List ℕ)) (cells : List Cel
   pub named : cells ≡ filter_map cell_of lines
   pub are : AreCells plan cells
 
--- with one cell more at most 16 ranges of ram are left, and there are at most 16 devices: as many as a plan may have
+-- one more cell leaves at most 16 ranges of ram and at most 16 devices, which are a plan's limits
 pub record HasRoom (plan : PlanData) (cells : List Cell) (c : Cell) : Type 0 where
   pub ram : length (with_cells plan (cells ++ c ∷ [])).ram ≤ 16
   pub devices : length (with_cells plan (cells ++ c ∷ [])).devices ≤ 16
 
--- What is against one more cell by line n, the least that is: its word isn't in one range of ram, an earlier line names
--- the same word, or there is no room.
+-- The error of one more cell from line n, the first of these that fits: its word isn't inside one
+-- range of ram, an earlier line names the same word, or there is no room.
 abbrev pub IsRefused : PlanData → List Cell → Cell → ℕ → CellsErr → Type 0
 IsRefused plan cells c n (BadLine k) = ⊥
 IsRefused plan cells c n (NotRam k) = (k ≡ n) × (IsInOne c.at 4 plan.ram → ⊥)
 IsRefused plan cells c n (Twice k) = (k ≡ n) × IsInOne c.at 4 plan.ram × Any (λ d. d.at ≡ c.at) cells
 IsRefused plan cells c n (TooMany k) = (k ≡ n) × IsInOne c.at 4 plan.ram × All (λ d. d.at ≢ c.at) cells × (HasRoom plan cells c → ⊥)
 
--- what is against line n behind lines that name these cells: its form, else its cell
+-- the error of line n after lines that name these cells: that of its form, else that of its cell
 abbrev pub IsBadLine : PlanData → List Cell → List ℕ → ℕ → CellsErr → Type 0
 IsBadLine plan cells line n (BadLine k) = (k ≡ n) × (IsLine line → ⊥)
 IsBadLine plan cells line n e = IsSomeAnd (cell_of line) (λ c. IsRefused plan cells c n e)
 
--- some line is bad for this reason, counted from 1, and those before it are read
+-- some line, counted from 1, has this error, and those before it are read
 pub record IsFirstBad (plan : PlanData) (lines : List (List ℕ)) (e : CellsErr) : Type 0 where
   pub before : List (List ℕ)
   pub line : List ℕ
@@ -74,12 +74,13 @@ pub record IsFirstBad (plan : PlanData) (lines : List (List ℕ)) (e : CellsErr)
   pub read : AreRead plan before cells
   pub bad : IsBadLine plan cells line (length before + 1) e
 
--- what reading a text answers: the cells that its lines name, or what is against the first bad line
+-- the answer for a text: the cells that its lines name, or the error of the first bad line
 abbrev pub Reads : PlanData → List ℕ → Result (List Cell) CellsErr → Type 0
 Reads plan bytes (Ok cells) = AreRead plan (lines_of bytes) cells
 Reads plan bytes (Err e) = IsFirstBad plan (lines_of bytes) e
 
--- one line more behind lines that name cells: it is empty or names one, and all are cells of the plan
+-- one more line after lines that name cells: it is empty or names a cell, and all are cells of the
+-- plan
 pub record TakesLine (plan : PlanData) (cells : List Cell) (line : List ℕ) (more : List Cell) : Type 0 where
   pub form : IsLine line
   pub named : more ≡ cells ++ filter_map cell_of (line ∷ [])

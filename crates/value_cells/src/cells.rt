@@ -1,4 +1,4 @@
-// Cells.
+// Cells, and their reading from a text.
 use crate::CellsErr;
 use crate::cutting::count_without;
 use crate::lines::cell_in;
@@ -8,15 +8,19 @@ use std::marker::Model;
 use tcd_plan::Plan;
 use tcd_text::cut_line;
 
-/// A word of ram, at a multiple of 4, with the bounds that it keeps: a number in `lo..=hi`.
+/// The most ranges of ram and the most devices of a plan.
+const MOST: usize = 16;
+
+/// A word of ram with the bounds of its number, `lo..=hi`.
 #[derive(Clone, Copy, Debug, Default, PartialEq, Eq)]
 pub struct Cell {
+    /// The address, a multiple of 4.
     pub at: u32,
     pub lo: u32,
     pub hi: u32,
 }
 
-/// At most 16 cells, in the order of their lines.
+/// At most 16 cells, in the order of their lines in the text.
 #[derive(Drop)]
 pub struct Cells {
     list: ArrayVec<Cell, 16>,
@@ -36,8 +40,9 @@ impl Cells {
     ghost use Rattle.value_cells.specs.Cells.{IsCell, AreCells};
     ghost use Rattle.value_cells.specs.Reading.{HasRoom, IsSaid, IsRefused, TakesLine, IsBadLine, Reads};
 
-    /// The cells that a text names for a plan: lines `cell AT LO HI` of numbers with eight upper-case hex digits, or
-    /// empty ones. The first bad line decides, and there the least refusal.
+    /// Reads the cells of a plan from a text. Each line is empty or `cell AT LO HI`, where each
+    /// number has eight upper-case hex digits. The error is that of the first bad line; if several
+    /// errors fit it, the first in the order of `CellsErr`.
     pub fn read(bytes: &[u8], plan: &Plan) -> Result<Cells, CellsErr>
         requires { length bytes.now ≤ 2 ^ 30 }
         ensures read { Reads plan.now bytes.now result }
@@ -55,14 +60,14 @@ impl Cells {
         Ok(cells)
     }
 
-    /// The cells, in the order of their lines.
+    /// Returns the cells, in the order of their lines in the text.
     pub fn list(&self) -> &[Cell]
         ensures { result.now ≡ self.now }
     {
         self.list.as_slice()
     }
 
-    // No cell.
+    // Returns an empty list.
     fn new(plan: &Plan) -> Cells
         ensures none { result ≡ [] }
         ensures cells { AreCells plan.now result }
@@ -73,24 +78,25 @@ impl Cells {
         }
     }
 
-    // Whether there is a cell at this address.
+    // Returns whether there is a cell at this address.
     fn has_at(&self, at: u32) -> bool
         ensures { IsTrue result ↔ Any (λ d. d.at ≡ at) self.now }
     {
         self.list.iter().any(|cell| cell.at == at)
     }
 
-    // Whether with one cell more at most 16 ranges of ram are left, and there are at most 16 devices.
+    // Returns whether one more cell leaves at most 16 ranges of ram and at most 16 devices.
     fn has_room(&self, plan: &Plan, cell: &Cell) -> bool
         requires cells { AreCells plan.now self.now }
         requires cell { IsCell plan.now cell.now }
         ensures { IsTrue result ↔ HasRoom plan.now self.now cell.now }
     {
         let ram = ram_without(plan, self.list());
-        count_without(ram.as_slice(), cell.at) <= 16 && plan.devices.len() + self.list.len() < 16
+        count_without(ram.as_slice(), cell.at) <= MOST
+            && plan.devices.len() + self.list.len() < MOST
     }
 
-    // What is against one more cell, by line `number`.
+    // Returns the error of one more cell, from line `number`, if there is one.
     fn fault_of(&self, plan: &Plan, number: u32, cell: &Cell) -> Option<CellsErr>
         requires cells { AreCells plan.now self.now }
         requires said { IsSaid cell.now }
@@ -109,7 +115,7 @@ impl Cells {
         None
     }
 
-    // Adds what line `number` says, or tells what is against it.
+    // Adds the cell of line `number`, or returns its error.
     fn add_line(&mut self, plan: &Plan, number: u32, line: &[u8]) -> Result<(), CellsErr>
         requires { AreCells plan.now self.old }
         ensures ok { OnOk result (TakesLine plan.now self.old line.now self.new) }

@@ -6,7 +6,8 @@ ghost use Rattle.value_cells.specs.Cells.{part_below, part_above};
 use arrayvec::ArrayVec;
 use tcd_base::Range;
 
-/// Appends the parts that are left of a range below and above the word at an address.
+/// Appends what is left of a range without the word at an address: the part below it, then the part
+/// above.
 fn push_parts(ranges: &mut ArrayVec<Range, 16>, r: &Range, at: u32)
     requires room { length ranges.old.items
         + length (part_below at r.now ++ part_above at r.now) ≤ 16 }
@@ -30,7 +31,7 @@ fn push_parts(ranges: &mut ArrayVec<Range, 16>, r: &Range, at: u32)
     }
 }
 
-/// The ranges without the word at an address.
+/// Returns the ranges without the word at an address.
 pub fn ranges_without(ranges: &[Range], at: u32) -> ArrayVec<Range, 16>
     requires room { length (cells.ranges_without at ranges.now) ≤ 16 }
     requires fit { All (λ r. r.at + r.len ≤ 2 ^ 32) ranges.now }
@@ -44,7 +45,7 @@ pub fn ranges_without(ranges: &[Range], at: u32) -> ArrayVec<Range, 16>
     left
 }
 
-/// How many parts are left of a range below and above the word at an address.
+/// Returns the number of parts of a range that are left without the word at an address.
 fn count_parts(r: &Range, at: u32) -> usize
     ensures { result ≡ length (part_below at r.now ++ part_above at r.now) }
 {
@@ -53,7 +54,7 @@ fn count_parts(r: &Range, at: u32) -> usize
     usize::from(r.at < at) + usize::from(start < end)
 }
 
-/// How many ranges there are without the word at an address.
+/// Returns the number of ranges that are left without the word at an address.
 pub fn count_without(ranges: &[Range], at: u32) -> usize
     requires { length ranges.now ≤ 16 }
     ensures { result ≡ length (cells.ranges_without at ranges.now) }

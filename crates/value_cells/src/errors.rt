@@ -1,13 +1,15 @@
-// Why a text names no cells.
+// Errors of a text of cells.
 
-/// Why a text names no cells for a plan, each with the number of the first bad line, counted from 1: a line of no form, at
-/// no multiple of 4 or with `hi` below `lo` (`BadLine`), a word that doesn't lie in one range of ram (`NotRam`), a word that
-/// an earlier line names (`Twice`), and cells that leave more than 16 ranges of ram or make more than 16 devices
-/// (`TooMany`). They are tried in this order, numbered from 1.
+/// Why a text has no cells of a plan: the error of the first bad line, with the line's number from
+/// 1. The errors are tried in this order.
 #[derive(Clone, Copy, Debug, PartialEq, Eq)]
 pub enum CellsErr {
+    /// The line has another form, its address isn't a multiple of 4, or `hi` is below `lo`.
     BadLine(u32),
+    /// Its word isn't inside one range of ram.
     NotRam(u32),
+    /// An earlier line names the same word.
     Twice(u32),
+    /// With it more than 16 ranges of ram are left, or there are more than 16 devices.
     TooMany(u32),
 }

@@ -1,11 +1,11 @@
-// The lines of cells.
+// Lines of a text of cells.
 ghost use Rattle.std.specs.Prelude.{◌≡◌, [], ◌∷◌, IfSome};
 ghost use Rattle.value_cells.specs.Reading.{cell_of, cell_of_words, cell_of_numbers, IsSaid};
 
 use crate::Cell;
 use tcd_text::{cut_word, hex_number};
 
-// A cell at a multiple of 4, with its bounds in order.
+// Returns a cell, if its address is a multiple of 4 and its bounds are in order.
 fn cell_of_numbers(at: u32, lo: u32, hi: u32) -> Option<Cell>
     ensures cell { result ≡ cell_of_numbers at lo hi }
     ensures said { IfSome result IsSaid }
@@ -17,7 +17,7 @@ fn cell_of_numbers(at: u32, lo: u32, hi: u32) -> Option<Cell>
     }
 }
 
-// The cell of four words.
+// Returns the cell of a line's four words, if they have its form.
 #[tactic(auto, unfolding(crate::specs::Reading::cell_of_words))]
 fn cell_of_words(word: &[u8], at: &[u8], lo: &[u8], hi: &[u8]) -> Option<Cell>
     ensures cell { result ≡ cell_of_words (word.now ∷ at.now ∷ lo.now ∷ hi.now ∷ []) }
@@ -32,7 +32,7 @@ fn cell_of_words(word: &[u8], at: &[u8], lo: &[u8], hi: &[u8]) -> Option<Cell>
     cell_of_numbers(at, lo, hi)
 }
 
-/// The cell that a line names; nothing where it names none.
+/// Returns the cell of a line, or nothing if the line has another form.
 #[tactic(auto, using(crate::proofs::LineForms::five_words), unfolding(crate::specs::Reading::cell_of_words))]
 pub(crate) fn cell_in(line: &[u8]) -> Option<Cell>
     ensures cell { result ≡ cell_of line.now }

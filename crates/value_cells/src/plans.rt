@@ -10,14 +10,14 @@ use arrayvec::ArrayVec;
 use tcd_base::{Range, any_holds};
 use tcd_plan::{Device, Plan};
 
-/// Whether the word at an address lies in one range of ram.
+/// Returns whether the word at an address is inside one range of ram.
 pub(crate) fn is_in_ram(plan: &Plan, at: u32) -> bool
     ensures { IsTrue result ↔ IsInOne at 4 plan.now.ram }
 {
     any_holds(plan.ram.as_slice(), at, 4)
 }
 
-/// The ranges of ram without the words of all cells.
+/// Returns the ranges of ram without the words of all cells.
 pub(crate) fn ram_without(plan: &Plan, cells: &[Cell]) -> ArrayVec<Range, 16>
     requires { AreCells plan.now cells.now }
     ensures { result.items ≡ spec.ram_without cells.now plan.now.ram }
@@ -29,7 +29,8 @@ pub(crate) fn ram_without(plan: &Plan, cells: &[Cell]) -> ArrayVec<Range, 16>
     ram
 }
 
-/// The plan's devices, and behind them one for each cell, that answers inside the cell's bounds.
+/// Returns the plan's devices, and after them one for each cell, which answers inside the cell's
+/// bounds.
 fn devices_with(plan: &Plan, cells: &[Cell]) -> ArrayVec<Device, 16>
     requires { AreCells plan.now cells.now }
     ensures { result.items ≡ plan.now.devices ++ map cell_device cells.now }
@@ -51,7 +52,8 @@ fn devices_with(plan: &Plan, cells: &[Cell]) -> ArrayVec<Device, 16>
     devices
 }
 
-/// The plan in which the cells are devices: their words are taken out of ram, and the devices come last, in their order.
+/// Returns the plan in which the cells are devices: their words aren't ram, and they are the last
+/// devices, in their order.
 pub fn with_cells(plan: &Plan, cells: &Cells) -> Plan
     requires { AreCells plan.now cells.now }
     ensures { result ≡ spec.with_cells plan.now cells.now }

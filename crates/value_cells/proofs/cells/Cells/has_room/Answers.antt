@@ -6,15 +6,15 @@ use Rattle.value_cells.specs.Cells.{ranges_without, ram_without}
 use Rattle.value_cells.proofs.ReadLaws.{room_then, room_else}
 use Rattle.value_cells.proofs.cells.Cells.has_room.Goals as goal
 
-pub returns-then-count_without-le16 : goal.returns-then-count_without-le16
-returns-then-count_without-le16 c =
+pub returns-then-count_without-le-MOST : goal.returns-then-count_without-le-MOST
+returns-then-count_without-le-MOST c =
     let ram = c.as_slice.ensures.value ∙ c.ram_without-ram.ensures ∙ ap (λ (l : List Cell). ram_without l (c.args.plan.now).ram) c.list.ensures in
     let count = c.count_without.ensures ∙ ap (λ (rs : List Range). length (ranges_without (c.args.cell.now).at rs)) ram in
-    room_then c.args.plan.now (plan_data c.plan.inside) c.args.self.now c.args.cell.now c.count_without.result c.len.result c.len-then-count_without-le16.result
-    c.plan.view_is c.len.ensures.value (c.len-then-count_without-le16.ensures.value ∙ ap (λ (l : List Cell). length l) c.self.view_is) count c.if-count_without-le16.true
+    room_then c.args.plan.now (plan_data c.plan.inside) c.args.self.now c.args.cell.now c.count_without.result c.len.result c.len-then-count_without-le-MOST.result
+    c.plan.view_is c.len.ensures.value (c.len-then-count_without-le-MOST.ensures.value ∙ ap (λ (l : List Cell). length l) c.self.view_is) count c.if-count_without-le-MOST.true
 
-pub returns-else-count_without-le16 : goal.returns-else-count_without-le16
-returns-else-count_without-le16 c =
+pub returns-else-count_without-le-MOST : goal.returns-else-count_without-le-MOST
+returns-else-count_without-le-MOST c =
     let ram = c.as_slice.ensures.value ∙ c.ram_without-ram.ensures ∙ ap (λ (l : List Cell). ram_without l (c.args.plan.now).ram) c.list.ensures in
     let count = c.count_without.ensures ∙ ap (λ (rs : List Range). length (ranges_without (c.args.cell.now).at rs)) ram in
-    room_else c.args.plan.now c.args.self.now c.args.cell.now c.count_without.result count c.if-count_without-le16.false
+    room_else c.args.plan.now c.args.self.now c.args.cell.now c.count_without.result count c.if-count_without-le-MOST.false
