@@ -1,10 +1,10 @@
--- The first place at which rule 17 fails, from what is found at the points one after another.
-use Rattle.std.proofs.Common.{◌≡◌, ℕ, ◌+◌, ◌*◌, ◌^◌, ◌<◌, ◌≤◌, Bool, List, length, get_or, take, IsTrue, refl, sym, subst}
+-- The first place at which rule 17 fails, from tests of one point after another.
+use Rattle.std.proofs.Common.{◌≡◌, ℕ, ◌+◌, ◌*◌, ◌^◌, ◌<◌, ◌≤◌, Bool, List, ◌∷◌, ◌++◌, length, get_or, take, IsTrue, refl, sym, subst}
 use Rattle.std.specs.Prelude.{All, Contains, ◌↔◌}
+use Rattle.std.proofs.lemmas.List.Elements.{All-same}
 use Rattle.elf_image.specs.Images.{ImageData}
 use Rattle.tcd_plan.specs.PlanData.{PlanData}
-use Rattle.tc_isa.specs.Shapes.{shape_of}
-use Rattle.tc_isa.specs.Insts.{InstData}
+use Rattle.tc_isa.specs.declared.shapes.Shape.{Shape}
 use Rattle.value_domain.specs.Limits.{Limits}
 use Rattle.depth_cert.specs.declared.keys.Key.{Key}
 use Rattle.depth_cert.specs.declared.points.Point.{Point}
@@ -19,14 +19,15 @@ use Rattle.cfg_recover.proofs.FirstFault.{all_done, least_point, in_cert, least_
 use Rattle.task_chains.specs.Tasks.{TasksData}
 use Rattle.task_chains.specs.Apart.{StaysApart, HoldsApart, KeepsApart, FailsApart, at_point, IsTaskFault}
 use Rattle.task_chains.specs.Faults.{HoldsApartIn, IsNodeFault}
+use Rattle.task_chains.proofs.WalkedPoints.{met}
 
 -- ---- a point
 module _ (b : Limits) (view : ImageData) (plan : PlanData) (tasks : TasksData) (key : Key) (point : Point) where
   -- the instruction that is found is the one there
-  pub apart_found : (inst : InstData) (n : ℕ) (r : Bool) → IsCode view plan point.addr (shape_of inst) n → (IsTrue r ↔ StaysApart b plan tasks key point.addr point.state (shape_of inst)) → IsTrue r ↔ HoldsApartIn b view plan tasks key point
-  apart_found inst n r there both = (
-    λ t shape m code. subst (StaysApart b plan tasks key point.addr point.state) (IsCode-one view plan point.addr (shape_of inst) shape n m there code).0 (both.0 t),
-    λ holds. both.1 (holds (shape_of inst) n there),
+  pub apart_found : (found : Shape) (n : ℕ) (r : Bool) → IsCode view plan point.addr found n → (IsTrue r ↔ StaysApart b plan tasks key point.addr point.state found) → IsTrue r ↔ HoldsApartIn b view plan tasks key point
+  apart_found found n r there both = (
+    λ t shape m code. subst (StaysApart b plan tasks key point.addr point.state) (IsCode-one view plan point.addr found shape n m there code).0 (both.0 t),
+    λ holds. both.1 (holds found n there),
   )
 
   pub apart_nothing : (HasCode view plan point.addr → ⊥) → HoldsApartIn b view plan tasks key point
@@ -45,6 +46,14 @@ module _ (b : Limits) (view : ImageData) (plan : PlanData) (tasks : TasksData) (
     fails = fails;
     least = λ other. least_point Holds node points same i point other rising lt at before;
   }
+
+-- the first point of a walk at which the rule fails
+pub walked_fails : (b : Limits) (view : ImageData) (plan : PlanData) (tasks : TasksData) (node : NodeData) (done after : List Point) (point : Point) → ArePoints node.points → node.points ≡ done ++ point ∷ after
+    → All (HoldsApartIn b view plan tasks node.key) done → (HoldsApartIn b view plan tasks node.key point → ⊥) → IsNodeFault b view plan tasks node point.addr
+walked_fails b view plan tasks node done after point rising split hold fails =
+    let m = met done after point in
+    let all : List Point = done ++ point ∷ after in
+    node_fails b view plan tasks node all (sym split) (length done) point rising m.0 m.1 (All-same (HoldsApartIn b view plan tasks node.key) (take (length done) all) done m.2 hold) fails
 
 -- ---- a certificate
 module _ (view : ImageData) (plan : PlanData) (tasks : TasksData) (cert : CertData) (is_cert : IsCert cert) (nodes : List NodeData) (same : nodes ≡ cert.nodes) where

@@ -41,6 +41,7 @@ pub mod ReadingLaws
 pub mod RoutineBytes
 pub mod MissLaws
 pub mod ViewBytes
+pub mod WalkedPoints
 pub mod FaultLaws
 pub mod ApartLaws
 pub mod GrowthLaws

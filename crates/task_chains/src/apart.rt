@@ -1,6 +1,6 @@
-// Whether an instruction at a point of a view's certificate keeps rule 17.
+// The test of rule 17 at a point of a view's certificate.
 ghost use Rattle.std.specs.Prelude.{◌≡◌, ◌≤◌, ◌<◌, ◌+◌, ◌-◌, ◌*◌, ◌/◌, ◌^◌, ◌↔◌, ℕ, IsTrue};
-ghost use Rattle.tc_isa.specs.Shapes.{shape_of};
+ghost use Rattle.tc_isa.specs.Bounded.{IsShape};
 ghost use Rattle.value_domain.specs.Sets.{Among};
 ghost use Rattle.value_domain.specs.Values.{IsWell};
 ghost use Rattle.value_domain.specs.State.{AreValues};
@@ -9,11 +9,22 @@ ghost use Rattle.task_chains.specs.Apart.{AllMiss, LoadsElsewhere, ReadsNoLink, 
 ghost use Rattle.task_chains.specs.Faults.{HasBetween, IsPlaceApart};
 
 use crate::Tasks;
-use cfg_recover::address;
-use depth_cert::{CALL, Key, Point};
-use tc_isa::{Inst, Shape, shape};
+use crate::routine::ROUTINE_BYTES;
+use crate::rule::Rule;
+use depth_cert::{CALL, Key};
+use tc_isa::Shape;
 use tcd_plan::Plan;
 use value_domain::{Bounds, State, Val};
+use vd_transfer::address_by;
+
+/// The number of PCXI, the link to the newest context in use.
+const PCXI: u16 = 0xfe00;
+
+/// The number of FCX, the link to the first free context.
+const FCX: u16 = 0xfe38;
+
+/// The number of LCX, the link at which few contexts are left.
+const LCX: u16 = 0xfe3c;
 
 fn is_between(x: u32, low: u32, high: u32) -> bool
     ensures { IsTrue result ↔ (low ≤ x) × (x ≤ high) }
@@ -21,7 +32,7 @@ fn is_between(x: u32, low: u32, high: u32) -> bool
     low <= x && x <= high
 }
 
-/// Whether one of the words lies in `low..=high`.
+/// Returns whether one of the words is in `low..=high`.
 fn has_word_between(words: &[u32], low: u32, high: u32) -> bool
     ensures { IsTrue result ↔ ((x : ℕ) × Among x words.now × (low ≤ x) × (x ≤ high)) }
 {
@@ -33,7 +44,7 @@ fn has_word_between(words: &[u32], low: u32, high: u32) -> bool
     false
 }
 
-/// The least multiple of `2 ^ step` from `x` on.
+/// Returns the least multiple of `2 ^ step` that is at least `x`.
 fn multiple_from(x: u64, step: u8) -> u64
     requires step { step ≤ 2 }
     requires small { x ≤ 2 ^ 32 }
@@ -43,7 +54,7 @@ fn multiple_from(x: u64, step: u8) -> u64
     (x + (unit - 1)) / unit * unit
 }
 
-/// Whether a member of the value lies in `low..=high`.
+/// Returns whether a word of the value is in `low..=high`.
 fn has_between(v: &Val, low: u32, high: u32) -> bool
     requires { IsWell v.now }
     ensures { IsTrue result ↔ HasBetween v.now low high }
@@ -56,8 +67,8 @@ fn has_between(v: &Val, low: u32, high: u32) -> bool
     }
 }
 
-/// Whether no access of 1, 2 or 4 bytes (`size`) from a member of the value shares a byte with the `len` bytes from an
-/// address on.
+/// Returns whether no access of 1, 2 or 4 bytes (`size`), at an address that is a word of the
+/// value, shares a byte with the `len` bytes from `from` on.
 pub(crate) fn misses(at: &Val, size: u8, from: u32, len: u32) -> bool
     requires at { IsWell at.now }
     requires size { IsSize size }
@@ -75,26 +86,29 @@ pub(crate) fn misses(at: &Val, size: u8, from: u32, len: u32) -> bool
     !has_between(at, from.wrapping_sub(below), 0xFFFF_FFFF)
 }
 
-/// Whether each possible access of a load misses the save areas and the routine.
-fn loads_elsewhere(b: &Bounds, plan: &Plan, tasks: &Tasks, s: &State, inst: &Inst) -> bool
-    requires { AreValues b.now s.now.regs }
-    ensures { IsTrue result ↔ LoadsElsewhere b.now plan.now tasks.now s.now (shape_of inst.now) }
+/// Returns whether the instruction is no load, or each of its possible accesses misses the save
+/// areas and the routine.
+fn loads_elsewhere(b: &Bounds, plan: &Plan, tasks: &Tasks, s: &State, shape: Shape) -> bool
+    requires shape { IsShape shape }
+    requires values { AreValues b.now s.now.regs }
+    ensures { IsTrue result ↔ LoadsElsewhere b.now plan.now tasks.now s.now shape }
 {
-    match shape(inst) {
+    match shape {
         Shape::Load { size, .. } => {
-            let at = address(b, plan, inst, s);
-            misses(&at, size, plan.csa_at, 64 * plan.areas) && misses(&at, size, tasks.switch, 72)
+            let at = address_by(b, plan, shape, s);
+            misses(&at, size, plan.csa_at, 64 * plan.areas)
+                && misses(&at, size, tasks.switch, ROUTINE_BYTES)
         }
         _ => true,
     }
 }
 
-/// Whether the instruction isn't one that reads PCXI, FCX or LCX.
+/// Returns whether the instruction doesn't read PCXI, FCX or LCX.
 fn reads_no_link(shape: Shape) -> bool
     ensures { IsTrue result ↔ ReadsNoLink shape }
 {
     match shape {
-        Shape::Mfcr { number, .. } => number != 0xfe00 && number != 0xfe38 && number != 0xfe3c,
+        Shape::Mfcr { number, .. } => number != PCXI && number != FCX && number != LCX,
         _ => true,
     }
 }
@@ -108,7 +122,7 @@ fn is_no_bisr(shape: Shape) -> bool
     }
 }
 
-/// The key of the routine's frame.
+/// Returns the key of the routine's frame.
 fn key_of_switch(tasks: &Tasks) -> Key
     ensures { result ≡ switch_key tasks.now }
 {
@@ -120,7 +134,7 @@ fn key_of_switch(tasks: &Tasks) -> Key
     }
 }
 
-/// Whether an address is one of the 18 instructions.
+/// Returns whether an address is that of one of the routine's instructions.
 fn is_routine_step(tasks: &Tasks, addr: u32) -> bool
     ensures { IsTrue result ↔ ((i : ℕ) × (i < 18) × (addr ≡ tasks.now.switch + 4 * i)) }
 {
@@ -128,36 +142,32 @@ fn is_routine_step(tasks: &Tasks, addr: u32) -> bool
         return false;
     }
     let offset = addr - tasks.switch;
-    offset < 72 && offset % 4 == 0
+    offset < ROUTINE_BYTES && offset % 4 == 0
 }
 
-/// Whether a point of a frame lies where it may: the routine's own at its instructions alone, no other in the routine.
+/// Returns whether a frame can have a point at an address: the routine's frame only at the
+/// routine's instructions, each other frame only outside of the routine.
 fn is_place_apart(tasks: &Tasks, key: &Key, addr: u32) -> bool
     ensures { IsTrue result ↔ IsPlaceApart tasks.now key.now addr }
 {
     if *key == key_of_switch(tasks) {
         is_routine_step(tasks, addr)
     } else {
-        addr < tasks.switch || 72 <= addr - tasks.switch
+        addr < tasks.switch || ROUTINE_BYTES <= addr - tasks.switch
     }
 }
 
-/// Whether the instruction at a point keeps the rule.
-pub(crate) fn stays_apart(
-    b: &Bounds,
-    plan: &Plan,
-    tasks: &Tasks,
-    key: &Key,
-    point: &Point,
-    inst: &Inst,
-) -> bool
-    requires { AreValues b.now point.now.state.regs }
-    ensures { let p = point.now in
+/// Returns whether an instruction of this shape keeps the rule at an address of a frame, with this
+/// state before it.
+pub(crate) fn stays_apart(rule: &Rule, key: &Key, addr: u32, s: &State, shape: Shape) -> bool
+    requires shape { IsShape shape }
+    requires values { AreValues rule.now.bounds.now s.now.regs }
+    ensures { let r = rule.now in
         IsTrue result
-        ↔ StaysApart b.now plan.now tasks.now key.now p.addr p.state (shape_of inst.now) }
+        ↔ StaysApart r.bounds.now r.plan.now r.tasks.now key.now addr s.now shape }
 {
-    is_place_apart(tasks, key, point.addr)
-        && loads_elsewhere(b, plan, tasks, &point.state, inst)
-        && reads_no_link(shape(inst))
-        && (key.prio != 0 || key.is || is_no_bisr(shape(inst)))
+    is_place_apart(rule.tasks, key, addr)
+        && loads_elsewhere(rule.bounds, rule.plan, rule.tasks, s, shape)
+        && reads_no_link(shape)
+        && (key.prio != 0 || key.is || is_no_bisr(shape))
 }

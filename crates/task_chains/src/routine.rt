@@ -1,4 +1,4 @@
-// The bytes of the switch routine, and of what a view has in its place.
+// The bytes of the switch routine, and those that a view has instead.
 ghost use Rattle.std.specs.Prelude.{◌≡◌, ◌≤◌, ◌<◌, ◌+◌, ◌*◌, ◌/◌, ◌%◌, ◌^◌, length};
 ghost use Rattle.std.specs.List.{flat_map};
 ghost use Rattle.tc_isa.specs.Codec.{four_bytes};
@@ -7,7 +7,10 @@ ghost use Rattle.task_chains.specs.Routine.{hi, lo, routine_of, view_routine_of,
 use crate::Tasks;
 use arrayvec::ArrayVec;
 
-/// The upper half of an address, one more where the lower half is negative as a signed number.
+/// The number of bytes of the routine: 18 instructions of four bytes.
+pub(crate) const ROUTINE_BYTES: u32 = 72;
+
+/// Returns the upper half of an address, plus one if the lower half is negative as a signed number.
 fn upper_half(x: u32) -> u32
     ensures is { result ≡ hi x }
     ensures small { result < 2 ^ 16 }
@@ -15,7 +18,7 @@ fn upper_half(x: u32) -> u32
     ((u64::from(x) + 0x8000) / 0x1_0000 % 0x1_0000) as u32
 }
 
-/// A number of 16 bits where the word of an instruction `lea.l`, `ld.w.l` or `st.w.l` has its offset.
+/// Returns the bits of a 16-bit offset in the word of an instruction `lea.l`, `ld.w.l` or `st.w.l`.
 fn offset_bits(k: u32) -> u32
     requires { k < 2 ^ 16 }
     ensures { result ≡ k / 64 % 16 * 2 ^ 28 + k / 1024 * 2 ^ 22 + k % 64 * 2 ^ 16 }
@@ -23,7 +26,7 @@ fn offset_bits(k: u32) -> u32
     k / 64 % 16 * 0x1000_0000 + k / 1024 * 0x40_0000 + k % 64 * 0x1_0000
 }
 
-/// The words of the routine of `n` tasks with their words at `b`.
+/// Returns the words of the routine of `n` tasks whose block is at `b`.
 fn routine_words(n: u32, b: u32) -> [u32; 18]
     requires { n ≤ 7 }
     ensures { flat_map four_bytes result ≡ bytes_of (routine_of n b) }
@@ -53,7 +56,7 @@ fn routine_words(n: u32, b: u32) -> [u32; 18]
     ]
 }
 
-/// The words that a view has in its place.
+/// Returns the words that a view has instead.
 fn view_words(n: u32, b: u32) -> [u32; 18]
     requires { n ≤ 7 }
     ensures { flat_map four_bytes result ≡ bytes_of (view_routine_of n b) }
@@ -82,7 +85,7 @@ fn view_words(n: u32, b: u32) -> [u32; 18]
     ]
 }
 
-/// The bytes of a word, the lowest first.
+/// Returns the bytes of a word, the lowest first.
 fn bytes_of_word(w: u32) -> [u8; 4]
     ensures { result ≡ four_bytes w }
 {
@@ -94,7 +97,7 @@ fn bytes_of_word(w: u32) -> [u8; 4]
     ]
 }
 
-/// The bytes of words, one after another.
+/// Returns the bytes of the words, one word after another.
 fn bytes_of_words(words: &[u32; 18]) -> [u8; 72]
     ensures { result ≡ flat_map four_bytes words.now }
 {
@@ -108,14 +111,14 @@ fn bytes_of_words(words: &[u32; 18]) -> [u8; 72]
     }
 }
 
-/// The bytes of the routine of these tasks.
+/// Returns the bytes of the routine of these tasks.
 pub(crate) fn routine(tasks: &Tasks) -> [u8; 72]
     ensures { result ≡ routine_bytes tasks.now }
 {
     bytes_of_words(&routine_words(tasks.list.len() as u32, tasks.block))
 }
 
-/// The bytes that their views have in its place.
+/// Returns the bytes that their views have instead of the routine.
 pub(crate) fn view_routine(tasks: &Tasks) -> [u8; 72]
     ensures { result ≡ view_routine_bytes tasks.now }
 {

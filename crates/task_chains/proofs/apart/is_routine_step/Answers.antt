@@ -4,9 +4,9 @@ use Rattle.task_chains.specs.Faults.{IsRoutineStep}
 use Rattle.task_chains.proofs.ApartLaws.{step_within}
 use Rattle.task_chains.proofs.apart.is_routine_step.Goals as goal
 
-pub returns-then-offset-lt72 : goal.returns-then-offset-lt72
-returns-then-offset-lt72 c =
+pub returns-then-offset-lt-ROUTINE_BYTES : goal.returns-then-offset-lt-ROUTINE_BYTES
+returns-then-offset-lt-ROUTINE_BYTES c =
     let p = c.args.addr in
     let from = c.tasks.inside.switch in
     subst (λ (t : TasksData). (IsTrue ((p - from) % 4 == 0) → IsRoutineStep t p) × (IsRoutineStep t p → IsTrue ((p - from) % 4 == 0))) c.tasks.view_is
-    (step_within (tasks_data c.tasks.inside) p c.if-addr-tasks.false c.if-offset-lt72.true)
+    (step_within (tasks_data c.tasks.inside) p c.if-addr-tasks.false c.if-offset-lt-ROUTINE_BYTES.true)

@@ -12,12 +12,12 @@ use Rattle.task_chains.proofs.faults.task_fault.Goals as goal
 
 pub node_fault-requires : goal.node_fault-requires
 node_fault-requires c =
-    item_values c.args.view.now c.args.plan.now c.args.cert.now c.of-b.result c.deref-node-items.result.now c.loop-node.node-index c.node-item.result c.requires
-    (c.of-b.ensures ∙ ap (λ (t : CertData). limits_for c.args.plan.now t.version) c.cert.view_is) (c.deref-node-items.ensures.value ∙ ap (λ (t : CertData). t.nodes) c.cert.view_is) c.loop-node-test.true c.node-item.is
+    item_values c.args.view.now c.args.plan.now c.args.cert.now c.of-bounds.result c.deref-node-items.result.now c.loop-node.node-index c.node-item.result c.requires
+    (c.of-bounds.ensures ∙ ap (λ (t : CertData). limits_for c.args.plan.now t.version) c.cert.view_is) (c.deref-node-items.ensures.value ∙ ap (λ (t : CertData). t.nodes) c.cert.view_is) c.loop-node-test.true c.node-item.is
 
 pub returns-in-Some-clause-some : goal.returns-in-Some-clause-some
 returns-in-Some-clause-some c =
-    let limits = c.of-b.ensures ∙ ap (λ (t : CertData). limits_for c.args.plan.now t.version) c.cert.view_is in
+    let limits = c.of-bounds.ensures ∙ ap (λ (t : CertData). limits_for c.args.plan.now t.version) c.cert.view_is in
     let same = c.deref-node-items.ensures.value ∙ ap (λ (t : CertData). t.nodes) c.cert.view_is in
     let found = subst (λ (b : Limits). IsNodeFault b c.args.view.now c.args.plan.now c.args.tasks.now c.node-item.result c.in-Some.addr) limits c.in-Some.ensures.some in
     let first =
@@ -27,7 +27,7 @@ returns-in-Some-clause-some c =
 
 pub loop-node-preserved : goal.loop-node-preserved
 loop-node-preserved c =
-    let limits = c.of-b.ensures ∙ ap (λ (t : CertData). limits_for c.args.plan.now t.version) c.cert.view_is in
+    let limits = c.of-bounds.ensures ∙ ap (λ (t : CertData). limits_for c.args.plan.now t.version) c.cert.view_is in
     let found = subst (λ (b : Limits). All (HoldsApartIn b c.args.view.now c.args.plan.now c.args.tasks.now c.node-item.result.key) c.node-item.result.points) limits c.in_default.ensures.none in
     all_more (λ (n : NodeData). All (λ p. HoldsApart c.args.view.now c.args.plan.now c.args.tasks.now c.args.cert.now n p) n.points)
     c.deref-node-items.result.now c.loop-node.node-index c.node-item.result c.loop-node-test.true c.node-item.is c.loop-node.invariant found

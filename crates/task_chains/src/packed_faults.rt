@@ -1,0 +1,71 @@
+// Rule 17 at each point of a view's certificate on the bytes of its file.
+ghost use Rattle.std.specs.Prelude.{All, IfNone, IfSome};
+ghost use Rattle.value_domain.specs.State.{AreValues};
+ghost use Rattle.cfg_recover.specs.Accepting.{Accepts};
+ghost use Rattle.task_chains.specs.Apart.{KeepsApart, IsTaskFault};
+ghost use Rattle.task_chains.specs.Faults.{HoldsApartIn, IsNodeFault};
+
+use crate::Tasks;
+use crate::rule::{Rule, holds_apart};
+use cfg_recover::KnownCodes;
+use depth_cert::Key;
+use elf_image::Image;
+use packed_cert::{PackedCert, PackedNode, PointWalk};
+use tcd_plan::Plan;
+use value_domain::Bounds;
+
+/// Returns the first address of a node's points at which rule 17 fails.
+fn node_fault<'a>(
+    rule: &Rule,
+    codes: &mut KnownCodes,
+    node: &PackedNode<'a>,
+    walk: &mut PointWalk<'a>,
+) -> Option<u32>
+    requires { All (λ p. AreValues rule.now.bounds.now p.state.regs) node.now.points }
+    ensures none { let r = rule.now in
+        IfNone result
+        (All (HoldsApartIn r.bounds.now r.view.now r.plan.now r.tasks.now node.now.key)
+        node.now.points) }
+    ensures some { let r = rule.now in
+        IfSome result (IsNodeFault r.bounds.now r.view.now r.plan.now r.tasks.now node.now) }
+{
+    node.walk(walk);
+    while let Some(addr) = walk.step() {
+        if !holds_apart(rule, codes, &node.key, addr, walk.state()) {
+            return Some(addr);
+        }
+    }
+    None
+}
+
+/// Returns what `task_fault` returns, for a certificate on the bytes of its file.
+#[inline(never)]
+pub fn task_fault_packed(
+    view: &Image,
+    plan: &Plan,
+    tasks: &Tasks,
+    cert: &PackedCert,
+) -> Option<(Key, u32)>
+    requires { Accepts view.now plan.now cert.now }
+    ensures none { IfNone result (KeepsApart view.now plan.now tasks.now cert.now) }
+    ensures some { IfSome result (λ f. IsTaskFault view.now plan.now tasks.now cert.now f.0 f.1) }
+{
+    let bounds = Bounds::of(plan, cert.version());
+    let rule = Rule {
+        bounds: &bounds,
+        view,
+        plan,
+        tasks,
+    };
+    let mut codes = KnownCodes::new();
+    let mut walk = PointWalk::none();
+    for i in 0..cert.len() {
+        let Some(node) = cert.get(i) else {
+            unreachable!()
+        };
+        if let Some(addr) = node_fault(&rule, &mut codes, &node, &mut walk) {
+            return Some((node.key, addr));
+        }
+    }
+    None
+}
