@@ -1,4 +1,4 @@
--- Loads and stores of the machine beside those of its view, where ram isn't mapped.
+-- Loads and stores of the machine, compared with those of its view, in which ram isn't mapped.
 use Rattle.std.proofs.Common.{◌≡◌, ℕ, zero, suc, ◌+◌, ◌*◌, ◌/◌, ◌%◌, ◌^◌, ◌<◌, ◌⊎◌, inl, inr, false, Option, Some, None, refl, sym, ap, ◌∙◌, subst, arith}
 use Rattle.std.specs.Prelude.{unwrap_or}
 use Rattle.std.specs.FinMap as map
@@ -6,7 +6,7 @@ use Rattle.csa_chain.specs.Memory.{Memory, is_mapped, load_number, with_bytes}
 use Rattle.csa_chain.specs.MemoryChanges.{HasBytes}
 use Rattle.csa_chain.proofs.MemoryLaws.{with_byte_gone}
 
--- a byte that the view lacks, or has as the machine
+-- a byte that the view lacks, or has as the machine has it
 abbrev pub Agrees : Memory → Memory → ℕ → Type 0
 Agrees view mem y = (map.get view y ≡ None) ⊎ (map.get view y ≡ map.get mem y)
 
@@ -23,13 +23,13 @@ low_part b l lt = omega arith
 high_part : (b l : ℕ) → b < 2 ^ 8 → (b + 2 ^ 8 * l) / 2 ^ 8 ≡ l
 high_part b l lt = omega arith
 
--- a byte that is there is what is read; else what comes from outside
+-- a read gives the byte that is there, else the input's
 one_byte : (seen o : Option ℕ) (input again : ℕ) → (seen ≡ None) ⊎ (seen ≡ o) → again ≡ unwrap_or o (input % 2 ^ 8) → unwrap_or seen again ≡ unwrap_or o (input % 2 ^ 8)
 one_byte seen o input again (inl none) e = ap (λ p. unwrap_or p again) none ∙ e
 one_byte seen None input again (inr same) e = ap (λ p. unwrap_or p again) same ∙ e
 one_byte seen (Some b) input again (inr same) e = ap (λ p. unwrap_or p again) same
 
--- the view loads the same where what the machine loaded comes from outside
+-- the view loads the same if its input is what the machine loaded
 pub load_again : (view mem : Memory) → HasBytes mem → (n x input : ℕ) → ((i : ℕ) → i < n → Agrees view mem ((x + i) % 2 ^ 32)) → x < 2 ^ 32 → load_number view (load_number mem input x n) x n ≡ load_number mem input x n
 unfolding load_number
 load_again view mem bytes zero x input agrees lt = refl
@@ -47,7 +47,7 @@ load_again view mem bytes (suc n) x input agrees lt =
     in
     (λ i. first i + 2 ^ 8 * rest i)
 
--- a store that meets no mapped byte changes nothing
+-- a store to no mapped byte changes nothing
 pub store_gone : (view : Memory) (n x w : ℕ) → ((i : ℕ) → i < n → is_mapped view ((x + i) % 2 ^ 32) ≡ false) → x < 2 ^ 32 → with_bytes view x w n ≡ view
 unfolding with_bytes
 store_gone view zero x w gone lt = refl

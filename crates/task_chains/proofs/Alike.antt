@@ -1,4 +1,4 @@
--- A step of the machine beside the same step of its view: interrupts and calls.
+-- A step of the machine, compared with the same step of its view: interrupts and calls.
 use Rattle.std.proofs.Common.{◌≡◌, ◌≢◌, ℕ, zero, suc, ◌+◌, ◌-◌, ◌*◌, ◌^◌, ◌<◌, ◌≤◌, ◌⊎◌, inl, inr, Bool, true, false, cond, List, ◌∷◌, ◌++◌, length, get_or, set, Ok, refl, sym, ap, ◌∙◌, subst, arith, bit_or}
 use Rattle.std.proofs.lemmas.Bool.{cases_lt, cases_eq}
 use Rattle.std.specs.FinMap as map
@@ -31,12 +31,12 @@ use Rattle.csa_chain.specs.SeveralChains.{times, sum_below, with_chain, with_fir
 use Rattle.csa_chain.proofs.SeveralLaws.{cond_other, first_avoids, times-first, times-other}
 use Rattle.task_chains.proofs.Twins.{SameBehindFirst, areas_once, reserve_of, Twins, has_shared, Twins-saved}
 
--- the machine with another memory, and other words that begin its chains
+-- the machine with another memory, and other first words of its chains
 abbrev pub seen_as : Machine → Memory → ℕ → ℕ → Machine
 seen_as m mem pcxi fcx = record m { mem = mem; pcxi = pcxi; fcx = fcx }
 
--- After a step of both, the view is still as the machine but for its memory and those words; what they share is told again; the chains of
--- the other tasks stay, and so do the bytes that are to be kept.
+-- After a step of both, the view is the machine except for its memory and those words. What the
+-- tasks share holds again, and the chains of the other tasks and the bytes to keep are unchanged.
 pub record Alike (plan : PlanData) (n u : ℕ) (word_of : ℕ → ℕ) (chain_of : ℕ → List ℕ) (Kept : ℕ → Type 0) (old_view : Memory) (m m2 v2 : Machine) : Type 0 where
   pub words : ℕ → ℕ
   pub chains : ℕ → List ℕ
@@ -52,7 +52,7 @@ pub record Alike (plan : PlanData) (n u : ℕ) (word_of : ℕ → ℕ) (chain_of
   pub mapped : (x : ℕ) → (is_mapped m2.mem x ≡ is_mapped m.mem x) × (is_mapped view x ≡ is_mapped old_view x)
 
 -- ---- where areas lie
--- a link that stands among the areas is one of theirs
+-- a link in the list of areas is that of an area
 pub area_at : (l n f : ℕ) → times f (links_up l n) ≢ 0 → (i : ℕ) × (i < n) × (f ≡ l + i)
 area_at l zero f some = absurd (some refl)
 area_at l (suc n) f some =
@@ -74,7 +74,7 @@ in_areas_or_not plan x not_in =
       | inr from ↦ elim (cases_lt x (plan.csa_at + 64 * plan.areas)) [ inl within ↦ absurd (not_in (from, within)) | inr high ↦ inr high ]
     ]
 
--- 16 words in an area leave all outside of the areas
+-- writing 16 words to an area changes no byte outside of the areas
 pub outside_area : {plan : PlanData} → IsPlan plan → (mem : Memory) (l i : ℕ) → l ≡ first_link plan + i → i < plan.areas → (ws : List ℕ) → length ws ≤ 16 → (x : ℕ) → (IsInAreas plan x → ⊥) → map.get (with_words mem (link_address l) ws) x ≡ map.get mem x
 outside_area {plan = plan} ok mem l i at lt ws few x not_in =
     let place : link_address l ≡ plan.csa_at + 64 * i = ap link_address at ∙ link_address-area ok i lt in
@@ -110,7 +110,7 @@ module _ {plan : PlanData} (ok : IsPlan plan) (Kept : ℕ → Type 0) (kept : (x
   pub view_saves : (upper : Bool) → save v upper ≡ saved v upper
   view_saves upper = let h = free in save-is v upper h.some h.area h.not_last
 
-  -- whatever else the two make of their registers, alike
+  -- the steps are alike for whatever else they do to the registers
   pub Alike-saved : (upper : Bool) (m2 : Machine) → m2.mem ≡ (saved m upper).mem → m2.pcxi ≡ (saved m upper).pcxi → m2.fcx ≡ (saved m upper).fcx → m2.lcx ≡ m.lcx
       → Alike plan n u word_of chain_of Kept view m m2 (seen_as m2 (saved v upper).mem (saved v upper).pcxi (saved v upper).fcx)
   Alike-saved upper m2 mem_is pcxi_is fcx_is lcx_is =

@@ -1,4 +1,4 @@
--- Whether an instruction keeps rule 17, part by part.
+-- The test of rule 17, part by part.
 use Rattle.std.proofs.Common.{◌≡◌, ℕ, ◌-◌, ◌/◌, ◌%◌, ◌<◌, ◌≤◌, inl, inr, Bool, true, false, IsTrue, refl, arith, nat_le, ◌==◌}
 use Rattle.std.proofs.lemmas.Bool.{cases_lt, eqb-true, eq-eqb, leb-true, le-leb}
 use Rattle.depth_cert.specs.declared.keys.Key.{Key}

@@ -1,4 +1,5 @@
--- A step of the machine beside the same step of its view: returns, and lower contexts that come back.
+-- A step of the machine, compared with the same step of its view: returns, and lower contexts that
+-- are restored.
 use Rattle.std.proofs.Common.{◌≡◌, ◌≢◌, ℕ, suc, ◌*◌, ◌/◌, ◌%◌, ◌^◌, ◌<◌, inl, inr, Bool, true, false, not, cond, List, [], ◌∷◌, length, get_or, Ok, refl, sym, ap, ◌∙◌, subst, arith, ◌==◌}
 use Rattle.std.proofs.lemmas.Bool.{cases_Bool, eqb-false}
 use Rattle.std.specs.FinMap as map
@@ -147,7 +148,7 @@ module _ {plan : PlanData} (ok : IsPlan plan) (Kept : ℕ → Type 0) (kept : (x
   kind_from true same kind = same ∙ kind
   kind_from false same kind = ap not same ∙ kind
 
-  -- where the view's restore stands, so does the machine's
+  -- if the view restores a context, so does the machine
   pub restores : (upper : Bool) → has_kind v upper ≡ true → restore m upper ≡ restored m upper
   restores upper kind =
       let ls = links_before ok l used is words.bytes view_words.bytes t in
@@ -160,7 +161,7 @@ module _ {plan : PlanData} (ok : IsPlan plan) (Kept : ℕ → Type 0) (kept : (x
   behind : SameBehindFirst (last_context m) (last_context v)
   behind = same_area_words m.mem view (link_in m.pcxi) (link_in pcxi) (λ i lt. ap (λ x. area_word m.mem x (suc i)) here ∙ own.1 i lt ∙ ap (λ x. area_word view x (suc i)) (sym there))
 
-  -- the view is as the machine again
+  -- the view and the machine are alike again
   pub restored_same : (upper : Bool) → restored v upper ≡ seen_as (restored m upper) (released v).mem (released v).pcxi (released v).fcx
   restored_same true = λ i. record (released v) {
     psw = (ap (λ x. area_word view x 1) there ∙ sym (own.1 0 (omega arith)) ∙ ap (λ x. area_word m.mem x 1) (sym here)) i;
@@ -210,7 +211,7 @@ module _ {plan : PlanData} (ok : IsPlan plan) (Kept : ℕ → Type 0) (kept : (x
   abbrev back_to : Machine → Machine
   back_to r = record r { pc = a11 m / 2 * 2 }
 
-  -- where both do the same with what came back, and end alike, the steps are alike
+  -- if both do the same with the restored context, and end alike, the steps are alike
   pub Alike-back : (upper : Bool) (shape : Shape) (size : ℕ) (after : Machine → Machine) (e e2 : Event) → has_kind v upper ≡ true
       → does m e shape size ≡ then_ (restore m upper) after → does v e2 shape size ≡ then_ (restore v upper) after
       → ((r : Machine) → (after r).end ≡ r.end) → ((r : Machine) (mem : Memory) (p f : ℕ) → after (seen_as r mem p f) ≡ seen_as (after r) mem p f)

@@ -1,4 +1,4 @@
--- A task's first turn: its two contexts come back, and its view starts.
+-- A task's first turn: its two contexts are restored, and its view starts.
 use Rattle.std.proofs.Common.{◌≡◌, ◌≢◌, ℕ, zero, suc, ◌+◌, ◌-◌, ◌*◌, ◌/◌, ◌%◌, ◌^◌, ◌<◌, ◌≤◌, inl, inr, Bool, true, false, not, List, [], ◌∷◌, length, get_or, Some, Ok, refl, sym, ap, ◌∙◌, subst, arith, ◌==◌}
 use Rattle.std.proofs.lemmas.Bool.{cases_lt}
 use Rattle.std.specs.FinMap as finite
@@ -106,7 +106,7 @@ view_small image plan tasks are has u mem rom bytes x b in_rom held =
     ]
 
 -- ---- a restore by the owner of PCXI
--- what the tasks share, and what stays
+-- what the tasks share, and what is unchanged
 record GivenBack (plan : PlanData) (n u : ℕ) (word_of : ℕ → ℕ) (chain_of : ℕ → List ℕ) (m x : Machine) (l : ℕ) (used : List ℕ) : Type 0 where
   pub shared : Shared plan n u (with_first word_of u (area_word m.mem l 0)) (with_chain chain_of u used) x.mem x.pcxi x.fcx x.lcx
   pub others : (w : ℕ) → w < n → w ≢ u → (with_first word_of u (area_word m.mem l 0) w ≡ word_of w) × (with_chain chain_of u used w ≡ chain_of w) × SameAreas m.mem x.mem (chain_of w)

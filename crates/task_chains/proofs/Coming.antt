@@ -1,4 +1,4 @@
--- The switch itself, and the instructions after it: the contexts of the task that comes back.
+-- The switch itself, and the instructions after it: the contexts of the next task are restored.
 use Rattle.std.proofs.Common.{◌≡◌, ◌≢◌, ℕ, suc, ◌+◌, ◌*◌, ◌/◌, ◌<◌, inl, inr, Bool, true, false, cond, List, [], ◌∷◌, length, get_or, Ok, Result, refl, sym, ap, ◌∙◌, subst, arith}
 use Rattle.std.proofs.lemmas.Bool.{cases_eq}
 use Rattle.std.specs.FinMap as finite
@@ -106,7 +106,7 @@ module _ {image : ImageData} {plan : PlanData} {tasks : TasksData} {certs : ℕ 
     stays_in : (shape : Shape) → way_by v e shape (step v e).pc ≡ to (step v e).pc → is_taken v e ≡ false → fetched v ≡ Ok (shape, 4) → AreFirst tasks (frames_left (frames_after v e ((of.run).frame ∷ (of.run).behind)))
     stays_in shape way none there = first_stays tasks v e (of.run).frame (of.run).behind shape 4 none there way (of.run).first
 
-    -- where it does nothing
+    -- the instruction does nothing
     nothing_is : ViewMoved image plan tasks u v e (frames_after v e ((of.run).frame ∷ (of.run).behind)) Nothing → step v e ≡ with_event (advanced 4 v) e
     nothing_is b =
         let running = view_running wd.ok wd.are wd.fit own (certs u) (wd.judged u own) (view_few wd u own) v of.run in
@@ -167,7 +167,7 @@ module _ {image : ImageData} {plan : PlanData} {tasks : TasksData} {certs : ℕ 
         fcx_word = (k.shared).fcx_word;
       }
 
-      -- the one that gave way waits
+      -- the task that gave way waits
       gave_way : (block_word tasks m.mem u ≡ word_of u) × Waits image plan tasks u x (word_of u) (chain_of u)
       gave_way = (
         r.stored (omega arith) ∙ sym (k.shared).first,
@@ -283,7 +283,7 @@ module _ {image : ImageData} {plan : PlanData} {tasks : TasksData} {certs : ℕ 
         twins_here : Twins plan (count tasks) u word_of chain_of (j ∷ seen2) m.mem m.pcxi m.fcx m.lcx v.mem v.pcxi v.fcx
         twins_here = subst (λ ss. Twins plan (count tasks) u word_of chain_of ss m.mem m.pcxi m.fcx m.lcx v.mem v.pcxi v.fcx) is_s (Twins-from k.shared pause)
 
-        -- a machine whose memory, PCXI and FCX are those once the area is given back, and a view so beside it
+        -- the machine and the view with the memory, PCXI and FCX after the area is freed
         module _ (x : Machine) (mem_is : x.mem ≡ (released m).mem) (pcxi_is : x.pcxi ≡ (released m).pcxi) (fcx_is : x.fcx ≡ (released m).fcx) (lcx_is : x.lcx ≡ m.lcx) where
           back : Alike plan (count tasks) u word_of chain_of (IsKept plan tasks) v.mem m x (seen_as x (released v).mem (released v).pcxi (released v).fcx)
           back = Alike-restored wd.ok (IsKept plan tasks) is_kept m v.mem v.pcxi v.fcx k.words words_as k.running l used is_l j seen2 twins_here x mem_is pcxi_is fcx_is lcx_is
@@ -311,7 +311,7 @@ module _ {image : ImageData} {plan : PlanData} {tasks : TasksData} {certs : ℕ 
           now_back : current tasks x.mem ≡ u
           now_back = block_same tasks m.mem x.mem (λ y low high. back.outside y (inr (low, high))) (count tasks) (omega arith) ∙ now
 
-          -- all of them, with a view that has that memory
+          -- all tasks are kept, with a view that has that memory
           all_back : (y : Machine) → y.mem ≡ (released v).mem → y.pcxi ≡ (released v).pcxi → y.fcx ≡ (released v).fcx → y.lcx ≡ x.lcx → ViewRun image plan tasks u y → IsMachine x → x.end ≡ Running → HasCore plan x → HasGlobals plan x.a
               → Turn image plan tasks u back.words back.chains x → Goes image plan tasks needs x
           all_back y y_mem y_pcxi y_fcx y_lcx run is_machine running core globals2 turn =
@@ -334,7 +334,7 @@ module _ {image : ImageData} {plan : PlanData} {tasks : TasksData} {certs : ℕ 
                     (λ w lt apart. block_same tasks m.mem x.mem (λ z low high. back.outside z (inr (low, high))) w (omega arith)) (omega arith) turn;
               }
 
-      -- a restore of the view stands, so both have a context
+      -- the view restores a context, so both have one
       by_context : (upper : Bool) → (restore v upper).end ≡ Running
           → ((l : ℕ) (used : List ℕ) → chain_of u ≡ l ∷ used → (j : ℕ) (seen2 : List ℕ) → seen ≡ j ∷ seen2 → has_kind v upper ≡ true → Goes image plan tasks needs (step m e)) → Goes image plan tasks needs (step m e)
       by_context upper stands go =
@@ -386,7 +386,7 @@ module _ {image : ImageData} {plan : PlanData} {tasks : TasksData} {certs : ℕ 
           (all_back l used is_l j seen2 is_s (with_event (advanced 4 (restored m false)) e) refl refl refl refl (with_event (advanced 4 (restored v false)) e) refl refl refl beside.lcx run (subst IsMachine m_is after_machine) k.running
           (record { lcx = k.lcx; biv = k.biv; btv = k.btv; isp = k.isp; core = k.core }) k.globals turn))
 
-      -- instruction 17 returns: the view is as the machine again
+      -- instruction 17 returns: the view and the machine are alike again
       pub comes_home : m.pc ≡ tasks.switch + 4 * 17 → SameLower m v → Goes image plan tasks needs (step m e)
       comes_home pc low =
           let b = view_moves own m.mem v of seen pause.view_free pause.view_links own_areas view_off m e fits Ret (view_at 17 pc Ret (view_code_17 image plan tasks wd.are wd.has u)) tt

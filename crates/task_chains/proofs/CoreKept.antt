@@ -1,4 +1,4 @@
--- A step that isn't MTCR leaves LCX, BIV, BTV, ISP and the layout of PCXI.
+-- A step that isn't MTCR doesn't change LCX, BIV, BTV, ISP or the layout of PCXI.
 use Rattle.std.proofs.Common.{◌≡◌, ℕ, ◌*◌, ◌/◌, ◌^◌, Bool, true, false, cond, inl, inr, Ok, set, refl, sym, subst, bit_or, ◌==◌}
 use Rattle.std.proofs.lemmas.Bool.{cond_both, cases_Bool}
 use Rattle.csa_chain.specs.Chain.{link_in, is_area}
@@ -52,7 +52,7 @@ core_save m upper =
     (λ _. cond_both (link_in m.fcx == link_in m.lcx) (died Fcd (saved m upper)) (saved m upper) (SameCore m) (λ _. record { lcx = refl; biv = refl; btv = refl; isp = refl; core = refl }) (λ _. core_saved m upper))
     (λ _. record { lcx = refl; biv = refl; btv = refl; isp = refl; core = refl }))
 
--- nor does a save move the machine
+-- a save doesn't change them
 pub save_place : (m : Machine) (upper : Bool) → ((save m upper).pc ≡ m.pc) × ((save m upper).ie ≡ m.ie)
 unfolding save
 save_place m upper =

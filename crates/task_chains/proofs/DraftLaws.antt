@@ -1,4 +1,4 @@
--- What lines say of tasks, read one after another.
+-- The lines of a text of tasks, read one after another.
 use Rattle.std.proofs.Common.{◌≡◌, ◌≢◌, ℕ, ◌+◌, ◌<◌, ◌≤◌, inl, inr, true, false, List, [], ◌∷◌, ◌++◌, length, take, map, Option, Some, None, refl, sym, ap, ◌∙◌, subst, arith}
 use Rattle.std.specs.Prelude.{IsSome}
 use Rattle.std.specs.Option.{option_or}
@@ -56,7 +56,7 @@ tells_same before line tasks (Some n) e = eighth_more before line n e
 
 -- ---- one line more
 module _ (before : List (List ℕ)) where
-  -- an empty one
+  -- an empty line
   said_empty : (tasks : TasksData) → AreSaid before tasks → AreSaid (before ++ [] ∷ []) tasks
   said_empty tasks s = record { first = s.first; behind = s.behind; split = written_empty before ∙ s.split; places = s.places; named = s.named }
 
@@ -64,7 +64,7 @@ module _ (before : List (List ℕ)) where
   draft_empty None list eighth d = (written_empty before ∙ d.0, d.1, d.2)
   draft_empty (Some p) list eighth d = record { all = d.all; said = said_empty (tasks_with p d.all) d.said; seven = d.seven; more = tells_same before [] (tasks_with p d.all) eighth d.more }
 
-  -- one that names addresses
+  -- a line that names addresses
   pub draft_places : (line : List ℕ) (p : Places) (list : List Task) (eighth : Option ℕ) → 0 < length line → places_of line ≡ Some p → IsDraftBy before None list eighth → IsDraftBy (before ++ line ∷ []) (Some p) list eighth
   draft_places line p list eighth lt is d = record {
     all = [];
@@ -76,7 +76,7 @@ module _ (before : List (List ℕ)) where
   pub bad_places : (line : List ℕ) (list : List Task) (eighth : Option ℕ) → 0 < length line → places_of line ≡ None → IsDraftBy before None list eighth → BreaksForm before line
   bad_places line list eighth lt none d = (not_empty line lt, inl (d.0, none))
 
-  -- one that names a task
+  -- a line that names a task
   said_more : (line : List ℕ) (p : Places) (t : Task) (all : List Task) → 0 < length line → task_of line ≡ Some t → AreSaid before (tasks_with p all) → AreSaid (before ++ line ∷ []) (tasks_with p (all ++ t ∷ []))
   said_more line p t all lt is s = record {
     first = s.first;
@@ -156,7 +156,7 @@ module _ (old : Draft) (n : ℕ) (line : List ℕ) (some : 0 < length line) wher
   bad_other there is = (refl, bad_by old.places old.list.items old.eighth there is)
 
 -- ---- a text
--- the lines before what is left make the draft
+-- the draft is that of the lines before those that are left
 pub record IsDraftSoFar (bytes rest : List ℕ) (number : ℕ) (d : Draft) : Type 0 where
   pub before : List (List ℕ)
   pub split : lines_of bytes ≡ before ++ lines_of rest

@@ -1,4 +1,4 @@
--- Each state has an event that fits; and where a save of a view stands, there is room.
+-- Each state has an event that fits; and if a view saves a context, there is room.
 use Rattle.std.proofs.Common.{◌≡◌, ◌≢◌, ℕ, zero, suc, ◌+◌, ◌-◌, ◌^◌, ◌<◌, ◌≤◌, inl, inr, Bool, true, false, cond, List, [], ◌∷◌, ◌++◌, length, map, Option, Some, None, refl, sym, ap, ◌∙◌, arith, append_assoc, ◌&&◌, nat_le, nat_lt, ◌==◌}
 use Rattle.std.proofs.lemmas.Bool.{cases_Bool, and_parts, and_from, le-leb, leb-true, ltb-true, false≢true, eqb-false, cases_lt}
 use Rattle.std.specs.Prelude.{All}
@@ -39,7 +39,7 @@ All-cons P x xs h hs (suc i) d lt = hs i d (omega arith)
 All-none : {X : Type 0} (P : X → Type 0) → All P []
 All-none P i d lt = absurd (omega arith)
 
--- what a device with this word asks of an input
+-- the bounds of an input, if a device has the word
 abbrev Answered : ℕ → ℕ → Device → Type 0
 Answered x input d = IsWithin x 4 d.range → (d.lo ≤ input) × (input ≤ d.hi)
 
@@ -48,7 +48,7 @@ device_bounds d h =
     let a = and_parts (is_range d.range && nat_le d.lo d.hi) (nat_lt d.hi (2 ^ 32)) h in
     (leb-true d.lo d.hi (and_parts (is_range d.range) (nat_le d.lo d.hi) a.0).1, ltb-true d.hi (2 ^ 32) a.1)
 
--- where no device of the list has the word, any answer will do
+-- if no device of the list has the word, each input fits
 none_within : (ds : List Device) (x input : ℕ) → (IsInOne x 1 (map (λ (d : Device). d.range) ds) → ⊥) → AnswersAt x input ds
 none_within [] x input none = All-none (Answered x input)
 none_within (d ∷ ds) x input none = All-cons (Answered x input) d ds (λ there. absurd (none (inl (there.0, (let h = there.1 in omega arith))))) (none_within ds x input (λ h. none (inr h)))
@@ -131,7 +131,7 @@ saves_from m upper e =
           ]
     ]
 
--- so the chain in use doesn't take all but the reserve
+-- so the chain in use has less than all areas except the reserve
 pub room_from : {plan : PlanData} (m : Machine) (upper : Bool) (seen free : List ℕ) → Areas plan m.mem m.fcx m.lcx seen free → length seen ≤ plan.areas - plan.reserve → (save m upper).end ≡ Running → length seen < plan.areas - plan.reserve
 room_from {plan = plan} m upper seen [] areas most e = let s = saves_from m upper e in absurd (s.some areas.links)
 room_from {plan = plan} m upper seen (f ∷ rest) areas most e =

@@ -1,4 +1,5 @@
--- A step of the machine beside the same step of its view: lower contexts saved, and traps.
+-- A step of the machine, compared with the same step of its view: lower contexts that are saved,
+-- and traps.
 use Rattle.std.proofs.Common.{◌≡◌, ℕ, ◌-◌, ◌*◌, ◌^◌, ◌<◌, Bool, true, false, List, length, set, Ok, refl, sym, ap, ◌∙◌, subst, bit_or}
 use Rattle.csa_chain.specs.Memory.{Memory}
 use Rattle.tcd_plan.specs.PlanData.{PlanData, IsPlan}
@@ -30,7 +31,7 @@ module _ {plan : PlanData} (ok : IsPlan plan) (Kept : ℕ → Type 0) (kept : (x
   abbrev v : Machine
   v = seen_as m view pcxi fcx
 
-  -- where both go on alike from what was saved, the steps are alike
+  -- if both are alike after the save, the steps are alike
   Alike-forth : (upper : Bool) (shape : Shape) (size : ℕ) (after after2 : Machine → Machine) → does m e shape size ≡ then_ (save m upper) after → does v e2 shape size ≡ then_ (save v upper) after2
       → (after (saved m upper)).end ≡ m.end → after2 (saved v upper) ≡ seen_as (after (saved m upper)) (saved v upper).mem (saved v upper).pcxi (saved v upper).fcx
       → (after (saved m upper)).mem ≡ (saved m upper).mem → (after (saved m upper)).pcxi ≡ (saved m upper).pcxi → (after (saved m upper)).fcx ≡ (saved m upper).fcx → (after (saved m upper)).lcx ≡ m.lcx

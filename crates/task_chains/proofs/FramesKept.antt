@@ -1,4 +1,5 @@
--- The frames of a view: their keys have numbers that fit, and where one of the switch routine waits it stands at the first instruction.
+-- The frames of a view: the numbers of their keys are in range, and a frame of the switch routine
+-- that waits is at the routine's first instruction.
 use Rattle.std.proofs.Common.{◌≡◌, ℕ, ◌^◌, ◌<◌, true, cond, List, [], ◌∷◌, Result, Ok, Err, sym, ap, subst, arith}
 use Rattle.std.proofs.lemmas.Bool.{cond_both}
 use Rattle.tc_isa.specs.declared.shapes.Shape.{Shape}
@@ -17,7 +18,7 @@ use Rattle.task_chains.specs.Tasks.{TasksData}
 use Rattle.task_chains.specs.Apart.{switch_key}
 
 -- ---- frames
--- each key has numbers that fit
+-- the numbers of each key are in range
 abbrev pub AreKeys : List Standing → Type 0
 AreKeys [] = Unit {0}
 AreKeys (f ∷ fs) = IsKey f.key × AreKeys fs
@@ -31,7 +32,7 @@ pub AreFirst-left : (tasks : TasksData) (fs : List Standing) → AreFirst tasks 
 AreFirst-left tasks [] h = tt
 AreFirst-left tasks (f ∷ fs) h = h.1
 
--- what holds of all ways that a step may go holds of the step's
+-- if something holds after each case of a step, it holds after the step
 pub by_way : (v : Machine) (e : Event) (q : ℕ) (P : Way → Type 0) → P (to q) → P (call q) → P (irq q) → P (sys q) → P (aln q) → P ret → P rfe → P (cond (is_taken v e) (irq q) (way_in v e (fetched v) q))
 by_way v e q P goes calls interrupts systems misaligns returns leaves = cond_both (is_taken v e) (irq q) (way_in v e (fetched v) q) P (λ _. interrupts) (λ _. by_found (fetched v))
   where
@@ -59,7 +60,7 @@ by_way v e q P goes calls interrupts systems misaligns returns leaves = cond_bot
     by_found (Ok found) = cond_both (traps v e found.0) (aln q) (way_of_shape found.0 q) P (λ _. misaligns) (λ _. by_shape found.0)
     by_found (Err cause) = goes
 
--- keys fit after a step
+-- the numbers of keys are in range after a step
 pub keys_next : (v : Machine) (e : Event) (f : Standing) (fs : List Standing) → AreKeys (f ∷ fs) → e.irq < 2 ^ 8 → (step v e).pc < 2 ^ 32 → AreKeys (frames_after v e (f ∷ fs))
 keys_next v e f fs keys irq_lt pc_lt =
     let same : IsKey f.key = keys.0 in
@@ -72,7 +73,7 @@ keys_next v e f fs keys irq_lt pc_lt =
     keys.1
     keys.1
 
--- a step outside of the routine goes into it at the first instruction alone
+-- a step from outside of the routine enters it only at the first instruction
 pub first_next : (tasks : TasksData) (v : Machine) (e : Event) (f : Standing) (fs : List Standing) → (f.key ≡ switch_key tasks → ⊥) → AreFirst tasks fs → AreFirst tasks (frames_after v e (f ∷ fs))
 first_next tasks v e f fs apart first =
     by_way v e (step v e).pc (λ w. AreFirst tasks (frames_by v.pc (moved v.pc (size_in (fetched v))) e.irq w (f ∷ fs)))
@@ -84,7 +85,7 @@ first_next tasks v e f fs apart first =
     first
     first
 
--- an interrupt enters a handler, and the frame below comes back to where it was
+-- an interrupt enters a handler, and the frame below returns to where it was
 pub first_interrupt : (tasks : TasksData) (v : Machine) (e : Event) (f : Standing) (fs : List Standing) → is_taken v e ≡ true → (f.key ≡ switch_key tasks → v.pc ≡ tasks.switch) → AreFirst tasks fs → AreFirst tasks (frames_after v e (f ∷ fs))
 first_interrupt tasks v e f fs taken at first =
     subst (λ t. AreFirst tasks (frames_by v.pc (moved v.pc (size_in (fetched v))) e.irq (cond t (irq (step v e).pc) (way_in v e (fetched v) (step v e).pc)) (f ∷ fs))) (sym taken)

@@ -1,4 +1,5 @@
--- An event of all tasks where the running one is outside of the routine, or about to enter it.
+-- An event of all tasks while the running task is outside of the routine, or at its first two
+-- instructions.
 use Rattle.std.proofs.Common.{◌≡◌, ◌≢◌, ℕ, ◌+◌, ◌-◌, ◌*◌, ◌%◌, ◌^◌, ◌<◌, ◌≤◌, inl, inr, true, false, cond, List, ◌∷◌, Some, None, Ok, Result, refl, sym, ap, ◌∙◌, subst, arith}
 use Rattle.std.proofs.lemmas.Bool.{cases_lt, cases_Bool}
 use Rattle.csa_chain.specs.Memory.{Memory}
@@ -63,7 +64,7 @@ code_of image plan tasks u p shape size c = record { even = c.even; bytes = c.by
 pub code_to : (image : ImageData) (plan : PlanData) (tasks : TasksData) (u p : ℕ) (shape : Shape) (size : ℕ) → IsCode image plan p shape size → IsCode image (view_plan_of plan tasks u) p shape size
 code_to image plan tasks u p shape size c = record { even = c.even; bytes = c.bytes; inst = c.inst; spells = record { spelled = c.spells.spelled; in_rom = c.spells.in_rom; held = c.spells.held }; shaped = c.shaped; sized = c.sized }
 
--- an instruction that goes on in its frame leaves those behind it
+-- an instruction that stays in its frame leaves the older frames as they are
 pub first_stays : (tasks : TasksData) (v : Machine) (e : Event) (f : Standing) (fs : List Standing) (shape : Shape) (size : ℕ) → is_taken v e ≡ false → fetched v ≡ Ok (shape, size) → way_by v e shape (step v e).pc ≡ to (step v e).pc → AreFirst tasks fs
     → AreFirst tasks (frames_left (frames_after v e (f ∷ fs)))
 first_stays tasks v e f fs shape size none at is first =
@@ -101,7 +102,7 @@ module _ {image : ImageData} {plan : PlanData} {tasks : TasksData} {certs : ℕ 
   is_kept : (x : ℕ) → IsKept plan tasks x → IsInAreas plan x → ⊥
   is_kept = kept wd.ok wd.fit
 
-  -- the task still is the current one
+  -- the task is still the current one
   module _ (e2 : Event) (fits2 : Fits (view_plan_of plan tasks u) (seen_as m mem pcxi fcx) e2) (a : Alike plan (count tasks) u word_of chain_of (IsKept plan tasks) mem m (step m e) (step (seen_as m mem pcxi fcx) e2))
       (next : NextRun image plan tasks u (step (seen_as m mem pcxi fcx) e2) (frames_after (seen_as m mem pcxi fcx) e2 ((of.run).frame ∷ (of.run).behind))) where
     still_now : current tasks (step m e).mem ≡ u
@@ -191,7 +192,7 @@ module _ {image : ImageData} {plan : PlanData} {tasks : TasksData} {certs : ℕ 
         let all = first_next tasks v e2 (of.run).frame (of.run).behind (view_out_of_routine wd.ok wd.are wd.fit own (certs u) (wd.judged u own) (view_few wd u own) v of.run out) (of.run).first in
         runs_on e2 fits2 alike (next_by (AreFirst-left tasks (frames_after v e2 ((of.run).frame ∷ (of.run).behind)) all)) all
 
-    -- the first instruction of the routine turns interrupts off
+    -- the first instruction of the routine disables interrupts
     goes_in : m.pc ≡ tasks.switch → p.shape ≡ Disable → p.size ≡ 4 → Goes image plan tasks needs (step m e)
     goes_in start is long =
         let first = first_stays tasks v e2 (of.run).frame (of.run).behind p.shape p.size none there (ap (λ (s : Shape). way_by v e2 s (step v e2).pc) is) (of.run).first in

@@ -29,7 +29,7 @@ use Rattle.cfg_recover.proofs.KnownPlaces.{above, limits_same, setting}
 
 -- ---- a load from a smaller state
 module _ (b : Limits) (p : PlanData) (s t : State) (low : IsSetting b p s) (high : IsSetting b p t) (c : Covers t s) where
-  -- a load that reaches no more elsewhere does so from the smaller state
+  -- if a load misses the areas and the routine from a state, it does from each smaller one
   loads_shrink : (tasks : TasksData) (shape : Shape) → IsShape shape → LoadsElsewhere b p tasks t shape → LoadsElsewhere b p tasks s shape
   unfolding address_of
   loads_shrink tasks (Load dst base offset size signed after) is h =

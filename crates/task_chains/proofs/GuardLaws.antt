@@ -68,7 +68,7 @@ or_cases : (a b : Bool) → (a || b) ≡ true → (a ≡ true) ⊎ (b ≡ true)
 or_cases true b e = inl refl
 or_cases false b e = inr e
 
--- ranges in front of others
+-- ranges before others
 apart_front : (rs ss : List Range) → all_apart (rs ++ ss) ≡ true → all_apart rs ≡ true
 apart_front [] ss e = refl
 apart_front (r ∷ rs) ss e =
@@ -90,7 +90,7 @@ module _ (x n : ℕ) where
   two_left : (r : Range) → length (without x n r) ≤ 2
   two_left r = let a = one_between r.at (min x (r.at + r.len)) in let b = one_between (max (x + n) r.at) (r.at + r.len) in omega (arith, length-append (between r.at (min x (r.at + r.len))) (between (max (x + n) r.at) (r.at + r.len)))
 
-  -- a range that lies below the bytes or above them is left as it is
+  -- a range below the bytes or above them isn't changed
   one_left : (r : Range) → (r.at + r.len ≤ x) ⊎ (x + n ≤ r.at) → length (without x n r) ≤ 1
   one_left r (inl below) =
       let a = one_between r.at (min x (r.at + r.len)) in
@@ -101,7 +101,7 @@ module _ (x n : ℕ) where
       let b = one_between (max (x + n) r.at) (r.at + r.len) in
       omega (arith, length-append (between r.at (min x (r.at + r.len))) (between (max (x + n) r.at) (r.at + r.len)))
 
-  -- ranges that share no byte with one that has the bytes lie below them or above
+  -- ranges that share no byte with a range that has the bytes are below them or above
   away_front : (r s : Range) → r.at ≤ x → x + n ≤ r.at + r.len → ranges_apart r s ≡ true → (s.at + s.len ≤ x) ⊎ (x + n ≤ s.at)
   away_front r s low high apart = elim (or_cases (nat_le (r.at + r.len) s.at) (nat_le (s.at + s.len) r.at) apart) [
     | inl above ↦ inr (let le = leb-true (r.at + r.len) s.at above in omega arith)
@@ -114,7 +114,7 @@ module _ (x n : ℕ) where
     | inr above ↦ inr (let le = leb-true (r.at + r.len) s.at above in omega arith)
   ]
 
-  -- the number of what is left of one range and of others
+  -- the number of parts that are left of one range and of others
   left_step : (s : Range) (rs : List Range) → length (flat_map (without x n) (s ∷ rs)) ≡ length (without x n s) + length (flat_map (without x n) rs)
   left_step s rs = length-append (without x n s) (flat_map (without x n) rs)
 

@@ -1,4 +1,5 @@
--- The invariant of a run of all tasks: what the tasks share; for each task that waits, its first contexts or its view; and where the running one is.
+-- The invariant of a run of all tasks: what the tasks share, the first contexts or the view of each
+-- task that waits, and the place of the running task.
 use Rattle.std.proofs.Common.{◌≡◌, ◌≢◌, ℕ, suc, ◌+◌, ◌-◌, ◌*◌, ◌/◌, ◌%◌, ◌^◌, ◌<◌, ◌≤◌, true, false, cond, List, [], ◌∷◌, length, ◌==◌}
 use Rattle.csa_chain.specs.Memory.{Memory}
 use Rattle.csa_chain.specs.Chain.{area_word}
@@ -26,15 +27,16 @@ abbrev pub after : ℕ → ℕ → ℕ
 after n u = cond (suc u == n) 0 (suc u)
 
 -- ---- views
--- A state that a run of task u's view has reached, its memory, and rom as the machine's but for the routine.
+-- A state that a run of task u's view has reached, and its memory, whose rom is the machine's
+-- except for the routine.
 pub record ViewOf (image : ImageData) (plan : PlanData) (tasks : TasksData) (u : ℕ) (mem : Memory) (v : Machine) : Type 0 where
   pub run : ViewRun image plan tasks u v
   pub memory : IsPlanMemory (view_plan_of plan tasks u) v.mem
   pub rom : HoldsRom (view_image_of image tasks u) (view_plan_of plan tasks u) v.mem
   pub same_rom : SameRom plan tasks mem v.mem
 
--- A task that waits, with the links of its chain: it is ready for its first turn, or its view stands before the instruction in the place of
--- the one that gives PCXI to the next task.
+-- A task that waits, with the links of its chain: it is ready for its first turn, or its view is at
+-- the instruction that it has instead of the one that gives PCXI to the next task.
 pub data Waits (image : ImageData) (plan : PlanData) (tasks : TasksData) (u : ℕ) (m : Machine) (word : ℕ) (links : List ℕ) : Type 0 where
   ready : 1 ≤ u → IsReady m.core plan tasks m.mem u → links ≡ lower_area plan u ∷ upper_area plan u ∷ [] → Waits image plan tasks u m word links
   paused :
@@ -42,7 +44,7 @@ pub data Waits (image : ImageData) (plan : PlanData) (tasks : TasksData) (u : �
       → Paused plan m.mem word links seen m.lcx v.mem v.pcxi v.fcx → Waits image plan tasks u m word links
 
 -- ---- in the routine
--- At instruction i, from 1 to 14, task u still owning PCXI: what registers and the block hold.
+-- What registers and the block hold at instruction i, from 1 to 14, while task u still owns PCXI.
 pub record InRoutine (tasks : TasksData) (m : Machine) (u i : ℕ) (word_of : ℕ → ℕ) : Type 0 where
   pub pc : m.pc ≡ tasks.switch + 4 * i
   pub off : m.ie ≡ false
@@ -61,8 +63,9 @@ pub record InRoutine (tasks : TasksData) (m : Machine) (u i : ℕ) (word_of : �
   pub next_pcxi : i ≡ 14 → reg m 1 ≡ word_of (after (count tasks) u)
 
 -- ---- the running task
--- Where task u is that owns PCXI. Up to the switch its view is as the machine but for its memory and the words of its chains; after it the
--- view is beside the machine until both contexts are back; and at a first turn there is no view until then.
+-- The place of task u, which owns PCXI. Up to the switch its view is the machine except for its
+-- memory and the first words of its chains. After the switch the view follows the machine until
+-- both contexts are restored; at a first turn there is no view until then.
 pub data Turn (image : ImageData) (plan : PlanData) (tasks : TasksData) (u : ℕ) (word_of : ℕ → ℕ) (chain_of : ℕ → List ℕ) (m : Machine) : Type 0 where
   runs :
       (view : Memory) (pcxi fcx : ℕ) (seen : List ℕ) → ViewOf image plan tasks u m.mem (seen_as m view pcxi fcx) → Paused plan m.mem m.pcxi (chain_of u) seen m.lcx view pcxi fcx
@@ -81,7 +84,7 @@ pub data Turn (image : ImageData) (plan : PlanData) (tasks : TasksData) (u : ℕ
       → current tasks m.mem ≡ u → Turn image plan tasks u word_of chain_of m
 
 -- ---- all
--- The invariant, with the task that owns PCXI, the words that begin the chains, and the chains.
+-- The invariant, with the task that owns PCXI, the first words of the chains, and the chains.
 pub record AllKept (image : ImageData) (plan : PlanData) (tasks : TasksData) (needs : ℕ → ℕ) (m : Machine) (u : ℕ) (word_of : ℕ → ℕ) (chain_of : ℕ → List ℕ) : Type 0 where
   pub shared : Shared plan (count tasks) u word_of chain_of m.mem m.pcxi m.fcx m.lcx
   pub words : IsMachine m

@@ -1,4 +1,5 @@
--- One event of the running task: what its view's run and the alike states of both say of all tasks.
+-- One event of the running task: what follows for all tasks from its view's run and from both
+-- states being alike.
 use Rattle.std.proofs.Common.{◌≡◌, ◌≢◌, ℕ, ◌+◌, ◌-◌, ◌*◌, ◌<◌, ◌≤◌, ◌⊎◌, inl, inr, Bool, List, [], ◌∷◌, ◌++◌, length, map, sym, ap, ◌∙◌, subst, arith}
 use Rattle.std.proofs.lemmas.Bool.{cases_eq, cases_lt}
 use Rattle.std.specs.FinMap as finite
@@ -38,7 +39,8 @@ use Rattle.task_chains.proofs.ViewPlan.{view_is_plan}
 use Rattle.task_chains.proofs.ViewRun.{HasCore, ViewRun, view_words, view_globals, view_runs, view_seen_few, view_room, view_all_room}
 use Rattle.task_chains.proofs.WaitsKept.{waits_kept}
 
--- The premises: the plan and the tasks, the routine, certificates judged well, and needs of at least theirs whose sum there is room for.
+-- The premises: the plan and the tasks, the routine, certificates judged well, and numbers that are
+-- at least their needs and have a sum within the areas.
 pub record World (image : ImageData) (plan : PlanData) (tasks : TasksData) (certs : ℕ → CertData) (needs : ℕ → ℕ) : Type 0 where
   pub ok : IsPlan plan
   pub are : AreTasks tasks
@@ -62,7 +64,7 @@ pub block_same : (tasks : TasksData) (m n : Memory) → ((x : ℕ) → tasks.blo
 block_same tasks m n same j le = word_at_agrees m n (tasks.block + 4 * j) (λ i lt. same (tasks.block + 4 * j + i) (omega arith) (omega arith))
 
 module _ {plan : PlanData} (ok : IsPlan plan) {tasks : TasksData} (fit : FitPlan plan tasks) where
-  -- the block lies in ram
+  -- the block is in ram
   pub block_in_ram : (x : ℕ) → tasks.block ≤ x → x < tasks.block + block_size tasks → IsInOne x 1 plan.ram
   block_in_ram x low high = subst (λ y. IsInOne y 1 plan.ram) (let e : tasks.block + (x - tasks.block) ≡ x = omega arith in e) (in_one tasks.block (block_size tasks) (x - tasks.block) plan.ram (omega arith) fit.in_ram)
 

@@ -1,4 +1,5 @@
--- One step of a view keeps its levels: where its newest frame has no priority and is off the interrupt stack, CCPN is the start's.
+-- One step of a view keeps its levels: if its newest frame has priority 0 and isn't on the
+-- interrupt stack, CCPN is the start's.
 use Rattle.std.proofs.Common.{◌≡◌, ◌≢◌, ℕ, ◌-◌, ◌<◌, ◌⊎◌, Bool, true, false, List, [], ◌∷◌, length, get_or, refl, sym, ap, ◌∙◌, subst, arith}
 use Rattle.csa_chain.specs.Memory.{Memory, with_words}
 use Rattle.csa_chain.specs.Chain.{link_in, link_address, area_word}
@@ -30,7 +31,7 @@ pub record Leveled (level : ℕ) (v : Machine) (fs : List Standing) : Type 0 whe
   pub at : AtLevel level v.ccpn (keys_of fs)
   pub levels : Levels v.core level v.mem v.pcxi seen (keys_of fs)
 
--- the same of what is equal
+-- levels of equal things are equal
 Links-to : (ls : List ℕ) {m n : Memory} {w x : ℕ} → n ≡ m → x ≡ w → Links m w ls → Links n x ls
 Links-to ls {m = m} {n = n} {w = w} {x = x} e f h = subst (λ y. Links y x ls) (sym e) (subst (λ y. Links m y ls) (sym f) h)
 
@@ -86,7 +87,7 @@ module _ {plan : PlanData} (ok : IsPlan plan) (level : ℕ) (v : Machine) (words
         }
 
   -- ---- restores
-  -- with a chain that has a first area
+  -- if the chain has a first area
   module _ (j : ℕ) (rest : List ℕ) (is : l.seen ≡ j ∷ rest) where
     links_is : Links v.mem v.pcxi (j ∷ rest)
     links_is = subst (Links v.mem v.pcxi) is l.links

@@ -41,7 +41,7 @@ EndsBy key Ret = key.kind ≡ 1
 EndsBy key Rfe = key.kind ≢ 1
 EndsBy key _ = Unit {0}
 
--- a store meets no mapped byte
+-- a store is to no mapped byte
 abbrev pub StoresNothing : Machine → Event → Shape → Type 0
 StoresNothing v e (Store src base offset size after) = traps_at e (access_address v base offset after) size ≡ false → with_bytes v.mem (access_address v base offset after) (reg v src) size ≡ v.mem
 StoresNothing v e _ = Unit {0}
@@ -101,20 +101,20 @@ module _ {plan : PlanData} (ok : IsPlan plan) (level : ℕ) (v : Machine) (words
     to_step : (x : Machine) → does v e shape size ≡ x → Leveled level (with_event x e) (frames_after v e (f ∷ fs)) → Next
     to_step x is h = subst (λ (y : Machine). Leveled level y (frames_after v e (f ∷ fs))) (sym (step_is x is)) h
 
-    -- what goes on in its frame
+    -- instructions that stay in their frame
     plain_on : (mem : Memory) → mem ≡ v.mem → Plainly v v (does v e shape size) (does v e shape size) mem v.mem → keys_of (frames_by v.pc (moved v.pc (size_in (fetched v))) e.irq way (f ∷ fs)) ≡ keys_of (f ∷ fs) → Next
     plain_on mem same p stay =
         to_step (changed v p.d p.a p.pc p.ie mem) p.is
         (leveled_plain ok level v words running f fs l free areas e (with_event (changed v p.d p.a p.pc p.ie mem) e) (frames_after v e (f ∷ fs))
         (subst (λ y. SameAreas v.mem y l.seen) (sym same) (SameAreas-refl v.mem l.seen)) refl refl refl (keys_are ∙ stay))
 
-    -- what saves
+    -- instructions that save
     forth : (upper : Bool) (next : Machine → Machine) → does v e shape size ≡ then_ (save v upper) next → (save v upper ≡ saved v upper → (next (saved v upper)).end ≡ v.end) → (length (l.seen) < plan.areas - plan.reserve → Leveled level (with_event (next (saved v upper)) e) (frames_after v e (f ∷ fs))) → Next
     forth upper next is ends h =
         let runs2 : (then_ (save v upper) next).end ≡ Running = sym (ap (λ (x : Machine). x.end) is) ∙ does_runs in
         to_step (next (saved v upper)) (is ∙ ap (λ s. then_ s next) (saves_on upper next runs2) ∙ then_-running (saved v upper) next running) (h (room_on upper next runs2))
 
-    -- what restores
+    -- instructions that restore
     back : (upper : Bool) (next : Machine → Machine) → does v e shape size ≡ then_ (restore v upper) next
         → ((j : ℕ) (rest : List ℕ) → l.seen ≡ j ∷ rest → has_kind v upper ≡ true → Leveled level (with_event (next (restored v upper)) e) (frames_after v e (f ∷ fs))) → Next
     back upper next is h =

@@ -1,5 +1,5 @@
--- Along the runs of a view, whose certificate has no BISR at no priority: each state at no priority and off the interrupt stack has the
--- start's CCPN.
+-- If the certificate of a view has no BISR at priority 0, each state of a run that has priority 0
+-- and isn't on the interrupt stack has the start's CCPN.
 use Rattle.std.proofs.Common.{◌≡◌, ◌≢◌, ℕ, ◌^◌, ◌<◌, ◌⊎◌, inl, inr, Bool, true, false, List, [], ◌∷◌, length, get_or, sym, ◌∙◌, subst, arith}
 use Rattle.csa_chain.specs.Memory.{Memory, with_words}
 use Rattle.csa_chain.specs.Chain.{link_address, is_area, area_word}
@@ -9,12 +9,12 @@ use Rattle.csa_chain.proofs.ContextLaws.{ul_of-pcxi_word, pcpn_of-pcxi_word}
 use Rattle.tcd_base.specs.declared.core_version.Core.{Core}
 use Rattle.depth_cert.specs.declared.keys.Key.{Key}
 
--- no priority, and not on the interrupt stack
+-- priority 0, and not on the interrupt stack
 abbrev pub IsBase : Key → Type 0
 IsBase key = (key.prio ≡ 0) × (key.is ≡ false)
 
--- What a frame gives back where it ends: a handler, by its PCXI, the level of the frame below; a call leaves it, and runs at the level
--- of the frame below.
+-- The level after a frame ends: a handler restores the level of the frame below from its PCXI; a
+-- called function has the level of the frame below and doesn't change it.
 pub record GivesBack (level pcpn : ℕ) (key below : Key) : Type 0 where
   pub handler : key.kind ≢ 1 → IsBase below → pcpn ≡ level
   pub call : key.kind ≡ 1 → IsBase below → IsBase key
@@ -46,7 +46,7 @@ Levels-same core level m n word [] keys same h = tt
 Levels-same core level m n word (l ∷ ls) keys same h =
     (h.0, rw (area_word_same same.0 0 (omega arith)) (Levels-same core level m n (area_word m l 0) ls (frames_under (ul_of core word) keys) same.1 h.1))
 
--- by what the top of the chain is
+-- by the kind of the newest context
 Levels-at : (core : Core) (level : ℕ) (mem : Memory) (word l : ℕ) (ls : List ℕ) (keys : List Key) (b : Bool) → ul_of core word ≡ b → Levels core level mem word (l ∷ ls) keys
     → EndsFrame level (pcpn_of core word) b keys × Levels core level mem (area_word mem l 0) ls (frames_under b keys)
 Levels-at core level mem word l ls keys b is h = subst (λ b. EndsFrame level (pcpn_of core word) b keys × Levels core level mem (area_word mem l 0) ls (frames_under b keys)) is h
@@ -71,7 +71,7 @@ module _ (core : Core) (level : ℕ) (mem : Memory) (pcxi k : ℕ) (used : List 
   pub Levels-lower : (keys : List Key) → Levels core level mem pcxi used keys → Levels core level (with_words mem (link_address k) context) (pcxi_word_of core ccpn ie false k) (k ∷ used) keys
   Levels-lower keys h = Levels-from core level (with_words mem (link_address k) context) (pcxi_word_of core ccpn ie false k) k used keys false (ul_of-pcxi_word core ccpn ie false k small) tt (rest keys h)
 
-  -- an upper one, with which a frame begins
+  -- an upper context, with which a frame begins
   pub Levels-upper : (new key : Key) (keys : List Key) → (new.kind ≡ 1 → IsBase key → IsBase new) → AtLevel level ccpn (key ∷ keys) → Levels core level mem pcxi used (key ∷ keys)
       → Levels core level (with_words mem (link_address k) context) (pcxi_word_of core ccpn ie true k) (k ∷ used) (new ∷ key ∷ keys)
   Levels-upper new key keys called at h =
@@ -87,7 +87,8 @@ module _ (core : Core) (level : ℕ) (mem : Memory) (pcxi l : ℕ) (used : List 
   pub Levels-lower_back : (keys : List Key) → ul_of core pcxi ≡ false → Levels core level mem pcxi (l ∷ used) keys → Levels core level (with_words mem (link_address l) (fcx ∷ [])) (area_word mem l 0) used keys
   Levels-lower_back keys ul h = kept (area_word mem l 0) keys (Levels-at core level mem pcxi l used keys false ul h).1
 
-  -- a call that returns leaves CCPN, and a handler sets it from PCXI: the frame below is at its level
+  -- a return from a call doesn't change CCPN, and a return from a handler sets it from PCXI: the
+  -- frame below is at its level
   pub Levels-upper_back : (key : Key) (keys : List Key) → ul_of core pcxi ≡ true → Levels core level mem pcxi (l ∷ used) (key ∷ keys) → (ccpn ccpn2 : ℕ) → AtLevel level ccpn (key ∷ keys) → (key.kind ≡ 1 → ccpn2 ≡ ccpn)
       → (key.kind ≢ 1 → ccpn2 ≡ pcpn_of core pcxi) → (key.kind ≡ 1) ⊎ (key.kind ≢ 1) → AtLevel level ccpn2 keys × Levels core level (with_words mem (link_address l) (fcx ∷ [])) (area_word mem l 0) used keys
   Levels-upper_back key [] ul h ccpn ccpn2 at returned left kinds = (tt, kept (area_word mem l 0) [] (Levels-at core level mem pcxi l used (key ∷ []) true ul h).1)

@@ -1,4 +1,4 @@
--- Which accesses miss a range of bytes.
+-- The accesses that miss a range of bytes.
 use Rattle.std.proofs.Common.{◌≡◌, ℕ, zero, suc, ◌+◌, ◌-◌, ◌*◌, ◌/◌, ◌%◌, ◌^◌, ◌<◌, ◌≤◌, ◌⊎◌, inl, inr, Bool, true, false, List, [], ◌∷◌, length, get_or, IsTrue, refl, sym, subst, arith, nat_le}
 use Rattle.std.specs.Prelude.{min, max, not}
 use Rattle.std.proofs.lemmas.Bool.{cases_lt, leb-true, le-leb}
@@ -23,7 +23,7 @@ among_at (w ∷ ws) (suc i) lt = inr (among_at ws i (omega arith))
 pub word_here : (ws : List ℕ) (i low high : ℕ) → i < length ws → low ≤ get_or ws i 0 → get_or ws i 0 ≤ high → HasWord ws low high
 word_here ws i low high lt above below = (get_or ws i 0, among_at ws i lt, above, below)
 
--- none of the first words lies between
+-- none of the first words is between the two
 abbrev pub NoneBefore : List ℕ → ℕ → ℕ → ℕ → Type 0
 NoneBefore ws i low high = (k : ℕ) → k < i → low ≤ get_or ws k 0 → get_or ws k 0 ≤ high → ⊥
 
@@ -99,7 +99,7 @@ module _ (v : Val) (n from len low last : ℕ) (well : IsWell v) (size : IsSize 
         | inr up ↦ absurd (omega arith)
       ]
 
-  -- so does one from the last addresses, where the range is among the first
+  -- so does an access from the last addresses, if the range is among the first ones
   wrapped : (first : ℕ) → from < n - 1 → first ≡ (from + (2 ^ 32 - (n - 1))) % 2 ^ 32 → HasBetween v first (2 ^ 32 - 1) → AllMiss v n from len → ⊥
   wrapped first near is (x, member, above, below) all =
       let s = size_some n size in
@@ -112,7 +112,7 @@ module _ (v : Val) (n from len low last : ℕ) (well : IsWell v) (size : IsSize 
         | inr up ↦ absurd (omega arith)
       ]
 
-  -- and no other
+  -- no other access touches the range
   missed : (first : ℕ) → (HasBetween v low last → ⊥) → (n - 1 ≤ from) ⊎ ((first ≡ (from + (2 ^ 32 - (n - 1))) % 2 ^ 32) × (HasBetween v first (2 ^ 32 - 1) → ⊥)) → AllMiss v n from len
   missed first none other x member i lt =
       let s = size_some n size in

@@ -1,4 +1,4 @@
--- Every step outside of the switch routine: the machine's and its view's are alike.
+-- Each step outside of the switch routine: the machine's and its view's are alike.
 use Rattle.std.proofs.Common.{◌≡◌, ◌≢◌, ℕ, suc, ◌+◌, ◌-◌, ◌*◌, ◌/◌, ◌%◌, ◌^◌, ◌<◌, inl, inr, Bool, true, false, cond, List, [], ◌∷◌, length, Option, Some, None, Ok, refl, sym, ap, ◌∙◌, subst, arith, bit_or, set}
 use Rattle.std.proofs.lemmas.Bool.{cases_Bool, false≢true, ne_eqb}
 use Rattle.std.specs.Prelude.{is_some}
@@ -53,7 +53,7 @@ use Rattle.task_chains.proofs.Accesses.{Agrees, load_again}
 use Rattle.task_chains.proofs.ViewStart.{SameRom}
 use Rattle.task_chains.proofs.Reached.{LoadsAt, StoresAt}
 
--- What holds of the machine and of its view, between steps.
+-- What holds of the machine and its view between steps.
 pub record Both (image view : ImageData) (plan : PlanData) (tasks : TasksData) (n u : ℕ) (word_of : ℕ → ℕ) (chain_of : ℕ → List ℕ) (seen : List ℕ) (m : Machine) (mem : Memory) (pcxi fcx : ℕ) : Type 0 where
   pub words : IsMachine m
   pub view_words : IsMachine (seen_as m mem pcxi fcx)
@@ -65,7 +65,8 @@ pub record Both (image view : ImageData) (plan : PlanData) (tasks : TasksData) (
   pub same_rom : SameRom plan tasks m.mem mem
   pub twins : Twins plan n u word_of chain_of seen m.mem m.pcxi m.fcx m.lcx mem pcxi fcx
 
--- What the certificate says of the view's point: the instruction, which isn't MTCR; rule 17; and where it loads and stores.
+-- What the certificate says of the view's point: the instruction, which isn't MTCR; rule 17; and
+-- the addresses of its loads and stores.
 pub record AtPoint (b : Limits) (view : ImageData) (plan : PlanData) (tasks : TasksData) (u : ℕ) (v : Machine) (e : Event) (s : State) (shape : Shape) (size : ℕ) : Type 0 where
   pub code : IsCode view (view_plan_of plan tasks u) v.pc shape size
   pub writes : WritesNoFixedRegister shape
@@ -74,7 +75,7 @@ pub record AtPoint (b : Limits) (view : ImageData) (plan : PlanData) (tasks : Ta
   pub load_at : LoadsAt b (view_plan_of plan tasks u) s v shape
   pub store_at : StoresAt (view_plan_of plan tasks u) v e shape
 
--- what the view reads from outside: what the machine loads
+-- the input of the view: what the machine loads
 abbrev pub input_for : Machine → Event → Shape → ℕ
 input_for m e (Load dst base offset size signed after) = load_number m.mem e.input (access_address m base offset after) size
 input_for m e _ = e.input
@@ -100,7 +101,7 @@ pub fetched_code : (image : ImageData) (plan : PlanData) (m : Machine) (shape : 
 fetched_code image plan m shape size ok rom c =
     fetched-is image ok m rom c.even c.bytes c.inst c.spells ∙ ap (λ (t : Shape). Ok (t, length c.bytes)) c.shaped ∙ ap (λ (k : ℕ). Ok (shape, k)) c.sized
 
--- where a step leaves the machine running, so does what the instruction does
+-- if the machine runs after a step, it runs after the instruction
 pub dead≢running : (end : End) (m : Machine) (next : Machine → Machine) → m.end ≡ end → (then_ m next).end ≡ Running → m.end ≡ Running
 dead≢running Running m next is e = is
 dead≢running (Dead cause) m next is e = sym (ap (λ x. (goes_on x m next).end) is) ∙ e
@@ -120,7 +121,7 @@ module _ {image view : ImageData} {plan : PlanData} (ok : IsPlan plan) {tasks : 
   v = seen_as m mem pcxi fcx
 
   -- ---- loads
-  -- a byte that a load reaches, which is none of a save area and none of the routine
+  -- a byte that a load reaches: it is in no save area and not in the routine
   byte_agrees : (x i size : ℕ) → i < size → Misses x size plan.csa_at (64 * plan.areas) → Misses x size tasks.switch routine_size → Agrees mem m.mem ((x + i) % 2 ^ 32)
   byte_agrees x i size lt areas routine =
       let y = (x + i) % 2 ^ 32 in
@@ -154,7 +155,7 @@ module _ {image view : ImageData} {plan : PlanData} (ok : IsPlan plan) {tasks : 
   access_lt (Word w) offset true is = is
 
   -- ---- what the steps ask for
-  -- a store lies in range, meets no byte that the view has, and leaves what is to be kept
+  -- a store is in range, is to no byte that the view has, and doesn't change what is to be kept
   abbrev pub StoreIs : Shape → Type 0
   StoreIs (Store src base offset size after) =
       traps_at e (access_address m base offset after) size ≡ false
@@ -163,7 +164,8 @@ module _ {image view : ImageData} {plan : PlanData} (ok : IsPlan plan) {tasks : 
       × ((y : ℕ) → Kept y → finite.get (with_bytes m.mem (access_address m base offset after) (reg m src) size) y ≡ finite.get m.mem y)
   StoreIs _ = Unit {0}
 
-  -- where the view's save stands, the view has room for one more area; and so have all, where that save is what the step makes
+  -- if the view saves a context, it has room for one more area; if that save is all that the step
+  -- does, so have all tasks
   pub record Rooms (e2 : Event) : Type 0 where
     pub own_room : (upper : Bool) → (save v upper).end ≡ Running → length seen < plan.areas - plan.reserve
     pub all_room : (upper : Bool) → length seen < plan.areas - plan.reserve → (step v e2).mem ≡ (saved v upper).mem → (step v e2).pcxi ≡ (saved v upper).pcxi → sum_below n (λ w. length (chain_of w)) < plan.areas - plan.reserve
@@ -224,7 +226,7 @@ module _ {image view : ImageData} {plan : PlanData} (ok : IsPlan plan) {tasks : 
         (rooms.all_room upper room (ap (λ (x : Machine). x.mem) step_at ∙ mem_is) (ap (λ (x : Machine). x.pcxi) step_at ∙ pcxi_is), room)
 
     -- ---- restores
-    -- the view's restore stands, so both have a context
+    -- the view restores a context, so both have one
     with_context : (upper : Bool) (next : Machine → Machine) → does v e2 shape size ≡ then_ (restore v upper) next → (step v e2).end ≡ Running
         → ((l : ℕ) (used : List ℕ) → chain_of u ≡ l ∷ used → (j : ℕ) (seen2 : List ℕ) → Twins plan n u word_of chain_of (j ∷ seen2) m.mem m.pcxi m.fcx m.lcx mem pcxi fcx → has_kind v upper ≡ true → AlikeStep e2) → AlikeStep e2
     with_context upper next is runs step_of =

@@ -1,4 +1,4 @@
--- Each area once, by counts and by places: where links stand in several lists.
+-- Each area once, by counts and by places: the places of links in several lists.
 use Rattle.std.proofs.Common.{◌≡◌, ◌≢◌, ℕ, zero, suc, ◌+◌, ◌<◌, ◌≤◌, inl, inr, List, [], ◌∷◌, slice_get, Some, refl, sym, ap, ◌∙◌, subst, arith}
 use Rattle.std.proofs.lemmas.Bool.{cases_lt, cases_eq}
 use Rattle.std.proofs.lemmas.Option.{slice_get-get_or}
@@ -19,13 +19,13 @@ times-more l x xs =
       | inr apart ↦ let e = times-other l x xs apart in omega arith
     ]
 
--- what stands somewhere stands once at least
+-- what is in a list is there at least once
 times-at : (l : ℕ) (ls : List ℕ) (k : ℕ) → slice_get ls k ≡ Some l → 1 ≤ times l ls
 times-at l [] k e = cc
 times-at l (x ∷ xs) zero e = let same : x ≡ l = cc in let one = times-there l x xs same in omega arith
 times-at l (x ∷ xs) (suc k) e = let rest = times-at l xs k e in let more = times-more l x xs in omega arith
 
--- and has a place
+-- what is in a list has a place
 place_in : (l : ℕ) (ls : List ℕ) → 1 ≤ times l ls → (k : ℕ) × (slice_get ls k ≡ Some l)
 place_in l [] some = absurd (omega arith)
 place_in l (x ∷ xs) some =
@@ -34,7 +34,7 @@ place_in l (x ∷ xs) some =
       | inr apart ↦ let other = times-other l x xs apart in let rest = place_in l xs (omega arith) in (suc rest.0, rest.1)
     ]
 
--- what stands once at most has one place
+-- what is there at most once has at most one place
 one_in : (l : ℕ) (ls : List ℕ) (k j : ℕ) → times l ls ≤ 1 → slice_get ls k ≡ Some l → slice_get ls j ≡ Some l → k ≡ j
 one_in l [] k j few a b = cc
 one_in l (x ∷ xs) zero zero few a b = refl
@@ -42,7 +42,7 @@ one_in l (x ∷ xs) zero (suc j) few a b = let same : x ≡ l = cc in let one = 
 one_in l (x ∷ xs) (suc k) zero few a b = let same : x ≡ l = cc in let one = times-there l x xs same in let more = times-at l xs k a in absurd (omega arith)
 one_in l (x ∷ xs) (suc k) (suc j) few a b = let more = times-more l x xs in ap suc (one_in l xs k j (omega arith) a b)
 
--- what has one place stands once at most
+-- what has at most one place is there at most once
 few_in : (l : ℕ) (ls : List ℕ) → ((k j : ℕ) → slice_get ls k ≡ Some l → slice_get ls j ≡ Some l → k ≡ j) → times l ls ≤ 1
 few_in l [] one = omega arith
 few_in l (x ∷ xs) one =
@@ -96,7 +96,7 @@ few_terms (suc n) f few one =
       | inr none ↦ omega arith
     ]
 
--- the sum of less is less
+-- the sum of lesser numbers is lesser
 pub sum_below-less : (n : ℕ) (f g : ℕ → ℕ) → ((u : ℕ) → u < n → f u ≤ g u) → sum_below n f ≤ sum_below n g
 sum_below-less zero f g less = omega arith
 sum_below-less (suc n) f g less =
@@ -154,7 +154,7 @@ module _ (n : ℕ) (used : ℕ → List ℕ) (free areas : List ℕ) (share : Sh
   one_place once l u v i j (inr a) (inr b) = let all = share.each l in let most = once l in (a.0 ∙ sym b.0, one_in l free i j (omega arith) a.1 b.1)
 
 -- ---- the areas of a plan
--- each stands once at least
+-- each is there at least once
 pub area_times : (plan : PlanData) (i : ℕ) → i < plan.areas → 1 ≤ times (first_link plan + i) (plan_areas plan)
 area_times plan i lt =
     let long = length-links_up (first_link plan) plan.areas in
@@ -200,7 +200,7 @@ module _ (plan : PlanData) (n : ℕ) (used : ℕ → List ℕ) (free : List ℕ)
       omega arith
   counted l u place (inr h) = let one = times-at l free place h.1 in omega arith
 
-  -- and what is counted has a place, so it is an area
+  -- what is counted has a place, so it is an area
   count_of : (l : ℕ) → 1 ≤ sum_below n (λ u. times l (used u)) + times l free → (i : ℕ) × (i < plan.areas) × (l ≡ first_link plan + i)
   count_of l some =
       elim (cases_lt 0 (times l free)) [

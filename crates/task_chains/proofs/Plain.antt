@@ -1,4 +1,5 @@
--- A step of the machine beside the same step of its view: instructions that leave all contexts.
+-- A step of the machine, compared with the same step of its view: instructions that change no
+-- context.
 use Rattle.std.proofs.Common.{◌≡◌, ℕ, ◌+◌, ◌-◌, ◌*◌, ◌^◌, ◌<◌, ◌≤◌, Bool, true, false, cond, List, [], ◌∷◌, set, Ok, refl, sym, ap, ◌∙◌, subst, arith, ltb}
 use Rattle.std.specs.FinMap as map
 use Rattle.csa_chain.specs.Memory.{Memory, is_mapped, load_number, extend, with_bytes}
@@ -45,7 +46,7 @@ with_reg-is m r w = either m r w (ltb r 16)
     either m r w true = refl
     either m r w false = refl
 
--- an instruction gave both the same registers, place and IE, and these memories
+-- after an instruction both have the same registers, pc and IE, and these memories
 pub record Plainly (m v n n2 : Machine) (mem view : Memory) : Type 0 where
   pub d : List ℕ
   pub a : List ℕ
@@ -183,7 +184,7 @@ module _ (m : Machine) (view : Memory) (pcxi fcx : ℕ) (e e2 : Event) where
       }
 
 -- ---- what they share stays
--- links that stand among the plan's areas have their bytes where the areas' bytes stay
+-- links of the plan's areas keep their bytes if the areas' bytes are unchanged
 pub SameAreas-inside : {plan : PlanData} → IsPlan plan → (old new : Memory) → ((x : ℕ) → IsInAreas plan x → map.get new x ≡ map.get old x) → (ls : List ℕ) → ((l : ℕ) → times l ls ≤ times l (plan_areas plan)) → SameAreas old new ls
 SameAreas-inside ok old new same [] few = tt
 SameAreas-inside {plan = plan} ok old new same (l ∷ ls) few =

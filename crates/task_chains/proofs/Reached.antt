@@ -1,4 +1,4 @@
--- States that a view's run has reached, and what the certificate says of them.
+-- States that a view's run reaches, and what the certificate says of them.
 use Rattle.std.proofs.Common.{◌≡◌, ℕ, false, List, [], ◌∷◌, ◌++◌, length, Option, Some, None, refl, sym, ap, ◌∙◌, subst, All, ◌==◌}
 use Rattle.std.proofs.lemmas.Bool.{eqb-true}
 use Rattle.std.proofs.lemmas.List.Elements.{All-contains}
@@ -54,7 +54,7 @@ frames-snoc : (m : Machine) (es : List Event) (e : Event) (fs : List Standing) �
 frames-snoc m [] e fs = refl
 frames-snoc m (d ∷ es) e fs = frames-snoc (step m d) es e (frames_after m d fs)
 
--- a run has reached this state, in these frames
+-- a run reaches this state, in these frames
 pub record Reached (image : ImageData) (plan : PlanData) (v : Machine) (fs : List Standing) : Type 0 where
   pub from : Machine
   pub events : List Event
@@ -82,12 +82,12 @@ abbrev pub LoadsAt : Limits → PlanData → State → Machine → Shape → Typ
 LoadsAt b plan s m (Load dst base offset size signed after) = IsMember (access_address m base offset after) (address_of b plan (Load dst base offset size signed after) s)
 LoadsAt b plan s m _ = Unit {0}
 
--- a store that doesn't trap lies in range
+-- a store that doesn't trap is in range
 abbrev pub StoresAt : PlanData → Machine → Event → Shape → Type 0
 StoresAt plan m e (Store src base offset size after) = traps_at e (access_address m base offset after) size ≡ false → IsStoreInRange plan (access_address m base offset after, size)
 StoresAt plan m e _ = Unit {0}
 
--- The point of a reached state: the instruction and what the rules ask of it.
+-- The point of a state that is reached: the instruction, and what the rules ask of it.
 pub record PointOf (plan : PlanData) (image : ImageData) (cert : CertData) (tasks : TasksData) (v : Machine) (key : Key) : Type 0 where
   pub node : NodeData
   pub found : find_node key cert.nodes ≡ Some node
@@ -143,7 +143,7 @@ module _ (image : ImageData) (plan : PlanData) (ok : IsPlan plan) (cert : CertDa
   some_and None P h = absurd h
   some_and (Some x) P h = (x, refl, h)
 
-  -- a reached state has a point
+  -- a state that is reached has a point
   pub point_of : (v : Machine) (f : Standing) (fs : List Standing) → FramesHeld image plan cert → Reached image plan v (f ∷ fs) → PointOf plan image cert tasks v f.key
   point_of v f fs held r =
       let h0 = held r.from r.events r.starts r.fit in
@@ -159,7 +159,7 @@ module _ (image : ImageData) (plan : PlanData) (ok : IsPlan plan) (cert : CertDa
       let h : HoldFrames plan cert v (f ∷ fs) = subst (λ (x : Machine). HoldFrames plan cert x (f ∷ fs)) (sym r.is) (subst (HoldFrames plan cert (run r.from r.events)) (sym r.frames_are) h0) in
       h.at
 
-  -- and there is one
+  -- there is one
   pub some_frame : (v : Machine) (fs : List Standing) → FramesHeld image plan cert → Reached image plan v fs → (f : Standing) × (gs : List Standing) × (fs ≡ f ∷ gs)
   some_frame v [] held r =
       let h0 = held r.from r.events r.starts r.fit in

@@ -37,7 +37,7 @@ not_nothing : {X : Type 0} (xs ys : List X) (x : X) → xs ++ x ∷ ys ≡ [] �
 not_nothing [] ys x e = absurd (let f : x ∷ ys ≡ [] = e in cc)
 not_nothing (z ∷ zs) ys x e = absurd (let f : z ∷ (zs ++ x ∷ ys) ≡ [] = e in cc)
 
--- where one front of a list is longer than another
+-- one front of a list is longer than another
 cut : {X : Type 0} (xs zs ys ws : List X) (x z : X) → xs ++ x ∷ ys ≡ zs ++ z ∷ ws → length xs < length zs → (mid : List X) × (zs ≡ xs ++ x ∷ mid)
 cut [] [] ys ws x z e lt = absurd (omega arith)
 cut [] (a ∷ rest) ys ws x z e lt = (rest, cons_same a x rest rest (sym (front_same x a ys (rest ++ z ∷ ws) e)) refl)
@@ -54,7 +54,7 @@ written_line (c ∷ cs) behind some = refl
 written_split : (before behind : List (List ℕ)) (line : List ℕ) → line ≢ [] → written (before ++ line ∷ behind) ≡ written before ++ line ∷ written behind
 written_split before behind line some = filter-append is_written before (line ∷ behind) ∙ ap (λ l. written before ++ l) (written_line line behind some)
 
--- each line among those that name tasks names one, and there are more tasks than lines before it
+-- each of the lines that name tasks names one, and there are more tasks than lines before it
 named_at : (xs ys : List (List ℕ)) (line : List ℕ) (list : List Task) → map task_of (xs ++ line ∷ ys) ≡ map some_task list → (task_of line ≡ None → ⊥) × (length xs < length list)
 named_at [] ys line [] e = absurd (let f : task_of line ∷ map task_of ys ≡ [] = e in cc)
 named_at [] ys line (t ∷ ts) e =
@@ -66,7 +66,7 @@ named_at (x ∷ xs) ys line (t ∷ ts) e =
     let lt = rest.1 in
     (rest.0, omega arith)
 
--- lines say one list of tasks
+-- lines name one list of tasks
 said_one : (lines : List (List ℕ)) (t s : TasksData) → AreSaid lines t → AreSaid lines s → t ≡ s
 said_one lines t s a b =
     let e = sym a.split ∙ b.split in
@@ -85,7 +85,7 @@ said_one lines t s a b =
     places_same p q e = cc
 
 module _ (before behind : List (List ℕ)) (line : List ℕ) (some : line ≢ []) (t : TasksData) (said : AreSaid (before ++ line ∷ behind) t) where
-  -- what stands behind the first line, where lines before this one say tasks
+  -- the lines after the first, if the lines before this one name tasks
   behind_is : (s : TasksData) (front : AreSaid before s) → said.behind ≡ front.behind ++ line ∷ written behind
   behind_is s front =
       rest_same said.first front.first said.behind (front.behind ++ line ∷ written behind)

@@ -5,7 +5,7 @@ use Rattle.tc_isa.specs.Words.{word}
 use Rattle.tc_isa.specs.Codec.{four_bytes}
 use Rattle.task_chains.specs.Routine.{hi, lo, routine_of, view_routine_of, bytes_of}
 
--- an offset of 16 bits in its places
+-- the bits of a 16-bit offset
 abbrev pub offset : ℕ → ℕ
 offset k = k / 64 % 16 * 2 ^ 28 + k / 1024 * 2 ^ 22 + k % 64 * 2 ^ 16
 

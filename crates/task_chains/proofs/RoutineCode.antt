@@ -26,7 +26,7 @@ use Rattle.task_chains.specs.Routine.{plain, movh_a, lea_l, ld_w_l, st_w_l, adds
 use Rattle.task_chains.specs.Views.{is_in_routine, view_image_of}
 use Rattle.task_chains.proofs.ViewImage.{seen_byte, view_byte}
 
--- an instruction of four bytes whose spelling stands at p
+-- an instruction of four bytes whose spelling is at p
 code_at : (image : ImageData) (plan : PlanData) (p : ℕ) (r : RowData) (inst : InstData) (shape : Shape) → p % 2 ≡ 0 → slice_get listed inst.row ≡ Some r → Fits r (fields_in inst) → is_long r ≡ true → shape_of inst ≡ shape → IsInOne p 4 plan.rom
     → ((j : ℕ) → j < 4 → image_byte image (p + j) ≡ Some (slice_index (spelling r (fields_in inst)) j)) → IsCode image plan p shape 4
 code_at image plan p r inst shape even listed_is fits long is in_rom held =

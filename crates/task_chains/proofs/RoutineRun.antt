@@ -63,7 +63,7 @@ module _ (tasks : TasksData) (are : AreTasks tasks) (fits : tasks.block + block_
       let small : n % 2 ^ 4 ≡ n = omega arith in
       ap (sign_extended 4) small ∙ ap (λ t. cond t n (n + 2 ^ 32 - 2 ^ 4)) (lt-ltb n (2 ^ 3) (omega arith))
 
-  -- the two halves make the word
+  -- the two halves give the word
   two_halves : (x : ℕ) → x < 2 ^ 32 → (hi x * 2 ^ 16 % 2 ^ 32 + sign_extended 16 (lo x % 2 ^ 16)) % 2 ^ 32 ≡ x
   two_halves x lt = by_test (nat_lt (lo x % 2 ^ 16) (2 ^ 15)) refl
     where

@@ -1,4 +1,4 @@
--- The routine's own accesses: words of the block, and what the view does in their place.
+-- The accesses of the routine: words of the block, and what the view does instead.
 use Rattle.std.proofs.Common.{◌≡◌, ◌≢◌, ℕ, ◌+◌, ◌*◌, ◌/◌, ◌%◌, ◌^◌, ◌<◌, ◌≤◌, inl, inr, true, false, cond, List, Option, Some, None, Ok, refl, sym, ap, ◌∙◌, subst, arith}
 use Rattle.std.proofs.lemmas.Bool.{false≢true, cases_order}
 use Rattle.std.specs.Prelude.{is_some, unwrap_or}
@@ -28,7 +28,7 @@ mapped_byte : (o : Option ℕ) (d : ℕ) → is_some o ≡ true → unwrap_or o 
 mapped_byte (Some b) d h = refl
 mapped_byte None d h = absurd (false≢true h)
 
--- a word whose bytes are mapped is what is loaded
+-- a load gives the word whose bytes are mapped
 pub loaded_word_at : (m : Memory) (input x : ℕ) → x + 4 ≤ 2 ^ 32 → ((i : ℕ) → i < 4 → is_mapped m (x + i) ≡ true) → load_number m input x 4 ≡ word_at m x
 unfolding load_number word_at
 loaded_word_at m input x fits here =
@@ -50,7 +50,7 @@ loaded_word_at m input x fits here =
     shape : (a b c d : ℕ) → a + 2 ^ 8 * (b + 2 ^ 8 * (c + 2 ^ 8 * (d + 2 ^ 8 * 0))) ≡ a + 2 ^ 8 * b + 2 ^ 16 * c + 2 ^ 24 * d
     shape a b c d = omega arith
 
--- a store of four bytes that doesn't go round is that of a word
+-- a store of four bytes that doesn't wrap at 2^32 is that of a word
 pub stored_word_at : (m : Memory) (x w : ℕ) → x + 4 ≤ 2 ^ 32 → with_bytes m x w 4 ≡ with_word m x w
 unfolding with_bytes with_word
 stored_word_at m x w fits =
@@ -70,7 +70,7 @@ module _ (tasks : TasksData) (mem : Memory) (fits : tasks.block + block_size tas
   pub block_read : (input u : ℕ) → u ≤ count tasks → load_number mem input (tasks.block + 4 * u) 4 ≡ block_word tasks mem u
   block_read input u le = loaded_word_at mem input (tasks.block + 4 * u) (omega arith) (word_here u le)
 
-  -- and written: it is there, and the others are as they were
+  -- a word of the block is written: it is there, and the others are unchanged
   pub block_written : (u w : ℕ) → u ≤ count tasks → w < 2 ^ 32 → block_word tasks (with_bytes mem (tasks.block + 4 * u) w 4) u ≡ w
   block_written u w le lt =
       let h0 : is_mapped mem (tasks.block + 4 * u) ≡ true = subst (λ y. is_mapped mem y ≡ true) (let e : tasks.block + 4 * u + 0 ≡ tasks.block + 4 * u = omega arith in e) (word_here u le 0 (omega arith)) in
@@ -93,7 +93,7 @@ module _ (m : Machine) (view : Memory) (pcxi fcx : ℕ) (e e2 : Event) where
   abbrev v : Machine
   v = seen_as m view pcxi fcx
 
-  -- a word is loaded, beside a core register that reads from outside
+  -- the machine loads a word; the view reads a core register that is an input
   pub plain-taken : (dst r offset number k : ℕ) → traps_at e (moved (reg m r) offset) 4 ≡ false → core_register v e2 number ≡ load_number m.mem e.input (moved (reg m r) offset) 4
       → Plainly m v (does m e (Load dst (Reg r) offset 4 false false) k) (does v e2 (Mfcr dst number) k) m.mem view
   unfolding does
@@ -108,12 +108,12 @@ module _ (m : Machine) (view : Memory) (pcxi fcx : ℕ) (e e2 : Event) where
         view_is = p.view_is;
       }
 
-  -- PCXI is read, beside the same
+  -- the machine reads PCXI; the view reads a core register that is an input
   pub plain-pcxi : (dst number k : ℕ) → core_register v e2 number ≡ m.pcxi → Plainly m v (does m e (Mfcr dst 0xfe00) k) (does v e2 (Mfcr dst number) k) m.mem view
   unfolding does
   plain-pcxi dst number k same = set_one m view pcxi fcx e e2 k dst m.pcxi (core_register v e2 number) same
 
-  -- a word is stored, beside nothing
+  -- the machine stores a word; the view does nothing
   pub plain-put : (src r offset k : ℕ) → traps_at e (moved (reg m r) offset) 4 ≡ false
       → Plainly m v (does m e (Store src (Reg r) offset 4 false) k) (does v e2 Nothing k) (with_bytes m.mem (moved (reg m r) offset) (reg m src) 4) view
   unfolding does
@@ -127,8 +127,8 @@ module _ (m : Machine) (view : Memory) (pcxi fcx : ℕ) (e e2 : Event) where
   }
 
 -- ---- the switch itself
--- The machine with the next task's word in PCXI: what the tasks share stays, owned by that task, beside the view that it had; and the task that
--- gave way has what one that waits has.
+-- The machine with the next task's word in PCXI: what the tasks share is unchanged, that task owns
+-- PCXI and has the view that it had, and the task that gave way is one that waits.
 pub record Switched (plan : PlanData) (n w : ℕ) (word_of : ℕ → ℕ) (chain_of : ℕ → List ℕ) (m m2 : Machine) (u : ℕ) (seen seen2 : List ℕ) (old_view : Memory) (old_pcxi old_fcx : ℕ) (view : Memory) (view_pcxi view_fcx : ℕ) : Type 0 where
   pub pc : m2.pc ≡ moved m.pc 4
   pub pcxi : m2.pcxi ≡ word_of w

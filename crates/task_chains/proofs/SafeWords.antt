@@ -1,4 +1,4 @@
--- The guard laws on what it is that all runs of tasks are safe.
+-- The guard laws on what safe runs of all tasks are.
 use Rattle.std.proofs.Common.{◌≡◌, ℕ, zero, suc, ◌+◌, ◌-◌, ◌*◌, ◌<◌, ◌≤◌, ◌⊎◌, inl, inr, true, cond, List, [], ◌∷◌, ◌++◌, length, map, get_or, slice_get, Option, Some, None, refl, sym, ap, ◌∙◌, subst, arith, append_assoc, nat_le}
 use Rattle.std.specs.Prelude.{IfSome}
 use Rattle.std.specs.List.{list_all}
@@ -62,7 +62,7 @@ in_device_at [] x n h = h
 in_device_at (d ∷ ds) x n (inl h) = inl h
 in_device_at (d ∷ ds) x n (inr h) = inr (in_device_at ds x n h)
 
--- what lies in one range lies below each that is apart from it, or above
+-- addresses inside one range are below each range that is apart from it, or above
 beside : (x n : ℕ) (r s : Range) → ranges_apart r s ≡ true → r.at ≤ x → x + n ≤ r.at + r.len → (x + n ≤ s.at) ⊎ (s.at + s.len ≤ x)
 beside x n r s apart low high =
     elim (or_cases (nat_le (r.at + r.len) s.at) (nat_le (s.at + s.len) r.at) apart) [
@@ -77,7 +77,7 @@ beside_other x n r s apart low high =
       | inr below ↦ inl (let le = leb-true (r.at + r.len) s.at below in omega arith)
     ]
 
--- what lies in one of the first ranges, beside the last one
+-- addresses inside one of the first ranges, compared with the last one
 beside_last : (x n : ℕ) (rs : List Range) (s : Range) → all_apart (rs ++ s ∷ []) ≡ true → IsInOne x n rs → (x + n ≤ s.at) ⊎ (s.at + s.len ≤ x)
 beside_last x n [] s apart h = absurd h
 beside_last x n (r ∷ rs) s apart (inl h) =
@@ -86,13 +86,13 @@ beside_last x n (r ∷ rs) s apart (inl h) =
     beside x n r s (and_parts (ranges_apart r s) true last).0 h.0 h.1
 beside_last x n (r ∷ rs) s apart (inr h) = beside_last x n rs s (and_parts (list_all (ranges_apart r) (rs ++ s ∷ [])) (all_apart (rs ++ s ∷ [])) apart).1 h
 
--- what lies in one of several ranges, beside one that is apart from them all
+-- addresses inside one of several ranges, compared with one that is apart from them all
 beside_each : (x n : ℕ) (s : Range) (rs : List Range) → list_all (ranges_apart s) rs ≡ true → IsInOne x n rs → (x + n ≤ s.at) ⊎ (s.at + s.len ≤ x)
 beside_each x n s [] apart h = absurd h
 beside_each x n s (r ∷ rs) apart (inl h) = beside_other x n r s (and_parts (ranges_apart s r) (list_all (ranges_apart s) rs) apart).0 h.0 h.1
 beside_each x n s (r ∷ rs) apart (inr h) = beside_each x n s rs (and_parts (ranges_apart s r) (list_all (ranges_apart s) rs) apart).1 h
 
--- what lies in one of the later ranges, beside each of the first ones
+-- addresses inside one of the later ranges, compared with each of the first ones
 beside_first : (x n : ℕ) (rs ss : List Range) (k : ℕ) (s : Range) → all_apart (rs ++ ss) ≡ true → slice_get rs k ≡ Some s → IsInOne x n ss → (x + n ≤ s.at) ⊎ (s.at + s.len ≤ x)
 beside_first x n [] ss k s apart is h = absurd (let none : let o : Option Range = None in o ≡ Some s = is in cc)
 beside_first x n (r ∷ rs) ss zero s apart is h =
@@ -275,7 +275,8 @@ safe_tasks_say image plan switch block list needs states events n e ok safe walk
     let here = safe (states 0) (first_events n events) e start r.0 (subst (λ (m : Machine). Fits plan m e) (sym r.1) last) in
     parts_of ok switch block list needs (states n) e (subst (λ (m : Machine). AreSafeAt plan (record { switch = switch; block = block; list = list }) needs m e) r.1 here)
 
--- the states of a run by the number of events, each event from a list, and one and the same behind it
+-- the states of a run by the number of events: those of a list, and after them always the same
+-- event
 abbrev after_events : Machine → (ℕ → Event) → ℕ → Machine
 after_events m events zero = m
 after_events m events (suc k) = step (after_events m events k) (events k)

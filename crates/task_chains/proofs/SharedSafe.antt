@@ -1,4 +1,4 @@
--- What the tasks share says what SafeTasks asks of the areas.
+-- What the tasks share gives what SafeTasks asks of the areas.
 use Rattle.std.proofs.Common.{◌≡◌, ◌≢◌, ℕ, zero, suc, ◌+◌, ◌-◌, ◌<◌, ◌≤◌, List, [], ◌∷◌, ◌++◌, length, sym, ap, ◌∙◌, subst, arith, length-append}
 use Rattle.csa_chain.specs.Chain.{link_in}
 use Rattle.csa_chain.proofs.ChainLaws.{Links, Avoids, chain_within-Links}
@@ -20,7 +20,7 @@ module _ {plan : PlanData} (ok : IsPlan plan) (tasks : TasksData) (m : Machine) 
   all : sum_below n (λ w. length (chain_of w)) + length (s.free) ≡ plan.areas
   all = (s.share).count ∙ length-links_up (first_link plan) plan.areas
 
-  -- a list's first links are on no later place
+  -- the first links of a list are at no later place
   behind : (f : ℕ) (xs ys : List ℕ) → Avoids f (xs ++ ys) → Avoids f ys
   behind f [] ys h = h
   behind f (x ∷ xs) ys h = behind f xs ys h.1
@@ -32,7 +32,7 @@ module _ {plan : PlanData} (ok : IsPlan plan) (tasks : TasksData) (m : Machine) 
   limit : ℕ
   limit = first_link plan + (plan.areas - plan.reserve)
 
-  -- where all but the reserve is in use, FCX is at the limit
+  -- if all areas except the reserve are in use, FCX is at the limit
   to_limit : (front : List ℕ) → s.free ≡ front ++ reserve_of plan → sum_below n (λ w. length (chain_of w)) ≡ plan.areas - plan.reserve → link_in m.fcx ≡ link_in m.lcx
   to_limit [] is full =
       let l : Links m.mem m.fcx (reserve_of plan) = subst (Links m.mem m.fcx) is s.free_links in
@@ -48,7 +48,7 @@ module _ {plan : PlanData} (ok : IsPlan plan) (tasks : TasksData) (m : Machine) 
       let within = (ok.areas).reserve_within in
       absurd (omega arith)
 
-  -- and nowhere else
+  -- FCX is at the limit only then
   from_limit : (front : List ℕ) → s.free ≡ front ++ reserve_of plan → link_in m.fcx ≡ link_in m.lcx → sum_below n (λ w. length (chain_of w)) ≡ plan.areas - plan.reserve
   from_limit [] is at =
       let a = all in

@@ -1,4 +1,5 @@
--- The switch: the chain of PCXI becomes the next task's, and its contexts come back, so that the machine is as that task's view again.
+-- The switch: the chain of PCXI becomes the next task's, and its contexts are restored, so that the
+-- machine and that task's view are alike again.
 use Rattle.std.proofs.Common.{◌≡◌, ℕ, zero, suc, ◌+◌, ◌-◌, ◌*◌, ◌/◌, ◌^◌, ◌<◌, Bool, true, false, not, List, [], ◌∷◌, ◌++◌, get_or, Ok, refl, sym, ap, ◌∙◌, subst, arith}
 use Rattle.csa_chain.specs.Memory.{Memory}
 use Rattle.csa_chain.specs.Chain.{link_in, is_area, area_word}
@@ -26,7 +27,7 @@ use Rattle.task_chains.proofs.Alike.{seen_as}
 use Rattle.task_chains.proofs.Backs.{same_ul, same_area_words, restored_end}
 
 -- ---- the word of the next task becomes PCXI
--- What a task that waits has: the view's contexts are as those of its chain.
+-- A task that waits: the view's contexts are those of its chain.
 pub record Paused (plan : PlanData) (mem : Memory) (word : ℕ) (links seen : List ℕ) (lcx : ℕ) (view : Memory) (view_pcxi view_fcx : ℕ) : Type 0 where
   pub same : SameContexts mem word links view view_pcxi seen
   pub view_word : view_pcxi < 2 ^ 32
@@ -85,7 +86,7 @@ Shared-from t = record {
   fcx_word = t.fcx_word;
 }
 
--- what the tasks share stays as it is: only another one owns PCXI
+-- what the tasks share is unchanged, except that another task owns PCXI
 pub Twins-switched : {plan : PlanData} {n u : ℕ} {word_of : ℕ → ℕ} {chain_of : ℕ → List ℕ} {seen : List ℕ} {mem : Memory} {pcxi fcx lcx : ℕ} {view : Memory} {view_pcxi view_fcx : ℕ}
     → Twins plan n u word_of chain_of seen mem pcxi fcx lcx view view_pcxi view_fcx → (w : ℕ) → w < n → (seen2 : List ℕ) (pcxi2 : ℕ) → word_of w ≡ pcxi2 → pcxi2 < 2 ^ 32 → (view2 : Memory) (view2_pcxi view2_fcx : ℕ)
     → Paused plan mem (word_of w) (chain_of w) seen2 lcx view2 view2_pcxi view2_fcx → Twins plan n w word_of chain_of seen2 mem pcxi2 fcx lcx view2 view2_pcxi view2_fcx
@@ -108,7 +109,7 @@ Twins-switched {chain_of = chain_of} {mem = mem} t w lt seen2 pcxi2 is small vie
   view_areas = p.view_areas;
 }
 
--- and what the one that waits from now on has
+-- the task that gave way is one that waits
 pub Paused-from : {plan : PlanData} {n u : ℕ} {word_of : ℕ → ℕ} {chain_of : ℕ → List ℕ} {seen : List ℕ} {mem : Memory} {pcxi fcx lcx : ℕ} {view : Memory} {view_pcxi view_fcx : ℕ}
     → Twins plan n u word_of chain_of seen mem pcxi fcx lcx view view_pcxi view_fcx → Paused plan mem (word_of u) (chain_of u) seen lcx view view_pcxi view_fcx
 Paused-from {u = u} {chain_of = chain_of} {seen = seen} {mem = mem} {view = view} {view_pcxi = view_pcxi} t = record {
@@ -124,7 +125,8 @@ unfolding does
 does-mtcr_pcxi m e src k = refl
 
 -- ---- until its contexts are back
--- The view is beside the machine: all but the general registers and PSW is the same, up to the memory and the words of the chains.
+-- The view follows the machine: all is the same except the general registers, PSW, the memory and
+-- the first words of the chains.
 pub record Beside (m v : Machine) : Type 0 where
   pub pc : v.pc ≡ m.pc
   pub lcx : v.lcx ≡ m.lcx
@@ -191,7 +193,7 @@ module _ {plan : PlanData} (ok : IsPlan plan) {n u : ℕ} {word_of : ℕ → ℕ
   behind : SameBehindFirst (last_context m) (last_context v)
   behind = same_area_words m.mem v.mem (link_in m.pcxi) (link_in v.pcxi) (λ i lt. ap (λ x. area_word m.mem x (suc i)) here ∙ own.1 i lt ∙ ap (λ x. area_word v.mem x (suc i)) (sym there))
 
-  -- once the lower context is back, the lower registers are the same
+  -- after the lower context is restored, the lower registers are the same
   pub lower_back : SameGlobals m v → SameLower (restored m false) (restored v false)
   lower_back g = record {
     d = λ i lt. below_8 (λ i. get_or (restored v false).d i 0 ≡ get_or (restored m false).d i 0) (sym (behind 3 (omega arith))) (sym (behind 4 (omega arith))) (sym (behind 5 (omega arith))) (sym (behind 6 (omega arith)))
@@ -201,7 +203,7 @@ module _ {plan : PlanData} (ok : IsPlan plan) {n u : ℕ} {word_of : ℕ → ℕ
     back = sym (behind 0 (omega arith));
   }
 
-  -- once the upper context is back too, the view is as the machine
+  -- after the upper context is restored too, the view and the machine are alike
   pub upper_back : SameLower m v → restored v true ≡ seen_as (record (restored m true) { pc = v.pc; ie = v.ie; ccpn = v.ccpn; biv = v.biv; btv = v.btv; isp = v.isp; core = v.core; end = v.end; lcx = v.lcx }) (released v).mem (released v).pcxi (released v).fcx
   upper_back s = λ i. record (released v) {
     psw = (ap (λ x. area_word v.mem x 1) there ∙ sym (own.1 0 (omega arith)) ∙ ap (λ x. area_word m.mem x 1) (sym here)) i;
@@ -212,7 +214,7 @@ module _ {plan : PlanData} (ok : IsPlan plan) {n u : ℕ} {word_of : ℕ → ℕ
         ∷ sym (behind 1 (omega arith)) i ∷ sym (behind 2 (omega arith)) i ∷ sym (behind 7 (omega arith)) i ∷ sym (behind 8 (omega arith)) i ∷ sym (behind 9 (omega arith)) i ∷ sym (behind 10 (omega arith)) i ∷ [];
   }
 
-  -- the return: both go to the same address, and the view is as the machine
+  -- the return: both go to the same address, and the view and the machine are alike
   pub switched_back : SameLower m v → has_kind v true ≡ true → (e e2 : Event) → is_taken m e ≡ false → e2.irq ≡ e.irq → e2.status ≡ e.status → (size : ℕ) → fetched m ≡ Ok (Ret, size) → fetched v ≡ Ok (Ret, size)
       → step v e2 ≡ seen_as (step m e) (released v).mem (released v).pcxi (released v).fcx
   switched_back s kind e e2 none same_irq same_status size at view_at =

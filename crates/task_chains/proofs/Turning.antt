@@ -1,4 +1,5 @@
--- The routine's instructions up to the one that gives PCXI to the next task: the view goes along.
+-- The routine's instructions up to the one that gives PCXI to the next task: the view follows the
+-- machine.
 use Rattle.std.proofs.Common.{◌≡◌, ◌≢◌, ℕ, zero, suc, ◌+◌, ◌*◌, ◌%◌, ◌^◌, ◌<◌, ◌≤◌, inl, inr, true, false, cond, List, [], ◌∷◌, ◌++◌, length, map, Some, None, Ok, Result, refl, sym, ap, ◌∙◌, subst, arith}
 use Rattle.std.proofs.lemmas.Bool.{cases_lt, cases_eq}
 use Rattle.std.specs.FinMap as finite
@@ -52,7 +53,7 @@ use Rattle.task_chains.proofs.Switch.{Paused}
 use Rattle.task_chains.proofs.ViewPlan.{rest_apart}
 use Rattle.task_chains.proofs.ViewRun.{NextRun, view_run_step}
 
--- the next task in the round is one, and another
+-- the next task in the round is a task, and another one
 pub after_below : (n u : ℕ) → 2 ≤ n → u < n → (after n u < n) × (after n u ≢ u)
 after_below n u some lt =
     elim (cases_eq (suc u) n) [
@@ -66,7 +67,7 @@ part_of [] x n y k low high none = absurd none
 part_of (r ∷ rs) x n y k low high (inl w) = inl (let a = w.0 in omega arith, let c = w.1 in omega arith)
 part_of (r ∷ rs) x n y k low high (inr rest) = inr (part_of rs x n y k low high rest)
 
--- what the store of a word of the block leaves
+-- what the store of a word of the block doesn't change
 record BlockStored (plan : PlanData) (tasks : TasksData) (m n : Memory) (j : ℕ) : Type 0 where
   pub areas : (x : ℕ) → IsInAreas plan x → finite.get n x ≡ finite.get m x
   pub mapped : (x : ℕ) → is_mapped n x ≡ is_mapped m x
@@ -200,14 +201,14 @@ module _ {image : ImageData} {plan : PlanData} {tasks : TasksData} {certs : ℕ 
       fetched_here : (shape : Shape) → IsCode image plan (tasks.switch + 4 * i) shape 4 → fetched m ≡ Ok (shape, 4)
       fetched_here shape c = fetched_code image plan m shape 4 wd.ok k.rom (at_here shape c)
 
-      -- one that both have, and that leaves memory
+      -- an instruction that both have, and that doesn't change memory
       same_turn : (j : ℕ) → 1 ≤ j → j ≤ 14 → (shape : Shape) → IsCode image plan (tasks.switch + 4 * i) shape 4 → IsCode (view_image_of image tasks u) plan (tasks.switch + 4 * i) shape 4
           → AnswersLoad (view_plan_of plan tasks u) e.input (load_in (seen_as m mem pcxi fcx) (Ok (shape, 4))) → ((q : ℕ) → way_by (seen_as m mem pcxi fcx) e shape q ≡ to q)
           → Plainly m (seen_as m mem pcxi fcx) (does m e shape 4) (does (seen_as m mem pcxi fcx) e shape 4) m.mem mem → InRoutine tasks (step m e) u j word_of → Goes image plan tasks needs (step m e)
       same_turn j some most shape c c2 answers way p next =
           turns r.off shape shape e.input fits.input (at_here shape c) (view_here shape c2) j some most answers way m.mem p (λ x at. refl) (λ x. refl) (λ x at. refl) (λ w lt apart. refl) next
 
-      -- one that stores in the block, where the view does nothing
+      -- an instruction that stores to the block; the view does nothing
       put_turn : (j : ℕ) → 1 ≤ j → j ≤ 14 → (src base offset at : ℕ) → IsCode image plan (tasks.switch + 4 * i) (Store src (Reg base) offset 4 false) 4 → IsCode (view_image_of image tasks u) plan (tasks.switch + 4 * i) Nothing 4
           → moved (reg m base) offset ≡ tasks.block + 4 * at → at ≤ count tasks → ((w : ℕ) → w < count tasks → w ≢ u → w ≢ at) → traps_at e (moved (reg m base) offset) 4 ≡ false → InRoutine tasks (step m e) u j word_of → Goes image plan tasks needs (step m e)
       put_turn j some most src base offset at c c2 place le others no_trap_here next =
@@ -215,7 +216,7 @@ module _ {image : ImageData} {plan : PlanData} {tasks : TasksData} {certs : ℕ 
           turns r.off (Store src (Reg base) offset 4 false) Nothing e.input fits.input (at_here (Store src (Reg base) offset 4 false) c) (view_here Nothing c2) j some most tt (λ q. refl) (with_bytes m.mem (moved (reg m base) offset) (reg m src) 4)
           (plain-put m mem pcxi fcx e e src base offset 4 no_trap_here) s.areas s.mapped s.rom (λ w lt apart. s.blocks w (others w lt apart)) next
 
-      -- one that reads what the view gets from outside
+      -- an instruction that reads what is an input in the view
       get_turn : (j : ℕ) → 1 ≤ j → j ≤ 14 → (dst base offset : ℕ) → IsCode image plan (tasks.switch + 4 * i) (Load dst (Reg base) offset 4 false false) 4 → IsCode (view_image_of image tasks u) plan (tasks.switch + 4 * i) (Mfcr dst 0) 4
           → traps_at e (moved (reg m base) offset) 4 ≡ false → InRoutine tasks (step m e) u j word_of → Goes image plan tasks needs (step m e)
       get_turn j some most dst base offset c c2 no_trap_here next =

@@ -1,4 +1,5 @@
--- A machine that several tasks share, beside the view of the task that runs: contexts that are the same, wherever they lie.
+-- A machine that several tasks share, compared with the view of the task that runs: the contexts
+-- are the same, at whatever addresses.
 use Rattle.std.proofs.Common.{◌≡◌, ◌≢◌, ℕ, zero, suc, ◌+◌, ◌-◌, ◌/◌, ◌^◌, ◌<◌, ◌≤◌, Bool, true, false, List, [], ◌∷◌, ◌++◌, length, get_or, refl, sym, ap, ◌∙◌, subst, arith}
 use Rattle.std.proofs.Common.{inl, inr}
 use Rattle.std.proofs.lemmas.Bool.{cases_eq}
@@ -19,8 +20,8 @@ use Rattle.csa_chain.specs.SeveralChains.{times, sum_below, with_chain, with_fir
 use Rattle.csa_chain.proofs.SeveralLaws.{cond_same, AllLinks, first_avoids, first_avoids_rest, Share-saved, saved_links, saved_free, times-there, times-other, owned_avoids_rest, Share-restored, restored_links, restored_free}
 
 -- ---- contexts
--- The contexts of a chain and those of the view's chain: as many, each named by words that differ at most in their links, and with the
--- same words but for the link in the first.
+-- The contexts of a chain and those of the view's chain: as many; each is named by words that
+-- differ at most in their links, and has the same words except for the link in the first.
 abbrev pub SameContexts : Memory → ℕ → List ℕ → Memory → ℕ → List ℕ → Type 0
 SameContexts m word [] v word2 [] = word / 2 ^ 20 ≡ word2 / 2 ^ 20
 SameContexts m word (l ∷ ls) v word2 (k ∷ ks) =
@@ -28,7 +29,7 @@ SameContexts m word (l ∷ ls) v word2 (k ∷ ks) =
 SameContexts m word [] v word2 (k ∷ ks) = ⊥
 SameContexts m word (l ∷ ls) v word2 [] = ⊥
 
--- they stay where their areas stay
+-- they are unchanged if their areas are
 pub SameContexts-kept : (m n v x : Memory) (word word2 : ℕ) (ls ks : List ℕ) → SameAreas m n ls → SameAreas v x ks → SameContexts m word ls v word2 ks → SameContexts n word ls x word2 ks
 SameContexts-kept m n v x word word2 [] [] same seen h = h
 SameContexts-kept m n v x word word2 (l ∷ ls) (k ∷ ks) same seen h = (
@@ -85,7 +86,7 @@ areas_once plan = AreOnce-Distinct (plan_areas plan) (Distinct-links_up (first_l
 abbrev pub reserve_of : PlanData → List ℕ
 reserve_of plan = links_up (first_link plan + (plan.areas - plan.reserve)) plan.reserve
 
--- What n tasks share, the owner of PCXI among them, and what the owner's view has beside it.
+-- What n tasks share, one of which owns PCXI, and what the owner's view has.
 pub record Twins (plan : PlanData) (n u : ℕ) (word_of : ℕ → ℕ) (chain_of : ℕ → List ℕ) (seen : List ℕ) (mem : Memory) (pcxi fcx lcx : ℕ) (view : Memory) (view_pcxi view_fcx : ℕ) : Type 0 where
   pub own : u < n
   pub first : word_of u ≡ pcxi
@@ -108,7 +109,7 @@ Avoids-behind : (f : ℕ) (xs ys : List ℕ) → Avoids f (xs ++ ys) → Avoids 
 Avoids-behind f [] ys h = h
 Avoids-behind f (x ∷ xs) ys h = Avoids-behind f xs ys h.1
 
--- the first free area, where one more may be used
+-- the first free area, if one more can be used
 pub record HasShared (plan : PlanData) (n : ℕ) (chain_of : ℕ → List ℕ) (mem : Memory) (fcx lcx : ℕ) : Type 0 where
   pub front : List ℕ
   pub some : link_in fcx ≢ 0

@@ -15,7 +15,7 @@ use Rattle.csa_chain.proofs.SeveralLaws.{cond_other}
 use Rattle.task_chains.proofs.ViewStart.{IsViewStart}
 use Rattle.task_chains.proofs.Alike.{seen_as}
 
--- what the machine has once both contexts of task u, not the first, are back
+-- the machine after both contexts of task u, not the first, are restored
 pub record Begun (plan : PlanData) (tasks : TasksData) (u : ℕ) (m : Machine) : Type 0 where
   pub words : IsMachine m
   pub lcx : m.lcx ≡ first_link plan + (plan.areas - plan.reserve)
@@ -35,7 +35,7 @@ pub record Begun (plan : PlanData) (tasks : TasksData) (u : ℕ) (m : Machine) :
 first_small : {plan : PlanData} → IsPlan plan → first_link plan < 2 ^ 32
 first_small {plan = plan} ok = let some = (ok.areas).some in let lt = link_lt ok 0 (omega arith) in omega arith
 
--- the view starts as the machine is, with its own memory, PCXI 0 and all areas free
+-- the view starts as the machine, with its own memory, PCXI 0 and all areas free
 pub view_begins : {plan : PlanData} → IsPlan plan → (image : ImageData) (tasks : TasksData) → FitPlan plan tasks → (u : ℕ) → 0 < u → (m : Machine) → Begun plan tasks u m → (start : Memory) → IsViewStart (view_image_of image tasks u) plan tasks u m.mem start
     → Starts (view_image_of image tasks u) (view_plan_of plan tasks u) (seen_as m start 0 (first_link plan))
 view_begins {plan = plan} ok image tasks fit u later m b start s =

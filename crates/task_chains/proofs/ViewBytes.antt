@@ -11,7 +11,7 @@ use Rattle.task_chains.specs.Routine.{view_routine_bytes}
 use Rattle.task_chains.specs.Views.{with_routine_from, view_segment, view_image_of}
 
 -- ---- one byte after another
--- the byte at x, which was b, once the first k bytes are written
+-- the byte at x, which was b, after the first k bytes are written
 abbrev pub byte_after : TasksData → ℕ → ℕ → ℕ → ℕ
 byte_after tasks x k b = cond (nat_le tasks.switch x && nat_lt x (tasks.switch + k)) (slice_index_or (view_routine_bytes tasks) (x - tasks.switch) 0) b
 
@@ -30,7 +30,7 @@ none_written tasks x b =
     by_first true e = ap (λ r. cond r (slice_index_or (view_routine_bytes tasks) (x - tasks.switch) 0) b) e
     by_first false e = refl
 
--- what writing a byte at an address makes of bytes
+-- bytes after one of them is written
 abbrev pub put_byte : ℕ → ℕ → ℕ → List ℕ → List ℕ
 put_byte at x byte bytes = cond (nat_le at x && nat_lt (x - at) (length bytes)) (set bytes (x - at) byte) bytes
 

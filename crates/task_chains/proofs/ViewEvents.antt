@@ -1,4 +1,4 @@
--- What an event and a store of the machine are for its view.
+-- Events and stores of the machine, compared with those of its view.
 use Rattle.std.proofs.Common.{◌≡◌, ℕ, zero, suc, ◌+◌, ◌-◌, ◌*◌, ◌/◌, ◌%◌, ◌^◌, ◌<◌, ◌≤◌, ◌⊎◌, inl, inr, true, false, List, [], ◌∷◌, ◌++◌, length, map, Option, Some, None, Ok, Result, refl, sym, ap, ◌∙◌, subst, arith, append_assoc, All}
 use Rattle.std.proofs.lemmas.Bool.{cases_Bool, cases_lt, false≢true, both_ways}
 use Rattle.std.specs.Prelude.{is_some, unwrap_or}
@@ -69,7 +69,7 @@ no_byte : (o : Option ℕ) (d : ℕ) → is_some o ≡ false → unwrap_or o d �
 no_byte None d h = refl
 no_byte (Some b) d h = absurd (false≢true (sym h))
 
--- a word none of whose bytes is mapped comes from outside
+-- a word is an input if none of its bytes is mapped
 pub loaded_outside : (m : Memory) (input x : ℕ) → input < 2 ^ 32 → x + 4 ≤ 2 ^ 32 → ((i : ℕ) → i < 4 → is_mapped m (x + i) ≡ false) → load_number m input x 4 ≡ input
 unfolding load_number
 loaded_outside m input x small fits gone =
@@ -110,7 +110,8 @@ module _ {plan : PlanData} (ok : IsPlan plan) (tasks : TasksData) (are : AreTask
         ]
       ]
 
-  -- nor, in the view, one of its devices, which are those and the ram that is left
+  -- in the view no byte of its devices is mapped, which are the plan's devices and what is left of
+  -- ram
   view_unmapped : (mem : Memory) → IsPlanMemory (view_plan_of plan tasks u) mem → (y : ℕ) → IsInOne y 1 (devs ++ left ok tasks are fit) → is_mapped mem y ≡ false
   view_unmapped mem memory y at =
       elim (cases_Bool (is_mapped mem y)) [
@@ -133,14 +134,14 @@ module _ {plan : PlanData} (ok : IsPlan plan) (tasks : TasksData) (are : AreTask
         ]
       ]
 
-  -- a store in the view's range changes nothing there
+  -- a store in range of the view changes nothing in the view
   pub view_store_gone : (mem : Memory) → IsPlanMemory (view_plan_of plan tasks u) mem → (x n w : ℕ) → 0 < n → IsStoreInRange (view_plan_of plan tasks u) (x, n) → with_bytes mem x w n ≡ mem
   view_store_gone mem memory x n w some range =
       let fits = range.0 in
       store_gone mem n x w
       (λ i lt. subst (λ y. is_mapped mem y ≡ false) (let e : x + i ≡ (x + i) % 2 ^ 32 = omega arith in e) (view_unmapped mem memory (x + i) (in_one x n i (devs ++ left ok tasks are fit) lt (in_view_range x n range)))) (omega arith)
 
-  -- and leaves rom and the block of the machine
+  -- a store in range of the view doesn't change the machine's rom or block
   pub store_keeps : (mem : Memory) (x n w : ℕ) → 0 < n → IsStoreInRange (view_plan_of plan tasks u) (x, n) → (y : ℕ) → IsKept plan tasks y → finite.get (with_bytes mem x w n) y ≡ finite.get mem y
   store_keeps mem x n w some range y kept_y =
       let s = view_store ok tasks are fit u x n some range in

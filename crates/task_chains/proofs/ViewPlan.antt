@@ -41,7 +41,7 @@ max_left a b x h = omega arith
 max_right : (a b x : ℕ) → max a b ≤ x → b ≤ x
 max_right a b x h = omega arith
 
--- what lies in a part of a range lies in the range, and misses what was taken out
+-- addresses inside a part of a range are inside the range, and miss what was taken out
 in_part : (b k : ℕ) (r : Range) (x n : ℕ) → IsInOne x n (without b k r) → IsWithin x n r × ((x + n ≤ b) ⊎ (b + k ≤ x))
 in_part b k r x n h =
     elim (IsInOne-parts x n (between r.at (min b (r.at + r.len))) (between (max (b + k) r.at) (r.at + r.len)) h) [
@@ -310,7 +310,8 @@ module _ {plan : PlanData} (ok : IsPlan plan) (tasks : TasksData) (are : AreTask
   }
 
   -- ---- stores
-  -- what lies in a device of the view lies in a device of the plan, or in ram; and it misses the block
+  -- addresses inside a device of the view are inside a device of the plan, or in ram; and they miss
+  -- the block
   pub view_store : (u x n : ℕ) → 0 < n → IsStoreInRange (view_plan_of plan tasks u) (x, n) → IsStoreInRange plan (x, n) × MissesBlock tasks (x, n)
   view_store u x n some range =
       elim range.1 [

@@ -1,4 +1,4 @@
--- The run of a view: the frames that it stands in, what its point says, and one event more.
+-- The run of a view: its frames, what its point says, and one event more.
 use Rattle.std.proofs.Common.{◌≡◌, ℕ, ◌+◌, ◌-◌, ◌*◌, ◌%◌, ◌^◌, ◌<◌, ◌≤◌, inl, inr, Bool, true, false, not, ◌&&◌, ◌==◌, cond, List, [], ◌∷◌, length, get_or, Some, None, Ok, refl, sym, ap, ◌∙◌, subst, arith}
 use Rattle.std.specs.Prelude.{IfSome}
 use Rattle.csa_chain.specs.Chain.{link_in}
@@ -50,7 +50,7 @@ use Rattle.task_chains.proofs.ViewEvents.{size_some, view_store_gone}
 use Rattle.task_chains.proofs.ViewPlan.{view_is_plan}
 use Rattle.task_chains.proofs.ViewRooms.{seen_few, runs_on, own_room, all_room}
 
--- what no instruction but MTCR changes is the plan's
+-- what no instruction except MTCR changes is the plan's
 pub record HasCore (plan : PlanData) (v : Machine) : Type 0 where
   pub lcx : v.lcx ≡ first_link plan + (plan.areas - plan.reserve)
   pub biv : v.biv ≡ plan.biv
@@ -58,8 +58,8 @@ pub record HasCore (plan : PlanData) (v : Machine) : Type 0 where
   pub isp : v.isp ≡ plan.isp
   pub core : v.core ≡ plan.core
 
--- A state that a run of task u's view has reached, with its frames; those behind the newest one that are of the routine stand at its
--- first instruction.
+-- A state that a run of task u's view has reached, with its frames. Frames of the routine, except
+-- the newest frame, are at the routine's first instruction.
 pub record ViewRun (image : ImageData) (plan : PlanData) (tasks : TasksData) (u : ℕ) (v : Machine) : Type 0 where
   pub frame : Standing
   pub behind : List Standing
@@ -89,7 +89,7 @@ ViewRun-start image plan tasks u v s = record {
   core = record { lcx = s.lcx; biv = s.biv; btv = s.btv; isp = s.isp; core = s.core };
 }
 
--- which stands in no frame of the routine
+-- the start is in no frame of the routine
 pub ViewRun-start-first : (image : ImageData) (plan : PlanData) (tasks : TasksData) (u : ℕ) (v : Machine) (s : Starts (view_image_of image tasks u) (view_plan_of plan tasks u) v)
     → AreFirst tasks ((ViewRun-start image plan tasks u v s).frame ∷ (ViewRun-start image plan tasks u v s).behind)
 unfolding ViewRun-start
@@ -149,7 +149,7 @@ module _ {image : ImageData} {plan : PlanData} (ok : IsPlan plan) {tasks : Tasks
   pub view_ccpn : IsInRoutine tasks v.pc → v.ccpn ≡ plan.start_ccpn
   view_ccpn i = let k = view_in_routine i in (r.leveled).at (ap (λ (k : Key). k.prio) k, ap (λ (k : Key). k.is) k)
 
-  -- where it enters the routine it stands at the first instruction
+  -- if it enters the routine, it is at the first instruction
   pub view_enters : AreFirst tasks (r.frame ∷ r.behind) → IsInRoutine tasks v.pc → v.pc ≡ tasks.switch
   view_enters all i = sym view_at_pc ∙ all.0 (view_in_routine i)
 

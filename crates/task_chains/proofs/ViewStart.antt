@@ -1,5 +1,5 @@
--- The memory in which a task's view starts where the task has its first turn: that of the machine without ram, with the view's routine and
--- all areas free.
+-- The memory in which a task's view starts at the task's first turn: that of the machine without
+-- ram, with the view's routine and all areas free.
 use Rattle.std.proofs.Common.{◌≡◌, ℕ, zero, suc, ◌+◌, ◌*◌, ◌^◌, ◌<◌, ◌≤◌, ◌⊎◌, inl, inr, Bool, true, false, not, cond, [], ◌∷◌, ◌++◌, map, Option, Some, None, refl, sym, ap, ◌∙◌, arith, nat_lt, append_assoc, lit<, lit≤}
 use Rattle.std.proofs.lemmas.Bool.{cases_eq, cases_lt, cases_Bool, false≢true, both_ways}
 use Rattle.std.specs.Prelude.{is_some}
@@ -25,11 +25,11 @@ use Rattle.tc_machine.proofs.Zeros.{is_in-one, is_in-from}
 use Rattle.task_chains.specs.Tasks.{TasksData, routine_size}
 use Rattle.task_chains.specs.Views.{view_plan_of}
 
--- the address lies outside of the routine
+-- the address is outside of the routine
 abbrev pub IsOutside : TasksData → ℕ → Type 0
 IsOutside tasks x = (x < tasks.switch) ⊎ (tasks.switch + routine_size ≤ x)
 
--- rom is the same but for the routine
+-- rom is the same except for the routine
 abbrev pub SameRom : PlanData → TasksData → Memory → Memory → Type 0
 SameRom plan tasks mem view = (x : ℕ) → IsInOne x 1 plan.rom → IsOutside tasks x → finite.get view x ≡ finite.get mem x
 
@@ -128,7 +128,7 @@ module _ {plan : PlanData} (ok : IsPlan plan) (image view : ImageData) (tasks : 
   areas_there : (x : ℕ) → IsInAreas plan x → is_mapped base x ≡ true
   areas_there x at = ap is_some (not_ram x (λ ram. ram_apart x ram at)) ∙ (memory x).1 (inr (inr at))
 
-  -- a byte of rom where the view's image has one, and where it has none
+  -- a byte of rom, if the view's image has one there, and if it has none
   rom_held : (x b : ℕ) → IsInOne x 1 plan.rom → image_byte view x ≡ Some b → finite.get view_memory x ≡ Some b
   rom_held x b in_rom held = get_out x (rom_apart ok x in_rom) ∙ images_put view base plan.rom x b in_rom (rom_there x in_rom) held
 

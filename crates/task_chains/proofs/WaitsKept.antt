@@ -1,4 +1,4 @@
--- A task that waits still does so after another one's step.
+-- A task that waits still waits after a step of another one.
 use Rattle.std.proofs.Common.{◌≡◌, ℕ, ◌/◌, ◌%◌, ◌^◌, List, [], ◌∷◌, refl, sym, ap, ◌∙◌, subst, arith}
 use Rattle.std.specs.FinMap as finite
 use Rattle.csa_chain.specs.Memory.{Memory}
@@ -17,7 +17,7 @@ use Rattle.task_chains.specs.Starting.{block_word, upper_area, lower_area, IsRea
 use Rattle.task_chains.proofs.Twins.{SameContexts-kept}
 use Rattle.task_chains.proofs.Invariant.{Waits, ready, paused}
 
--- a task that is ready, where its areas and its word stay
+-- a task that is ready, if its areas and its word are unchanged
 ready_kept : (core : Core) (plan : PlanData) (tasks : TasksData) (m n : Memory) (w : ℕ) → SameArea m n (lower_area plan w) → SameArea m n (upper_area plan w) → block_word tasks n w ≡ block_word tasks m w → IsReady core plan tasks m w → IsReady core plan tasks n w
 ready_kept core plan tasks m n w low up word r =
     let u0 = area_word_same up 0 (omega arith) in

@@ -1,4 +1,4 @@
--- The devices of a plan beside some bytes of ram.
+-- The devices of a plan whose ram answers as devices do, without some of its bytes.
 use Rattle.std.specs.Prelude.{◌++◌, ℕ, List, map, flat_map}
 use Rattle.tcd_plan.specs.declared.plans.Device.{Device}
 use Rattle.tcd_plan.specs.PlanData.{PlanData}

@@ -9,15 +9,16 @@ use Rattle.cfg_recover.specs.Assignments.{IsBelowAt, known_in}
 use Rattle.task_chains.specs.Tasks.{TasksData}
 use Rattle.task_chains.specs.Apart.{KeepsApart, FailsApart}
 
--- Where a certificate is below another, which has all its places and covers what is known there, and both are accepted for a view,
--- the rule fails for the other wherever it fails for the one.
+-- One certificate is below another if the other has all of its places and covers what is known
+-- there. If both are accepted for a view, rule 17 fails for the upper one wherever it fails for the
+-- lower.
 abbrev pub TaskFaultsGrow : Type 0
 TaskFaultsGrow =
     (view : ImageData) (plan : PlanData) (tasks : TasksData) (lower upper : CertData) (k : Key) (p : ℕ) → IsPlan plan → IsCert lower → IsCert upper
     → lower.version ≡ upper.version → Accepts view plan lower → Accepts view plan upper → IsBelowAt (known_in lower) (known_in upper)
     → FailsApart view plan tasks lower k p → FailsApart view plan tasks upper k p
 
--- Where the rule fails somewhere, it doesn't hold at all points.
+-- If rule 17 fails somewhere, it doesn't hold at all points.
 abbrev pub TaskFaultsRefute : Type 0
 TaskFaultsRefute =
     (view : ImageData) (plan : PlanData) (tasks : TasksData) (cert : CertData) (k : Key) (p : ℕ) → FailsApart view plan tasks cert k p → KeepsApart view plan tasks cert → ⊥

@@ -1,5 +1,5 @@
--- What the definitions that the theorem on tasks begins with say, concluded from plain equations: the statements of the guard laws.
--- A definition that asked for more would break one of them.
+-- Statements of guard laws: plain equations give the premises of the theorem on tasks. If a
+-- definition of a premise asked for more, one of the laws would break.
 use Rattle.std.specs.Prelude.{◌≡◌, ◌↔◌, ℕ, ◌+◌, ◌-◌, ◌*◌, ◌/◌, ◌%◌, ◌^◌, ◌<◌, ◌≤◌, ◌⊎◌, ◌==◌, true, false, List, [], ◌∷◌, length, slice_get, slice_index, All, Contains, Some, Result}
 use Rattle.std.specs.FinMap as bytes
 use Rattle.csa_chain.specs.Memory.{Memory, is_mapped, word_at}
@@ -19,9 +19,10 @@ use Rattle.task_chains.specs.Views.{FitPlan}
 use Rattle.task_chains.specs.Reading.{Reads}
 use Rattle.task_chains.specs.Starting.{IsReady, TasksStart}
 
--- Task i + 1 is ready for its first turn where area 2 i holds PCXI 0, a PSW whose bits 11 to 9 are 100 (IO 2, IS 0), and the task's
--- stack pointer as A10; where area 2 i + 1 holds a word with the link of area 2 i in bits 19 to 0 and 1 as UL (bit 22, in the later
--- layout bit 20), and the task's entry as A11; and where the task's word of the block is the link of area 2 i + 1.
+-- Task i + 1 is ready for its first turn if the following holds. Area 2 i has PCXI 0, a PSW whose
+-- bits 11 to 9 are 100 (IO 2, IS 0), and the task's stack pointer as A10. Area 2 i + 1 has a word
+-- with the link of area 2 i in bits 19 to 0 and 1 as UL (bit 22, in the later layout bit 20), and
+-- the task's entry as A11. The task's word of the block is the link of area 2 i + 1.
 abbrev pub EveryTaskIsReady : Type 0
 EveryTaskIsReady =
     (core : Core) (plan : PlanData) (switch block : ℕ) (list : List Task) (mem : Memory) (i : ℕ) (t : Task) → slice_get list (i + 1) ≡ Some t
@@ -35,16 +36,16 @@ EveryTaskIsReady =
     → word_at mem (block + 4 * (i + 1)) ≡ first_link plan + (2 * i + 1)
     → IsReady core plan (record { switch = switch; block = block; list = list }) mem (i + 1)
 
--- Tasks fit a plan whose ram ranges and devices are together at most 15, where one ram range has the block, and the start isn't on
--- the interrupt stack: the block leaves one range more at most.
+-- Tasks fit a plan if it has at most 15 ram ranges and devices together, the block is inside one
+-- ram range, and the start isn't on the interrupt stack. The block leaves at most one range more.
 abbrev pub EveryPlanFits : Type 0
 EveryPlanFits =
     (plan : PlanData) (switch block : ℕ) (list : List Task) (r : Range) → IsPlan plan → Contains plan.ram r
     → r.at ≤ block → block + (4 * length list + 4) ≤ r.at + r.len → length plan.devices + length plan.ram ≤ 15 → plan.start_is ≡ false
     → FitPlan plan (record { switch = switch; block = block; list = list })
 
--- Every machine starts the tasks whose fields are the stated ones: with any other registers, any other bits of PSW and any other
--- bytes. FCX is the link of area 2 (n - 1), or 0 where there is none.
+-- A machine with these fields starts the tasks. All other registers, bits of PSW and bytes are any.
+-- FCX is the link of area 2 (n - 1), or 0 if there is no such area.
 abbrev pub EveryTasksStart : Type 0
 EveryTasksStart =
     (image : ImageData) (plan : PlanData) (switch block : ℕ) (t : Task) (ts : List Task) (d a : List ℕ) (psw fcx : ℕ) (mem : Memory) → IsPlan plan
@@ -78,6 +79,6 @@ EveryTasksStart =
       core = plan.core;
     })
 
--- Lines have one answer under a plan.
+-- For each plan lines have one answer.
 abbrev pub ReadsOne : Type 0
 ReadsOne = (plan : PlanData) (lines : List (List ℕ)) (r s : Result TasksData TasksErr) → Reads plan lines r → Reads plan lines s → r ≡ s

@@ -1,4 +1,4 @@
--- The switch routine: what it does, its bytes, and the bytes that a task's view has in its place.
+-- The switch routine: what it does, its bytes, and the bytes that a task's view has instead.
 use Rattle.std.specs.Prelude.{◌≡◌, ◌+◌, ◌*◌, ◌/◌, ◌%◌, ◌^◌, ◌<◌, ℕ, List, [], ◌∷◌, ◌++◌, slice_get, slice_index, Option, Some, None}
 use Rattle.elf_image.specs.Images.{ImageData, image_byte}
 use Rattle.tcd_plan.specs.PlanData.{PlanData}
@@ -57,7 +57,7 @@ mov c k = instruction 3 c 0 0 0 k
 abbrev pub jne_over : ℕ → ℕ → InstData
 jne_over s1 k4 = instruction 102 0 s1 k4 0 4
 
--- the upper half of an address, one more where the lower half is negative as a signed number
+-- the upper half of an address, plus one if the lower half is negative as a signed number
 abbrev pub hi : ℕ → ℕ
 hi x = (x + 0x8000) / 2 ^ 16 % 2 ^ 16
 
@@ -66,8 +66,9 @@ abbrev pub lo : ℕ → ℕ
 lo x = x % 2 ^ 16
 
 -- ---- the routine
--- of n tasks with their words at b: interrupts off; the lower context saved; PCXI into the word of the current task; the next
--- task current; PCXI out of its word; its contexts back
+-- The routine of n tasks with their block at b. Interrupts are off, and the lower context is saved.
+-- PCXI goes into the word of the current task; the next task becomes the current one; its word goes
+-- into PCXI, and its contexts are restored.
 abbrev pub routine_of : ℕ → ℕ → List InstData
 routine_of n b =
     plain 57 ∷
@@ -89,7 +90,8 @@ routine_of n b =
     plain 55 ∷
     plain 52 ∷ []
 
--- as a task's view has it: what is read of the block and of PCXI comes from outside, and nothing is written there
+-- the routine in a task's view: what it reads of the block and of PCXI is an input, and it writes
+-- neither
 abbrev pub view_routine_of : ℕ → ℕ → List InstData
 view_routine_of n b =
     plain 57 ∷
@@ -126,11 +128,12 @@ bytes_of (i ∷ is) = spelled_by (slice_get listed i.row) i ++ bytes_of is
 abbrev pub routine_bytes : TasksData → List ℕ
 routine_bytes tasks = bytes_of (routine_of (count tasks) tasks.block)
 
--- the bytes that stand in the routine's place in the view of a task
+-- the bytes that the view of a task has instead of the routine
 abbrev pub view_routine_bytes : TasksData → List ℕ
 view_routine_bytes tasks = bytes_of (view_routine_of (count tasks) tasks.block)
 
--- byte i of the routine stands at its address: in the rom range that holds all up to it, and in a segment
+-- byte i of the routine is at its address, in a segment, and inside the rom range that has all
+-- bytes up to it
 pub record HasRoutineByte (image : ImageData) (plan : PlanData) (tasks : TasksData) (i : ℕ) : Type 0 where
   pub in_rom : IsInOne tasks.switch (i + 1) plan.rom
   pub held : image_byte image (tasks.switch + i) ≡ Some (slice_index (routine_bytes tasks) i)
@@ -139,7 +142,7 @@ pub record HasRoutineByte (image : ImageData) (plan : PlanData) (tasks : TasksDa
 abbrev pub HasRoutine : ImageData → PlanData → TasksData → Type 0
 HasRoutine image plan tasks = (i : ℕ) → i < routine_size → HasRoutineByte image plan tasks i
 
--- its first fault is at this address
+-- the first byte that isn't the routine's is at this address
 pub record IsRoutineFault (image : ImageData) (plan : PlanData) (tasks : TasksData) (x : ℕ) : Type 0 where
   pub place : ℕ
   pub within : place < routine_size

@@ -1,4 +1,4 @@
--- Whom the chain of PCXI belongs to, and when every run of all tasks is safe.
+-- The task that owns the chain of PCXI, and what safe runs of all tasks are.
 use Rattle.std.specs.Prelude.{◌≡◌, ◌+◌, ◌-◌, ◌<◌, ◌≤◌, ◌⊎◌, ◌↔◌, ◌==◌, ◌||◌, ℕ, max, if◌then◌else◌, List, length, Some, IfSome}
 use Rattle.csa_chain.specs.Chain.{link_in, chain}
 use Rattle.elf_image.specs.Images.{ImageData}
@@ -25,7 +25,8 @@ use Rattle.task_chains.specs.Starting.{TasksStart, block_word, current}
 abbrev pub before : ℕ → ℕ → ℕ
 before n u = if u == 0 then n - 1 else u - 1
 
--- The task whose chain begins in PCXI: the current one, but the one before it from where the next one became current until PCXI is set.
+-- The task whose chain begins in PCXI: the current one. While the routine has made the next task
+-- the current one, but hasn't set PCXI yet, it is the task before the current one.
 abbrev pub owner : TasksData → Machine → ℕ
 owner tasks m =
     if m.pc == tasks.switch + 48 || m.pc == tasks.switch + 52 || m.pc == tasks.switch + 56 then before (count tasks) (current tasks m.mem)
@@ -36,8 +37,8 @@ abbrev pub chain_word : TasksData → Machine → ℕ → ℕ
 chain_word tasks m u = if u == owner tasks m then m.pcxi else block_word tasks m.mem u
 
 -- ---- safe
--- The areas, each once, are those of the tasks and the free ones; each task has at most its need; and FCX is at the limit exactly where
--- all areas but the reserve are in use.
+-- The chains of the tasks and the free list have each area of the plan once. Each task has at most
+-- its need. FCX is at the limit exactly if all areas except the reserve are in use.
 pub record AreAreasShared (plan : PlanData) (tasks : TasksData) (needs : ℕ → ℕ) (m : Machine) : Type 0 where
   pub chain_of : ℕ → List ℕ
   pub free : List ℕ
@@ -51,7 +52,7 @@ pub record AreAreasShared (plan : PlanData) (tasks : TasksData) (needs : ℕ →
 abbrev pub MissesBlock : TasksData → ℕ × ℕ → Type 0
 MissesBlock tasks at = (at.0 + at.1 ≤ tasks.block) ⊎ (tasks.block + block_size tasks ≤ at.0)
 
--- pc lies in the routine
+-- pc is in the routine
 abbrev pub IsInRoutine : TasksData → ℕ → Type 0
 IsInRoutine tasks x = (tasks.switch ≤ x) × (x < tasks.switch + routine_size)
 
@@ -59,14 +60,15 @@ IsInRoutine tasks x = (tasks.switch ≤ x) × (x < tasks.switch + routine_size)
 abbrev pub IsTaskStore : PlanData → TasksData → ℕ → ℕ × ℕ → Type 0
 IsTaskStore plan tasks pc at = IsStoreInRange plan at × ((IsInRoutine tasks pc → ⊥) → MissesBlock tasks at)
 
--- a state of a run of all tasks, and what its next event may do
+-- a state of a run of all tasks is safe, and so is its next event
 pub record AreSafeAt (plan : PlanData) (tasks : TasksData) (needs : ℕ → ℕ) (m : Machine) (e : Event) : Type 0 where
   pub running : m.end ≡ Running
   pub owner : owner tasks m < count tasks
   pub areas : AreAreasShared plan tasks needs m
   pub stores : IfSome (stored m e) (IsTaskStore plan tasks m.pc)
 
--- so in every run from every start state, under every list of fitting events and every next one
+-- this holds in every run from every start state, for every list of fitting events and every next
+-- event
 abbrev pub SafeTasks : ImageData → PlanData → TasksData → (ℕ → ℕ) → Type 0
 SafeTasks image plan tasks needs =
     (m : Machine) (es : List Event) (e : Event) → TasksStart image plan tasks m → AllFit plan m es → Fits plan (run m es) e → AreSafeAt plan tasks needs (run m es) e
@@ -78,7 +80,8 @@ need_of_task image plan tasks certs u =
     let n = certified_need (view_image_of image tasks u) (view_plan_of plan tasks u) (certs u) in
     if u == 0 then n else max n 2
 
--- a task's certificate is accepted for its view, whose runs are safe and have their frames, and keeps rule 17
+-- a task's certificate is accepted for its view and keeps rule 17, and the view's runs are safe and
+-- have the certificate's frames
 pub record IsJudged (image : ImageData) (plan : PlanData) (tasks : TasksData) (cert : CertData) (u : ℕ) : Type 0 where
   pub is_cert : IsCert cert
   pub accepted : Accepts (view_image_of image tasks u) (view_plan_of plan tasks u) cert
@@ -86,8 +89,8 @@ pub record IsJudged (image : ImageData) (plan : PlanData) (tasks : TasksData) (c
   pub frames : FramesHeld (view_image_of image tasks u) (view_plan_of plan tasks u) cert
   pub apart : KeepsApart (view_image_of image tasks u) (view_plan_of plan tasks u) tasks cert
 
--- Where the image has the routine, each task is judged well, and the needs are together at most the areas without the reserve, all
--- runs are safe.
+-- If the image has the routine, each task is judged well, and the sum of the needs is at most the
+-- areas without the reserve, all runs are safe.
 abbrev pub TasksAreSafe : Type 0
 TasksAreSafe =
     (image : ImageData) (plan : PlanData) (tasks : TasksData) (certs : ℕ → CertData) → IsPlan plan → AreTasks tasks → FitPlan plan tasks → HasRoutine image plan tasks

@@ -1,6 +1,6 @@
--- What it is that all runs of tasks are safe, part by part in plain equations: the statements of the guard laws on it. A definition that
--- spoke of fewer runs, or said less of a state, would break the first of them; one that said more, the second. That no more is asked of a
--- start than stands in plain equations is a law of its own (Guards).
+-- What safe runs of all tasks are, part by part in plain equations: the statements of two guard
+-- laws. If the definition spoke of fewer runs, or said less of a state, the first law would break;
+-- if it said more, the second. The guard laws of the premises are in Guards.
 use Rattle.std.specs.Prelude.{◌≡◌, ◌≢◌, ◌↔◌, ℕ, ◌+◌, ◌-◌, ◌*◌, ◌%◌, ◌^◌, ◌<◌, ◌≤◌, ◌⊎◌, List, length, map, slice_get, Some}
 use Rattle.csa_chain.specs.Memory.{word_at}
 use Rattle.csa_chain.specs.SeveralChains.{sum_below}
@@ -18,8 +18,9 @@ use Rattle.task_chains.specs.declared.task_lists.Task.{Task}
 use Rattle.task_chains.specs.Starting.{TasksStart}
 use Rattle.task_chains.specs.Safe.{SafeTasks}
 
--- Task u of n has the chain that begins in PCXI: the block's last word is its number; but at the routine's 13th to 15th instructions,
--- where that word names the next task already and PCXI is still the old one's, it is one more than u, or 0 where u is the last.
+-- Task u of n has the chain that begins in PCXI: the block's last word is u. At the routine's 13th
+-- to 15th instructions that word is the next task's number already, and PCXI is still the old
+-- task's; there the word is u + 1, or 0 if u is the last task.
 pub record OwnsChain (switch block n : ℕ) (m : Machine) (u : ℕ) : Type 0 where
   pub one : u < n
   pub now : m.pc ≢ switch + 48 → m.pc ≢ switch + 52 → m.pc ≢ switch + 56 → word_at m.mem (block + 4 * n) ≡ u
@@ -27,12 +28,13 @@ pub record OwnsChain (switch block n : ℕ) (m : Machine) (u : ℕ) : Type 0 whe
       (m.pc ≡ switch + 48) ⊎ ((m.pc ≡ switch + 52) ⊎ (m.pc ≡ switch + 56))
       → (word_at m.mem (block + 4 * n) ≡ u + 1) ⊎ ((u + 1 ≡ n) × (word_at m.mem (block + 4 * n) ≡ 0))
 
--- the link has this place in the list of task u of n, or in the free list, which counts as list n
+-- the link has this place in the list of task u of n, or in the free list, which is list n
 abbrev pub StandsAt : ℕ → (ℕ → List ℕ) → List ℕ → ℕ → ℕ → ℕ → Type 0
 StandsAt n used free link u place = ((u < n) × (slice_get (used u) place ≡ Some link)) ⊎ ((u ≡ n) × (slice_get free place ≡ Some link))
 
--- A store of these bytes by an instruction at pc lies in one range of ram or of a device; it misses the save areas and all rom, where code
--- and vectors stand; and it misses the block, unless pc is at one of the routine's 72 bytes.
+-- A store of these bytes by an instruction at pc is inside one range of ram or of a device. It
+-- misses the save areas and all rom, where code and vectors are. It misses the block, unless pc is
+-- at one of the routine's 72 bytes.
 pub record IsStoreApart (plan : PlanData) (switch block n pc x size : ℕ) : Type 0 where
   pub fits : x + size ≤ 2 ^ 32
   pub in_range : LiesInRange plan.ram x size ⊎ LiesInRange (map (λ d. d.range) plan.devices) x size
@@ -40,10 +42,12 @@ pub record IsStoreApart (plan : PlanData) (switch block n pc x size : ℕ) : Typ
   pub off_rom : (place : ℕ) (r : Range) → slice_get plan.rom place ≡ Some r → (x + size ≤ r.at) ⊎ (r.at + r.len ≤ x)
   pub off_block : (pc < switch) ⊎ (switch + 72 ≤ pc) → (x + size ≤ block) ⊎ (block + (4 * n + 4) ≤ x)
 
--- The parts of what is safe, by the memory, PCXI, FCX and LCX: the machine runs, so that no context trap was met; PCXI leads to the areas of
--- the task that owns it, the block's words to those of the others, and FCX to the free ones; each area of the plan has its one place on one
--- of these lists, and nothing else has; each task has at most its need, and all have at most the sum; FCX has LCX's link where as many
--- areas are in use as there are without the reserve, and only there; and what the next event stores stays apart.
+-- The parts of a safe state. The machine runs, so it took no context trap. PCXI leads to the areas
+-- of the task that owns it, the block's words lead to those of the others, and FCX leads to the
+-- free ones. Each area of the plan has one place on one of these lists, and nothing else has a
+-- place. Each task has at most its need, and all have at most the sum. FCX has LCX's link exactly
+-- if all areas except the reserve are in use. What the next event stores misses areas, rom and
+-- block.
 pub record HasTaskParts (plan : PlanData) (switch block n : ℕ) (needs : ℕ → ℕ) (m : Machine) (e : Event) : Type 0 where
   pub running : m.end ≡ Running
   pub own : ℕ
@@ -62,7 +66,8 @@ pub record HasTaskParts (plan : PlanData) (switch block n : ℕ) (needs : ℕ �
   pub limit : (m.fcx % 2 ^ 20 ≡ m.lcx % 2 ^ 20) ↔ (sum_below n (λ u. length (used u)) ≡ plan.areas - plan.reserve)
   pub store : (x size : ℕ) → stored m e ≡ Some (x, size) → IsStoreApart plan switch block n m.pc x size
 
--- Where all runs of tasks are safe, each state of each run that is written out has these parts, whatever event that fits comes next.
+-- If all runs of tasks are safe, each state of each run has these parts, for every fitting event
+-- that is next.
 abbrev pub SafeTasksSay : Type 0
 SafeTasksSay =
     (image : ImageData) (plan : PlanData) (switch block : ℕ) (list : List Task) (needs : ℕ → ℕ) (states : ℕ → Machine) (events : ℕ → Event) (n : ℕ) (e : Event)
@@ -71,7 +76,7 @@ SafeTasksSay =
     → ((k : ℕ) → k < n → Fits plan (states k) (events k)) → Fits plan (states n) e
     → HasTaskParts plan switch block (length list) needs (states n) e
 
--- And where each state of each such run has them, all runs are safe.
+-- If each state of each run has these parts, all runs are safe.
 abbrev pub PartsAreSafe : Type 0
 PartsAreSafe =
     (image : ImageData) (plan : PlanData) (switch block : ℕ) (list : List Task) (needs : ℕ → ℕ) → IsPlan plan

@@ -28,16 +28,17 @@ current tasks mem = block_word tasks mem (count tasks)
 abbrev pub upper_area : PlanData → ℕ → ℕ
 upper_area plan u = first_link plan + 2 * (u - 1)
 
--- that of its lower context
+-- the link of the area of its lower context
 abbrev pub lower_area : PlanData → ℕ → ℕ
 lower_area plan u = first_link plan + (2 * (u - 1) + 1)
 
--- how many areas they take together
+-- the number of areas of all these contexts
 abbrev pub held_at_start : TasksData → ℕ
 held_at_start tasks = 2 * (count tasks - 1)
 
--- an upper context with PCXI 0, PSW with IO 2 and IS 0, and the task's stack pointer; a lower one with the task's entry as A11,
--- above the upper; and the block's word names the lower one. All other words are any.
+-- The upper context has PCXI 0, a PSW with IO 2 and IS 0, and the task's stack pointer. The lower
+-- one, which links to the upper, has the task's entry as A11. The block's word names the lower one.
+-- All other words are any.
 pub record IsReady (core : Core) (plan : PlanData) (tasks : TasksData) (mem : Memory) (u : ℕ) : Type 0 where
   pub ends : area_word mem (upper_area plan u) 0 ≡ 0
   pub io : area_word mem (upper_area plan u) 1 / 2 ^ 10 % 4 ≡ 2
@@ -52,8 +53,8 @@ pub record IsReady (core : Core) (plan : PlanData) (tasks : TasksData) (mem : Me
 abbrev pub link_or_end : PlanData → ℕ → ℕ
 link_or_end plan i = if nat_lt i plan.areas then first_link plan + i else 0
 
--- A state that starts the tasks: the first one runs, the others are ready, and all other areas are free, upward. All other bytes and
--- registers are any.
+-- A state that starts the tasks: the first one runs, the others are ready, and all other areas are
+-- free, in ascending order. All other bytes and registers are any.
 pub record TasksStart (image : ImageData) (plan : PlanData) (tasks : TasksData) (m : Machine) : Type 0 where
   pub machine : IsMachine m
   pub memory : IsPlanMemory plan m.mem

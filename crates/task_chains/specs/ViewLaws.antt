@@ -1,4 +1,4 @@
--- What holds of the views of tasks: the statements of the laws.
+-- Statements of the laws of the views of tasks.
 use Rattle.std.specs.Prelude.{◌≡◌, ◌<◌, ◌≤◌, ◌+◌, ◌⊎◌, ℕ}
 use Rattle.elf_image.specs.Images.{ImageData, image_byte}
 use Rattle.tcd_plan.specs.PlanData.{PlanData, IsPlan}
@@ -7,11 +7,11 @@ use Rattle.task_chains.specs.Tasks.{TasksData, AreTasks, count, routine_size}
 use Rattle.task_chains.specs.Views.{view_image_of, view_plan_of, FitPlan}
 use Rattle.task_chains.specs.Safe.{MissesBlock}
 
--- the plan of a view is one
+-- the plan of a view is a plan
 abbrev pub ViewsArePlans : Type 0
 ViewsArePlans = (plan : PlanData) (tasks : TasksData) (u : ℕ) → IsPlan plan → AreTasks tasks → FitPlan plan tasks → u < count tasks → IsPlan (view_plan_of plan tasks u)
 
--- a store in a view's range is in one of the plan, and misses the block
+-- a store in range of a view is in range of the plan, and misses the block
 abbrev pub ViewStoresMiss : Type 0
 ViewStoresMiss =
     (plan : PlanData) (tasks : TasksData) (u x n : ℕ) → IsPlan plan → AreTasks tasks → FitPlan plan tasks → 0 < n → IsStoreInRange (view_plan_of plan tasks u) (x, n)

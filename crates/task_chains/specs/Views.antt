@@ -1,4 +1,4 @@
--- The view of a task: the image and the plan under which its certificate is judged.
+-- The view of a task: the image and the plan for which its certificate is judged.
 use Rattle.std.specs.Prelude.{◌≡◌, ◌+◌, ◌-◌, ◌^◌, ◌≤◌, ◌==◌, ◌&&◌, ℕ, Bool, false, nat_le, nat_lt, min, max, if◌then◌else◌, List, [], ◌∷◌, ◌++◌, length, map, flat_map, slice_index_or}
 use Rattle.elf_image.specs.Images.{ImageData, SegmentData}
 use Rattle.tcd_base.specs.declared.range.Range.{Range}
@@ -9,17 +9,17 @@ use Rattle.task_chains.specs.Tasks.{TasksData, task_at, block_size, routine_size
 use Rattle.task_chains.specs.Routine.{view_routine_bytes}
 
 -- ---- the image
--- the address lies in the routine
+-- the address is in the routine
 abbrev pub is_in_routine : TasksData → ℕ → Bool
 is_in_routine tasks x = nat_le tasks.switch x && nat_lt x (tasks.switch + routine_size)
 
--- bytes from x on, those in the routine replaced by the view's
+-- bytes from x on, with those in the routine replaced by the view's
 unfoldable pub with_routine_from : TasksData → ℕ → List ℕ → List ℕ
 with_routine_from tasks x [] = []
 with_routine_from tasks x (b ∷ bs) =
     (if is_in_routine tasks x then slice_index_or (view_routine_bytes tasks) (x - tasks.switch) 0 else b) ∷ with_routine_from tasks (x + 1) bs
 
--- a segment with the view's routine in place of the routine's bytes
+-- a segment with the view's bytes instead of the routine's
 abbrev pub view_segment : TasksData → SegmentData → SegmentData
 view_segment tasks s = record { at = s.at; bytes = with_routine_from tasks s.at s.bytes }
 
@@ -28,7 +28,7 @@ abbrev pub view_image_of : ImageData → TasksData → ℕ → ImageData
 view_image_of image tasks u = record { entry = (task_at tasks u).entry; segments = map (view_segment tasks) image.segments }
 
 -- ---- the plan
--- the range from one address up to another; none where there is no byte
+-- the range from one address up to another; none if it has no byte
 abbrev pub between : ℕ → ℕ → List Range
 between from to_ = if nat_lt from to_ then record { at = from; len = to_ - from } ∷ [] else []
 
@@ -44,7 +44,8 @@ any_device r = record { range = r; lo = 0; hi = 2 ^ 32 - 1 }
 abbrev pub view_devices : PlanData → TasksData → List Device
 view_devices plan tasks = plan.devices ++ map any_device (flat_map (without tasks.block (block_size tasks)) plan.ram)
 
--- the plan with the task's stack pointer, without ram, and with interrupts off at the start of all tasks but the first
+-- the plan with the task's stack pointer, without ram, and with interrupts off at the start of all
+-- tasks but the first
 abbrev pub view_plan_of : PlanData → TasksData → ℕ → PlanData
 view_plan_of plan tasks u = record plan {
   ram = [];
@@ -53,7 +54,8 @@ view_plan_of plan tasks u = record plan {
   start_ie = if u == 0 then plan.start_ie else false;
 }
 
--- the tasks fit the plan: the block lies in one ram range, the views have at most 16 devices, and the start is on no interrupt stack
+-- the tasks fit the plan: the block is inside one ram range, the views have at most 16 devices, and
+-- the start isn't on the interrupt stack
 pub record FitPlan (plan : PlanData) (tasks : TasksData) : Type 0 where
   pub in_ram : IsInOne tasks.block (block_size tasks) plan.ram
   pub room : length (view_devices plan tasks) ≤ 16

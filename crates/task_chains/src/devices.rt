@@ -7,7 +7,8 @@ use arrayvec::ArrayVec;
 use tcd_base::Range;
 use tcd_plan::{Device, Plan};
 
-/// Appends the range from one address up to another as a device that answers with any word; none where there is no byte.
+/// Appends the range from one address up to another as a device that answers with any word. It
+/// appends nothing if the range has no byte.
 fn push_between(devices: &mut ArrayVec<Device, 16>, from: u64, upto: u64)
     requires room { length devices.old.items + length (between from upto) ≤ 16 }
     requires end { upto ≤ 2 ^ 32 }
@@ -39,7 +40,8 @@ fn push_without(devices: &mut ArrayVec<Device, 16>, r: &Range, x: u32, n: u32)
     push_between(devices, (below + u64::from(n)).max(start), end);
 }
 
-/// The plan's devices, and then what is left of each ram range without the `n` bytes from `x` on.
+/// Returns the plan's devices, and after them what is left of each ram range without the `n` bytes
+/// from `x` on.
 pub(crate) fn devices_without(plan: &Plan, x: u32, n: u32) -> ArrayVec<Device, 16>
     requires { length (devices_beside plan.now x n) ≤ 16 }
     ensures { result.items ≡ devices_beside plan.now x n }
@@ -53,7 +55,7 @@ pub(crate) fn devices_without(plan: &Plan, x: u32, n: u32) -> ArrayVec<Device, 1
     devices
 }
 
-/// Appends what is left of each range.
+/// Appends what is left of each range without the `n` bytes from `x` on.
 fn push_all_without(devices: &mut ArrayVec<Device, 16>, ranges: &[Range], x: u32, n: u32)
     requires room { length devices.old.items + length (flat_map (without x n) ranges.now) ≤ 16 }
     requires fit { All (λ r. r.at + r.len ≤ 2 ^ 32) ranges.now }
@@ -71,7 +73,7 @@ fn count_between(from: u64, upto: u64) -> usize
     usize::from(from < upto)
 }
 
-/// How many parts are left of a range.
+/// Returns the number of parts that are left of a range.
 fn count_without(r: &Range, x: u32, n: u32) -> usize
     ensures parts { result ≡ length (without x n r.now) }
     ensures few { result ≤ 2 }
@@ -82,7 +84,7 @@ fn count_without(r: &Range, x: u32, n: u32) -> usize
     count_between(start, below.min(end)) + count_between((below + u64::from(n)).max(start), end)
 }
 
-/// How many parts are left of the ranges.
+/// Returns the number of parts that are left of all ranges.
 fn count_all_without(ranges: &[Range], x: u32, n: u32) -> usize
     requires { length ranges.now ≤ 16 }
     ensures parts { result ≡ length (flat_map (without x n) ranges.now) }
@@ -95,7 +97,7 @@ fn count_all_without(ranges: &[Range], x: u32, n: u32) -> usize
     count
 }
 
-/// How many devices there are with what is left of ram.
+/// Returns the number of the plan's devices and of the parts that are left of ram.
 pub(crate) fn count_devices(plan: &Plan, x: u32, n: u32) -> usize
     ensures { result ≡ length (devices_beside plan.now x n) }
 {

@@ -1,4 +1,4 @@
-// What lines say of tasks, read one after another.
+// The lines of a text of tasks, read one after another.
 ghost use Rattle.std.specs.Prelude.{◌≡◌, ◌≤◌, ◌<◌, ◌+◌, ◌^◌, [], ◌∷◌, ◌++◌, ℕ, Some, None, IsSome, length, IfOk, OnOk, IfErr};
 ghost use Rattle.std.specs.Option.{option_or};
 ghost use Rattle.tcd_text.specs.Lines.{lines_of};
@@ -10,16 +10,21 @@ use crate::{Task, TasksErr};
 use arrayvec::ArrayVec;
 use tcd_text::cut_line;
 
-/// What the lines so far say: the addresses of the first that isn't empty, the first seven tasks, and the number of the
-/// line with an eighth.
+/// The most tasks.
+const MOST_TASKS: usize = 7;
+
+/// What the lines so far say.
 #[derive(Drop)]
 pub struct Draft {
+    /// The addresses of the first line that isn't empty.
     pub places: Option<Places>,
+    /// The first seven tasks.
     pub list: ArrayVec<Task, 7>,
+    /// The number of the line with an eighth task.
     pub eighth: Option<u32>,
 }
 
-/// A draft of a list of tasks, before its first line.
+/// Returns the draft before the first line.
 fn new_draft() -> Draft
     ensures { IsDraft [] result }
 {
@@ -30,7 +35,7 @@ fn new_draft() -> Draft
     }
 }
 
-/// Adds the task of line `number`, or keeps the number.
+/// Adds the task of line `number`. If there are seven already, only the number is kept.
 fn add_task(draft: &mut Draft, number: u32, task: Task)
     ensures places { draft.new.places ≡ draft.old.places }
     ensures room { length draft.old.list.items < 7
@@ -40,14 +45,14 @@ fn add_task(draft: &mut Draft, number: u32, task: Task)
         → (draft.new.list.items ≡ draft.old.list.items)
         × (draft.new.eighth ≡ option_or draft.old.eighth (Some number)) }
 {
-    if draft.list.len() < 7 {
+    if draft.list.len() < MOST_TASKS {
         draft.list.push(task);
     } else {
         draft.eighth = draft.eighth.or(Some(number));
     }
 }
 
-/// Adds what the first line that isn't empty says.
+/// Adds the addresses of the first line that isn't empty.
 fn add_first(draft: &mut Draft, number: u32, line: &[u8]) -> Result<(), TasksErr>
     requires none { draft.old.places ≡ None }
     requires some { 0 < length line.now }
@@ -63,7 +68,7 @@ fn add_first(draft: &mut Draft, number: u32, line: &[u8]) -> Result<(), TasksErr
     }
 }
 
-/// Adds what another line that isn't empty says.
+/// Adds the task of a later line that isn't empty.
 fn add_other(draft: &mut Draft, number: u32, line: &[u8]) -> Result<(), TasksErr>
     requires places { IsSome draft.old.places }
     requires some { 0 < length line.now }
@@ -79,7 +84,7 @@ fn add_other(draft: &mut Draft, number: u32, line: &[u8]) -> Result<(), TasksErr
     }
 }
 
-/// Adds what line `number` says, or tells that it is of another form.
+/// Adds what line `number` says, or returns the error of its form.
 fn add_line(draft: &mut Draft, number: u32, line: &[u8]) -> Result<(), TasksErr>
     ensures ok { OnOk result (TakesLine draft.old number line.now draft.new) }
     ensures err { IfErr result (IsLineBad draft.old number line.now) }
@@ -93,7 +98,7 @@ fn add_line(draft: &mut Draft, number: u32, line: &[u8]) -> Result<(), TasksErr>
     }
 }
 
-/// What all lines of a text say; the first line of another form is refused.
+/// Returns what all lines of a text say, or the error of the first line that has another form.
 pub(crate) fn draft_of(bytes: &[u8]) -> Result<Draft, TasksErr>
     requires { length bytes.now ≤ 2 ^ 30 }
     ensures ok { IfOk result (IsDraft (lines_of bytes.now)) }

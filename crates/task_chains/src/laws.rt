@@ -1,27 +1,28 @@
-// What holds of the views of tasks, and of all tasks together.
+// Laws of the views of tasks, and of all tasks together.
 ghost use Rattle.task_chains.specs.Growing.{TaskFaultsGrow, TaskFaultsRefute};
 ghost use Rattle.task_chains.specs.Guards.{EveryTaskIsReady, EveryPlanFits, EveryTasksStart, ReadsOne};
 ghost use Rattle.task_chains.specs.Safe.{TasksAreSafe};
 ghost use Rattle.task_chains.specs.SafeWords.{SafeTasksSay, PartsAreSafe};
 ghost use Rattle.task_chains.specs.ViewLaws.{ViewStoresMiss, ViewsArePlans, ViewsKeepBytes};
 
-/// What holds of the views of tasks: their plans are plans, their stores are the plan's and miss the block, and outside of the
-/// switch routine their images are the image.
+/// The plan of a view is a plan. Its stores are in range of the tasks' plan, and miss the block.
+/// Outside of the switch routine its image is the tasks' image.
 pub fn laws_of_views()
     ensures plans { ViewsArePlans }
     ensures stores { ViewStoresMiss }
     ensures bytes { ViewsKeepBytes }
 {}
 
-/// All runs of tasks are safe whose certificates are judged well and whose needs, together, there are areas for: none stands on two
-/// chains, each task holds at most its need, FCX is at the limit exactly where all but the reserve are in use, and stores are in
-/// range and miss the switch routine's block.
+/// If each task's certificate is judged well, and the sum of the needs is at most the areas without
+/// the reserve, all runs are safe: no area is on two chains, each task has at most its need, FCX is
+/// at the limit exactly if all areas except the reserve are in use, and stores are in range and
+/// miss the switch routine's block.
 pub fn law_of_tasks()
     ensures safe { TasksAreSafe }
 {}
 
-/// Which machines start tasks, when a task is ready for its first turn, and which tasks fit a plan, each from plain equations; and
-/// that a text names one list of tasks, or has one thing against it.
+/// From plain equations: the machines that start tasks, the tasks that are ready for their first
+/// turn, and the tasks that fit a plan. A text has one list of tasks, or one error.
 pub fn tasks_in_words()
     ensures ready { EveryTaskIsReady }
     ensures fits { EveryPlanFits }
@@ -29,14 +30,15 @@ pub fn tasks_in_words()
     ensures one { ReadsOne }
 {}
 
-/// What it is that all runs of tasks are safe, in plain equations: the parts of each state of a run that is written out, and that these
-/// are all.
+/// What safe runs of tasks means, in plain equations: each state of a run has these parts, and they
+/// are all that is promised.
 pub fn safe_tasks_in_words()
     ensures says { SafeTasksSay }
     ensures parts { PartsAreSafe }
 {}
 
-/// The faults of rule 17 grow with what a certificate says, and one of them is enough to break the rule.
+/// Each fault of rule 17 in a lesser certificate is one in a greater one. One fault is enough to
+/// break the rule.
 pub fn faults_of_tasks()
     ensures grow { TaskFaultsGrow }
     ensures refute { TaskFaultsRefute }

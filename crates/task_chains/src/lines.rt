@@ -1,4 +1,4 @@
-// The lines of tasks.
+// Lines of a text of tasks.
 ghost use Rattle.std.specs.Prelude.{◌≡◌, ◌%◌, [], ◌∷◌, IfSome};
 ghost use Rattle.tcd_text.specs.Lines.{words_of};
 ghost use Rattle.task_chains.specs.Reading.{pair_of_words, places_of, task_of};
@@ -6,14 +6,14 @@ ghost use Rattle.task_chains.specs.Reading.{pair_of_words, places_of, task_of};
 use crate::Task;
 use tcd_text::{cut_word, hex_number};
 
-/// Where the switch routine lies, and the block of words.
+/// The addresses of the switch routine and of the tasks' block of words.
 #[derive(Clone, Copy, Debug, PartialEq, Eq)]
 pub struct Places {
     pub switch: u32,
     pub block: u32,
 }
 
-// The numbers of three words of which the first is the line's name.
+// Returns the two numbers of a line's three words, if the first is the line's name.
 #[tactic(auto, unfolding(crate::specs::Reading::pair_of_words))]
 fn pair_of_words(name: &[u8], word: &[u8], x: &[u8], y: &[u8]) -> Option<(u32, u32)>
     ensures { result ≡ pair_of_words name.now (word.now ∷ x.now ∷ y.now ∷ []) }
@@ -26,7 +26,7 @@ fn pair_of_words(name: &[u8], word: &[u8], x: &[u8], y: &[u8]) -> Option<(u32, u
     Some((first, second))
 }
 
-// The two numbers of a line that begins with this name.
+// Returns the two numbers of a line that begins with this name.
 #[tactic(auto, using(crate::proofs::LineForms::four_words), unfolding(crate::specs::Reading::pair_of_words))]
 fn pair_in(name: &[u8], line: &[u8]) -> Option<(u32, u32)>
     ensures { result ≡ pair_of_words name.now (words_of line.now) }
@@ -43,7 +43,7 @@ fn pair_in(name: &[u8], line: &[u8]) -> Option<(u32, u32)>
     }
 }
 
-/// The addresses that a line `switch Y B` names, with an even Y and a B at a multiple of 4.
+/// Returns the addresses of a line `switch Y B`, if Y is even and B a multiple of 4.
 pub(crate) fn places_in(line: &[u8]) -> Option<Places>
     ensures { result ≡ places_of line.now }
 {
@@ -56,7 +56,7 @@ pub(crate) fn places_in(line: &[u8]) -> Option<Places>
     }
 }
 
-/// The task that a line `task ENTRY SP` names.
+/// Returns the task of a line `task ENTRY SP`.
 pub(crate) fn task_in(line: &[u8]) -> Option<Task>
     ensures { result ≡ task_of line.now }
 {

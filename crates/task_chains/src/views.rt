@@ -1,4 +1,4 @@
-// The view of a task: the image and the plan under which its certificate is judged.
+// The view of a task: the image and the plan for which its certificate is judged.
 ghost use Rattle.std.specs.Prelude.{◌≡◌, ◌≤◌, ◌<◌, ◌-◌, ◌==◌, ◌&&◌, false, nat_le, nat_lt, if◌then◌else◌, set, length, IfOk};
 ghost use Rattle.elf_image.specs.Images.{segment_data};
 ghost use Rattle.task_chains.specs.Tasks.{count};
@@ -13,7 +13,7 @@ use std::alloc::Global;
 use tcd_base::{NoMemory, Range};
 use tcd_plan::Plan;
 
-/// Writes the byte at an address into bytes that begin at another, where they have it.
+/// Writes the byte of address `x` into bytes that begin at `at`, if they reach that address.
 fn put_at(bytes: &mut [u8], at: u32, x: u64, byte: u8)
     ensures { bytes.new ≡ (if nat_le at x && nat_lt (x - at) (length bytes.old)
         then set bytes.old (x - at) byte else bytes.old) }
@@ -24,7 +24,7 @@ fn put_at(bytes: &mut [u8], at: u32, x: u64, byte: u8)
     }
 }
 
-/// Writes the view's routine over the bytes of a segment that lie in the routine.
+/// Writes the view's routine over the bytes of a segment that are in the routine.
 fn write_routine(bytes: &mut [u8], at: u32, tasks: &Tasks)
     ensures { bytes.new ≡ with_routine_from tasks.now at bytes.old }
 {
@@ -34,7 +34,7 @@ fn write_routine(bytes: &mut [u8], at: u32, tasks: &Tasks)
     }
 }
 
-/// A segment as the views have it.
+/// Returns a segment of the view's image.
 fn segment_of_view(alloc: Global, segment: &Segment, tasks: &Tasks) -> Result<Segment, NoMemory>
     ensures { IfOk result (λ s. segment_data s
         ≡ view_segment tasks.now (segment_data segment.now)) }
@@ -47,8 +47,8 @@ fn segment_of_view(alloc: Global, segment: &Segment, tasks: &Tasks) -> Result<Se
     })
 }
 
-/// The image of a task's view: it begins at the task's entry, and in the switch routine it has what reads the block and
-/// PCXI from outside and writes neither.
+/// Returns the image of a task's view. It begins at the task's entry, and has another switch
+/// routine: what the routine reads of the block and of PCXI is an input, and it writes neither.
 pub fn view_image(alloc: Global, image: &Image, tasks: &Tasks, u: usize) -> Result<Image, NoMemory>
     requires { u < count tasks.now }
     ensures { IfOk result (λ i. i ≡ view_image_of image.now tasks.now u) }
@@ -64,15 +64,17 @@ pub fn view_image(alloc: Global, image: &Image, tasks: &Tasks, u: usize) -> Resu
     })
 }
 
-/// Whether interrupts are on at the start of a task: as the plan says for the first, else not.
+/// Returns whether interrupts are on at the start of a task: as the plan says for the first, off
+/// for each other.
 fn starts_enabled(plan: &Plan, u: usize) -> bool
     ensures { result ≡ (if u == 0 then plan.now.start_ie else false) }
 {
     if u == 0 { plan.start_ie } else { false }
 }
 
-/// The plan of a task's view: the task's stack pointer, no ram, what is left of ram beside the block as devices that answer
-/// with any word, and interrupts off at the start of all tasks but the first.
+/// Returns the plan of a task's view. It has the task's stack pointer, and no ram: what is left of
+/// ram without the block are devices that answer with any word. Interrupts are off at the start of
+/// all tasks except the first.
 pub fn view_plan(plan: &Plan, tasks: &Tasks, u: usize) -> Plan
     requires task { u < count tasks.now }
     requires fit { FitPlan plan.now tasks.now }

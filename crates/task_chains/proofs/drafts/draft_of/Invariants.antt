@@ -2,7 +2,7 @@ use Rattle.std.proofs.Common.{◌+◌, ◌≤◌, length}
 use Rattle.task_chains.proofs.DraftLaws.{IsDraftSoFar}
 use Rattle.task_chains.proofs.drafts.draft_of.Given as goal
 
--- the lines before what is left make the draft, and there are no more of them than bytes
+-- the draft is that of the lines before those that are left, which are at most as many as bytes
 abbrev pub invariant-lines : goal.invariant-lines
 invariant-lines l = record {
   made : IsDraftSoFar l.fn.bytes l.rest l.number l.draft;

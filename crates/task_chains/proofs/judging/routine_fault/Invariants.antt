@@ -2,7 +2,7 @@ use Rattle.std.proofs.Common.{◌<◌, ◌≤◌, ◌-◌, ℕ}
 use Rattle.task_chains.specs.Routine.{HasRoutineByte}
 use Rattle.task_chains.proofs.judging.routine_fault.Given as goal
 
--- the bytes so far stand there
+-- the image has the bytes so far
 abbrev pub invariant-loop-i : goal.invariant-loop-i
 invariant-loop-i l = (l.i ≤ 72) × ((j : ℕ) → j < l.i → HasRoutineByte l.image l.plan l.tasks j)
 
