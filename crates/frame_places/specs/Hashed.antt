@@ -3,16 +3,12 @@ use Rattle.std.specs.Prelude.{◌≡◌, ◌+◌, ◌*◌, ◌^◌, ◌%◌, ℕ
 use Rattle.std.specs.Hash as fed
 use Rattle.std.proofs.Common.{ap}
 use Rattle.std.proofs.Math.Bool.{beq}
-use Rattle.std.proofs.lemmas.Bool.{eqb-true}
+use Rattle.std.proofs.lemmas.Bool.{eqb-true, and_parts}
 use Rattle.depth_cert.specs.declared.keys.Key.{Key}
 use Rattle.frame_places.specs.declared.places.Spot.{Spot}
 use Rattle.frame_places.specs.declared.places.Spot.TheVariants.{Point, Exit}
 use Rattle.depth_cert.specs.Keys.{number_of_key}
 use Rattle.frame_places.specs.Spots.{spot_eq}
-
-both : (a b : Bool) → (a && b) ≡ true → (a ≡ true) × (b ≡ true)
-both true b e = (refl, e)
-both false b e = cc
 
 numbers : (a b : ℕ) → nat_eq a b ≡ true → a ≡ b
 numbers a b e = eqb-true a b e
@@ -25,9 +21,9 @@ flags false true e = cc
 
 pub keys_tell : (f g : Key) → (nat_eq f.kind g.kind && (nat_eq f.entry g.entry && (nat_eq f.prio g.prio && beq f.is g.is))) ≡ true → f ≡ g
 keys_tell f g e =
-    let a = both _ _ e in
-    let b = both _ _ a.1 in
-    let c = both _ _ b.1 in
+    let a = and_parts _ _ e in
+    let b = and_parts _ _ a.1 in
+    let c = and_parts _ _ b.1 in
     let kind = numbers f.kind g.kind a.0 in
     let entry = numbers f.entry g.entry b.0 in
     let prio = numbers f.prio g.prio c.0 in
@@ -35,7 +31,7 @@ keys_tell f g e =
     λ i. record { kind = kind i; entry = entry i; prio = prio i; is = is i }
 
 pub spot_tells : (x y : Spot) → spot_eq x y ≡ true → x ≡ y
-spot_tells (Point f p) (Point g q) e = let h = both _ _ e in let same = keys_tell f g h.0 in let addr = numbers p q h.1 in λ i. Point (same i) (addr i)
+spot_tells (Point f p) (Point g q) e = let h = and_parts _ _ e in let same = keys_tell f g h.0 in let addr = numbers p q h.1 in λ i. Point (same i) (addr i)
 spot_tells (Point f p) (Exit g) e = cc
 spot_tells (Exit f) (Point g q) e = cc
 spot_tells (Exit f) (Exit g) e = ap Exit (keys_tell f g e)

@@ -1,6 +1,6 @@
 -- All tasks at the start, after every event, and what is safe then.
 use Rattle.std.proofs.Common.{◌≡◌, ◌≢◌, ℕ, zero, suc, ◌+◌, ◌-◌, ◌*◌, ◌<◌, ◌≤◌, ◌⊎◌, inl, inr, Bool, true, false, ◌||◌, cond, max, List, [], ◌∷◌, length, refl, sym, ap, ◌∙◌, subst, arith, ◌==◌}
-use Rattle.std.proofs.lemmas.Bool.{cases_eq, cond_both, eq-eqb, ne_eqb}
+use Rattle.std.proofs.lemmas.Bool.{cases_eq, cond_both, eq-eqb, ne_eqb, or_left, or_right}
 use Rattle.std.specs.Prelude.{IfSome}
 use Rattle.csa_chain.specs.SeveralChains.{sum_below}
 use Rattle.csa_chain.proofs.SeveralLaws.{cond_same, cond_other}
@@ -36,19 +36,11 @@ place_test x y a b c = (λ i. ne_eqb x (y + 48) a i || ne_eqb x (y + 52) b i || 
 pub owner_now : (tasks : TasksData) (m : Machine) → m.pc ≢ tasks.switch + 48 → m.pc ≢ tasks.switch + 52 → m.pc ≢ tasks.switch + 56 → owner tasks m ≡ current tasks m.mem
 owner_now tasks m a b c = ap (λ t. cond t (before (count tasks) (current tasks m.mem)) (current tasks m.mem)) (place_test m.pc tasks.switch a b c)
 
-or_true : (a b : Bool) → b ≡ true → (a || b) ≡ true
-or_true true b h = refl
-or_true false b h = h
-
-true_or : (a b : Bool) → a ≡ true → (a || b) ≡ true
-true_or true b h = refl
-true_or false b h = absurd (let f : false ≡ true = h in cc)
-
 -- one of the three places
 pub place_here : (x y : ℕ) → (x ≡ y + 48) ⊎ ((x ≡ y + 52) ⊎ (x ≡ y + 56)) → (x == y + 48 || x == y + 52 || x == y + 56) ≡ true
-place_here x y (inl a) = true_or (x == y + 48 || x == y + 52) (x == y + 56) (true_or (x == y + 48) (x == y + 52) (eq-eqb x (y + 48) a))
-place_here x y (inr (inl b)) = true_or (x == y + 48 || x == y + 52) (x == y + 56) (or_true (x == y + 48) (x == y + 52) (eq-eqb x (y + 52) b))
-place_here x y (inr (inr c)) = or_true (x == y + 48 || x == y + 52) (x == y + 56) (eq-eqb x (y + 56) c)
+place_here x y (inl a) = or_left (x == y + 48 || x == y + 52) (x == y + 56) (or_left (x == y + 48) (x == y + 52) (eq-eqb x (y + 48) a))
+place_here x y (inr (inl b)) = or_left (x == y + 48 || x == y + 52) (x == y + 56) (or_right (x == y + 48) (x == y + 52) (eq-eqb x (y + 52) b))
+place_here x y (inr (inr c)) = or_right (x == y + 48 || x == y + 52) (x == y + 56) (eq-eqb x (y + 56) c)
 
 before_after : (n u : ℕ) → u < n → before n (after n u) ≡ u
 before_after n u lt =

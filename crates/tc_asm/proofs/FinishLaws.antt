@@ -5,7 +5,7 @@ use Rattle.std.specs.Bool.{then_some}
 use Rattle.tc_object.specs.Names.{name_of, is_length}
 use Rattle.tc_object.specs.Names as object
 use Rattle.tc_object.specs.Objects.{InTurn}
-use Rattle.std.proofs.lemmas.Bool.{le-leb}
+use Rattle.std.proofs.lemmas.Bool.{le-leb, and_from}
 use Rattle.tc_asm.specs.declared.symbols.Place.{Place}
 use Rattle.tc_asm.specs.declared.sections.Part.{Part}
 use Rattle.tc_asm.specs.declared.sections.Use.{Use}
@@ -18,14 +18,11 @@ use Rattle.tc_asm.proofs.ListLaws.{each_weaker, spaced_end, all_from_each}
 named : (before : List (List ℕ)) (name : List ℕ) → IsNew before name → is_some (name_of name) ≡ true
 named before name h = by (is_length (length name)) (object.is_name name) length_is h.written
   where
-    both : (a b : Bool) → a ≡ true → b ≡ true → (a && b) ≡ true
-    both a b p q = rw (p, q) refl
-
     length_is : is_length (length name) ≡ true
-    length_is = both _ _ (le-leb 1 (length name) h.some) (le-leb (length name) 64 h.few)
+    length_is = and_from _ _ (le-leb 1 (length name) h.some) (le-leb (length name) 64 h.few)
 
     by : (a b : Bool) → a ≡ true → b ≡ true → is_some (then_some (a && b) name) ≡ true
-    by a b p q = ap (λ c. is_some (then_some c name)) (both a b p q)
+    by a b p q = ap (λ c. is_some (then_some c name)) (and_from a b p q)
 
 parts_each : (before : List (List ℕ)) (parts : List Part) → InTurn IsNew before (part_names (map part_of parts)) → Each (λ (p : Part). is_some (name_of p.name.now) ≡ true) parts
 parts_each before [] h = tt

@@ -1,5 +1,6 @@
 -- Instructions of a source that breaks no rule are statements, and spell their rows.
 use Rattle.std.proofs.Common.{◌≡◌, ◌≤◌, ◌+◌, ◌&&◌, ◌++◌, min, ℕ, Bool, true, cond, List, [], ◌∷◌, length, Option, Some, refl, ap, subst, ◌∙◌, arith}
+use Rattle.std.proofs.lemmas.Bool.{and_from}
 use Rattle.std.specs.Prelude.{slice_get, fold}
 use Rattle.tc_isa.specs.declared.fields.Fields.{Fields}
 use Rattle.tc_stmt.specs.RowFields.{ReferenceData}
@@ -40,10 +41,7 @@ code_stands labels d k f o rule =
     let room : has_room d (length (code_bytes labels d k f o)) ≡ true
     = then_fifteen (has_room d (length (code_bytes labels d k f o))) 13 (omega arith)
     (fits (bytes_room d (length (code_bytes labels d k f o))) (reference_rule d o) (fits_too (section_rule d) (min (bytes_room d (length (code_bytes labels d k f o))) (reference_rule d o)) content)) in
-    both (has_section d) (has_room d (length (code_bytes labels d k f o))) there room
-  where
-    both : (a b : Bool) → a ≡ true → b ≡ true → (a && b) ≡ true
-    both a b p q = rw (p, q) refl
+    and_from (has_section d) (has_room d (length (code_bytes labels d k f o))) there room
 
 stands_at : (labels : List SymbolData) (before after : List ItemData) (k : ℕ) (f : Fields) (o : Option ReferenceData) → 15 ≤ item_rule labels (fold (stepped labels) start before) (code k f o) →
     slice_get (statements_from labels start (before ++ code k f o ∷ after)) (length (statements_from labels start before))

@@ -5,7 +5,7 @@ use Rattle.std.specs.List.{list_any}
 use Rattle.std.specs.Str.{bytes_eq}
 use Rattle.std.proofs.lemmas.List.{length-map, map-append}
 use Rattle.std.proofs.lemmas.List.Sums.{sum_by-cons}
-use Rattle.std.proofs.lemmas.Bool.{and_parts, leb-true, lt-ltb, le-leb}
+use Rattle.std.proofs.lemmas.Bool.{and_parts, leb-true, lt-ltb, le-leb, and_from, or_right}
 use Rattle.std.proofs.lemmas.Bool.Decides.{Decides-eqb}
 use Rattle.tc_object.specs.declared.relocs.Reloc.{Reloc}
 use Rattle.tc_object.specs.Names.{IsName}
@@ -103,14 +103,7 @@ behind-push before r s low same less t o (inl later) =
 behind-push before r s low same less t o (inr h) =
     let e : t ≡ s = h.0 in let le = h.1 in
     ap (λ l. is_behind l t o) (last-push before r)
-    ∙ or_true (nat_lt r.section t) (r.section == t && nat_lt r.offset o) (both (r.section == t) (nat_lt r.offset o) ((Decides-eqb r.section t).1 (omega arith)) (lt-ltb r.offset o (omega arith)))
-  where
-    or_true : (a b : Bool) → b ≡ true → (a || b) ≡ true
-    or_true true b p = refl
-    or_true false b p = p
-
-    both : (a b : Bool) → a ≡ true → b ≡ true → (a && b) ≡ true
-    both a b p q = rw (p, q) refl
+    ∙ or_right (nat_lt r.section t) (r.section == t && nat_lt r.offset o) (and_from (r.section == t) (nat_lt r.offset o) ((Decides-eqb r.section t).1 (omega arith)) (lt-ltb r.offset o (omega arith)))
 
 behind-later : (before : List Reloc) (s low : ℕ) → Behind before s low → Behind before (s + 1) 0
 behind-later before s low h t o (inl later) = h t o (inl (omega arith))

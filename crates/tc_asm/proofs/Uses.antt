@@ -2,7 +2,7 @@
 use Rattle.std.proofs.Common.{◌≡◌, ◌<◌, ◌≤◌, ◌+◌, ◌&&◌, ◌==◌, min, ℕ, zero, suc, Bool, true, false, cond, List, [], ◌∷◌, ◌++◌, length, replicate, Option, Some, None, refl, sym, ap, subst, ◌∙◌, arith, append_assoc, append-nil}
 use Rattle.std.specs.Prelude.{fold, nat_lt, not, if◌then◌else◌}
 use Rattle.std.proofs.Math.Dec.{eqb-zero-suc, eqb-suc-zero, eqb-suc-suc}
-use Rattle.std.proofs.lemmas.Bool.{ltb-true, and_parts}
+use Rattle.std.proofs.lemmas.Bool.{ltb-true, and_parts, and_from}
 use Rattle.std.proofs.lemmas.Bool.Decides.{Decides-eqb}
 use Rattle.std.proofs.lemmas.List.{length-append}
 use Rattle.std.proofs.lemmas.List.Sums.{fold-append}
@@ -186,11 +186,8 @@ module _ (s : ℕ) where
             → cond {A = List UseData} (d.section == s) (a_use (place_of d) r ∷ []) [] ≡ uses_from s (length (bytes_at d.parts s)) (standing d (Some (statement d.section bs (Some r))))
         standing_uses there room kind =
             by_section (d.section == s) refl
-            ∙ ap (λ b. uses_from s (length (bytes_at d.parts s)) (cond b (statement d.section bs (Some r) ∷ []) [])) (sym (both (has_section d) (has_room d (length bs)) there room))
+            ∙ ap (λ b. uses_from s (length (bytes_at d.parts s)) (cond b (statement d.section bs (Some r) ∷ []) [])) (sym (and_from (has_section d) (has_room d (length bs)) there room))
           where
-            both : (a b : Bool) → a ≡ true → b ≡ true → (a && b) ≡ true
-            both a b p q = rw (p, q) refl
-
             by_section : (b : Bool) → (d.section == s) ≡ b → cond {A = List UseData} b (a_use (place_of d) r ∷ []) [] ≡ cond {A = List UseData} b (cond {A = List UseData} (is_reloc r.kind) (a_use (length (bytes_at d.parts s)) r ∷ []) [] ++ []) []
             by_section true e =
                 let same : d.section ≡ s = (Decides-eqb d.section s).0 e in

@@ -1,5 +1,6 @@
 -- The lines of segments put their bytes together, a section for each.
 use Rattle.std.proofs.Common.{◌≡◌, ◌<◌, ◌≤◌, ◌+◌, ◌^◌, ◌==◌, ◌&&◌, zero, suc, ℕ, Bool, true, false, List, [], ◌∷◌, ◌++◌, length, take, drop, map, Some, refl, ap, sym, subst, ◌∙◌, arith, append_assoc, append-nil, length-append, length-drop}
+use Rattle.std.proofs.lemmas.Bool.{and_parts}
 use Rattle.std.specs.Prelude.{not, sum_by}
 use Rattle.std.specs.List.{list_all, slice_split}
 use Rattle.std.specs.Str.{bytes_eq}
@@ -15,7 +16,7 @@ use Rattle.tc_stmt.specs.Items.{section}
 use Rattle.tc_asm.specs.Drafts.{PartData, DraftData, part}
 use Rattle.tc_disasm.specs.Listing.{line_at, lines_from, size_at, section_line, section_text, sections_from}
 use Rattle.tc_disasm.proofs.Appending.{lines-front}
-use Rattle.tc_disasm.proofs.Decimals.{both, number_of-decimal}
+use Rattle.tc_disasm.proofs.Decimals.{number_of-decimal}
 use Rattle.tc_disasm.proofs.Partings.{split_at}
 use Rattle.tc_disasm.proofs.LineAt.{IsLine, is_byte, here, section-is_line}
 use Rattle.tc_disasm.proofs.Runs.{Runs, runs-none, runs-append}
@@ -73,7 +74,7 @@ content-none address = record {
 pub all-drop : (p : ℕ → Bool) (n : ℕ) (bs : List ℕ) → list_all p bs ≡ true → list_all p (drop n bs) ≡ true
 all-drop p zero bs e = e
 all-drop p (suc n) [] e = e
-all-drop p (suc n) (b ∷ bs) e = all-drop p n bs (both (p b) (list_all p bs) e).1
+all-drop p (suc n) (b ∷ bs) e = all-drop p n bs (and_parts (p b) (list_all p bs) e).1
 
 -- a line, and then the other ones
 content-more : (address : ℕ) (bs : List ℕ) → 0 < length bs → list_all is_byte bs ≡ true → Content (address + size_at bs) (drop (size_at bs) bs) → Content address bs
@@ -187,7 +188,7 @@ pub sections : (n : ℕ) (ss : List SegmentData) → n + length ss ≤ 64 → li
 unfolding sections_from
 sections n [] few small = sections-none n
 sections n (s ∷ ss) few small =
-    let two = both (are_bytes s) (list_all are_bytes ss) small in
+    let two = and_parts (are_bytes s) (list_all are_bytes ss) small in
     let c = content (length s.bytes) s.at s.bytes (omega arith) two.0 in
     let next = sections (n + 1) ss (omega arith) two.1 in
     let line = line_data 15 (section (115 ∷ decimal n) ∷ []) in

@@ -1,5 +1,6 @@
 -- Decimal numbers are read back.
 use Rattle.std.proofs.Common.{◌≡◌, ◌<◌, ◌≤◌, ◌+◌, ◌*◌, ◌/◌, ◌%◌, ◌^◌, ◌==◌, ◌&&◌, ◌++◌, ℕ, Bool, true, false, cond, List, [], ◌∷◌, length, refl, ap, ◌∙◌, arith, drop, length-append, Option, Some, None}
+use Rattle.std.proofs.lemmas.Bool.{and_parts}
 use Rattle.std.specs.Prelude.{fold, nat_lt}
 use Rattle.std.specs.List.{list_all}
 use Rattle.std.specs.Fmt.{decimal}
@@ -60,12 +61,6 @@ decimal_is n h = decimal_by_steps IsDigits one more n h
 pub some_is : {X : Type 0} (a b : X) → ◌≡◌ {A = Option X} (Some a) (Some b) → a ≡ b
 some_is a b e = cc
 
--- both tests pass
-pub both : (a b : Bool) → (a && b) ≡ true → (a ≡ true) × (b ≡ true)
-both true true e = (refl, refl)
-both true false e = cc
-both false b e = cc
-
 pub dead : (x y w : Bool) → (x && y && false && w) ≡ false
 dead true true w = refl
 dead true false w = refl
@@ -82,7 +77,7 @@ no_hex [] e = refl
 no_hex (a ∷ []) e = refl
 no_hex (a ∷ b ∷ []) e = refl
 no_hex (a ∷ b ∷ c ∷ cs) e =
-    let second : is_digit b ≡ true = (both _ _ (both _ _ e).1).0 in
+    let second : is_digit b ≡ true = (and_parts _ _ (and_parts _ _ e).1).0 in
     rw (not_x b second) (dead _ (a == 48) (is_hex c))
 
 pub number_of-decimal : (n : ℕ) → n < 2 ^ 64 → number_of (decimal n) ≡ Some n

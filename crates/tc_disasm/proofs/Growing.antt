@@ -1,5 +1,6 @@
 -- A section begins, and its bytes come one line after another.
 use Rattle.std.proofs.Common.{◌≡◌, ◌<◌, ◌≤◌, ◌+◌, ◌^◌, ◌==◌, ◌&&◌, ◌||◌, ℕ, suc, Bool, true, false, cond, List, [], ◌∷◌, ◌++◌, length, Some, None, refl, ap, ◌∙◌, arith, length-append}
+use Rattle.std.proofs.lemmas.Bool.{and_parts}
 use Rattle.std.specs.Prelude.{not, nat_lt, nat_le, min, slice_get, slice_set, unwrap_or, is_some, codes}
 use Rattle.std.specs.Option.{option_map_or}
 use Rattle.std.specs.Bool.{then_some}
@@ -19,7 +20,7 @@ use Rattle.tc_asm.specs.Symbols.{SymbolData}
 use Rattle.tc_asm.specs.Drafts.{PartData, DraftData, part, has_section, has_room, number_of_part, entered, extended, with_bytes, stepped}
 use Rattle.tc_asm.specs.Rules.{content_rule, item_rule}
 use Rattle.tc_asm.specs.Sources.{with_line, line_rule}
-use Rattle.tc_disasm.proofs.Decimals.{both, decimal_is}
+use Rattle.tc_disasm.proofs.Decimals.{decimal_is}
 use Rattle.tc_disasm.proofs.Runs.{Runs, Adds}
 
 -- a draft without symbols
@@ -79,7 +80,7 @@ module _ (name : List ℕ) where
   fresh-len : (ps : List PartData) → is_fresh ps ≡ true → prefix_len (λ (p : PartData). not (bytes_eq name p.name)) ps ≡ length ps
   fresh-len [] e = refl
   fresh-len (p ∷ ps) e =
-      let two = both (not (bytes_eq name p.name)) (is_fresh ps) e in
+      let two = and_parts (not (bytes_eq name p.name)) (is_fresh ps) e in
       rw two.0 (ap (λ n. 1 + n) (fresh-len ps two.1) ∙ omega arith)
 
   itself : (n : ℕ) → nat_lt n n ≡ false
@@ -120,7 +121,7 @@ digit_is_further c e = grind (arith, nat_tests)
 digits_are_further : (ds : List ℕ) → list_all is_digit ds ≡ true → list_all is_name_byte ds ≡ true
 digits_are_further [] e = refl
 digits_are_further (c ∷ cs) e =
-    let two = both (is_digit c) (list_all is_digit cs) e in
+    let two = and_parts (is_digit c) (list_all is_digit cs) e in
     rw (digit_is_further c two.0) (digits_are_further cs two.1)
 
 pub section_name-is : (n : ℕ) → n < 64 → is_name (115 ∷ decimal n) ≡ true

@@ -4,7 +4,7 @@ use Rattle.std.specs.Prelude.{option_map, nat_lt, slice_index}
 use Rattle.std.specs.List.{prefix_len, list_all}
 use Rattle.std.proofs.Math.Dec.{eqb-suc-zero}
 use Rattle.std.proofs.lemmas.Bool.Decides.{nat_tests, eqb_tells}
-use Rattle.std.proofs.lemmas.Bool.{true≢false}
+use Rattle.std.proofs.lemmas.Bool.{true≢false, and_parts}
 use Rattle.std.proofs.lemmas.List.{take_at, drop_at}
 use Rattle.tc_lex.specs.declared.kinds.TokenKind.{TokenKind}
 use Rattle.tc_lex.specs.declared.kinds.TokenKind.TheVariants.{Word, Number}
@@ -15,7 +15,7 @@ use Rattle.tc_lex.specs.Cut.{front_of, front_at, number_len, has_hex_front}
 use Rattle.tc_lex.specs.Pieces.{PieceData}
 use Rattle.tc_disasm.specs.Tokens.{piece}
 use Rattle.tc_disasm.specs.Lexed.{lexed, lex_follow, IsStop}
-use Rattle.tc_disasm.proofs.Decimals.{both, dead, not_x}
+use Rattle.tc_disasm.proofs.Decimals.{dead, not_x}
 
 lexed-skip : (n : ℕ) (text : List ℕ) (room : ℕ) → lexed text room n ≡ lexed (drop n text) room 0
 unfolding lexed
@@ -44,7 +44,7 @@ lexed-front kind c cs rest room e =
 pub prefix_len-front : (p : ℕ → Bool) (w rest : List ℕ) → list_all p w ≡ true → prefix_len p rest ≡ 0 → prefix_len p (w ++ rest) ≡ length w
 prefix_len-front p [] rest e stop = stop
 prefix_len-front p (x ∷ xs) rest e stop =
-    let here = both (p x) (list_all p xs) e in
+    let here = and_parts (p x) (list_all p xs) e in
     rw here.0 (ap (λ n. 1 + n) (prefix_len-front p xs rest here.1 stop) ∙ omega arith)
 
 name_stops : (rest : List ℕ) → IsStop rest → prefix_len is_name_byte rest ≡ 0
@@ -95,7 +95,7 @@ unfolding has_hex_front
 no_hex-front [] rest e some stop = absurd (omega arith)
 no_hex-front (a ∷ []) [] e some stop = refl
 no_hex-front (a ∷ []) (y ∷ ys) e some stop = rw (stop_no_x y stop) (dead (nat_lt 2 (length (a ∷ y ∷ ys))) (a == 48) (is_hex (slice_index (a ∷ y ∷ ys) 2)))
-no_hex-front (a ∷ b ∷ cs) rest e some stop = let second : is_digit b ≡ true = (both _ _ (both _ _ e).1).0 in rw (not_x b second) (dead (nat_lt 2 (length (a ∷ b ∷ (cs ++ rest)))) (a == 48) (is_hex (slice_index (a ∷ b ∷ (cs ++ rest)) 2)))
+no_hex-front (a ∷ b ∷ cs) rest e some stop = let second : is_digit b ≡ true = (and_parts _ _ (and_parts _ _ e).1).0 in rw (not_x b second) (dead (nat_lt 2 (length (a ∷ b ∷ (cs ++ rest)))) (a == 48) (is_hex (slice_index (a ∷ b ∷ (cs ++ rest)) 2)))
 
 number_len-front : (ds rest : List ℕ) → list_all is_digit ds ≡ true → 0 < length ds → IsStop rest → number_len (ds ++ rest) ≡ length ds
 unfolding number_len
@@ -107,7 +107,7 @@ number_len-front ds rest e some stop =
 pub front_of-digits : (c : ℕ) (cs rest : List ℕ) → list_all is_digit (c ∷ cs) ≡ true → IsStop rest → front_of ((c ∷ cs) ++ rest) ≡ front.Token Number (length (c ∷ cs))
 unfolding front_at is_digit
 front_of-digits c cs rest digits stop =
-    let first : is_digit c ≡ true = (both _ _ digits).0 in
+    let first : is_digit c ≡ true = (and_parts _ _ digits).0 in
     let o = λ (k : ℕ) (no : is_digit k ≡ false). other is_digit c k first no in
     rw (o 35 refl, o 32 refl, o 9 refl, o 44 refl, o 58 refl, o 91 refl, o 93 refl, o 43 refl, o 45 refl, digit_no_name c first)
     (ap (λ b. cond b (front.Token Number (number_len ((c ∷ cs) ++ rest))) front.Bad) first ∙ ap (λ n. front.Token Number n) (number_len-front (c ∷ cs) rest digits (omega arith) stop))

@@ -4,7 +4,7 @@ use Rattle.std.specs.Prelude.{codes, not, nat_lt}
 use Rattle.std.specs.List.{list_all, flat_map}
 use Rattle.std.specs.Fmt.{decimal}
 use Rattle.std.proofs.lemmas.Bool.Decides.{nat_tests}
-use Rattle.std.proofs.lemmas.Bool.{ltb-true}
+use Rattle.std.proofs.lemmas.Bool.{ltb-true, and_parts}
 use Rattle.tc_isa.specs.Insts.{InstData, fields_in}
 use Rattle.tc_encode.specs.declared.errors.DecodeErr.{DecodeErr}
 use Rattle.tc_encode.specs.Decoding.{decoded_of}
@@ -17,7 +17,6 @@ use Rattle.tcd_text.specs.Digits.{hex_digit, hex_byte, hex_word}
 use Rattle.tc_disasm.specs.Texts.{text_of}
 use Rattle.tc_disasm.specs.Listing.{piece_text, piece_size, text_at, size_at, remark, line_at, section_line}
 use Rattle.tc_disasm.specs.Lexed.{IsStop}
-use Rattle.tc_disasm.proofs.Decimals.{both}
 use Rattle.tc_disasm.proofs.LineTokens.{Lexes, Reads, is_plain, lexes-blank, lexes-comment}
 use Rattle.tc_disasm.proofs.RowLines.{reads-row}
 use Rattle.tc_disasm.proofs.DataLines.{reads-half, reads-byte, reads-section}
@@ -124,12 +123,12 @@ is_byte b = nat_lt b 256
 here-data : (address : ℕ) (bs : List ℕ) (x : DecodeErr) → 0 < length bs → list_all is_byte bs ≡ true → decoded_of bs ≡ Err x → Here address bs
 here-data address [] x some small e = absurd (omega arith)
 here-data address (a ∷ []) x some small e =
-    let one = both (is_byte a) true small in
+    let one = and_parts (is_byte a) true small in
     made address (a ∷ []) (codes ".byte 0x" ++ hex_byte a) 1 (line_data 15 (bytes (a ∷ []) None ∷ [])) (text_at-is (a ∷ []) (Err x) e) (size_at-is (a ∷ []) (Err x) e) (omega arith) (omega arith)
     (λ rest stop h. reads-byte a rest (below a one.0) stop h) (adds-bytes (a ∷ []))
 here-data address (a ∷ b ∷ bs) x some small e =
-    let one = both (is_byte a) (is_byte b && list_all is_byte bs) small in
-    let two = both (is_byte b) (list_all is_byte bs) one.1 in
+    let one = and_parts (is_byte a) (is_byte b && list_all is_byte bs) small in
+    let two = and_parts (is_byte b) (list_all is_byte bs) one.1 in
     let size : min 2 (length (a ∷ b ∷ bs)) ≡ 2 = omega arith in
     made address (a ∷ b ∷ bs) (codes ".half 0x" ++ (hex_byte b ++ hex_byte a)) 2 (line_data 15 (bytes (a ∷ b ∷ []) None ∷ [])) (text_at-is (a ∷ b ∷ bs) (Err x) e) (size_at-is (a ∷ b ∷ bs) (Err x) e ∙ size) (omega arith) (omega arith)
     (λ rest stop h. reads-half a b rest (below a one.0) (below b two.0) stop h) (adds-bytes (a ∷ b ∷ []))

@@ -1,5 +1,6 @@
 -- Printed operands are cut into their tokens.
 use Rattle.std.proofs.Common.{◌≡◌, ◌<◌, ◌≤◌, ◌-◌, ◌*◌, ◌^◌, ℕ, Bool, true, false, cond, List, [], ◌∷◌, ◌++◌, refl, sym, subst, arith, append_assoc}
+use Rattle.std.proofs.lemmas.Bool.{and_parts}
 use Rattle.std.specs.Prelude.{codes, nat_le}
 use Rattle.std.specs.List.{list_all, flat_map}
 use Rattle.std.specs.Fmt.{decimal}
@@ -17,7 +18,6 @@ use Rattle.tcd_text.specs.Digits.{hex_word}
 use Rattle.tc_disasm.specs.Texts.{is_minus, size_of, number_text, target_text, register_text, base_text, absolute_text, address_in, is_two_way, operand_text, operands_text}
 use Rattle.tc_disasm.specs.Tokens.{piece, number, field_number, target, base, operand_tokens}
 use Rattle.tc_disasm.specs.Lexed.{IsStop}
-use Rattle.tc_disasm.proofs.Decimals.{both}
 use Rattle.tc_disasm.proofs.Bounds.{field_of-below}
 use Rattle.tc_disasm.proofs.Suits.{suits, is_bound}
 use Rattle.tc_disasm.proofs.OwnFields.{small_of, at_most, size_of-small, halved, address-small}
@@ -81,7 +81,7 @@ lexes-operand r f Target rest ps s h stop go =
     lexes-target (is_two_way r.form) (bounds r.form).k f.k rest ps (size_of-small (is_two_way r.form) (bounds r.form).k f.k h.k (small_of (bounds r.form).k s)) stop go
 lexes-operand r f Absolute rest ps s h stop go = unfold absolute_text in lexes-hex (hex_word (address_in r.form f)) rest ps (hex_word-is (address_in r.form f) (address-small r f)) (hex_word-some (address_in r.form f)) stop go
 lexes-operand r f (Memory plus true) rest ps s h stop go =
-    let two = both (nat_le (bounds r.form).s2 16) (is_bound (bounds r.form).k) s in
+    let two = and_parts (nat_le (bounds r.form).s2 16) (is_bound (bounds r.form).k) s in
     let small = size_of-small true (bounds r.form).k f.k h.k (small_of (bounds r.form).k two.1) in
     let next = lexes-number true (bounds r.form).k f.k rest ps (halved (size_of true (bounds r.form).k f.k) small) stop go in
     by_plus plus (below_16 f.s2 (bounds r.form).s2 h.s2 (at_most (bounds r.form).s2 16 two.0)) next
@@ -116,7 +116,7 @@ lexes-others : (r : RowData) (f : Fields) (ws : List Want) (rest : List ℕ) (ps
     → Lexes (other_texts r f ws ++ rest) (other_tokens r f ws ++ ps)
 lexes-others r f [] rest ps s h stop go = go
 lexes-others r f (w ∷ ws) rest ps s h stop go =
-    let two = both (suits r.form w) (list_all (suits r.form) ws) s in
+    let two = and_parts (suits r.form w) (list_all (suits r.form) ws) s in
     let next = lexes-others r f ws rest ps two.1 h stop go in
     let here = lexes-operand r f w (other_texts r f ws ++ rest) (other_tokens r f ws ++ ps) two.0 h (others-stop r f ws rest stop) next in
     let tokens : (operand_tokens r.form f w ++ other_tokens r f ws) ++ ps ≡ operand_tokens r.form f w ++ (other_tokens r f ws ++ ps) = append_assoc (operand_tokens r.form f w) (other_tokens r f ws) ps in
@@ -135,7 +135,7 @@ pub lexes-operands : (r : RowData) (f : Fields) (ws : List Want) (rest : List �
 unfolding operands_text
 lexes-operands r f [] rest ps s h stop go = go
 lexes-operands r f (w ∷ ws) rest ps s h stop go =
-    let two = both (suits r.form w) (list_all (suits r.form) ws) s in
+    let two = and_parts (suits r.form w) (list_all (suits r.form) ws) s in
     let next = lexes-others r f ws rest ps two.1 h stop go in
     let here = lexes-operand r f w (other_texts r f ws ++ rest) (other_tokens r f ws ++ ps) two.0 h (others-stop r f ws rest stop) next in
     let tokens : (operand_tokens r.form f w ++ other_tokens r f ws) ++ ps ≡ operand_tokens r.form f w ++ (other_tokens r f ws ++ ps) = append_assoc (operand_tokens r.form f w) (other_tokens r f ws) ps in

@@ -1,5 +1,6 @@
 -- Printed operands give a row its own fields.
 use Rattle.std.proofs.Common.{◌≡◌, ◌<◌, ◌≤◌, ◌+◌, ◌*◌, ◌-◌, ◌/◌, ◌%◌, ◌^◌, ◌==◌, ◌&&◌, ◌||◌, ℕ, Bool, true, false, cond, List, [], ◌∷◌, ◌++◌, Some, refl, ap, ◌∙◌, arith, map}
+use Rattle.std.proofs.lemmas.Bool.{and_parts}
 use Rattle.std.specs.Prelude.{codes, nat_le, not, fold, option_and_then}
 use Rattle.std.specs.List.{list_all}
 use Rattle.std.proofs.lemmas.Bool.Decides.{nat_tests}
@@ -17,7 +18,7 @@ use Rattle.tcd_text.specs.Digits.{hex_word}
 use Rattle.tc_disasm.specs.Texts.{register_text, is_minus, size_of, is_two_way, absolute_text, address_in}
 use Rattle.tc_disasm.specs.Tokens.{operand_tokens, base, number}
 use Rattle.tc_disasm.specs.Puts.{given}
-use Rattle.tc_disasm.proofs.Decimals.{both, number_of-decimal}
+use Rattle.tc_disasm.proofs.Decimals.{number_of-decimal}
 use Rattle.tc_disasm.proofs.Hexes.{number_of-hex}
 use Rattle.tc_disasm.proofs.Bounds.{field_of-below}
 use Rattle.tc_disasm.proofs.Suits.{suits, is_bound}
@@ -25,10 +26,10 @@ use Rattle.tc_disasm.proofs.OperandLaws.{operand-word, operand-base, operand-off
 use Rattle.tc_disasm.proofs.Filled.{fill-register, fill-number, fill-target, put_register-text, put_number-printed, operand-one, place-put, code_place-put}
 
 pub even_of : (b : ℕ) → is_bound b ≡ true → b % 2 ≡ 0
-even_of b e = let p = (both (b % 2 == 0) (nat_le b (2 ^ 24)) e).0 in grind (arith, nat_tests)
+even_of b e = let p = (and_parts (b % 2 == 0) (nat_le b (2 ^ 24)) e).0 in grind (arith, nat_tests)
 
 pub small_of : (b : ℕ) → is_bound b ≡ true → b ≤ 2 ^ 24
-small_of b e = let p = (both (b % 2 == 0) (nat_le b (2 ^ 24)) e).1 in grind (arith, nat_tests)
+small_of b e = let p = (and_parts (b % 2 == 0) (nat_le b (2 ^ 24)) e).1 in grind (arith, nat_tests)
 
 pub at_most : (a b : ℕ) → nat_le a b ≡ true → a ≤ b
 at_most a b e = grind (arith, nat_tests)
@@ -121,7 +122,7 @@ fill-printed r f (Number signed field) acc s h =
 fill-printed r f Target acc s h = fill-target r f.k acc h.k (even_of (bounds r.form).k s) (size_of-small (is_two_way r.form) (bounds r.form).k f.k h.k (small_of (bounds r.form).k s))
 fill-printed r f Absolute acc s h = fill-absolute r f acc s h
 fill-printed r f (Memory plus true) acc s h =
-    let two = both (nat_le (bounds r.form).s2 16) (is_bound (bounds r.form).k) s in
+    let two = and_parts (nat_le (bounds r.form).s2 16) (is_bound (bounds r.form).k) s in
     let most = at_most (bounds r.form).s2 16 two.0 in
     let below = h.s2 in
     fill-offset r plus f.s2 f.k acc (omega arith) h.k two.1
@@ -136,6 +137,6 @@ pub fill_all-printed : (r : RowData) (f : Fields) (ws : List Want) (acc : RowFie
 unfolding fill_all
 fill_all-printed r f [] acc s h = refl
 fill_all-printed r f (w ∷ ws) acc s h =
-    let two = both (suits r.form w) (list_all (suits r.form) ws) s in
+    let two = and_parts (suits r.form w) (list_all (suits r.form) ws) s in
     ap (option_and_then (fill_all r ws (map (λ v. operand (operand_tokens r.form f v)) ws))) (fill-printed r f w acc two.0 h)
     ∙ fill_all-printed r f ws (record acc { fields = given f acc.fields w }) two.1 h

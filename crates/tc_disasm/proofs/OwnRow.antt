@@ -1,5 +1,6 @@
 -- A printed statement is read as its own row.
 use Rattle.std.proofs.Common.{◌≡◌, ◌<◌, ◌+◌, ◌==◌, ◌&&◌, ◌||◌, min, zero, suc, ℕ, Bool, true, false, cond, List, [], ◌∷◌, Option, Some, Result, Ok, Err, refl, ap, sym, ◌∙◌, arith, map, add-zero}
+use Rattle.std.proofs.lemmas.Bool.{and_parts}
 use Rattle.std.specs.Prelude.{slice_get, not}
 use Rattle.std.specs.Option.{option_map_or}
 use Rattle.std.specs.List.{list_all}
@@ -13,7 +14,7 @@ use Rattle.tc_stmt.specs.RowFields.{RowFieldsData, fields_of_row}
 use Rattle.tc_stmt.specs.StatementRow.{after_row, outcome, or_next, start, statement}
 use Rattle.tc_disasm.specs.Refused.{AllPrint}
 use Rattle.tc_disasm.specs.Apart.{differ, entry, Entry, apart_from, all_apart}
-use Rattle.tc_disasm.proofs.Decimals.{some_is, both}
+use Rattle.tc_disasm.proofs.Decimals.{some_is}
 use Rattle.tc_disasm.proofs.Found.{refused-judged, goes_on}
 use Rattle.tc_disasm.proofs.Tables.{rows_apart}
 
@@ -35,17 +36,17 @@ walks name os r f is (x ∷ xs) place (suc k) t e before =
 
 list_all_at : (p : Entry → Bool) (rows : List RowData) (k : ℕ) (r : RowData) → list_all p (map entry rows) ≡ true → slice_get rows k ≡ Some r → p (entry r) ≡ true
 list_all_at p [] k r e at = cc
-list_all_at p (x ∷ xs) zero r e at = ap (λ y. p (entry y)) (sym (some_is x r at)) ∙ (both (p (entry x)) (list_all p (map entry xs)) e).0
-list_all_at p (x ∷ xs) (suc k) r e at = list_all_at p xs k r (both (p (entry x)) (list_all p (map entry xs)) e).1 at
+list_all_at p (x ∷ xs) zero r e at = ap (λ y. p (entry y)) (sym (some_is x r at)) ∙ (and_parts (p (entry x)) (list_all p (map entry xs)) e).0
+list_all_at p (x ∷ xs) (suc k) r e at = list_all_at p xs k r (and_parts (p (entry x)) (list_all p (map entry xs)) e).1 at
 
 apart_at : (rows : List RowData) (j k : ℕ) (s r : RowData) → all_apart (map entry rows) ≡ true → j < k → slice_get rows j ≡ Some s → slice_get rows k ≡ Some r → apart_from (entry s) (entry r) ≡ true
 apart_at [] j k s r e h a b = cc
 apart_at (x ∷ xs) zero zero s r e h a b = absurd (omega arith)
 apart_at (x ∷ xs) zero (suc k) s r e h a b =
     ap (λ y. apart_from (entry y) (entry r)) (sym (some_is x s a))
-    ∙ list_all_at (apart_from (entry x)) xs k r (both (list_all (apart_from (entry x)) (map entry xs)) (all_apart (map entry xs)) e).0 b
+    ∙ list_all_at (apart_from (entry x)) xs k r (and_parts (list_all (apart_from (entry x)) (map entry xs)) (all_apart (map entry xs)) e).0 b
 apart_at (x ∷ xs) (suc j) zero s r e h a b = absurd (omega arith)
-apart_at (x ∷ xs) (suc j) (suc k) s r e h a b = apart_at xs j k s r (both (list_all (apart_from (entry x)) (map entry xs)) (all_apart (map entry xs)) e).1 (omega arith) a b
+apart_at (x ∷ xs) (suc j) (suc k) s r e h a b = apart_at xs j k s r (and_parts (list_all (apart_from (entry x)) (map entry xs)) (all_apart (map entry xs)) e).1 (omega arith) a b
 
 -- the search continues after a row of another name
 skips : (r s : RowData) (os : List OperandData) (t : Tally) → bytes_eq s.name r.name ≡ false → (u : Tally) × (after_row r.name os s t ≡ Err u)
@@ -58,7 +59,7 @@ earlier : (r s : RowData) (os : List OperandData) → apart_from (entry s) (entr
 earlier r s os e p t = by_name (bytes_eq s.name r.name) refl e
   where
     by_name : (b : Bool) → bytes_eq s.name r.name ≡ b → (not b || (differ (wants_of s) (wants_of r) && differ (wants_of r) (wants_of s))) ≡ true → (u : Tally) × (after_row r.name os s t ≡ Err u)
-    by_name true same d = goes_on r.name os s t (refused-judged s (wants_of r) (wants_of s) os (both (differ (wants_of s) (wants_of r)) (differ (wants_of r) (wants_of s)) d).1 p)
+    by_name true same d = goes_on r.name os s t (refused-judged s (wants_of r) (wants_of s) os (and_parts (differ (wants_of s) (wants_of r)) (differ (wants_of r) (wants_of s)) d).1 p)
     by_name false other d = skips r s os t other
 
 -- the row itself

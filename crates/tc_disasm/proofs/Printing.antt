@@ -1,5 +1,6 @@
 -- A printed instruction is judged as the same row, with the same fields.
 use Rattle.std.proofs.Common.{◌≡◌, ◌*◌, ◌==◌, ◌||◌, ℕ, zero, suc, Bool, true, false, cond, List, [], ◌∷◌, Some, Ok, refl, ap, sym, ◌∙◌, arith, map, append-nil}
+use Rattle.std.proofs.lemmas.Bool.{and_parts}
 use Rattle.std.specs.Prelude.{slice_get, fold, option_and_then, codes}
 use Rattle.std.specs.List.{list_all, list_any}
 use Rattle.std.specs.Fmt.{decimal}
@@ -24,7 +25,7 @@ use Rattle.tc_disasm.specs.Tokens.{operand_tokens, printed_operands, base}
 use Rattle.tc_disasm.specs.Apart.{uses_by, names}
 use Rattle.tc_disasm.specs.Puts.{given}
 use Rattle.tc_disasm.specs.Refused.{Prints, AllPrint}
-use Rattle.tc_disasm.proofs.Decimals.{some_is, both, number_of-decimal}
+use Rattle.tc_disasm.proofs.Decimals.{some_is, number_of-decimal}
 use Rattle.tc_disasm.proofs.Bounds.{field_of-below}
 use Rattle.tc_disasm.proofs.Given.{field_of-fold}
 use Rattle.tc_disasm.proofs.Hexes.{number_of-hex}
@@ -50,10 +51,10 @@ zero_of false n e = grind (arith, nat_tests)
 pub fields_back : (f : Fields) (ws : List Want) → AreSmall f → rest_is_zero (uses_by ws) f ≡ true → fold (given f) (fields 0 0 0 0 0) ws ≡ f
 unfolding uses_by field_of
 fields_back f ws small rest =
-    let four = both _ (list_any (names K) ws || f.k == 0) rest in
-    let three = both _ (list_any (names N) ws || f.n == 0) four.0 in
-    let two = both _ (list_any (names S2) ws || f.s2 == 0) three.0 in
-    let one = both (list_any (names C) ws || f.c == 0) (list_any (names S1) ws || f.s1 == 0) two.0 in
+    let four = and_parts _ (list_any (names K) ws || f.k == 0) rest in
+    let three = and_parts _ (list_any (names N) ws || f.n == 0) four.0 in
+    let two = and_parts _ (list_any (names S2) ws || f.s2 == 0) three.0 in
+    let one = and_parts (list_any (names C) ws || f.c == 0) (list_any (names S1) ws || f.s1 == 0) two.0 in
     let g = fold (given f) (fields 0 0 0 0 0) ws in
     let c : g.c ≡ f.c = field_of-fold C f (fields 0 0 0 0 0) ws small ∙ zero_of (list_any (names C) ws) f.c one.0 in
     let s1 : g.s1 ≡ f.s1 = field_of-fold S1 f (fields 0 0 0 0 0) ws small ∙ zero_of (list_any (names S1) ws) f.s1 one.1 in
@@ -92,7 +93,7 @@ printed_one r f (Memory plus false) s h = (f.s2, _, ap operand (append-nil (base
 printed_all : (r : RowData) (f : Fields) (ws : List Want) → list_all (suits r.form) ws ≡ true → IsBelow f (bounds r.form) → AllPrint ws (map (λ w. operand (operand_tokens r.form f w)) ws)
 printed_all r f [] s h = tt
 printed_all r f (w ∷ ws) s h =
-    let two = both (suits r.form w) (list_all (suits r.form) ws) s in
+    let two = and_parts (suits r.form w) (list_all (suits r.form) ws) s in
     (printed_one r f w two.0 h, printed_all r f ws two.1 h)
 
 -- ---- the row itself

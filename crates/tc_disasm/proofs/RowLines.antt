@@ -1,5 +1,6 @@
 -- The line of an instruction is read as the instruction.
 use Rattle.std.proofs.Common.{◌≡◌, ◌≤◌, ◌*◌, ◌==◌, ◌&&◌, ℕ, Bool, true, false, cond, List, [], ◌∷◌, ◌++◌, length, map, Option, None, refl, ap, sym, subst, ◌∙◌, arith, append-nil, length-append}
+use Rattle.std.proofs.lemmas.Bool.{and_parts}
 use Rattle.std.specs.Prelude.{not}
 use Rattle.std.specs.Option.{option_map_or}
 use Rattle.std.specs.List.{list_all, slice_split}
@@ -24,7 +25,6 @@ use Rattle.tc_stmt.specs.Lines.{LineData, line_data, pieces_line, line_from, sta
 use Rattle.tc_disasm.specs.Texts.{is_minus, is_two_way, row_text, operands_text, text_of}
 use Rattle.tc_disasm.specs.Tokens.{piece, operand_tokens, base, field_number, number}
 use Rattle.tc_disasm.specs.Lexed.{IsStop}
-use Rattle.tc_disasm.proofs.Decimals.{both}
 use Rattle.tc_disasm.proofs.Suits.{wants_suit}
 use Rattle.tc_disasm.proofs.Printing.{statement-printed}
 use Rattle.tc_disasm.proofs.LineTokens.{Lexes, Reads, reads-tokens}
@@ -158,7 +158,7 @@ no_colon r f (w ∷ ws) =
 lexes-name : (name rest : List ℕ) (ps : List PieceData) → is_run is_name_first is_name_byte name ≡ true → IsStop rest → Lexes rest ps → Lexes (name ++ rest) (piece kind.Word name ∷ ps)
 lexes-name [] rest ps e stop h = cc
 lexes-name (c ∷ cs) rest ps e stop h =
-    let two = both (is_name_first c) (list_all is_name_byte (c ∷ cs)) e in
+    let two = and_parts (is_name_first c) (list_all is_name_byte (c ∷ cs)) e in
     lexes-word c cs rest ps two.0 two.1 stop h
 
 pub text_is : (i : InstData) (is : IsInst i) → text_of i ≡ row_text is.row (fields_in i)

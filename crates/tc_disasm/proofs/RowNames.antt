@@ -1,5 +1,6 @@
 -- Names of rows: words that are no directives.
 use Rattle.std.proofs.Common.{◌≡◌, ◌≤◌, ◌&&◌, ◌||◌, ℕ, zero, suc, Bool, true, false, cond, List, [], ◌∷◌, length, Some, refl, ap, sym, ◌∙◌, arith}
+use Rattle.std.proofs.lemmas.Bool.{and_parts}
 use Rattle.std.specs.Prelude.{slice_get, nat_le, not, codes}
 use Rattle.std.specs.List.{list_all}
 use Rattle.std.specs.Str.{bytes_eq}
@@ -13,7 +14,7 @@ use Rattle.tc_lex.specs.Operands.{OperandData}
 use Rattle.tc_stmt.specs.StatementRow.{statement}
 use Rattle.tc_stmt.specs.Items.{section, global}
 use Rattle.tc_stmt.specs.Lines.{LineData, named_line, values_line, space_line, code_line, stated_line}
-use Rattle.tc_disasm.proofs.Decimals.{some_is, both}
+use Rattle.tc_disasm.proofs.Decimals.{some_is}
 
 abbrev pub is_directive : List ℕ → Bool
 is_directive name =
@@ -28,8 +29,8 @@ rows_named = refl
 
 all_at : (p : RowData → Bool) (rows : List RowData) (k : ℕ) (r : RowData) → list_all p rows ≡ true → slice_get rows k ≡ Some r → p r ≡ true
 all_at p [] k r e at = cc
-all_at p (x ∷ xs) zero r e at = ap p (sym (some_is x r at)) ∙ (both (p x) (list_all p xs) e).0
-all_at p (x ∷ xs) (suc k) r e at = all_at p xs k r (both (p x) (list_all p xs) e).1 at
+all_at p (x ∷ xs) zero r e at = ap p (sym (some_is x r at)) ∙ (and_parts (p x) (list_all p xs) e).0
+all_at p (x ∷ xs) (suc k) r e at = all_at p xs k r (and_parts (p x) (list_all p xs) e).1 at
 
 -- facts of a row's name, and the number of its operands
 pub record Named (r : RowData) : Type 0 where
@@ -40,9 +41,9 @@ pub record Named (r : RowData) : Type 0 where
 
 pub named_at : (k : ℕ) (r : RowData) → slice_get listed k ≡ Some r → Named r
 named_at k r at =
-    let all = both (is_run is_name_first is_name_byte r.name && not (is_directive r.name)) (nat_le (length r.name) 16 && nat_le (length (wants_of r)) 4) (all_at is_mnemonic listed k r rows_named at) in
-    let first = both (is_run is_name_first is_name_byte r.name) (not (is_directive r.name)) all.0 in
-    let second = both (nat_le (length r.name) 16) (nat_le (length (wants_of r)) 4) all.1 in
+    let all = and_parts (is_run is_name_first is_name_byte r.name && not (is_directive r.name)) (nat_le (length r.name) 16 && nat_le (length (wants_of r)) 4) (all_at is_mnemonic listed k r rows_named at) in
+    let first = and_parts (is_run is_name_first is_name_byte r.name) (not (is_directive r.name)) all.0 in
+    let second = and_parts (nat_le (length r.name) 16) (nat_le (length (wants_of r)) 4) all.1 in
     record { word = first.0; other = turned (is_directive r.name) first.1; short = at_most (length r.name) 16 second.0; few = at_most (length (wants_of r)) 4 second.1 }
   where
     turned : (b : Bool) → not b ≡ true → b ≡ false

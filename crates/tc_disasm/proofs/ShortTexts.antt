@@ -1,5 +1,6 @@
 -- Listings aren't long.
 use Rattle.std.proofs.Common.{◌≡◌, ◌<◌, ◌≤◌, ◌+◌, ◌-◌, ◌*◌, ◌^◌, min, zero, suc, ℕ, Bool, true, false, cond, List, [], ◌∷◌, ◌++◌, length, take, drop, Result, Ok, Err, ◌⊎◌, inl, inr, refl, ap, sym, subst, ◌∙◌, arith, length-append, length-drop}
+use Rattle.std.proofs.lemmas.Bool.{and_parts}
 use Rattle.std.specs.Prelude.{codes, nat_le}
 use Rattle.std.specs.List.{list_all, flat_map}
 use Rattle.std.specs.Fmt.{decimal}
@@ -22,7 +23,6 @@ use Rattle.tc_disasm.specs.Texts.{is_minus, register_text, number_text, target_t
 use Rattle.tc_disasm.specs.Listing.{text_at, size_at, remark, line_at, lines_from, section_line, section_text, sections_from}
 use Rattle.tc_disasm.proofs.Appending.{lines-front}
 use Rattle.tc_disasm.proofs.Bounds.{field_of-below}
-use Rattle.tc_disasm.proofs.Decimals.{both}
 use Rattle.tc_disasm.proofs.Suits.{suits, wants_suit, is_bound}
 use Rattle.tc_disasm.proofs.OwnFields.{small_of, at_most}
 use Rattle.tc_disasm.proofs.OperandTexts.{other_texts}
@@ -84,7 +84,7 @@ short-operand r f (Number signed field) s h =
 short-operand r f Target s h = let d = short-target (is_two_way r.form) (bounds r.form).k f.k h.k (small_of (bounds r.form).k s) in omega arith
 short-operand r f Absolute s h = unfold absolute_text in omega (arith, length-hex_word)
 short-operand r f (Memory plus true) s h =
-    let two = both (nat_le (bounds r.form).s2 16) (is_bound (bounds r.form).k) s in
+    let two = and_parts (nat_le (bounds r.form).s2 16) (is_bound (bounds r.form).k) s in
     let base = short-base plus f.s2 (within_16 f.s2 (bounds r.form).s2 h.s2 (at_most (bounds r.form).s2 16 two.0)) in
     let d = short-number true (bounds r.form).k f.k h.k (small_of (bounds r.form).k two.1) in
     omega (arith, length-append (base_text plus f.s2) (number_text true (bounds r.form).k f.k))
@@ -95,7 +95,7 @@ short-operand r f (Memory plus false) s h =
 short-others : (r : RowData) (f : Fields) (ws : List Want) → list_all (suits r.form) ws ≡ true → IsBelow f (bounds r.form) → length (other_texts r f ws) ≤ 19 * length ws
 short-others r f [] s h = omega arith
 short-others r f (w ∷ ws) s h =
-    let two = both (suits r.form w) (list_all (suits r.form) ws) s in
+    let two = and_parts (suits r.form w) (list_all (suits r.form) ws) s in
     let first = short-operand r f w two.0 h in
     let rest = short-others r f ws two.1 h in
     omega (arith, length-append (operand_text r.form f w) (other_texts r f ws))
@@ -104,7 +104,7 @@ short-operands : (r : RowData) (f : Fields) (ws : List Want) → list_all (suits
 unfolding operands_text
 short-operands r f [] s h = omega arith
 short-operands r f (w ∷ ws) s h =
-    let two = both (suits r.form w) (list_all (suits r.form) ws) s in
+    let two = and_parts (suits r.form w) (list_all (suits r.form) ws) s in
     let first = short-operand r f w two.0 h in
     let rest = short-others r f ws two.1 h in
     omega (arith, length-append (operand_text r.form f w) (other_texts r f ws))
@@ -192,7 +192,7 @@ pub short-sections : (n : ℕ) (ss : List SegmentData) → n + length ss ≤ 64 
 unfolding sections_from section_text
 short-sections n [] few small = omega arith
 short-sections n (s ∷ ss) few small =
-    let two = both (are_bytes s) (list_all are_bytes ss) small in
+    let two = and_parts (are_bytes s) (list_all are_bytes ss) small in
     let line = short-section_line n s.at (omega arith) in
     let lines = short-lines (length s.bytes) s.at s.bytes (omega arith) two.0 in
     let rest = short-sections (n + 1) ss (omega arith) two.1 in

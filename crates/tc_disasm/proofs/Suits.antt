@@ -1,5 +1,6 @@
 -- Each row's form has the fields that the row's wants need.
 use Rattle.std.proofs.Common.{◌≡◌, ◌%◌, ◌^◌, ◌==◌, ◌&&◌, ℕ, zero, suc, Bool, true, false, cond, List, [], ◌∷◌, Some, refl, ap, sym, ◌∙◌}
+use Rattle.std.proofs.lemmas.Bool.{and_parts}
 use Rattle.std.specs.Prelude.{slice_get, nat_le}
 use Rattle.std.specs.List.{list_all}
 use Rattle.tc_isa.specs.Rows.{RowData, listed}
@@ -9,7 +10,7 @@ use Rattle.tc_stmt.specs.declared.want.Want.{Want}
 use Rattle.tc_stmt.specs.declared.want.Want.TheVariants.{Reg, A10, Number, Target, Absolute, Memory}
 use Rattle.tc_stmt.specs.Wants.{wants_of, want_of}
 use Rattle.tc_stmt.specs.RowFields.{field_of}
-use Rattle.tc_disasm.proofs.Decimals.{some_is, both}
+use Rattle.tc_disasm.proofs.Decimals.{some_is}
 
 -- an even bound of at most 24 bits
 abbrev pub is_bound : ℕ → Bool
@@ -34,8 +35,8 @@ rows_suit = refl
 
 suit_at : (rows : List RowData) (k : ℕ) (r : RowData) → list_all all_suit rows ≡ true → slice_get rows k ≡ Some r → all_suit r ≡ true
 suit_at [] k r e at = cc
-suit_at (x ∷ xs) zero r e at = ap all_suit (sym (some_is x r at)) ∙ (both (all_suit x) (list_all all_suit xs) e).0
-suit_at (x ∷ xs) (suc k) r e at = suit_at xs k r (both (all_suit x) (list_all all_suit xs) e).1 at
+suit_at (x ∷ xs) zero r e at = ap all_suit (sym (some_is x r at)) ∙ (and_parts (all_suit x) (list_all all_suit xs) e).0
+suit_at (x ∷ xs) (suc k) r e at = suit_at xs k r (and_parts (all_suit x) (list_all all_suit xs) e).1 at
 
 -- of each row that is listed
 pub wants_suit : (k : ℕ) (r : RowData) → slice_get listed k ≡ Some r → list_all (suits r.form) (wants_of r) ≡ true

@@ -1,5 +1,6 @@
 -- Words, numbers and signs at the front of a text are its first tokens.
 use Rattle.std.proofs.Common.{◌≡◌, ◌<◌, ◌+◌, ◌/◌, ◌%◌, ◌^◌, ◌&&◌, ◌||◌, ℕ, Bool, true, false, cond, List, [], ◌∷◌, ◌++◌, length, refl, ap, ◌∙◌, arith}
+use Rattle.std.proofs.lemmas.Bool.{and_parts}
 use Rattle.std.specs.Prelude.{nat_lt}
 use Rattle.std.specs.List.{list_all, prefix_len}
 use Rattle.std.specs.Fmt.{decimal}
@@ -14,7 +15,7 @@ use Rattle.tcd_text.specs.Digits.{hex_byte, hex_word}
 use Rattle.tc_disasm.specs.Texts.{register_text}
 use Rattle.tc_disasm.specs.Tokens.{piece}
 use Rattle.tc_disasm.specs.Lexed.{IsStop}
-use Rattle.tc_disasm.proofs.Decimals.{both, decimal_is}
+use Rattle.tc_disasm.proofs.Decimals.{decimal_is}
 use Rattle.tc_disasm.proofs.Hexes.{is_hex-digit}
 use Rattle.tc_disasm.proofs.Lexing.{front_of-word, front_of-digits, prefix_len-front}
 use Rattle.tc_disasm.proofs.LineTokens.{Lexes, is_plain, lexes-token}
@@ -23,7 +24,7 @@ use Rattle.tc_disasm.proofs.LineTokens.{Lexes, is_plain, lexes-token}
 list_all-from : (p q : ℕ → Bool) → ((c : ℕ) → p c ≡ true → q c ≡ true) → (cs : List ℕ) → list_all p cs ≡ true → list_all q cs ≡ true
 list_all-from p q h [] e = refl
 list_all-from p q h (c ∷ cs) e =
-    let two = both (p c) (list_all p cs) e in
+    let two = and_parts (p c) (list_all p cs) e in
     rw (h c two.0) (list_all-from p q h cs two.1)
 
 name_is_plain : (c : ℕ) → is_name_byte c ≡ true → is_plain c ≡ true
@@ -83,7 +84,7 @@ front_of-hex [] rest hex some stop = absurd (omega arith)
 front_of-hex (x ∷ xs) rest hex some stop =
     let long : nat_lt 2 (length (48 ∷ 120 ∷ x ∷ (xs ++ rest))) ≡ true = grind (arith, nat_tests) in
     let run : prefix_len is_hex ((x ∷ xs) ++ rest) ≡ length (x ∷ xs) = prefix_len-front is_hex (x ∷ xs) rest hex (hex_stops rest stop) in
-    let first : is_hex x ≡ true = (both (is_hex x) (list_all is_hex xs) hex).0 in
+    let first : is_hex x ≡ true = (and_parts (is_hex x) (list_all is_hex xs) hex).0 in
     ap (λ b. front.Token kind.Number (cond (b && true && true && is_hex x) (2 + prefix_len is_hex ((x ∷ xs) ++ rest)) (prefix_len is_digit (48 ∷ 120 ∷ ((x ∷ xs) ++ rest))))) long
     ∙ ap (λ b. front.Token kind.Number (cond b (2 + prefix_len is_hex ((x ∷ xs) ++ rest)) (prefix_len is_digit (48 ∷ 120 ∷ ((x ∷ xs) ++ rest))))) first
     ∙ ap (λ n. front.Token kind.Number (2 + n)) run

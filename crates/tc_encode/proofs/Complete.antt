@@ -1,6 +1,6 @@
 -- Beginnings of instructions are completed by the least fields of their row.
 use Rattle.std.proofs.Common.{eq-eqb, ◌+◌, ◌*◌, ◌/◌, ◌%◌, ◌≡◌, ◌⊎◌, inl, inr, ◌≤◌, ℕ, zero, suc, Bool, true, false, refl, ◌||◌, ◌&&◌, ◌==◌, arith}
-use Rattle.std.proofs.lemmas.Bool.{eqb-true}
+use Rattle.std.proofs.lemmas.Bool.{eqb-true, and_from, and_parts}
 use Rattle.tc_isa.specs.Rows.{RowData}
 use Rattle.tc_isa.specs.declared.fields.Fields.{Fields}
 use Rattle.tc_isa.specs.declared.fields.Uses.{Uses}
@@ -19,19 +19,11 @@ one_zero : (u : Bool) (a b x : ℕ) → (u || a == 0) ≡ true → (u || b == 0)
 one_zero true a b x p q f = refl
 one_zero false a b x p q f = eq-eqb x 0 (f (eqb-true a 0 p) (eqb-true b 0 q))
 
-both : (a b : Bool) → (a && b) ≡ true → (a ≡ true) × (b ≡ true)
-both true true e = (refl, refl)
-both true false e = cc
-both false b e = cc
-
-and_true : (a b : Bool) → a ≡ true → b ≡ true → (a && b) ≡ true
-and_true a b p q = rw (p, q) refl
-
 zero_of : (u : Uses) (f g x : Fields) → rest_is_zero u f ≡ true → rest_is_zero u g ≡ true → (f.c ≡ 0 → g.c ≡ 0 → x.c ≡ 0) → (f.s1 ≡ 0 → g.s1 ≡ 0 → x.s1 ≡ 0) → (f.s2 ≡ 0 → g.s2 ≡ 0 → x.s2 ≡ 0) → (f.n ≡ 0 → g.n ≡ 0 → x.n ≡ 0) → (f.k ≡ 0 → g.k ≡ 0 → x.k ≡ 0) → rest_is_zero u x ≡ true
 zero_of u f g x p q c s1 s2 n k =
-    let p1 = both _ _ p in let p2 = both _ _ p1.0 in let p3 = both _ _ p2.0 in let p4 = both _ _ p3.0 in
-    let q1 = both _ _ q in let q2 = both _ _ q1.0 in let q3 = both _ _ q2.0 in let q4 = both _ _ q3.0 in
-    and_true _ _ (and_true _ _ (and_true _ _ (and_true _ _
+    let p1 = and_parts _ _ p in let p2 = and_parts _ _ p1.0 in let p3 = and_parts _ _ p2.0 in let p4 = and_parts _ _ p3.0 in
+    let q1 = and_parts _ _ q in let q2 = and_parts _ _ q1.0 in let q3 = and_parts _ _ q2.0 in let q4 = and_parts _ _ q3.0 in
+    and_from _ _ (and_from _ _ (and_from _ _ (and_from _ _
     (one_zero u.c f.c g.c x.c p4.0 q4.0 c) (one_zero u.s1 f.s1 g.s1 x.s1 p4.1 q4.1 s1)) (one_zero u.s2 f.s2 g.s2 x.s2 p3.1 q3.1 s2)) (one_zero u.n f.n g.n x.n p2.1 q2.1 n)) (one_zero u.k f.k g.k x.k p1.1 q1.1 k)
 
 apart_as : (r : RowData) (f x : Fields) → x.s1 ≡ f.s1 → x.s2 ≡ f.s2 → is_apart r f ≡ true → is_apart r x ≡ true

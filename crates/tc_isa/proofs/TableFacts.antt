@@ -3,16 +3,11 @@ use Rattle.std.proofs.Common.{◌≡◌, ℕ, Bool, true, false, refl, subst, �
 use Rattle.std.specs.Prelude.{All, slice_get, Some}
 use Rattle.std.proofs.lemmas.Option.{get_or_from_slice_get, slice_get_within}
 use Rattle.std.specs.List.{list_all}
-use Rattle.std.proofs.lemmas.Bool.{ltb-true}
+use Rattle.std.proofs.lemmas.Bool.{ltb-true, and_parts}
 use Rattle.std.proofs.lemmas.List.Sums.{AllPass-from_list_all}
 use Rattle.tc_isa.specs.Rows.{RowData, listed}
 use Rattle.tc_isa.specs.Words.{second_bound, bounds, is_long_form, form_index}
 use Rattle.tc_isa.specs.Codec.{IsRow, is_row, same_test, none_clash}
-
-pub both : (a b : Bool) → (a && b) ≡ true → (a ≡ true) × (b ≡ true)
-both true true e = (refl, refl)
-both true false e = cc
-both false b e = cc
 
 same_tested : (a b : Bool) → same_test a b ≡ true → a ≡ b
 same_tested true true e = refl
@@ -23,15 +18,15 @@ same_tested false false e = refl
 row_from : (r : RowData) → is_row r ≡ true → IsRow r
 unfolding is_row
 row_from r e =
-    let z = both _ _ e in
-    let p = both _ _ z.0 in
-    let q = both _ _ p.0 in
-    let s = both _ _ q.0 in
-    let t = both _ _ s.0 in
-    let b1 = both _ _ s.1 in
-    let b2 = both _ _ b1.0 in
-    let b3 = both _ _ b2.0 in
-    let b4 = both _ _ b3.0 in
+    let z = and_parts _ _ e in
+    let p = and_parts _ _ z.0 in
+    let q = and_parts _ _ p.0 in
+    let s = and_parts _ _ q.0 in
+    let t = and_parts _ _ s.0 in
+    let b1 = and_parts _ _ s.1 in
+    let b2 = and_parts _ _ b1.0 in
+    let b3 = and_parts _ _ b2.0 in
+    let b4 = and_parts _ _ b3.0 in
     record {
       first = ltb-true _ _ t.0;
       second = ltb-true _ _ t.1;

@@ -1,5 +1,6 @@
 -- The token at the start of a text is the longest one there.
 use Rattle.std.proofs.Common.{◌≡◌, ◌+◌, ◌<◌, ◌≤◌, ℕ, zero, suc, ◌⊎◌, inl, inr, Bool, true, false, ◌&&◌, ◌||◌, cond, List, [], ◌∷◌, length, take, drop, refl, ap, ◌∙◌, arith}
+use Rattle.std.proofs.lemmas.Bool.{and_from}
 use Rattle.std.specs.Prelude.{◌==◌}
 use Rattle.std.specs.List.{prefix_len, list_all}
 use Rattle.std.proofs.Math.Bool.{and-false}
@@ -98,9 +99,6 @@ or_true : (b : Bool) → (b || true) ≡ true
 or_true true = refl
 or_true false = refl
 
-both : (a b : Bool) → a ≡ true → b ≡ true → (a && b) ≡ true
-both a b e f = rw (e, f) refl
-
 -- `0x` and hex digits
 module _ (h : ℕ) (hs : List ℕ) (hex : is_hex h ≡ true) (only : OnlyStarts Number 48) where
   some_hex : 0 < prefix_len is_hex (h ∷ hs)
@@ -158,7 +156,7 @@ digits_longest : (c : ℕ) (cs : List ℕ) → has_hex_front (c ∷ cs) ≡ fals
 unfolding is_token
 digits_longest c cs e d only =
     let some : 0 < prefix_len is_digit (c ∷ cs) = prefix_len_some is_digit (c ∷ cs) (omega arith) d in
-    let run : is_run is_digit is_digit (take (prefix_len is_digit (c ∷ cs)) (c ∷ cs)) ≡ true = is_run-take is_digit is_digit c cs (prefix_len is_digit (c ∷ cs)) some ∙ both (is_digit c) _ d (run_taken is_digit (c ∷ cs)) in
+    let run : is_run is_digit is_digit (take (prefix_len is_digit (c ∷ cs)) (c ∷ cs)) ≡ true = is_run-take is_digit is_digit c cs (prefix_len is_digit (c ∷ cs)) some ∙ and_from (is_digit c) _ d (run_taken is_digit (c ∷ cs)) in
     longest_of Number (prefix_len is_digit (c ∷ cs)) c cs only (prefix_len-le-length is_digit (c ∷ cs))
     (ap (λ b. b || is_hex_text (take (prefix_len is_digit (c ∷ cs)) (c ∷ cs))) run)
     (λ n past fits.
@@ -222,7 +220,7 @@ module _ (c : ℕ) (cs : List ℕ) (symbol : NoSymbol c) where
   word_longest h =
       let some : 0 < prefix_len is_name_byte (c ∷ cs) = prefix_len_some is_name_byte (c ∷ cs) (omega arith) (named_byte h) in
       longest_of Word (prefix_len is_name_byte (c ∷ cs)) c cs (only_word h) (prefix_len-le-length is_name_byte (c ∷ cs))
-      (is_run-take is_name_first is_name_byte c cs (prefix_len is_name_byte (c ∷ cs)) some ∙ both (is_name_first c) _ h (run_taken is_name_byte (c ∷ cs)))
+      (is_run-take is_name_first is_name_byte c cs (prefix_len is_name_byte (c ∷ cs)) some ∙ and_from (is_name_first c) _ h (run_taken is_name_byte (c ∷ cs)))
       (λ n past fits. is_run-take is_name_first is_name_byte c cs n (omega arith) ∙ ap (λ b. is_name_first c && b) (run_past is_name_byte (c ∷ cs) n past fits) ∙ and-false (is_name_first c))
 
   pub number_longest : is_name_first c ≡ false → is_digit c ≡ true → IsLongest Number (number_len (c ∷ cs)) (c ∷ cs)

@@ -1,5 +1,6 @@
 -- A list parted at its first comma.
 use Rattle.std.proofs.Common.{◌≡◌, ◌<◌, ◌≤◌, ◌+◌, ◌++◌, ℕ, Bool, true, false, cond, List, [], ◌∷◌, length, map, take, drop, Some, None, refl, ap, sym, ◌∙◌, arith, append_assoc}
+use Rattle.std.proofs.lemmas.Option.{cond_some}
 use Rattle.std.specs.Prelude.{position, nat_lt}
 use Rattle.std.specs.List.{slice_split, position_or_len}
 use Rattle.std.proofs.lemmas.List.Splits.{slice_split_first, slice_split_none}
@@ -12,11 +13,6 @@ use Rattle.tc_lex.specs.Operands.{OperandData, operand, operands, is_comma}
 use Rattle.tc_lex.proofs.Mapped.{position-map}
 use Rattle.std.proofs.lemmas.Bool.{ltb-true, ltb-false}
 
--- a test guards this answer, so it passed
-pub some_from : (b : Bool) (n i : ℕ) → cond b (Some n) None ≡ Some i → (b ≡ true) × (n ≡ i)
-some_from true n i e = (refl, cc)
-some_from false n i e = cc
-
 -- a test guards no answer, so it failed
 pub none_from : (b : Bool) (n : ℕ) → cond b (Some n) None ≡ None → b ≡ false
 none_from true n e = cc
@@ -24,7 +20,7 @@ none_from false n e = refl
 
 split_at : (xs : List PieceData) (i : ℕ) → position is_comma xs ≡ Some i → slice_split is_comma xs ≡ take i xs ∷ slice_split is_comma (drop (i + 1) xs)
 split_at xs i e =
-    let w = some_from (nat_lt (position_or_len is_comma xs) (length xs)) (position_or_len is_comma xs) i e in
+    let w = cond_some (nat_lt (position_or_len is_comma xs) (length xs)) (position_or_len is_comma xs) i e in
     slice_split_first is_comma xs (record { kind = Word; text = [] }) (ltb-true _ _ w.0)
     ∙ ap (λ n. take n xs ∷ slice_split is_comma (drop (n + 1) xs)) w.1
 

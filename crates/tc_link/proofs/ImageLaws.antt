@@ -2,7 +2,7 @@
 use Rattle.std.proofs.Common.{◌≡◌, ◌+◌, ◌<◌, ◌≤◌, ◌^◌, ◌∷◌, ◌++◌, [], ℕ, Bool, true, false, cond, ◌&&◌, ◌||◌, max, min, List, length, map, refl, sym, ◌∙◌, subst, arith, leb, ltb}
 use Rattle.std.specs.Prelude.{filter, IsTrue}
 use Rattle.std.specs.List.{sum_by, list_any, list_all}
-use Rattle.std.proofs.lemmas.Bool.{le-leb, leb-false, ltb-false, ltb-true}
+use Rattle.std.proofs.lemmas.Bool.{le-leb, leb-false, ltb-false, ltb-true, and_from}
 use Rattle.std.proofs.lemmas.List.Folds.{list_any-append}
 use Rattle.std.proofs.lemmas.List.Sums.{sum_by-cons}
 use Rattle.elf_image.specs.Images.{SegmentData, ImageData, AreBytes, IsImage, is_segment, are_apart, all_apart}
@@ -38,9 +38,6 @@ has_bytes s = ltb 0 (length s.bytes)
 abbrev segments : List SectionData → List PlaceData → List SegmentData
 segments contents ps = filter has_bytes (map (segment_of contents) ps)
 
-and_true : (a b : Bool) → a ≡ true → b ≡ true → (a && b) ≡ true
-and_true a b e f = rw (e, f) refl
-
 -- ---- each segment
 all_segments : (contents : List SectionData) (ps : List PlaceData) → Fits contents ps → list_all is_segment (segments contents ps) ≡ true
 all_segments contents [] h = refl
@@ -50,7 +47,7 @@ all_segments contents (p ∷ ps) h = by_bytes (all_segments contents ps h.1) (ha
     by_bytes rest true e =
         let place : IsPlace p = h.0.0 in
         let fits : p.at + length (joined_sections p.section contents) ≤ 2 ^ 32 = omega (arith, place.within, h.0.1) in
-        and_true _ _ (and_true _ _ e (le-leb _ _ fits)) rest
+        and_from _ _ (and_from _ _ e (le-leb _ _ fits)) rest
     by_bytes rest false e = rest
 
 -- ---- no two share an address
@@ -94,7 +91,7 @@ apart_one contents p [] few some h apart = refl
 apart_one contents p (q ∷ qs) few some h apart = by_bytes (apart_one contents p qs few some h.1 apart.1) (has_bytes (segment_of contents q)) refl
   where
     by_bytes : list_all (are_apart (segment_of contents p)) (segments contents qs) ≡ true → (b : Bool) → has_bytes (segment_of contents q) ≡ b → list_all (are_apart (segment_of contents p)) (cond b (segment_of contents q ∷ segments contents qs) (segments contents qs)) ≡ true
-    by_bytes rest true e = and_true _ _ (two_apart p q (length (joined_sections p.section contents)) (length (joined_sections q.section contents)) few h.0.1 some (ltb-true _ _ e) apart.0) rest
+    by_bytes rest true e = and_from _ _ (two_apart p q (length (joined_sections p.section contents)) (length (joined_sections q.section contents)) few h.0.1 some (ltb-true _ _ e) apart.0) rest
     by_bytes rest false e = rest
 
 apart_all : (contents : List SectionData) (before ps : List PlaceData) → InTurn IsPlaceAfter before ps → Fits contents ps → all_apart (segments contents ps) ≡ true
@@ -102,7 +99,7 @@ apart_all contents before [] turn h = refl
 apart_all contents before (p ∷ ps) turn h = by_bytes (apart_all contents (before ++ p ∷ []) ps turn.1 h.1) (has_bytes (segment_of contents p)) refl
   where
     by_bytes : all_apart (segments contents ps) ≡ true → (b : Bool) → has_bytes (segment_of contents p) ≡ b → all_apart (cond b (segment_of contents p ∷ segments contents ps) (segments contents ps)) ≡ true
-    by_bytes rest true e = and_true _ _ (apart_one contents p ps h.0.1 (ltb-true _ _ e) h.1 (apart_from p (before ++ p ∷ []) ps (of_last before p) turn.1)) rest
+    by_bytes rest true e = and_from _ _ (apart_one contents p ps h.0.1 (ltb-true _ _ e) h.1 (apart_from p (before ++ p ∷ []) ps (of_last before p) turn.1)) rest
     by_bytes rest false e = rest
 
 -- ---- how many, and how long

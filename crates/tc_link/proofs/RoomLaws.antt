@@ -9,7 +9,7 @@ use Rattle.std.specs.List.{flat_map, position_or_len, list_any, sum_by}
 use Rattle.std.specs.Str.{bytes_eq}
 use Rattle.std.proofs.lemmas.Slice.Eq.{bytes_eq-Decides}
 use Rattle.std.proofs.lemmas.Bool.{ltb-true, ltb-false}
-use Rattle.std.proofs.lemmas.Option.{slice_get-get_or, slice_get_past}
+use Rattle.std.proofs.lemmas.Option.{slice_get-get_or, slice_get_past, cond_some}
 use Rattle.std.proofs.lemmas.List.Folds.{find_at}
 use Rattle.std.proofs.lemmas.List.Quantifiers.{position-Some}
 use Rattle.tc_object.specs.Objects.{SectionData, ObjectData}
@@ -85,10 +85,6 @@ are_taken_more places before s sizes new t each = λ k d h.
     ∙ sym (taken_more (get_or places k d).section before s)
 
 -- ---- the place of a name
-some_from : (b : Bool) (n i : ℕ) → cond b (Some n) None ≡ Some i → (b ≡ true) × (n ≡ i)
-some_from true n i e = (refl, cc)
-some_from false n i e = cc
-
 none_from : (b : Bool) (n : ℕ) → cond b (Some n) None ≡ None → b ≡ false
 none_from true n e = cc
 none_from false n e = refl
@@ -100,7 +96,7 @@ find_none p xs e =
 
 pub find_some : {A : Type 0} (p : A → Bool) (xs : List A) (i : ℕ) (d : A) → position p xs ≡ Some i → find p xs ≡ Some (get_or xs i d)
 find_some {A} p xs i d e =
-    let w = some_from (ltb (position_or_len p xs) (length xs)) (position_or_len p xs) i e in
+    let w = cond_some (ltb (position_or_len p xs) (length xs)) (position_or_len p xs) i e in
     find_at p xs ∙ slice_get-get_or xs (position_or_len p xs) d (ltb-true _ _ w.0) ∙ ap (λ k. Some (get_or xs k d)) w.1
 
 pub base_none : (places : List PlaceData) (before : List SectionData) (s : SectionData) → position (λ p. bytes_eq s.name p.section) places ≡ None → 0 ≡ base_of places before s

@@ -1,19 +1,12 @@
 -- What is mapped in ranges of zeros.
 use Rattle.std.proofs.Common.{◌≡◌, ℕ, ◌+◌, ◌^◌, ◌<◌, ◌⊎◌, inl, inr, Bool, true, false, ◌||◌, ◌&&◌, cond, List, [], ◌∷◌, ◌++◌, Some, None, refl, sym, ap, ◌∙◌, arith, nat_le, nat_lt}
-use Rattle.std.proofs.lemmas.Bool.{and_parts, and_from, or_cases, le-leb, leb-true, lt-ltb, ltb-true}
+use Rattle.std.proofs.lemmas.Bool.{and_parts, and_from, or_cases, le-leb, leb-true, lt-ltb, ltb-true, or_right, or_left}
 use Rattle.std.specs.FinMap as map
 use Rattle.csa_chain.specs.Memory.{Memory}
 use Rattle.tcd_base.specs.declared.range.Range.{Range}
 use Rattle.tc_mem.specs.Pages.{is_in, IsZeros}
 use Rattle.tcd_base.specs.Ranges.{IsInOne}
 use Rattle.csa_chain.specs.MemoryChanges.{HasBytes}
-
-or_left : (a b : Bool) → a ≡ true → (a || b) ≡ true
-or_left a b e = ap (λ t. t || b) e
-
-or_right : (a b : Bool) → b ≡ true → (a || b) ≡ true
-or_right true b e = refl
-or_right false b e = e
 
 pub is_in-from : (q : ℕ) (rs : List Range) → IsInOne q 1 rs → is_in rs q ≡ true
 is_in-from q [] h = absurd h

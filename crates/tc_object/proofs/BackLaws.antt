@@ -1,7 +1,7 @@
 -- Reading the spelling of an object gives the object.
 use Rattle.std.proofs.Common.{◌≡◌, ℕ, suc, ◌+◌, ◌<◌, ◌≤◌, ◌^◌, List, [], ◌∷◌, ◌++◌, length, Bool, true, not, cond, Option, Some, None, Result, Ok, Err, refl, ap, ◌∙◌, arith, append_assoc, eqb, ◌&&◌}
 use Rattle.std.proofs.lemmas.List.{append-nil}
-use Rattle.std.proofs.lemmas.Bool.{le-leb, lt-ltb}
+use Rattle.std.proofs.lemmas.Bool.{le-leb, lt-ltb, and_from}
 use Rattle.std.proofs.lemmas.Bool.Decides.{nat_tests}
 use Rattle.std.specs.List.{flat_map}
 use Rattle.tcd_base.specs.declared.errors.FormErr.{FormErr}
@@ -23,14 +23,11 @@ then_ok {A} r f x y h k = ap (λ (v : Result A FormErr). v >>= f) h ∙ k
 checked_ok : {A : Type 0} (good : Bool) (x : A) (e : FormErr) → good ≡ true → cond {A = Result A FormErr} good (Ok x) (Err e) ≡ Ok x
 checked_ok good x e h = rw h refl
 
-both : (a b : Bool) → a ≡ true → b ≡ true → (a && b) ≡ true
-both a b e f = rw (e, f) refl
-
 -- ---- names
 name_back : (used : List ℕ → Bool) (name : List ℕ) → IsName used name → (front rest : List ℕ) → name_after used (place_between front (bytes_of_name name ++ rest)) ≡ Ok (name, place_between (front ++ bytes_of_name name) rest)
 unfolding name_after name_length_at name_bytes_at bytes_of_name
 name_back used name good front rest =
-    let long : is_length (length name) ≡ true = both _ _ (le-leb 1 (length name) good.some) (le-leb (length name) 64 good.few) in
+    let long : is_length (length name) ≡ true = and_from _ _ (le-leb 1 (length name) good.some) (le-leb (length name) 64 good.few) in
     then_ok _ _ _ _ (then_ok _ _ _ _ (u8_at-between front (length name) (name ++ rest)) (checked_ok _ _ _ long))
     (then_ok _ _ _ _ (then_ok _ _ _ _ (bytes_at-between (front ++ length name ∷ []) name rest) (checked_ok _ _ _ good.written))
     (checked_ok _ _ _ (ap not good.new) ∙ ap (λ (l : List ℕ). Ok (name, place_between l rest)) (append_assoc front (length name ∷ []) name)))
@@ -60,7 +57,7 @@ section_back before s good front rest =
 kind_back : (low high kind : ℕ) → low ≤ kind → kind ≤ high → (front rest : List ℕ) → kind_at low high (place_between front (kind ∷ rest)) ≡ Ok (kind, place_between (front ++ kind ∷ []) rest)
 unfolding kind_at
 kind_back low high kind above below front rest =
-    then_ok _ _ _ _ (u8_at-between front kind rest) (checked_ok _ _ _ (both _ _ (le-leb low kind above) (le-leb kind high below)))
+    then_ok _ _ _ _ (u8_at-between front kind rest) (checked_ok _ _ _ (and_from _ _ (le-leb low kind above) (le-leb kind high below)))
 
 symbol_back : (sections : List SectionData) (before : List SymbolData) (s : SymbolData) → IsSymbol sections before s → (front rest : List ℕ) → symbol_after sections before (place_between front (bytes_of_symbol s ++ rest)) ≡ Ok (s, place_between (front ++ bytes_of_symbol s) rest)
 unfolding symbol_after symbol_with symbol_named symbol_section_at symbol_offset_at bytes_of_symbol

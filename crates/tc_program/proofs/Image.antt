@@ -3,7 +3,7 @@ use Rattle.std.proofs.Common.{◌≡◌, ◌<◌, ◌≤◌, ◌+◌, ◌-◌, �
 use Rattle.std.specs.Prelude.{slice_get, fold, find, nat_lt, nat_le}
 use Rattle.std.specs.List.{list_all}
 use Rattle.std.specs.Str.{bytes_eq}
-use Rattle.std.proofs.lemmas.Bool.{ltb-true, leb-true, lt-ltb, le-leb, and_parts}
+use Rattle.std.proofs.lemmas.Bool.{ltb-true, leb-true, lt-ltb, le-leb, and_parts, and_from, or_cases}
 use Rattle.std.proofs.lemmas.List.{append-nil}
 use Rattle.std.proofs.lemmas.List.Sums.{fold-append}
 use Rattle.std.proofs.lemmas.Option.{slice_get_within}
@@ -168,12 +168,8 @@ apart_all s [] i t all e = cc
 apart_all s (x ∷ xs) zero t all e = let same : x ≡ t = cc in ap (are_apart s) (sym same) ∙ (and_parts (are_apart s x) (list_all (are_apart s) xs) all).0
 apart_all s (x ∷ xs) (suc i) t all e = apart_all s xs i t (and_parts (are_apart s x) (list_all (are_apart s) xs) all).1 e
 
-or_parts : (a b : Bool) → (a || b) ≡ true → (a ≡ true) ⊎ (b ≡ true)
-or_parts true b e = inl refl
-or_parts false b e = inr e
-
 not_both : (s t : SegmentData) (x : ℕ) → are_apart s t ≡ true → t.at ≤ x → x < t.at + length t.bytes → holds s x ≡ false
-not_both s t x apart low high = by (holds s x) refl (or_parts (nat_le (s.at + length s.bytes) t.at) (nat_le (t.at + length t.bytes) s.at) apart)
+not_both s t x apart low high = by (holds s x) refl (or_cases (nat_le (s.at + length s.bytes) t.at) (nat_le (t.at + length t.bytes) s.at) apart)
   where
     by : (b : Bool) → holds s x ≡ b → (nat_le (s.at + length s.bytes) t.at ≡ true) ⊎ (nat_le (t.at + length t.bytes) s.at ≡ true) → b ≡ false
     by false h o = refl
@@ -196,14 +192,11 @@ byte_here (s ∷ ss) zero t k b apart e h =
     let within = slice_get_within t.bytes k b h in
     let low : nat_le t.at (t.at + k) ≡ true = le-leb t.at (t.at + k) (omega arith) in
     let high : nat_lt (t.at + k) (t.at + length t.bytes) ≡ true = lt-ltb (t.at + k) (t.at + length t.bytes) (omega arith) in
-    let there : holds t (t.at + k) ≡ true = both (nat_le t.at (t.at + k)) (nat_lt (t.at + k) (t.at + length t.bytes)) low high in
+    let there : holds t (t.at + k) ≡ true = and_from (nat_le t.at (t.at + k)) (nat_lt (t.at + k) (t.at + length t.bytes)) low high in
     let back : t.at + k - t.at ≡ k = omega arith in
     ap (λ (x : SegmentData). cond (holds x (t.at + k)) (slice_get x.bytes (t.at + k - x.at)) (byte_in ss (t.at + k))) same
     ∙ ap (λ b. cond b (slice_get t.bytes (t.at + k - t.at)) (byte_in ss (t.at + k))) there
     ∙ ap (slice_get t.bytes) back ∙ h
-  where
-    both : (a b : Bool) → a ≡ true → b ≡ true → (a && b) ≡ true
-    both a b p q = rw (p, q) refl
 byte_here (s ∷ ss) (suc i) t k b apart e h =
     let p = and_parts (list_all (are_apart s) ss) (all_apart ss) apart in
     let within = slice_get_within t.bytes k b h in

@@ -1,5 +1,6 @@
 -- The symbols of objects are those of their sources.
 use Rattle.std.proofs.Common.{◌≡◌, ◌<◌, ◌&&◌, ◌||◌, ◌==◌, ℕ, zero, suc, Bool, true, false, cond, List, [], ◌∷◌, ◌++◌, length, take, map, Option, Some, None, refl, sym, ap, subst, ◌∙◌, arith}
+use Rattle.std.proofs.lemmas.Bool.{or_right}
 use Rattle.std.specs.Prelude.{slice_get, slice_index, find, filter, unwrap_or, nat_lt, not}
 use Rattle.std.specs.Option.{option_map}
 use Rattle.std.specs.List.{list_any, flat_map}
@@ -113,16 +114,12 @@ module _ (layout_places : List PlaceData) (sources : List (List ℕ)) (objects :
       let used : has_symbol (map symbol_of (draft_in source).symbols) p.section ≡ true
       = any_at (λ (x : object.SymbolData). not (x.kind == 0) && x.section == p.section) (map symbol_of (draft_in source).symbols) k (symbol_of s) symbol is_there in
       let place = place_for layout_places objects i (object_of (draft_in source)) p.section (section_of part.0) placeable (object_at sources objects i source are at) section
-      (right (nat_lt 0 (length part.0.bytes)) (has_symbol (map symbol_of (draft_in source).symbols) p.section) used) in
+      (or_right (nat_lt 0 (length part.0.bytes)) (has_symbol (map symbol_of (draft_in source).symbols) p.section) used) in
       begins_at layout_places sources objects i source p.section (section_of part.0) place.0 are at own place.1
     where
       defined : (g : Bool) (q : Place) → (not ((cond g 2 1) == 0) && q.section == q.section) ≡ true
       defined true q = (Decides-eqb q.section q.section).1 refl
       defined false q = (Decides-eqb q.section q.section).1 refl
-
-      right : (a b : Bool) → b ≡ true → (a || b) ≡ true
-      right true b e = refl
-      right false b e = e
 
   -- the address of a label
   pub label_at : (i : ℕ) (source : List ℕ) (k : ℕ) (s : SymbolData) (p : Place) → slice_get sources i ≡ Some source → slice_get (draft_in source).symbols k ≡ Some s → s.entry.place ≡ Some p →

@@ -2,7 +2,7 @@
 use Rattle.std.proofs.Common.{◌≡◌, ◌<◌, ◌+◌, ◌/◌, ◌%◌, ◌^◌, ◌&&◌, ◌||◌, ◌==◌, ◌⊎◌, inl, inr, ℕ, zero, suc, Bool, true, false, List, [], ◌∷◌, Some, refl, sym, ap, subst, ◌∙◌, arith}
 use Rattle.std.specs.Prelude.{slice_get, not}
 use Rattle.std.specs.List.{list_all}
-use Rattle.std.proofs.lemmas.Bool.{and_parts}
+use Rattle.std.proofs.lemmas.Bool.{and_parts, or_cases}
 use Rattle.std.proofs.lemmas.Bool.Decides.{Decides-eqb}
 use Rattle.tcd_base.specs.Bytes.{word_at, bytes_of_word}
 use Rattle.tc_isa.specs.declared.fields.Fields.{Fields}
@@ -20,10 +20,6 @@ use Rattle.tc_reloc.specs.Forms.{FitsLaw, WrittenLaw}
 use Rattle.tc_isa.specs.Relocations.{fills}
 
 -- ---- words
-or_cases : (a b : Bool) → (a || b) ≡ true → (a ≡ true) ⊎ (b ≡ true)
-or_cases true b e = inl refl
-or_cases false b e = inr e
-
 jump_word : (kind op1 op2 n : ℕ) (f : Fields) → op1 < 2 ^ 8 → (kind ≡ 1) ⊎ (kind ≡ 2) → rest_of kind (word B op1 op2 f) + spread_of kind n ≡ word B op1 op2 (record f { k = n })
 unfolding rest_of spread_of word
 jump_word kind op1 op2 n f less (inl e) = let P : ℕ → Type 0 = λ k. rest_of k (word B op1 op2 f) + spread_of k n ≡ word B op1 op2 (record f { k = n }) in subst P (sym e) (omega arith)

@@ -1,5 +1,6 @@
 -- Steps of loops over lists that are viewed as other lists.
 use Rattle.std.proofs.Common.{◌≡◌, ◌≢◌, ◌<◌, ◌≤◌, ◌+◌, ◌++◌, min, ℕ, zero, suc, Bool, true, false, cond, List, [], ◌∷◌, length, get_or, take, drop, map, None, Some, refl, ap, sym, ◌∙◌, append_assoc, arith}
+use Rattle.std.proofs.lemmas.Option.{cond_some}
 use Rattle.std.specs.Prelude.{fold, position, nat_lt, slice_get, ◌==◌}
 use Rattle.std.specs.List.{slice_split, position_or_len}
 use Rattle.std.proofs.lemmas.List.Splits.{slice_split_first, slice_split_none}
@@ -11,7 +12,7 @@ use Rattle.tc_lex.specs.Operands.{operand_of}
 use Rattle.tc_stmt.specs.Values.{value_rule, space_rule, space_item}
 use Rattle.tc_stmt.specs.Items.{zeros}
 use Rattle.tc_stmt.specs.Lines.{line_data, is_word_operand, word_of, space_line}
-use Rattle.tc_lex.proofs.Parted.{some_from, none_from}
+use Rattle.tc_lex.proofs.Parted.{none_from}
 
 -- a further item at the end of a mapped start of a list
 pub pushed : {B C : Type 0} (g : B → C) (pre : List C) (xs : List B) (i : ℕ) (d : B) (out new : List C) (x : C)
@@ -77,7 +78,7 @@ is_feed c = c == 10
 pub lines_more : (out : List (List ℕ)) (rest : List ℕ) (i : ℕ) → position is_feed rest ≡ Some i
     → (out ++ take i rest ∷ []) ++ slice_split is_feed (drop (i + 1) rest) ≡ out ++ slice_split is_feed rest
 lines_more out rest i e =
-    let w = some_from (nat_lt (position_or_len is_feed rest) (length rest)) (position_or_len is_feed rest) i e in
+    let w = cond_some (nat_lt (position_or_len is_feed rest) (length rest)) (position_or_len is_feed rest) i e in
     append_assoc out (take i rest ∷ []) (slice_split is_feed (drop (i + 1) rest))
     ∙ ap (λ parts. out ++ parts) (sym (slice_split_first is_feed rest 0 (ltb-true _ _ w.0) ∙ ap (λ n. take n rest ∷ slice_split is_feed (drop (n + 1) rest)) w.1))
 

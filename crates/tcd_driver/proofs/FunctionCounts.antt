@@ -4,7 +4,7 @@ use Rattle.std.specs.Bool.{then_some}
 use Rattle.std.specs.Char.{is_ascii_digit}
 use Rattle.std.specs.List.{list_all}
 use Rattle.std.specs.Str.Parse.{ParsesUnsigned, digits_value}
-use Rattle.std.proofs.lemmas.Bool.{and_parts, and_from, or_parts, or_from, or_right, not_from_false, eqb-false}
+use Rattle.std.proofs.lemmas.Bool.{and_parts, and_from, or_parts, or_from, or_right, not_from_false, eqb-false, or_cases}
 use Rattle.std.proofs.lemmas.Str.Parse.{IsDigitsTest, IsNumeralModel, numerals_by_value, parse_plain}
 use Rattle.tc_script.specs.Numbers.{is_decimal, number_of}
 use Rattle.tcd_driver.specs.Gen.{functions_in}
@@ -98,10 +98,6 @@ unfolding number_of
 zero_first [] = refl
 zero_first (d ∷ ds) = ap (option_and_then counted) (zero_more d ds)
 
-either : (x y : Bool) → (x || y) ≡ true → (x ≡ true) ⊎ (y ≡ true)
-either true y e = inl refl
-either false y e = inr e
-
 -- 0 or a sign stands first
 pub marked : (word : List ℕ) (b : Bool) → b ≡ (slice_index word 0 == 48 || slice_index word 0 == 43) → b ≡ true → None ≡ functions_in word
 marked [] b is e = let f : false ≡ true = sym is ∙ e in cc
@@ -109,7 +105,7 @@ marked (d ∷ ds) b is e =
     ⊎_elim
     (λ (h : (d == 48) ≡ true). sym (subst (λ (x : ℕ). functions_in (x ∷ ds) ≡ None) (sym (eqb-true d 48 h)) (zero_first ds)))
     (λ (h : (d == 43) ≡ true). sym (subst (λ (x : ℕ). functions_in (x ∷ ds) ≡ None) (sym (eqb-true d 43 h)) (ap (option_and_then counted) (sign_first ds))))
-    (either (d == 48) (d == 43) (sym is ∙ e))
+    (or_cases (d == 48) (d == 43) (sym is ∙ e))
 
 -- neither does
 pub read_count : {E : Type 0} (word : List ℕ) (b : Bool) (n : ℕ) (r : Result ℕ E) (o : Option ℕ) → b ≡ (slice_index word 0 == 48 || slice_index word 0 == 43) → b ≡ false → r ≡ Ok n → ParsesUnsigned 32 10 word r → o ≡ counted n → o ≡ functions_in word

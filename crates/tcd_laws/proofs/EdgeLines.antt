@@ -4,7 +4,7 @@ use Rattle.std.specs.Prelude.{All, codes}
 use Rattle.std.specs.Fmt.{decimal}
 use Rattle.std.specs.List.{flat_map, list_all, onto_first}
 use Rattle.std.specs.Str.Parse.{AllDigits}
-use Rattle.std.proofs.lemmas.Bool.{ne_eqb}
+use Rattle.std.proofs.lemmas.Bool.{ne_eqb, and_from}
 use Rattle.std.proofs.lemmas.Fmt.{decimal_is_IsNumeral}
 use Rattle.std.proofs.lemmas.Str.Parse.{digit_from_value}
 use Rattle.std.proofs.lemmas.List.Elements.{All-head, All-tail}
@@ -33,11 +33,8 @@ passes c = not (c == 10)
 record NoFeed (bs : List ℕ) : Type 0 where
   none : list_all passes bs ≡ true
 
-both : (a b : Bool) → a ≡ true → b ≡ true → (a && b) ≡ true
-both a b e f = rw (e, f) refl
-
 joined : (xs ys : List ℕ) → NoFeed xs → NoFeed ys → NoFeed (xs ++ ys)
-joined xs ys h k = record { none = list_all-append passes xs ys ∙ both (list_all passes xs) (list_all passes ys) h.none k.none }
+joined xs ys h k = record { none = list_all-append passes xs ys ∙ and_from (list_all passes xs) (list_all passes ys) h.none k.none }
 
 other : (c : ℕ) → 10 < c → passes c ≡ true
 other c h = ap not (ne_eqb c 10 (λ e. omega arith))
@@ -52,7 +49,7 @@ digit_passes n = by_test (nat_lt n 10)
 
 byte_passes : (b : ℕ) → NoFeed (hex_byte b)
 unfolding hex_byte
-byte_passes b = record { none = both (passes (hex_digit (b / 16))) (passes (hex_digit (b % 16)) && true) (digit_passes (b / 16)) (both (passes (hex_digit (b % 16))) true (digit_passes (b % 16)) refl) }
+byte_passes b = record { none = and_from (passes (hex_digit (b / 16))) (passes (hex_digit (b % 16)) && true) (digit_passes (b / 16)) (and_from (passes (hex_digit (b % 16))) true (digit_passes (b % 16)) refl) }
 
 word_passes : (x : ℕ) → NoFeed (hex_word x)
 unfolding hex_word
@@ -60,7 +57,7 @@ word_passes x = joined _ _ (byte_passes _) (joined _ _ (byte_passes _) (joined _
 
 digits_pass : (ds : List ℕ) → AllDigits 10 ds → NoFeed ds
 digits_pass [] h = record { none = refl }
-digits_pass (c ∷ cs) h = let r = digit_from_value c h.0 in record { none = both (passes c) (list_all passes cs) (other c (omega (arith, r))) (digits_pass cs h.1).none }
+digits_pass (c ∷ cs) h = let r = digit_from_value c h.0 in record { none = and_from (passes c) (list_all passes cs) (other c (omega (arith, r))) (digits_pass cs h.1).none }
 
 decimal_passes : (n : ℕ) → n < 2 ^ 8 → NoFeed (decimal n)
 decimal_passes n h = digits_pass (decimal n) (decimal_is_IsNumeral n (omega arith)).0.1

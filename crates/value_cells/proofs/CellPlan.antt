@@ -1,6 +1,6 @@
 -- The plan in which the cells are devices is a plan.
 use Rattle.std.proofs.Common.{get_or, ◌≡◌, ◌≢◌, ℕ, zero, suc, ◌+◌, ◌-◌, ◌%◌, ◌^◌, ◌<◌, ◌≤◌, inl, inr, Bool, true, false, ◌&&◌, ◌||◌, ◌==◌, cond, List, [], ◌∷◌, ◌++◌, map, length, take, refl, sym, ap, ◌∙◌, subst, arith, nat_le, nat_lt, min, max, All}
-use Rattle.std.proofs.lemmas.Bool.{cases_lt, and_parts, and_from, lt-ltb, le-ltb, le-leb, ltb-true, leb-true, eq-eqb, eqb-true}
+use Rattle.std.proofs.lemmas.Bool.{cases_lt, and_parts, and_from, lt-ltb, le-ltb, le-leb, ltb-true, leb-true, eq-eqb, eqb-true, or_right}
 use Rattle.std.proofs.lemmas.List.Folds.{list_all-append}
 use Rattle.std.proofs.lemmas.List.{map-append}
 use Rattle.std.proofs.lemmas.List.Sums.{sum_by-append}
@@ -39,14 +39,10 @@ pair_apart r s rl sl none =
     elim (cases_lt s.at (r.at + r.len)) [
       | inr before ↦ ap (λ t. t || nat_le (s.at + s.len) r.at) (le-leb (r.at + r.len) s.at before)
       | inl low ↦ elim (cases_lt r.at (s.at + s.len)) [
-        | inr behind ↦ right (nat_le (r.at + r.len) s.at) (nat_le (s.at + s.len) r.at) (le-leb (s.at + s.len) r.at behind)
+        | inr behind ↦ or_right (nat_le (r.at + r.len) s.at) (nat_le (s.at + s.len) r.at) (le-leb (s.at + s.len) r.at behind)
         | inl high ↦ absurd (none (max r.at s.at) (omega arith, omega arith) (omega arith, omega arith))
       ]
     ]
-  where
-    right : (a b : Bool) → b ≡ true → (a || b) ≡ true
-    right true b h = refl
-    right false b h = h
 
 one_crosses : (r : Range) (ys : List Range) → 0 < r.len → HaveBytes ys → ((x : ℕ) → IsWithin x 1 r → IsInOne x 1 ys → ⊥) → list_all (ranges_apart r) ys ≡ true
 one_crosses r [] rl yl none = refl
@@ -247,11 +243,7 @@ module _ (plan : PlanData) (ok : IsPlan plan) where
   in_cells : (cells : List Cell) (x : ℕ) → IsInOne x 1 (cell_ranges cells) → is_in_cell cells x ≡ true
   in_cells [] x h = absurd h
   in_cells (c ∷ cs) x (inl h) = let low = h.0 in let high = h.1 in rw (le-leb c.at x low, lt-ltb x (c.at + 4) (omega arith)) refl
-  in_cells (c ∷ cs) x (inr h) = right (nat_le c.at x && nat_lt x (c.at + 4)) (is_in_cell cs x) (in_cells cs x h)
-    where
-      right : (a b : Bool) → b ≡ true → (a || b) ≡ true
-      right true b h = refl
-      right false b h = h
+  in_cells (c ∷ cs) x (inr h) = or_right (nat_le c.at x && nat_lt x (c.at + 4)) (is_in_cell cs x) (in_cells cs x h)
 
   apart_from : (c : Cell) (cs : List Cell) (x : ℕ) → c.at % 4 ≡ 0 → All (IsCell plan) cs → All (λ (d : Cell). d.at ≢ c.at) cs → IsWithin x 1 (record { at = c.at; len = 4 }) → IsInOne x 1 (cell_ranges cs) → ⊥
   apart_from c [] x a all once h g = g
