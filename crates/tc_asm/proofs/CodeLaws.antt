@@ -1,48 +1,20 @@
--- Fields that fit a row, as a test.
-use Rattle.std.proofs.Common.{◌≡◌, ◌<◌, ◌≤◌, ◌==◌, ◌&&◌, ◌∷◌, zero, suc, length, get_or, map, ℕ, Bool, true, false, cond, List, [], Option, None, Some, refl, ap, sym, subst, ◌∙◌, arith}
+-- The bytes of an instruction, and rows by number.
+use Rattle.std.proofs.Common.{◌≡◌, ◌<◌, ◌≤◌, ◌==◌, ◌∷◌, zero, suc, length, get_or, map, ℕ, Bool, true, false, cond, List, [], Option, None, Some, refl, ap, sym, subst, ◌∙◌, arith}
 use Rattle.std.specs.Prelude.{slice_get, option_map}
 use Rattle.std.proofs.lemmas.List.{length-map}
 use Rattle.std.proofs.lemmas.Option.{slice_get-map, slice_get-get_or}
 use Rattle.tc_isa.specs.declared.table.Row.{Row}
 use Rattle.std.specs.Option.{option_map_or}
-use Rattle.std.proofs.lemmas.Bool.{and_parts}
-use Rattle.std.proofs.lemmas.Bool.Decides.{nat_tests}
 use Rattle.tc_isa.specs.declared.fields.Fields.{Fields}
 use Rattle.tc_isa.specs.Rows.{RowData, row_of, listed}
-use Rattle.tc_isa.specs.Words.{IsBelow, bounds}
-use Rattle.tc_isa.specs.Codec.{Fits, is_below_test, spelling}
+use Rattle.tc_isa.specs.Codec.{Fits, spelling}
 use Rattle.tc_isa.specs.Insts.{InstData, IsInst}
 use Rattle.tc_isa.specs.Spelling.{Spells}
 use Rattle.tc_stmt.specs.RowFields.{ReferenceData}
 use Rattle.tc_asm.specs.Symbols.{SymbolData}
-use Rattle.tc_asm.specs.Drafts.{DraftData, is_fit, spelled_code, bytes_of, found, targeted, resolved}
-
--- fields below their bounds pass the test
-pub below_true : (f b : Fields) → IsBelow f b → is_below_test f b ≡ true
-below_true f b h =
-    let c = h.c in let s1 = h.s1 in let s2 = h.s2 in let n = h.n in let k = h.k in
-    grind (arith, nat_tests)
-
-below_from : (f b : Fields) → is_below_test f b ≡ true → IsBelow f b
-below_from f b h = record {
-  c = grind (arith, nat_tests);
-  s1 = grind (arith, nat_tests);
-  s2 = grind (arith, nat_tests);
-  n = grind (arith, nat_tests);
-  k = grind (arith, nat_tests);
-}
-
-all_true : (a b c : Bool) → a ≡ true → b ≡ true → c ≡ true → (a && b && c) ≡ true
-all_true a b c p q r = rw (p, q, r) refl
-
-fit_true : (row : RowData) (f : Fields) → Fits row f → is_fit row f ≡ true
-fit_true row f h = all_true _ _ _ (below_true f (bounds row.form) h.below) h.zero h.apart
-
-pub fit_from : (row : RowData) (f : Fields) → is_fit row f ≡ true → Fits row f
-fit_from row f h =
-    let p = and_parts _ _ h in
-    let q = and_parts _ _ p.0 in
-    record { below = below_from f (bounds row.form) q.0; zero = q.1; apart = p.1 }
+use Rattle.tc_encode.specs.Decoding.{do_fit}
+use Rattle.tc_encode.proofs.Spelled.{fits_from, fits_true}
+use Rattle.tc_asm.specs.Drafts.{DraftData, spelled_code, bytes_of, found, targeted, resolved}
 
 -- the spelling of an instruction is the bytes of its row and fields
 pub spells-bytes_of : (k : ℕ) (f : Fields) (i : InstData) (bs : List ℕ) → i ≡ record { row = k; c = f.c; s1 = f.s1; s2 = f.s2; n = f.n; k = f.k } → Spells bs i → bs ≡ bytes_of k f
@@ -53,7 +25,7 @@ spells-bytes_of k f i bs e s =
     let fits : Fits s.inst.row f = subst (λ (j : InstData). Fits s.inst.row (record { c = j.c; s1 = j.s1; s2 = j.s2; n = j.n; k = j.k })) e s.inst.fits in
     s.is
     ∙ ap (λ (j : InstData). spelling s.inst.row (record { c = j.c; s1 = j.s1; s2 = j.s2; n = j.n; k = j.k })) e
-    ∙ sym (ap (λ b. cond b (spelling s.inst.row f) []) (fit_true s.inst.row f fits))
+    ∙ sym (ap (λ b. cond b (spelling s.inst.row f) []) (fits_true s.inst.row f fits))
     ∙ sym (ap (λ o. option_map_or (λ row. spelled_code row f) o []) at)
 
 -- fields that are no instruction have no bytes
@@ -61,13 +33,13 @@ pub unlisted-bytes_of : (k : ℕ) (f : Fields) → ¬ IsInst (record { row = k; 
 unfolding spelled_code
 unlisted-bytes_of k f none = by (slice_get listed k) refl
   where
-    by_test : (row : RowData) (b : Bool) → slice_get listed k ≡ Some row → is_fit row f ≡ b → [] ≡ cond b (spelling row f) []
-    by_test row true at e = absurd (none (record { row = row; at = at; fits = fit_from row f e }))
+    by_test : (row : RowData) (b : Bool) → slice_get listed k ≡ Some row → do_fit row f ≡ b → [] ≡ cond b (spelling row f) []
+    by_test row true at e = absurd (none (record { row = row; at = at; fits = fits_from row f e }))
     by_test row false at e = refl
 
     by : (o : Option RowData) → slice_get listed k ≡ o → [] ≡ option_map_or (λ row. spelled_code row f) o []
     by None e = refl
-    by (Some row) e = by_test row (is_fit row f) e refl
+    by (Some row) e = by_test row (do_fit row f) e refl
 
 -- ---- rows by number
 pub row_listed : (rows : List Row) (k : ℕ) (d : Row) → map row_of rows ≡ listed → k < length rows → slice_get listed k ≡ Some (row_of (get_or rows k d))

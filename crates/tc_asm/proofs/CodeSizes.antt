@@ -1,16 +1,15 @@
 -- The size of an instruction doesn't depend on its target; bytes that wait for an address are four.
-use Rattle.std.proofs.Common.{◌≡◌, ◌&&◌, ◌==◌, ℕ, Bool, true, false, cond, List, [], ◌∷◌, length, Option, Some, None, refl, sym, ap, subst, ◌∙◌}
+use Rattle.std.proofs.Common.{◌≡◌, ◌==◌, ℕ, Bool, true, false, cond, List, [], ◌∷◌, length, Option, Some, None, refl, sym, ap, subst, ◌∙◌}
 use Rattle.std.specs.Prelude.{slice_get}
 use Rattle.std.specs.Option.{option_map_or}
 use Rattle.std.proofs.lemmas.Bool.Decides.{Decides-eqb}
 use Rattle.tc_isa.specs.declared.fields.Fields.{Fields}
 use Rattle.tc_isa.specs.Rows.{RowData, listed}
-use Rattle.tc_isa.specs.Words.{bounds}
 use Rattle.tc_isa.specs.Codec.{Fits, uses_of, is_apart, is_long, spelling_of, spelling, word_of}
 use Rattle.tc_stmt.specs.RowFields.{ReferenceData, RowFieldsData, set_field, with_rule, displacement_rule, with_displacement}
 use Rattle.tc_stmt.specs.Items.{ItemData, code, bytes}
 use Rattle.tc_asm.specs.Symbols.{SymbolData}
-use Rattle.tc_asm.specs.Drafts.{DraftData, start, distance, found, jumped, targeted, is_fit, spelled_code, resolved, code_bytes, stepped}
+use Rattle.tc_asm.specs.Drafts.{DraftData, start, distance, found, jumped, targeted, spelled_code, resolved, code_bytes, stepped}
 use Rattle.tc_asm.specs.Kept.{Each}
 use Rattle.tc_stmt.specs.Lines.{lines_in, items_in}
 use Rattle.tc_asm.specs.Sources.{symbols_of}
@@ -19,7 +18,7 @@ use Rattle.tc_asm.specs.Contents.{is_open}
 use Rattle.tc_stmt.specs.Stated.{Symbols}
 use Rattle.tc_stmt.proofs.StatedRows.{Sound, sound_displaced}
 use Rattle.tc_asm.specs.Added.{IsCode, IsItem}
-use Rattle.tc_asm.proofs.CodeLaws.{below_true}
+pub use Rattle.tc_encode.proofs.Spelled.{fits_true}
 use Rattle.tc_asm.proofs.SourceItems.{source_are}
 use Rattle.tc_asm.proofs.Uses.{GoodItem, GoodItems}
 
@@ -55,15 +54,9 @@ resolved_fits labels d k f o row at s h =
     subst (λ (q : Option RowData). Fits row (option_map_or (λ x. targeted labels d x f o) q (found f)).fields) (sym at) (targeted_fits labels d row f o s h)
 
 -- ---- the bytes of an instruction
-pub fit_true : (row : RowData) (f : Fields) → Fits row f → is_fit row f ≡ true
-fit_true row f h = all_true _ _ _ (below_true f (bounds row.form) h.below) h.zero h.apart
-  where
-    all_true : (a b c : Bool) → a ≡ true → b ≡ true → c ≡ true → (a && b && c) ≡ true
-    all_true a b c p q r = rw (p, q, r) refl
-
 spelled_length : (row : RowData) (f : Fields) → Fits row f → length (spelled_code row f) ≡ cond (is_long row) 4 2
 unfolding spelled_code
-spelled_length row f h = ap (λ b. length (cond b (spelling row f) [])) (fit_true row f h) ∙ by (is_long row) (word_of row f)
+spelled_length row f h = ap (λ b. length (cond b (spelling row f) [])) (fits_true row f h) ∙ by (is_long row) (word_of row f)
   where
     by : (b : Bool) (w : ℕ) → length (spelling_of b w) ≡ cond b 4 2
     by true w = refl

@@ -23,7 +23,7 @@ use Rattle.tc_asm.specs.Relocations.{UnfilledLaw}
 use Rattle.tc_asm.specs.Spelled.{is_resolved}
 use Rattle.tc_asm.specs.Added.{IsCode, IsItem}
 use Rattle.tc_asm.proofs.SourceItems.{source_are}
-use Rattle.tc_asm.proofs.CodeSizes.{fit_true, resolved_fits}
+use Rattle.tc_asm.proofs.CodeSizes.{fits_true, resolved_fits}
 use Rattle.tc_asm.proofs.StatementItems.{item_at, each_there}
 
 -- the bytes of an instruction spell its row
@@ -31,7 +31,7 @@ pub code_spelled : (labels : List SymbolData) (d : DraftData) (k : ℕ) (f : Fie
 unfolding code_bytes spelled_code
 code_spelled labels d k f o c =
     ap (λ (q : Option RowData). option_map_or (λ row. spelled_code row (resolved labels d k f o).fields) q []) c.at
-    ∙ ap (λ b. cond b (spelling c.row (resolved labels d k f o).fields) []) (fit_true c.row (resolved labels d k f o).fields (resolved_fits labels d k f o c.row c.at c.symbols c.fits))
+    ∙ ap (λ b. cond b (spelling c.row (resolved labels d k f o).fields) []) (fits_true c.row (resolved labels d k f o).fields (resolved_fits labels d k f o c.row c.at c.symbols c.fits))
 
 -- only a target that is resolved at once changes a field
 pub given_fields : (labels : List SymbolData) (d : DraftData) (k : ℕ) (f : Fields) (o : Option ReferenceData) (row : RowData) → slice_get listed k ≡ Some row → is_resolved o ≡ false → (resolved labels d k f o).fields ≡ f

@@ -5,9 +5,9 @@ use Rattle.std.specs.Str.{bytes_eq}
 use Rattle.tc_stmt.specs.SourceRules.{no_rule, misplaced_symbol}
 use Rattle.tc_isa.specs.declared.fields.Fields.{Fields}
 use Rattle.tc_isa.specs.Rows.{RowData, listed}
-use Rattle.tc_isa.specs.Words.{bounds}
-use Rattle.tc_isa.specs.Codec.{is_below_test, rest_is_zero, uses_of, is_apart, spelling}
+use Rattle.tc_isa.specs.Codec.{spelling}
 use Rattle.tc_isa.specs.Relocations.{is_reloc}
+use Rattle.tc_encode.specs.Decoding.{do_fit}
 use Rattle.tc_stmt.specs.Names.{is_name}
 use Rattle.tc_stmt.specs.RowFields.{ReferenceData, RowFieldsData, with_displacement, with_rule}
 use Rattle.tc_asm.specs.declared.symbols.Place.{Place}
@@ -138,13 +138,9 @@ abbrev pub targeted : List SymbolData → DraftData → RowData → Fields → O
 targeted labels d row f None = found f
 targeted labels d row f (Some r) = if r.kind == 0 then jumped labels d row f r else found f
 
--- the fields fit the row
-abbrev pub is_fit : RowData → Fields → Bool
-is_fit row f = is_below_test f (bounds row.form) && rest_is_zero (uses_of row) f && is_apart row f
-
 -- the spelling of an instruction of the row, if the fields fit it
 unfoldable pub spelled_code : RowData → Fields → List ℕ
-spelled_code row f = if is_fit row f then spelling row f else []
+spelled_code row f = if do_fit row f then spelling row f else []
 
 -- the fields of the row with this number, with its target resolved if it needs no relocation
 abbrev pub resolved : List SymbolData → DraftData → ℕ → Fields → Option ReferenceData → RowFieldsData

@@ -6,7 +6,7 @@ use crate::draft::{Draft, MOST_RELOCS, MOST_SECTIONS};
 use crate::encode::first_bytes;
 use crate::sections::number_of_part;
 use crate::symbols::Symbols;
-use tc_reloc::{REL24, WORD32};
+use tc_isa::{REL24, WORD32};
 use tc_stmt::{
     BAD_NAME, Item, LABEL_TWICE, NO_RULE, NO_SECTION, PAST_LIMITS, Reference, UNDEFINED_GLOBAL,
     is_name,

@@ -3,6 +3,7 @@
 
 mod arithmetic;
 mod bounds;
+mod core_registers;
 mod fields;
 mod from_fields;
 mod inst_shape;
@@ -17,6 +18,7 @@ mod written_registers;
 
 pub use arithmetic::{alu, taken};
 pub use bounds::bounds_of;
+pub use core_registers::{BIV, BTV, FCX, ICR, ISP, LCX, PCXI, PSW};
 pub use fields::{Fields, Uses};
 pub use from_fields::{inst, is_zero_elsewhere, parts_differ};
 pub use inst_shape::{shape, shape_laws};

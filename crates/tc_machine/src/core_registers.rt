@@ -1,24 +1,9 @@
-// Core registers, by their numbers (TriCore 1 architecture manual, volume 1, core registers).
+// Core registers, by their numbers.
 ghost use Rattle.std.specs.Prelude.{◌≡◌, ◌+◌, ◌*◌, ◌/◌, ◌^◌, if◌then◌else◌};
 ghost use Rattle.tc_machine.specs.Instructions.{core_register, with_core_register};
 
 use crate::{Event, Machine};
-
-const PCXI: u16 = 0xfe00;
-
-const PSW: u16 = 0xfe04;
-
-const BIV: u16 = 0xfe20;
-
-const BTV: u16 = 0xfe24;
-
-const ISP: u16 = 0xfe28;
-
-const ICR: u16 = 0xfe2c;
-
-const FCX: u16 = 0xfe38;
-
-const LCX: u16 = 0xfe3c;
+use tc_isa::{BIV, BTV, FCX, ICR, ISP, LCX, PCXI, PSW};
 
 /// Returns ICR: CCPN in bits 7:0, IE in bit 8, and the other bits from the input.
 fn icr(ccpn: u8, ie: bool, input: u32) -> u32

@@ -20,7 +20,7 @@ use Rattle.tc_program.specs.Laws.{FillsRow, FieldsLaw}
 use Rattle.tc_stmt.proofs.ListItems.{InRest, in_front_or_rest}
 use Rattle.tc_asm.specs.Added.{IsCode, IsItem}
 use Rattle.tc_asm.proofs.SourceItems.{source_are}
-use Rattle.tc_asm.proofs.CodeSizes.{fit_true, resolved_fits}
+use Rattle.tc_asm.proofs.CodeSizes.{fits_true, resolved_fits}
 use Rattle.tc_reloc.proofs.FilledRows.{filled_row, filled_fits}
 
 -- ---- statements
@@ -31,7 +31,7 @@ code_fills labels d k f o r c is waits =
     let takes = (c.symbols.some r is).long waits in
     let bytes_are : code_bytes labels d k f o ≡ spelling c.row (resolved labels d k f o).fields
     = ap (λ (q : Option RowData). option_map_or (λ row. spelled_code row (resolved labels d k f o).fields) q []) c.at
-    ∙ ap (λ b. cond b (spelling c.row (resolved labels d k f o).fields) []) (fit_true c.row (resolved labels d k f o).fields fit) in
+    ∙ ap (λ b. cond b (spelling c.row (resolved labels d k f o).fields) []) (fits_true c.row (resolved labels d k f o).fields fit) in
     record {
       place = k;
       row = c.row;

@@ -5,9 +5,9 @@ ghost use Rattle.tc_reloc.specs.Fields.{content_of, rest_of, spread_of};
 ghost use Rattle.tc_reloc.specs.Held.{held_of, reached_by};
 ghost use Rattle.tc_reloc.specs.Applied.{applied};
 
-use crate::WORD32;
 use crate::fields::{content, rest, spread};
 use crate::refusals::{RelocErr, refusal};
+use tc_isa::WORD32;
 
 /// The four bytes of a field at `place`, with `value` written in the way of this kind. All other
 /// bits keep their values.

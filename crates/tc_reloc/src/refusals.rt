@@ -2,7 +2,7 @@
 ghost use Rattle.std.specs.Prelude.{◌≡◌, ◌≤◌};
 ghost use Rattle.tc_reloc.specs.Refusals.{distance, is_near, refusal_of};
 
-use crate::{ABS24, REL15, REL24};
+use tc_isa::{ABS24, REL15, REL24};
 
 /// Why a value can't be written into its field, in the order of the tests.
 #[derive(Clone, Copy, Debug, PartialEq, Eq)]

@@ -13,6 +13,7 @@ use Rattle.tc_isa.specs.Words.{bounds}
 use Rattle.tc_isa.specs.Codec.{IsRow, word_of, is_long, spelling_of, spelling, four_bytes, two_bytes}
 use Rattle.tc_isa.proofs.TableFacts.{row_at}
 use Rattle.tc_encode.proofs.Bytes.{word-lt, short-lt}
+use Rattle.tc_encode.specs.Decoding.{do_fit}
 use Rattle.tc_encode.proofs.Spelled.{below_from}
 use Rattle.tc_lex.specs.Pieces.{PieceData, text_at}
 use Rattle.tc_lex.specs.Operands.{OperandData, operands}
@@ -22,7 +23,7 @@ use Rattle.tc_stmt.specs.Items.{ItemData, label, section, global, code, bytes, z
 use Rattle.tc_stmt.specs.Values.{fits_width, value_rule, value_item, space_item}
 use Rattle.tc_stmt.specs.Lines.{LineData, line_data, word_of as name_operand, named_line, space_line, values_line, code_line, stated_line, line_from, has_label, line_with_label, pieces_line, piece_in, label_of, label_before, cut_line, line_in, lines_in, items_in}
 use Rattle.tc_asm.specs.Symbols.{SymbolData}
-use Rattle.tc_asm.specs.Drafts.{PartData, DraftData, start, has_section, has_room, is_fit, spelled_code, resolved, code_bytes, stepped}
+use Rattle.tc_asm.specs.Drafts.{PartData, DraftData, start, has_section, has_room, spelled_code, resolved, code_bytes, stepped}
 use Rattle.tc_asm.specs.Sources.{symbols_of}
 use Rattle.tc_asm.specs.Objects.{section_of}
 use Rattle.tc_asm.specs.Kept.{Each}
@@ -60,15 +61,15 @@ no_word = all_from_each IsByte (0 ∷ 0 ∷ 0 ∷ 0 ∷ []) (zero_small, (zero_s
 -- ---- instructions
 spelled_small : (row : RowData) (f : Fields) → IsRow row → All IsByte (spelled_code row f)
 unfolding spelled_code
-spelled_small row f is = by_fit (is_fit row f) refl
+spelled_small row f is = by_fit (do_fit row f) refl
   where
-    by_size : is_fit row f ≡ true → (b : Bool) → is_long row ≡ b → All IsByte (spelling_of b (word_of row f))
+    by_size : do_fit row f ≡ true → (b : Bool) → is_long row ≡ b → All IsByte (spelling_of b (word_of row f))
     by_size fit true e = four_small (word_of row f) (word-lt row.form row.op1 row.op2 f is.first is.second (below_from f (bounds row.form) (and_parts _ _ (and_parts _ _ fit).0).0))
     by_size fit false e =
         two_small (word_of row f)
         (short-lt row.form row.op1 row.op2 f is.first is.second (below_from f (bounds row.form) (and_parts _ _ (and_parts _ _ fit).0).0) (sym is.size ∙ e))
 
-    by_fit : (b : Bool) → is_fit row f ≡ b → All IsByte (cond b (spelling row f) [])
+    by_fit : (b : Bool) → do_fit row f ≡ b → All IsByte (cond b (spelling row f) [])
     by_fit true fit = by_size fit (is_long row) refl
     by_fit false fit = All-nil IsByte
 
