@@ -73,3 +73,11 @@ pub segment_there : (ss : List Segment) (i : ℕ) (t : Segment) → i < length s
 segment_there [] i t h e = absurd (omega arith)
 segment_there (s ∷ ss) zero t h e = ap (λ (u : Segment). Some (segment_data u)) (sym e)
 segment_there (s ∷ ss) (suc i) t h e = segment_there ss i t (omega arith) e
+
+-- four bytes of a segment of the image in memory are bytes of the image as data
+pub held_four : (inside image : ImageData) (ss : List Segment) (i : ℕ) (t : Segment) (bs : List ℕ) (x : ℕ) → inside ≡ image → all_apart inside.segments ≡ true → inside.segments ≡ map segment_data ss
+    → i < length ss → t ≡ get_or ss i t → StandIn (segment_data t) x bs → length bs ≡ 4 → held_bytes image x 4 ≡ Some bs
+held_four inside image ss i t bs x same apart are lt at stands four =
+    let there : slice_get inside.segments i ≡ Some (segment_data t) = ap (λ (l : List SegmentData). slice_get l i) are ∙ segment_there ss i t lt at in
+    let held : held_bytes inside x (length bs) ≡ Some bs = held_in inside i (segment_data t) bs x apart there stands in
+    ap (λ (d : ImageData). held_bytes d x 4) (sym same) ∙ ap (λ (n : ℕ). held_bytes inside x n) (sym four) ∙ held

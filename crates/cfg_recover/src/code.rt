@@ -18,7 +18,8 @@ pub fn code_at(image: &Image, plan: &Plan, addr: u32) -> Option<(Inst, u32)>
     if addr % 2 == 1 {
         return None;
     }
-    match four_in_rom(image, plan, addr) {
+    let mut near = 0;
+    match four_in_rom(image, plan, addr, &mut near) {
         Some(bytes) => inst_in(&bytes),
         None => match two_in_rom(image, plan, addr) {
             Some(bytes) => inst_in(&bytes),
@@ -27,13 +28,19 @@ pub fn code_at(image: &Image, plan: &Plan, addr: u32) -> Option<(Inst, u32)>
     }
 }
 
-/// Four bytes of the image in one rom range.
+/// Four bytes of the image in one rom range. The segment with the number `near` is tried first, and
+/// `near` becomes the number of the one that holds them.
 #[inline(always)]
-pub(crate) fn four_in_rom(image: &Image, plan: &Plan, addr: u32) -> Option<[u8; 4]>
+pub(crate) fn four_in_rom(
+    image: &Image,
+    plan: &Plan,
+    addr: u32,
+    near: &mut usize,
+) -> Option<[u8; 4]>
     ensures { FindsInRom image.now plan.now addr 4 result }
 {
     if is_in_rom(plan, addr, 4) {
-        four_bytes(image, addr)
+        four_bytes(image, addr, near)
     } else {
         None
     }
@@ -60,15 +67,31 @@ fn is_in_rom(plan: &Plan, addr: u32, count: u32) -> bool
     any_holds(plan.rom.as_slice(), addr, count)
 }
 
-/// Four bytes of the image, if segments hold them. Mostly one segment holds all four: that is tried
-/// first.
+/// Four bytes of the image, if segments hold them. The segment with the number `near` is tried
+/// first: mostly it holds all four, as it held the last ones.
 #[inline(always)]
-fn four_bytes(image: &Image, addr: u32) -> Option<[u8; 4]>
+fn four_bytes(image: &Image, addr: u32, near: &mut usize) -> Option<[u8; 4]>
     requires { addr + 4 ≤ 2 ^ 32 }
     ensures { result ≡ held_bytes image.now addr 4 }
 {
-    for segment in &image.segments {
+    if let Some(segment) = image.segments.get(*near) {
         if let Some(bytes) = four_of(segment, addr) {
+            return Some(bytes);
+        }
+    }
+    four_anywhere(image, addr, near)
+}
+
+/// Four bytes of the image, if segments hold them. All segments are tried. If one holds all four
+/// bytes, `near` becomes its number.
+#[inline(never)]
+fn four_anywhere(image: &Image, addr: u32, near: &mut usize) -> Option<[u8; 4]>
+    requires { addr + 4 ≤ 2 ^ 32 }
+    ensures { result ≡ held_bytes image.now addr 4 }
+{
+    for (number, segment) in image.segments.iter().enumerate() {
+        if let Some(bytes) = four_of(segment, addr) {
+            *near = number;
             return Some(bytes);
         }
     }

@@ -18,6 +18,8 @@ use tcd_plan::Plan;
 #[derive(Drop)]
 pub struct KnownCodes {
     codes: [KnownCode; 256],
+    /// The number of the segment that held the last word.
+    near: usize,
 }
 
 /// A word of code, and the instruction that its bytes begin with.
@@ -34,6 +36,7 @@ impl KnownCodes {
     pub fn new() -> KnownCodes {
         KnownCodes {
             codes: [known_code(0); 256],
+            near: 0,
         }
     }
 
@@ -47,7 +50,7 @@ impl KnownCodes {
         if addr % 2 == 1 {
             return None;
         }
-        let Some(bytes) = four_in_rom(image, plan, addr) else {
+        let Some(bytes) = four_in_rom(image, plan, addr, &mut self.near) else {
             return decoded_at(image, plan, addr);
         };
         let word = code_word(bytes);

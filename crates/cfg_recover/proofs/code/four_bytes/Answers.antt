@@ -1,18 +1,14 @@
-use Rattle.std.proofs.Common.{◌≡◌, ℕ, List, Some, length, map, arith, sym, subst}
-use Rattle.std.specs.Prelude.{slice_get}
+use Rattle.std.proofs.Common.{◌≡◌, List, length, map, ap, sym, arith}
+use Rattle.std.proofs.lemmas.Bool.{ltb-true}
 use Rattle.elf_image.specs.declared.segment.Segment.{Segment}
-use Rattle.elf_image.specs.Images.{ImageData, image_data, segment_data}
-use Rattle.cfg_recover.specs.Finding.{held_bytes}
-use Rattle.cfg_recover.proofs.HeldLaws.{held_in, segment_there}
+use Rattle.elf_image.specs.Images.{image_data, segment_data}
+use Rattle.cfg_recover.proofs.HeldLaws.{held_four}
 use Rattle.cfg_recover.proofs.code.four_bytes.Goals as goal
 
-pub returns-in-Some : goal.returns-in-Some
-returns-in-Some c =
-    let t = segment_data c.segment-item.result in
-    let bytes = c.in-Some.bytes in
-    let there = subst (λ (ss : List Segment). slice_get (map segment_data ss) c.loop-segment.segment-index ≡ Some t) c.deref-segment-items.ensures.value
-    (segment_there c.deref-segment-items.result.now c.loop-segment.segment-index c.segment-item.result c.loop-segment-test.true c.segment-item.is)
-    in
-    let held = held_in (image_data c.image.inside) c.loop-segment.segment-index t bytes c.args.addr c.image.invariant.apart there c.in-Some.ensures in
+pub returns-in-Some-four_of : goal.returns-in-Some-four_of
+returns-in-Some-four_of c =
+    let at = c.in-Some.ensures.lookup in
+    let bytes = c.in-Some-four_of.bytes in
     let four : length bytes ≡ 4 = omega arith in
-    sym (subst (λ (i : ImageData). held_bytes i c.args.addr 4 ≡ Some bytes) c.image.view_is (subst (λ (n : ℕ). held_bytes (image_data c.image.inside) c.args.addr n ≡ Some bytes) four held))
+    sym (held_four (image_data c.image.inside) c.args.image.now c.deref.result.now c.args.near.now c.in-Some.segment.now bytes c.args.addr c.image.view_is c.image.invariant.apart
+    (ap (λ (ss : List Segment). map segment_data ss) (sym c.deref.ensures.value)) (ltb-true c.args.near.now (length c.deref.result.now) (sym at.0)) at.1 c.in-Some-four_of.ensures four)
