@@ -1,8 +1,7 @@
 -- The duties of a point by cases: what asks for each. Lemmas of the form "each duty is such" use
 -- these cases.
-use Rattle.std.proofs.Common.{◌≡◌, ℕ, zero, suc, ◌<◌, inl, inr, Bool, true, false, List, [], ◌∷◌, ◌++◌, map, get_or, refl, subst, arith, Option, Some, None, eqb, eqb-true}
-use Rattle.std.specs.Prelude.{Contains, unwrap_or, if◌then◌else◌}
-use Rattle.std.specs.List.{flat_map}
+use Rattle.std.proofs.Common.{◌≡◌, ℕ, inl, inr, Bool, true, false, List, [], ◌∷◌, ◌++◌, refl, subst, arith, Option, Some, None, eqb, eqb-true}
+use Rattle.std.specs.Prelude.{Contains, unwrap_or}
 use Rattle.std.proofs.lemmas.Bool.{cases_Bool}
 use Rattle.std.proofs.lemmas.List.Elements.{Contains-append_cases, Contains-append_left, Contains-append_right}
 use Rattle.elf_image.specs.Images.{ImageData}
@@ -13,7 +12,6 @@ use Rattle.tc_isa.specs.declared.shapes.Target.{Target}
 use Rattle.tc_isa.specs.declared.shapes.Shape.{Shape}
 use Rattle.tc_isa.specs.declared.shapes.Shape.TheVariants.{Load, Store, Branch, Jump, Call, Ret, Rfe, Syscall, Mtcr}
 use Rattle.tc_machine.specs.Machine.{moved}
-use Rattle.value_domain.specs.declared.values.Val.{Val}
 use Rattle.value_domain.specs.declared.states.State.{State}
 use Rattle.value_domain.specs.Limits.{Limits}
 use Rattle.vd_transfer.specs.Effects.{transfer_of, address_of}

@@ -1,5 +1,5 @@
 -- The least rule whose own part fails.
-use Rattle.std.proofs.Common.{◌≡◌, ℕ, ◌%◌, ◌<◌, ◌⊎◌, inl, inr, Bool, true, false, List, [], ◌∷◌, Some, None, refl, sym, ap, ◌∙◌, subst, arith}
+use Rattle.std.proofs.Common.{◌≡◌, ℕ, ◌%◌, ◌⊎◌, inl, inr, Bool, true, false, List, [], ◌∷◌, Some, None, refl, sym, ap, ◌∙◌, subst}
 use Rattle.std.specs.Prelude.{IsTrue, ◌↔◌, ◌==◌}
 use Rattle.std.specs.List.{list_all}
 use Rattle.std.proofs.lemmas.Bool.{eqb-true, eq-eqb, and_parts, and_from}
@@ -15,13 +15,12 @@ use Rattle.value_domain.specs.Limits.{Limits}
 use Rattle.value_domain.specs.Sets.{Among}
 use Rattle.value_domain.specs.Values.{members, IsWell}
 use Rattle.value_domain.proofs.CoverLaws.{member_same}
-use Rattle.vd_transfer.specs.Effects.{address_of, HasRoom}
-use Rattle.vd_transfer.specs.Holding.{WritesNoFixedRegister}
+use Rattle.vd_transfer.specs.Effects.{address_of}
 use Rattle.store_ranges.specs.Stores.{AreAligned}
 use Rattle.depth_cert.specs.declared.keys.Key.{Key}
 use Rattle.cfg_recover.specs.Code.{IsCode}
-use Rattle.cfg_recover.specs.Local.{are_aligned, KnowsTargets, MayReturn, MayReturnFromException, StoresInRange, MayAccess, MayCallSystem, LocalRule, LocalHolds, IsLocalFault}
-use Rattle.cfg_recover.specs.LocalFaults.{IsLeastBroken, IsAccessFault, FindsFaultless, StoresInRangeAt, MayAccessAt}
+use Rattle.cfg_recover.specs.Local.{are_aligned, StoresInRange, MayAccess, LocalRule, LocalHolds, IsLocalFault}
+use Rattle.cfg_recover.specs.LocalFaults.{IsLeastBroken, FindsFaultless, StoresInRangeAt, MayAccessAt}
 use Rattle.cfg_recover.proofs.CodeLaws.{IsCode-one}
 
 -- ---- alignment

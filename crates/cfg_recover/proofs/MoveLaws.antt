@@ -13,7 +13,7 @@ use Rattle.tc_isa.specs.declared.shapes.Op.TheVariants.{Add}
 use Rattle.tc_isa.specs.declared.shapes.Target.{Target}
 use Rattle.tc_isa.specs.declared.shapes.Target.TheVariants as target
 use Rattle.tc_isa.specs.declared.shapes.Shape.{Shape}
-use Rattle.tc_isa.specs.declared.shapes.Shape.TheVariants.{Compute, Scaled, Load, Store, Branch, Jump, Call, Ret, Rfe, Svlcx, Rslcx, Bisr, Enable, Disable, Syscall, Mfcr, Mtcr, Nothing}
+use Rattle.tc_isa.specs.declared.shapes.Shape.TheVariants.{Compute, Scaled, Load, Store, Branch, Jump, Call, Enable, Disable, Syscall, Mfcr, Nothing}
 use Rattle.tc_isa.specs.Arithmetic.{taken_of}
 use Rattle.tc_isa.specs.Bounded.{IsArg, IsTarget}
 use Rattle.tc_machine.specs.declared.events.Event.{Event}

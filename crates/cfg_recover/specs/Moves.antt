@@ -1,6 +1,6 @@
 -- What a machine at a point does next, against what the point owes: the statements of the laws.
 use Rattle.std.specs.FinMap as map
-use Rattle.std.specs.Prelude.{◌≡◌, ◌≢◌, ◌<◌, ◌*◌, ◌^◌, ℕ, Bool, true, false, if◌then◌else◌, [], length, bit_or, IfSome, Contains}
+use Rattle.std.specs.Prelude.{◌≡◌, ◌≢◌, ◌*◌, ◌^◌, ℕ, Bool, true, false, if◌then◌else◌, [], length, bit_or, IfSome, Contains}
 use Rattle.elf_image.specs.Images.{ImageData}
 use Rattle.tcd_plan.specs.PlanData.{PlanData, IsPlan}
 use Rattle.tc_isa.specs.declared.shapes.Target.{Target}
