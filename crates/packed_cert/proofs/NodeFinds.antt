@@ -1,10 +1,12 @@
 -- Points found by address.
-use Rattle.std.proofs.Common.{◌≡◌, ℕ, ◌+◌, ◌<◌, ◌≤◌, List, [], ◌∷◌, length, map, get_or, true, false, Option, Some, None, refl, sym, ap, ◌∙◌, arith, ltb, eqb, inl, inr}
+use Rattle.std.proofs.Common.{◌≡◌, ℕ, ◌+◌, ◌<◌, ◌≤◌, List, [], ◌∷◌, length, map, get_or, true, false, Option, Some, None, Bool, refl, sym, ap, subst, ◌∙◌, arith, ltb, eqb, inl, inr}
+use Rattle.std.specs.Prelude.{IsTrue, IsSomeAnd, ◌↔◌}
 use Rattle.std.specs.Option.{option_map}
 use Rattle.std.specs.List.{find}
 use Rattle.std.specs.List.Sorted.{IsStrictlyIncreasing, IsPartitionPoint}
 use Rattle.std.proofs.Common.{eq-eqb}
 use Rattle.value_domain.specs.declared.states.State.{State}
+use Rattle.value_domain.specs.State.{Covers, ImpliedBy}
 use Rattle.std.proofs.lemmas.Bool.{cases_Bool, lt-ltb, le-ltb, ne_eqb}
 use Rattle.std.proofs.lemmas.List.{length-map, get_or-map, get_or_default}
 use Rattle.depth_cert.specs.declared.points.Point.{Point}
@@ -35,27 +37,44 @@ parts_at f xs x i d rising h e = (
       le-ltb _ _ (omega arith)),
 )
 
--- the state at an address, by the place that parts the points
+-- the point at an address, by the place that parts the points
+pub point_found : (version : ℕ) (bytes : List ℕ) (addr i : ℕ) (d : PackedPoint) (ps : List PackedPoint) → i < length ps → IsPartitionPoint (λ p. ltb p.addr addr ≡ true) (λ p. ltb p.addr addr ≡ false) ps i
+    → (get_or ps i d).addr ≡ addr → find_point addr (points_in version bytes ps) ≡ Some (point_in version bytes (get_or ps i d))
+point_found version bytes addr i d ps h place e =
+    let number : PackedPoint → ℕ = λ p. p.addr in
+    find_in version bytes addr ps ∙ ap (option_map (point_in version bytes)) (found number ps addr i d h place (eq-eqb _ _ e))
+
+pub point_missing : (version : ℕ) (bytes : List ℕ) (addr i : ℕ) (d : PackedPoint) (ps : List PackedPoint) → IsStrictlyIncreasing (map (λ p. p.addr) ps)
+    → IsPartitionPoint (λ p. ltb p.addr addr ≡ true) (λ p. ltb p.addr addr ≡ false) ps i → ((get_or ps i d).addr ≡ addr → ⊥) → find_point addr (points_in version bytes ps) ≡ None
+point_missing version bytes addr i d ps rising place other =
+    let number : PackedPoint → ℕ = λ p. p.addr in
+    find_in version bytes addr ps ∙ ap (option_map (point_in version bytes)) (missing number ps addr i d rising place (ne_eqb _ _ other))
+
+pub point_past : (version : ℕ) (bytes : List ℕ) (addr i : ℕ) (ps : List PackedPoint) → IsPartitionPoint (λ p. ltb p.addr addr ≡ true) (λ p. ltb p.addr addr ≡ false) ps i → length ps ≤ i
+    → find_point addr (points_in version bytes ps) ≡ None
+point_past version bytes addr i ps place end =
+    let number : PackedPoint → ℕ = λ p. p.addr in
+    find_in version bytes addr ps ∙ ap (option_map (point_in version bytes)) (missing_end number ps addr i place end)
+
+-- the state at an address
 abbrev pub state_of : ℕ → List Point → Option State
 state_of addr ps = option_map (λ p. p.state) (find_point addr ps)
 
-pub state_found : (version : ℕ) (bytes : List ℕ) (addr i : ℕ) (d : PackedPoint) (ps qs : List PackedPoint) → ps ≡ qs → i < length ps → IsPartitionPoint (λ p. ltb p.addr addr ≡ true) (λ p. ltb p.addr addr ≡ false) ps i
-    → (get_or ps i d).addr ≡ addr → state_of addr (points_in version bytes qs) ≡ Some (state_in version bytes (get_or ps i d).place)
-state_found version bytes addr i d ps qs same h place e =
-    let number : PackedPoint → ℕ = λ p. p.addr in
-    ap (λ (l : List PackedPoint). state_of addr (points_in version bytes l)) (sym same)
-    ∙ ap (option_map (λ (p : Point). p.state)) (find_in version bytes addr ps ∙ ap (option_map (point_in version bytes)) (found number ps addr i d h place (eq-eqb _ _ e)))
+-- a state covers itself
+implied_same : (xs : List Bool) → ImpliedBy xs xs
+implied_same [] = tt
+implied_same (x ∷ xs) = ((λ t. t), implied_same xs)
 
-pub state_missing : (version : ℕ) (bytes : List ℕ) (addr i : ℕ) (d : PackedPoint) (ps qs : List PackedPoint) → ps ≡ qs → IsStrictlyIncreasing (map (λ p. p.addr) ps)
-    → IsPartitionPoint (λ p. ltb p.addr addr ≡ true) (λ p. ltb p.addr addr ≡ false) ps i → ((get_or ps i d).addr ≡ addr → ⊥) → state_of addr (points_in version bytes qs) ≡ None
-state_missing version bytes addr i d ps qs same rising place other =
-    let number : PackedPoint → ℕ = λ p. p.addr in
-    ap (λ (l : List PackedPoint). state_of addr (points_in version bytes l)) (sym same)
-    ∙ ap (option_map (λ (p : Point). p.state)) (find_in version bytes addr ps ∙ ap (option_map (point_in version bytes)) (missing number ps addr i d rising place (ne_eqb _ _ other)))
+pub covers_same : (s : State) → Covers s s
+covers_same s = record { regs = λ r h x m. m; context = ((λ t. t), omega arith, (λ t. t)); locals = implied_same s.locals.items }
 
-pub state_past : (version : ℕ) (bytes : List ℕ) (addr i : ℕ) (ps qs : List PackedPoint) → ps ≡ qs → IsPartitionPoint (λ p. ltb p.addr addr ≡ true) (λ p. ltb p.addr addr ≡ false) ps i → length ps ≤ i
-    → state_of addr (points_in version bytes qs) ≡ None
-state_past version bytes addr i ps qs same place end =
-    let number : PackedPoint → ℕ = λ p. p.addr in
-    ap (λ (l : List PackedPoint). state_of addr (points_in version bytes l)) (sym same)
-    ∙ ap (option_map (λ (p : Point). p.state)) (find_in version bytes addr ps ∙ ap (option_map (point_in version bytes)) (missing_end number ps addr i place end))
+-- whether the point at an address covers a state, if it was found and if there is none
+pub covered_found : (version : ℕ) (bytes : List ℕ) (addr i : ℕ) (d : PackedPoint) (ps : List PackedPoint) (s : State) (b : Bool) → i < length ps
+    → IsPartitionPoint (λ p. ltb p.addr addr ≡ true) (λ p. ltb p.addr addr ≡ false) ps i → (get_or ps i d).addr ≡ addr → (IsTrue b ↔ Covers (state_in version bytes (get_or ps i d).place) s)
+    → IsTrue b ↔ IsSomeAnd (find_point addr (points_in version bytes ps)) (λ p. Covers p.state s)
+covered_found version bytes addr i d ps s b h place e is =
+    subst (λ (o : Option Point). IsTrue b ↔ IsSomeAnd o (λ p. Covers p.state s)) (sym (point_found version bytes addr i d ps h place e)) is
+
+pub covered_missing : (addr : ℕ) (ps : List Point) (s : State) → find_point addr ps ≡ None → IsTrue false ↔ IsSomeAnd (find_point addr ps) (λ p. Covers p.state s)
+covered_missing addr ps s none =
+    subst (λ (o : Option Point). IsTrue false ↔ IsSomeAnd o (λ p. Covers p.state s)) (sym none) (λ t. absurd (let f : false ≡ true = t in cc), λ never. absurd never)

@@ -14,7 +14,7 @@ use Rattle.tcd_base.proofs.FieldReads.{bind_ok, u8_at_ok}
 use Rattle.depth_cert.proofs.PointReads.{point_reads}
 use Rattle.packed_cert.specs.declared.packed_points.PackedPoint.{PackedPoint}
 use Rattle.packed_cert.specs.Standing.{at, Stand}
-use Rattle.packed_cert.specs.Points.{read_or, no_state, state_in, HasState, point_in, points_in}
+use Rattle.packed_cert.specs.Points.{state_in, HasState, point_in, points_in}
 use Rattle.packed_cert.proofs.SameBytes.{Small, values_stand}
 
 -- the values that were read stand where they were read
@@ -26,25 +26,17 @@ read_stand version n bytes c vs q x small b p h e =
     let s = values_stand version bytes n x [] vs q small h (ap (values_at version n) there ∙ e) in
     (h, subst (λ (l : List Val). Stand version bytes x l q.place) (sym s.is) s.stand)
 
--- so does the state
-pub state_read : (version : ℕ) (bytes : List ℕ) (c : Place) (x : ℕ) (s : State) (q : Place) → c.bytes ≡ bytes → x ≡ c.place → state_at version c ≡ Ok (s, q) → (state_in version bytes x ≡ s) × HasState version bytes x
-state_read version bytes c x s q b p e =
-    let there : at bytes x ≡ c = ap (λ (k : ℕ). at bytes k) p ∙ ap (λ (l : List ℕ). at l c.place) (sym b) in
-    let read : state_at version (at bytes x) ≡ Ok (s, q) = ap (state_at version) there ∙ e in
-    (ap (read_or no_state) read, ((s, q), read))
-
 pub addresses_in : (version : ℕ) (bytes : List ℕ) (ps : List PackedPoint) → addresses (points_in version bytes ps) ≡ map (λ p. p.addr) ps
 addresses_in version bytes [] = refl
 addresses_in version bytes (p ∷ ps) = ap (λ (l : List ℕ). p.addr ∷ l) (addresses_in version bytes ps)
 
--- one point more
-pub point_more : (version : ℕ) (bytes : List ℕ) (ps : List PackedPoint) (item : PackedPoint) (c q r : Place) (s : State) → q.bytes ≡ bytes → item.place ≡ q.place
+-- one point more, whose state is at its place, too
+pub point_more : (version : ℕ) (bytes : List ℕ) (ps : List PackedPoint) (item : PackedPoint) (c q r : Place) (s : State) → state_in version bytes item.place ≡ s
     → address_after (map (λ p. p.addr) ps) c ≡ Ok (item.addr, q) → state_at version q ≡ Ok (s, r)
     → point_after version (points_in version bytes ps) c ≡ Ok (point_in version bytes item, r)
-point_more version bytes ps item c q r s b p a e =
-    let h = state_read version bytes q item.place s r b p e in
+point_more version bytes ps item c q r s there a e =
     point_reads version (points_in version bytes ps) c q r item.addr s (ap (λ (l : List ℕ). address_after l c) (addresses_in version bytes ps) ∙ a) e
-    ∙ ap (λ (t : State). let x : Result (Point × Place) FormErr = Ok (record { addr = item.addr; state = t }, r) in x) (sym h.0)
+    ∙ ap (λ (t : State). let x : Result (Point × Place) FormErr = Ok (record { addr = item.addr; state = t }, r) in x) (sym there)
 
 pub points_push : (version : ℕ) (bytes : List ℕ) (ps : List PackedPoint) (p : PackedPoint) → points_in version bytes (ps ++ p ∷ []) ≡ points_in version bytes ps ++ point_in version bytes p ∷ []
 points_push version bytes ps p = map-append (point_in version bytes) ps (p ∷ [])

@@ -41,8 +41,8 @@ pub none_left : (version : ℕ) (bytes : List ℕ) (ps : List PackedPoint) (i : 
 none_left version bytes ps i h = ap (points_in version bytes) (drop_all i ps h)
 
 -- ---- values that were read anew
-pub keeps_others : (before after : State) (anew : Anew) (left : List Point) → AreAnew before.regs after.regs anew → KeepsOthers before (record { current = after; anew = take (anew.behind - anew.first) (drop anew.first after.regs); left = left })
-keeps_others before after anew left h r lt = elim (cases_lt r anew.first) [
+pub keeps_others : (before after : State) (anew : Anew) (left points : List Point) → AreAnew before.regs after.regs anew → KeepsOthers before (record { points = points; current = after; anew = take (anew.behind - anew.first) (drop anew.first after.regs); left = left })
+keeps_others before after anew left points h r lt = elim (cases_lt r anew.first) [
   | inl low ↦ inl (omega (arith, h.count), h.kept r (omega (arith, h.count)) (inl low))
   | inr from ↦
       elim (cases_lt r anew.behind) [

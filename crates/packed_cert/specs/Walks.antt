@@ -1,18 +1,22 @@
 -- Walking over points one after another.
-use Rattle.std.specs.Prelude.{◌≡◌, ◌≤◌, ◌<◌, ◌^◌, ◌⊎◌, ℕ, slice_index_or, List, [], ◌∷◌, Option, Some, None, length, drop}
+use Rattle.std.specs.Prelude.{◌≡◌, ◌≤◌, ◌<◌, ◌^◌, ◌⊎◌, ℕ, slice_index_or, List, [], ◌∷◌, Option, Some, None, IsSomeAnd, length, drop, map}
 use Rattle.std.specs.List.{All, Contains}
+use Rattle.std.specs.List.Sorted.{IsStrictlyIncreasing}
 use Rattle.value_domain.specs.declared.values.Val.{Val}
 use Rattle.value_domain.specs.declared.states.State.{State}
 use Rattle.value_domain.specs.Values.{any_val}
 use Rattle.value_domain.specs.State.{Covers}
 use Rattle.depth_cert.specs.declared.points.Point.{Point}
+use Rattle.depth_cert.specs.Points.{find_point}
 use Rattle.packed_cert.specs.declared.packed_points.PackedPoint.{PackedPoint}
 use Rattle.packed_cert.specs.declared.state_places.Anew.{Anew}
 use Rattle.packed_cert.specs.Points.{HasState}
 use Rattle.packed_cert.specs.Moves.{StandsBefore, AreMoves}
 
--- the state of the point at hand, values of it among which are all that the last step read, and the points behind it
+-- the points that are walked over, the state of the point at hand, values of it among which are all that the last step read, and
+-- the points after it
 pub record WalkData : Type 0 where
+  pub points : List Point
   pub current : State
   pub anew : List Val
   pub left : List Point
@@ -25,7 +29,8 @@ KeepsOthers before after =
 -- a step gives the address of the first point that is left, whose state is then at hand; or none is left
 abbrev pub StepsTo : WalkData → Option ℕ → WalkData → Type 0
 StepsTo before None after = (before.left ≡ []) × (after ≡ before)
-StepsTo before (Some addr) after = (before.left ≡ record { addr = addr; state = after.current } ∷ after.left) × KeepsOthers before.current after
+StepsTo before (Some addr) after =
+    (before.left ≡ record { addr = addr; state = after.current } ∷ after.left) × KeepsOthers before.current after × (after.points ≡ before.points)
 
 -- the next point has this address and the state at hand
 abbrev pub RepeatsAt : WalkData → ℕ → Type 0
@@ -35,12 +40,18 @@ RepeatsAt w addr = w.left ≡ record { addr = addr; state = w.current } ∷ drop
 abbrev pub CoversNext : WalkData → ℕ → State → Type 0
 CoversNext w addr s = (t : State) × (w.left ≡ record { addr = addr; state = t } ∷ drop 1 w.left) × Covers t s
 
+-- a point has this address, and its state covers the one at hand
+abbrev pub CoversAt : WalkData → ℕ → Type 0
+CoversAt w addr = IsSomeAnd (find_point addr w.points) (λ p. Covers p.state w.current)
+
 -- what a walk keeps: states stand where it says, each point keeps what it says of the state before it, and the state at hand is
 -- the one before the next point
 pub record IsWalk (version : ℕ) (bytes : List ℕ) (points : List PackedPoint) (next : ℕ) (read : Anew) (state : State) : Type 0 where
   pub short : length bytes ≤ 2 ^ 30
   pub states : All (λ p. HasState version bytes p.place) points
+  pub rising : IsStrictlyIncreasing (map (λ p. p.addr) points)
   pub moves : AreMoves version bytes points
+  pub within : next ≤ length points
   pub here : StandsBefore version bytes points next state
   pub order : read.first ≤ read.behind
   pub few : read.behind ≤ 27

@@ -27,7 +27,7 @@ fn is_put_below(s: &State, c: &Change, row: Anew, place: Option<usize>) -> bool
     let Some(i) = place else {
         return true;
     };
-    if i >= 27 || row.first <= i && i < row.behind {
+    if i >= 27 || row.first as usize <= i && i < row.behind as usize {
         return true;
     }
     let regs = &s.regs[..];
@@ -79,8 +79,8 @@ pub(crate) fn is_row_below(
 {
     let _regs = &s.regs[..];
     let any = Val::any();
-    let mut at = point.anew.from;
-    for i in point.anew.first..point.anew.behind {
+    let mut at = point.anew.from as usize;
+    for i in point.anew.first as usize..point.anew.behind as usize {
         let tag = bytes[at];
         // Below any value is each: it isn't looked for.
         if tag != 0 && !is_below_at(changed_value(s, c, &any, i), bytes, version, at) {

@@ -72,6 +72,7 @@ impl<'a> PackedNode<'a> {
     /// Puts a walk before the first of the points, which stand by ascending address.
     pub fn walk(&self, walk: &mut PointWalk<'a>)
         ensures all { walk.new.left ≡ self.now.points }
+        ensures points { walk.new.points ≡ self.now.points }
         ensures rising { ArePoints self.now.points }
     {
         walk.go_before(self.bytes, self.version, self.points);
@@ -100,7 +101,7 @@ fn is_below(point: &PackedPoint, addr: u32) -> bool
 
 /// The place before which all addresses are below: `near` or the one behind it, where that is the
 /// address, else by halves.
-fn place_of(points: &[PackedPoint], addr: u32, near: usize) -> usize
+pub(crate) fn place_of(points: &[PackedPoint], addr: u32, near: usize) -> usize
     requires { IsStrictlyIncreasing (map (λ p. p.addr) points.now) }
     ensures { IsPartitionPoint (λ p. nat_lt p.addr addr ≡ true) (λ p. nat_lt p.addr addr ≡ false)
         points.now result }

@@ -1,5 +1,5 @@
 // The fields of points, read; what stands again is passed over.
-ghost use Rattle.std.specs.Prelude.{◌≡◌, ◌≤◌, ◌+◌, ◌^◌, ℕ, List, length, map, vec_len, true, false, Ok, Err, OnOk, IfOk, IfErr, IfSome, IsTrue, IsFalse};
+ghost use Rattle.std.specs.Prelude.{◌≡◌, ◌≤◌, ◌<◌, ◌+◌, ◌^◌, ℕ, List, length, map, vec_len, true, false, Ok, Err, OnOk, IfOk, IfErr, IfSome, IsTrue, IsFalse};
 ghost use Rattle.std.specs.List.{All};
 ghost use Rattle.tcd_base.specs.Reading.{Reads};
 ghost use Rattle.depth_cert.specs.Grammar.{values_at, state_at, address_after, points_at, is_above};
@@ -29,6 +29,7 @@ fn read_values_like(
 ) -> Result<Anew, FormErr>
     requires short { length c.old.bytes ≤ 2 ^ 30 }
     requires same { c.old.bytes ≡ bytes.now }
+    requires few { length out.old ≤ 27 }
     requires held { IfSome before
         (λ p. StandFrom version bytes.now out.old p.values p.end) }
     ensures ok { OnOk result (values_at version (length out.old) c.old ≡ Ok (out.new, c.new)) }
@@ -40,8 +41,8 @@ fn read_values_like(
     if let Some(at) = before {
         return read_values_after(c, bytes, version, at, out);
     }
-    let count = out.len();
-    let from = c.place();
+    let count = out.len() as u8;
+    let from = c.place() as u32;
     match read_values(c, version, out) {
         Ok(_) => Ok(Anew {
             first: 0,
@@ -154,6 +155,7 @@ pub(crate) fn read_state_like(
 /// What a point keeps of the state that was read. Of a node's first point all values count as read
 /// anew, since any state may stand before it.
 fn told(read: ReadState, first: bool) -> ReadState
+    requires { read.at.values < 2 ^ 32 }
     ensures first { IsTrue first → IsWhole 27 result.anew × (result.same ≡ false) }
     ensures later { IsFalse first → result ≡ read }
     ensures from { (bytes : List ℕ) → IsFrom bytes read.at.values read.anew
@@ -167,7 +169,7 @@ fn told(read: ReadState, first: bool) -> ReadState
         anew: Anew {
             first: 0,
             behind: 27,
-            from: read.at.values,
+            from: read.at.values as u32,
         },
         same: false,
     }
@@ -253,13 +255,12 @@ pub(crate) fn read_points(
     let mut points = Vec::new(alloc);
     for i in 0..count {
         let addr = read_address(c, &points)?;
-        let place = c.place() as u32;
         let read = read_state_like(c, bytes, version, room.last, &mut room.state)?;
         room.last = Some(read.at);
         let kept = told(read, i == 0);
         points.push(PackedPoint {
             addr,
-            place,
+            place: read.at.start as u32,
             anew: kept.anew,
             same: kept.same,
         })?;

@@ -12,9 +12,9 @@ pub(crate) struct StatePlaces {
 /// that were read anew; and where the first of them stands, if there is one.
 #[derive(Clone, Copy)]
 pub struct Anew {
-    pub(crate) first: usize,
-    pub(crate) behind: usize,
-    pub(crate) from: usize,
+    pub(crate) first: u8,
+    pub(crate) behind: u8,
+    pub(crate) from: u32,
 }
 
 /// Where a state stands that was read, among which of its values are all that were read anew, and

@@ -62,10 +62,10 @@ pub(crate) fn none_anew() -> Anew
 }
 
 /// With value number `i`, behind those that were read anew, which stands from `place` on.
-fn with_read(anew: Anew, i: usize, place: usize) -> Anew
+fn with_read(anew: Anew, i: u8, place: u32) -> Anew
     requires order { anew.first ≤ anew.behind }
     requires behind { anew.behind ≤ i }
-    requires number { i + 1 < 2 ^ 64 }
+    requires number { i < 27 }
     ensures read { IsWithRead anew i result }
     ensures from { (bytes : List ℕ) (x : ℕ) → IsFrom bytes x anew
         → place ≡ place_after bytes x i → IsFrom bytes x result }
@@ -97,6 +97,7 @@ pub(crate) fn read_values_after(
 ) -> Result<Anew, FormErr>
     requires short { length c.old.bytes ≤ 2 ^ 30 }
     requires same { c.old.bytes ≡ bytes.now }
+    requires few { length out.old ≤ 27 }
     requires held { StandFrom version bytes.now out.old before.values before.end }
     ensures ok { OnOk result (values_at version (length out.old) c.old ≡ Ok (out.new, c.new)) }
     ensures err { IfErr result (λ e. values_at version (length out.old) c.old ≡ Err e) }
@@ -120,7 +121,7 @@ pub(crate) fn read_values_after(
         } else {
             move_to(c, place);
             read_value(c, version, &mut out[i])?;
-            anew = with_read(anew, i, place);
+            anew = with_read(anew, i as u8, place as u32);
             place = c.place();
             stop = next + count_same_before(bytes, next, place, before.end);
         }

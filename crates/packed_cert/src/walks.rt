@@ -1,11 +1,13 @@
 // Points of a node one after another, with room for one state.
-ghost use Rattle.std.specs.Prelude.{◌≡◌, ◌≤◌, ◌<◌, ◌-◌, ◌^◌, [], length, drop, IfSome, IsTrue};
+ghost use Rattle.std.specs.Prelude.{◌≡◌, ◌≤◌, ◌<◌, ◌-◌, ◌^◌, ◌↔◌, [], length, drop, map, IfSome, IsTrue};
+ghost use Rattle.std.specs.List.Sorted.{IsStrictlyIncreasing};
 ghost use Rattle.packed_cert.specs.Points.{state_in, HasState};
 ghost use Rattle.packed_cert.specs.Standing.{AreAnew};
 ghost use Rattle.packed_cert.specs.Below.{values_in, HaveValues};
 ghost use Rattle.packed_cert.specs.Moves.{IsMoved};
 
 use crate::below::read_at;
+use crate::packed_nodes::place_of;
 use crate::packed_points::PackedPoint;
 use crate::point_fields::blank;
 use crate::state_places::Anew;
@@ -35,6 +37,7 @@ impl<'a> Model for PointWalk<'a> {
     ghost Value = { WalkData };
 
     ghost view = { λ w. record {
+      points = points_in w.version w.bytes.now w.points.now;
       current = w.state;
       anew = take (w.anew.behind - w.anew.first) (drop w.anew.first (w.state).regs);
       left = points_in w.version w.bytes.now (drop w.next w.points.now);
@@ -50,7 +53,7 @@ impl<'a> PointWalk<'a> {
     ghost use Rattle.value_domain.specs.State.{AreWell};
     ghost use Rattle.vd_transfer.specs.Changes.{state_after};
     ghost use Rattle.packed_cert.specs.Moves.{AreMoves};
-    ghost use Rattle.packed_cert.specs.Walks.{StepsTo, RepeatsAt, CoversNext};
+    ghost use Rattle.packed_cert.specs.Walks.{StepsTo, RepeatsAt, CoversNext, CoversAt};
 
     /// A walk over no points.
     pub fn none() -> PointWalk<'a>
@@ -70,8 +73,10 @@ impl<'a> PointWalk<'a> {
     pub(crate) fn go_before(&mut self, bytes: &'a [u8], version: u8, points: &'a [PackedPoint])
         requires short { length bytes.now ≤ 2 ^ 30 }
         requires states { All (λ p. HasState version bytes.now p.place) points.now }
+        requires rising { IsStrictlyIncreasing (map (λ p. p.addr) points.now) }
         requires moves { AreMoves version bytes.now points.now }
-        ensures { self.new.left ≡ points_in version bytes.now points.now }
+        ensures left { self.new.left ≡ points_in version bytes.now points.now }
+        ensures points { self.new.points ≡ points_in version bytes.now points.now }
     {
         self.bytes = bytes;
         self.version = version;
@@ -126,6 +131,24 @@ impl<'a> PointWalk<'a> {
         }
     }
 
+    /// Returns true if a point has this address, and its state covers the one at hand. A state that
+    /// is in the file at the same place is the same one, so its values aren't compared.
+    pub fn covers_at(&self, addr: u32) -> bool
+        requires { AreWell self.now.current.regs }
+        ensures { IsTrue result ↔ CoversAt self.now addr }
+    {
+        let points = self.points;
+        let at = place_of(points, addr, self.next);
+        if at < points.len() && points[at].addr == addr {
+            let place = points[at].place;
+            if self.next > 0 && points[self.next - 1].place == place {
+                return true;
+            }
+            return StateAt::at(self.bytes, self.version, place as usize).covers(&self.state);
+        }
+        false
+    }
+
     /// The state of the point at hand.
     pub fn state(&self) -> &State
         ensures { result.now ≡ self.now.current }
@@ -139,7 +162,7 @@ impl<'a> PointWalk<'a> {
         ensures { result.now ≡ self.now.anew }
     {
         let regs = &self.state.regs[..];
-        &regs[self.anew.first..self.anew.behind]
+        &regs[self.anew.first as usize..self.anew.behind as usize]
     }
 }
 
@@ -178,8 +201,8 @@ fn read_row(bytes: &[u8], version: u8, point: PackedPoint, out: &mut [Val; 27])
     ensures { out.new ≡ (state_in version bytes.now point.place).regs }
 {
     let _regs = &out[..];
-    let mut at = point.anew.from;
-    for i in point.anew.first..point.anew.behind {
+    let mut at = point.anew.from as usize;
+    for i in point.anew.first as usize..point.anew.behind as usize {
         read_at(bytes, version, at, &mut out[i]);
         at += length_by(bytes[at]);
     }

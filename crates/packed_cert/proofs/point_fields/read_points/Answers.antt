@@ -12,10 +12,10 @@ use Rattle.value_domain.specs.declared.states.State.{State}
 use Rattle.std.specs.Prelude.{IsTrue}
 use Rattle.packed_cert.specs.declared.state_places.ReadState.{ReadState}
 use Rattle.packed_cert.specs.Standing.{AreAnew}
-use Rattle.packed_cert.specs.Points.{state_in, points_in, HasState}
+use Rattle.packed_cert.specs.Points.{read_or, no_state, state_in, points_in, HasState}
 use Rattle.packed_cert.specs.Moves.{StandsBefore, IsMoved}
 use Rattle.packed_cert.proofs.RowLaws.{moves_push, moved_next}
-use Rattle.packed_cert.proofs.PointPlaces.{addresses_in, point_more, points_push, state_read}
+use Rattle.packed_cert.proofs.PointPlaces.{addresses_in, point_more, points_push}
 use Rattle.packed_cert.proofs.point_fields.read_points.Goals as goal
 
 pub returns-in_err-addr-clause-err : goal.returns-in_err-addr-clause-err
@@ -47,17 +47,17 @@ loop-i-preserved c =
     let next = rw c.deref.ensures.value at c.in_ok-addr.ensures.next in
     let same = c.read_address.ensures.bytes ∙ c.loop-i.invariant.bytes ∙ c.read_point_count.ensures.bytes ∙ c.requires.same in
     let q = c.read_address.new.c in
-    let item : PackedPoint = record { addr = c.in_ok-addr.addr; place = q.place; anew = c.told-kept.result.anew; same = c.told-kept.result.same } in
-    let h = state_read version bytes q q.place _ _ same (omega arith) c.in_ok-read.ensures.ok in
-    let more = point_more version bytes ps item c.loop-i.c q _ _ same (omega arith) e c.in_ok-read.ensures.ok in
-    let place : c.place-place.result ≡ q.place = c.place-place.ensures.place in
-    let pushed : c.push.new.self.items ≡ ps ++ item ∷ [] = c.in_ok-push.ensures.items ∙ ap (λ (k : ℕ). ps ++ record { addr = c.in_ok-addr.addr; place = k; anew = c.told-kept.result.anew; same = c.told-kept.result.same } ∷ []) place in
+    let item : PackedPoint = record { addr = c.in_ok-addr.addr; place = c.in_ok-read.read.at.start; anew = c.told-kept.result.anew; same = c.told-kept.result.same } in
     let stands = c.in_ok-read.ensures.held in
+    let is : state_in version bytes item.place ≡ c.read_state_like.new.out = ap (read_or no_state) stands.read in
+    let there : HasState version bytes item.place = (_, stands.read) in
+    let more = point_more version bytes ps item c.loop-i.c q _ _ is e c.in_ok-read.ensures.ok in
+    let pushed : c.push.new.self.items ≡ ps ++ item ∷ [] = c.in_ok-push.ensures.items in
     let size = c.loop-i.invariant.count in
     let is_first : c.loop-i.i ≡ 0 → IsTrue (eqb c.loop-i.i 0) = λ z. ap (λ (n : ℕ). eqb n 0) z in
     let later : 1 ≤ c.loop-i.i → c.told-kept.result ≡ c.in_ok-read.read = λ some. c.told-kept.ensures.later (ne_eqb c.loop-i.i 0 (λ z. let e : c.loop-i.i ≡ 0 = z in omega (arith, some))) in
     let one : (t : State) → StandsBefore version bytes ps (length ps) t → IsMoved version bytes t item = λ t b.
-    moved_next version bytes ps t c.loop-i.room.state c.read_state_like.new.out item c.in_ok-read.read.at.values c.in_ok-read.read.at.end c.loop-i.i (λ k. (c.type_inv.bytes k).fits) h.0 h.1 stands.values.0 stands.values.1 (c.told-kept.ensures.from bytes c.in_ok-read.ensures.from)
+    moved_next version bytes ps t c.loop-i.room.state c.read_state_like.new.out item c.in_ok-read.read.at.values c.in_ok-read.read.at.end c.loop-i.i (λ k. (c.type_inv.bytes k).fits) is there stands.values.0 stands.values.1 (c.told-kept.ensures.from bytes c.in_ok-read.ensures.from)
     (λ z. c.told-kept.ensures.first (is_first z))
     (λ some. subst (λ (r : ReadState). AreAnew c.loop-i.room.state.regs c.read_state_like.new.out.regs r.anew) (sym (later some)) c.in_ok-read.ensures.anew)
     (λ some y. c.in_ok-read.ensures.again (ap (λ (r : ReadState). r.same) (sym (later some)) ∙ y)) size c.loop-i.invariant.before b
@@ -68,14 +68,14 @@ loop-i-preserved c =
           (many_more (point_after version) c.in_ok-count.count c.loop-i.i (points_in version bytes ps) c.read_point_count.new.c c.loop-i.c _ _ c.loop-i-test.true c.loop-i.invariant.read more);
       bytes = c.read_state_like.ensures.bytes ∙ c.read_address.ensures.bytes ∙ c.loop-i.invariant.bytes;
       count = omega (arith, c.in_ok-push.ensures.len, c.loop-i.invariant.count);
-      states = rw pushed (All-push (λ (p : PackedPoint). HasState version bytes p.place) ps item c.loop-i.invariant.states h.1);
+      states = rw pushed (All-push (λ (p : PackedPoint). HasState version bytes p.place) ps item c.loop-i.invariant.states there);
       rising = rw pushed (rising_map_push (λ (p : PackedPoint). p.addr) ps item c.loop-i.invariant.rising next);
       used = c.loop-i.invariant.used;
       exit = c.loop-i.invariant.exit;
       state = stands;
       before = λ j d next.
           let here : get_or (ps ++ item ∷ []) j d ≡ item = ap (λ (n : ℕ). get_or (ps ++ item ∷ []) n d) (omega (arith, c.loop-i.invariant.count)) ∙ get_or-append_seam ps item [] d in
-          rw pushed (sym h.0 ∙ ap (λ (p : PackedPoint). state_in version bytes p.place) (sym here));
+          rw pushed (sym is ∙ ap (λ (p : PackedPoint). state_in version bytes p.place) (sym here));
       moves = rw pushed (moves_push version bytes ps item c.loop-i.invariant.moves one);
     }
 
