@@ -5,7 +5,7 @@ pub mod NodeFinds
 pub mod NodeReads
 pub mod PointPlaces
 pub mod PutLaws
-pub mod ReadAnew
+pub mod ReadRows
 pub mod RowLaws
 pub mod SameBytes
 pub mod SameExits

@@ -12,7 +12,7 @@ use Rattle.std.proofs.lemmas.List.{length-map, get_or-map, get_or_default}
 use Rattle.depth_cert.specs.declared.points.Point.{Point}
 use Rattle.depth_cert.specs.Points.{find_point}
 use Rattle.depth_cert.proofs.FindLaws.{non_decreasing, found, missing, missing_end}
-use Rattle.packed_cert.specs.declared.packed_points.PackedPoint.{PackedPoint}
+use Rattle.packed_cert.specs.declared.places.PackedPoint.{PackedPoint}
 use Rattle.packed_cert.specs.Points.{point_in, points_in, state_in}
 
 -- finding in the points is finding in what is kept of them

@@ -1,5 +1,6 @@
 -- Nodes whose parts are left where they stand.
-use Rattle.std.proofs.Common.{◌≡◌, ℕ, ◌+◌, List, [], ◌∷◌, ◌++◌, length, map, sum_by, Result, Ok, Err, OnOk, IfErr, Option, refl, sym, ap, ◌∙◌, arith}
+use Rattle.std.proofs.Common.{◌≡◌, ℕ, suc, ◌+◌, List, [], ◌∷◌, ◌++◌, length, map, sum_by, Result, Ok, Err, OnOk, IfErr, Option, refl, sym, ap, ◌∙◌, arith}
+use Rattle.std.specs.List.{All}
 use Rattle.std.proofs.lemmas.List.{map-append, length-map}
 use Rattle.std.proofs.lemmas.List.Sums.{sum_by-cons, sum_by-append}
 use Rattle.tcd_base.specs.declared.errors.FormErr.{FormErr}
@@ -14,10 +15,10 @@ use Rattle.depth_cert.specs.Answers.{IsFaultOf}
 use Rattle.depth_cert.specs.Nodes.{NodeData}
 use Rattle.depth_cert.specs.Certs.{key_numbers, count_points}
 use Rattle.depth_cert.specs.Grammar.{exit_at, exits_at, key_after, need_at, points_at, node_after}
-use Rattle.packed_cert.specs.declared.node_places.NodePlaces.{NodePlaces}
+use Rattle.packed_cert.specs.declared.places.NodePlaces.{NodePlaces}
 use Rattle.packed_cert.specs.Standing.{at}
 use Rattle.packed_cert.specs.Points.{read_or, point_in}
-use Rattle.packed_cert.specs.Nodes.{no_exit, exit_in, HasExit, node_of, nodes_of}
+use Rattle.packed_cert.specs.Nodes.{no_exit, exit_in, HasExit, HasPlaces, node_of, nodes_of}
 
 -- the exit that was read stands where it was read
 pub exit_read : (version : ℕ) (bytes : List ℕ) (c : Place) (x : ℕ) (e : Exit) (q : Place) → c.bytes ≡ bytes → x ≡ c.place → exit_at version c ≡ Ok (e, q) → (exit_in version bytes x ≡ e) × HasExit version bytes x
@@ -42,9 +43,12 @@ pub whole_exit : {A : Type 0} (version : ℕ) (bytes : List ℕ) (x : ℕ) (r : 
 whole_exit {A} version bytes x (Ok n) e c d there h ok err = exit_whole version bytes x e d c there ok
 whole_exit {A} version bytes x (Err f) e c d there h ok err = absurd (exit_never version bytes x f c there h err)
 
-pub keys_in : (version : ℕ) (bytes : List ℕ) (ns : List NodePlaces) → key_numbers (nodes_of version bytes ns) ≡ map (λ n. number_of_key n.key) ns
-keys_in version bytes [] = refl
-keys_in version bytes (n ∷ ns) = ap (λ (l : List ℕ). number_of_key n.key ∷ l) (keys_in version bytes ns)
+pub keys_in : (version : ℕ) (bytes : List ℕ) (ns : List NodePlaces) → All (HasPlaces version bytes) ns → key_numbers (nodes_of version bytes ns) ≡ map (λ n. n.number) ns
+keys_in version bytes [] all = refl
+keys_in version bytes (n ∷ ns) all =
+    let here : number_of_key n.key ≡ n.number = sym (all 0 n (omega arith)).number in
+    let more : All (HasPlaces version bytes) ns = λ k d h. all (suc k) d (omega arith) in
+    ap (λ (k : ℕ). k ∷ key_numbers (nodes_of version bytes ns)) here ∙ ap (λ (l : List ℕ). n.number ∷ l) (keys_in version bytes ns more)
 
 pub nodes_push : (version : ℕ) (bytes : List ℕ) (ns : List NodePlaces) (n : NodePlaces) → nodes_of version bytes (ns ++ n ∷ []) ≡ nodes_of version bytes ns ++ node_of version bytes n ∷ []
 nodes_push version bytes ns n = map-append (node_of version bytes) ns (n ∷ [])

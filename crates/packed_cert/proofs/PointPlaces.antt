@@ -12,7 +12,7 @@ use Rattle.depth_cert.specs.Grammar.{flag_at, values_at, state_at, address_after
 use Rattle.tcd_base.specs.Reading.{u8_at}
 use Rattle.tcd_base.proofs.FieldReads.{bind_ok, u8_at_ok}
 use Rattle.depth_cert.proofs.PointReads.{point_reads}
-use Rattle.packed_cert.specs.declared.packed_points.PackedPoint.{PackedPoint}
+use Rattle.packed_cert.specs.declared.places.PackedPoint.{PackedPoint}
 use Rattle.packed_cert.specs.Standing.{at, Stand}
 use Rattle.packed_cert.specs.Points.{state_in, HasState, point_in, points_in}
 use Rattle.packed_cert.proofs.SameBytes.{Small, values_stand}

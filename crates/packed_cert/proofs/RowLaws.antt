@@ -7,15 +7,15 @@ use Rattle.std.proofs.Math.Seq.{get_or-append_seam}
 use Rattle.value_domain.specs.declared.values.Val.{Val}
 use Rattle.value_domain.specs.declared.states.State.{State}
 use Rattle.value_domain.specs.Values.{any_val}
-use Rattle.packed_cert.specs.declared.packed_points.PackedPoint.{PackedPoint}
-use Rattle.packed_cert.specs.Standing.{at, behind, Stand, place_after, IsFrom, IsWhole, AreAnew}
+use Rattle.packed_cert.specs.declared.places.PackedPoint.{PackedPoint}
+use Rattle.packed_cert.specs.Standing.{at, behind, Stand, place_after, IsFrom, IsWhole, ChangesRow}
 use Rattle.packed_cert.specs.Points.{read_or, no_state, state_in, HasState}
 use Rattle.packed_cert.specs.Below.{value_in, values_in, HaveValues}
 use Rattle.packed_cert.specs.Moves.{IsMoved, StandsBefore, AreMoves}
 use Rattle.packed_cert.proofs.SameBytes.{Small, value_stands}
 use Rattle.packed_cert.proofs.ValueShapes.{length-values_in}
 use Rattle.packed_cert.proofs.StateShapes.{state_values}
-use Rattle.packed_cert.proofs.ReadAnew.{all_anew}
+use Rattle.packed_cert.proofs.ReadRows.{row_of_all}
 
 -- one value further
 place_after-suc : (bytes : List ℕ) (x i : ℕ) → place_after bytes x (suc i) ≡ behind bytes (place_after bytes x i)
@@ -62,19 +62,19 @@ state_length version bytes x small h =
 
 -- what is read behind a state keeps what it says of it
 pub moved_by : (version : ℕ) (bytes : List ℕ) (before after : State) (p : PackedPoint) (x e : ℕ) → Small bytes → state_in version bytes p.place ≡ after → length after.regs ≡ 27 → length before.regs ≡ 27
-    → x ≤ length bytes → Stand version bytes x after.regs e → AreAnew before.regs after.regs p.anew → IsFrom bytes x p.anew → (IsTrue p.same → after ≡ before) → IsMoved version bytes before p
+    → x ≤ length bytes → Stand version bytes x after.regs e → ChangesRow before.regs after.regs p.row → IsFrom bytes x p.row → (IsTrue p.same → after ≡ before) → IsMoved version bytes before p
 moved_by version bytes before after p x e small is count len h s row from same =
-    let few : (p.anew).behind ≤ 27 = omega (arith, row.within) in
-    let first : (p.anew).first ≤ 27 = omega (arith, row.order, row.within) in
-    let stands = row_stands version bytes x e (p.anew).first 27 after.regs small h s count first in
+    let few : (p.row).behind ≤ 27 = omega (arith, row.within) in
+    let first : (p.row).first ≤ 27 = omega (arith, row.order, row.within) in
+    let stands = row_stands version bytes x e (p.row).first 27 after.regs small h s count first in
     record {
-      row = subst (λ (t : State). AreAnew before.regs t.regs p.anew) (sym is) row;
+      row = subst (λ (t : State). ChangesRow before.regs t.regs p.row) (sym is) row;
       few = few;
-      have = λ some. subst (λ (y : ℕ). HaveValues version bytes y (27 - (p.anew).first)) (sym (from some)) stands.have;
+      have = λ some. subst (λ (y : ℕ). HaveValues version bytes y (27 - (p.row).first)) (sym (from some)) stands.have;
       stand = λ some.
-          ap (λ (t : State). drop (p.anew).first t.regs) is
+          ap (λ (t : State). drop (p.row).first t.regs) is
           ∙ stands.stand
-          ∙ ap (λ (y : ℕ). values_in version bytes y (27 - (p.anew).first)) (sym (from some));
+          ∙ ap (λ (y : ℕ). values_in version bytes y (27 - (p.row).first)) (sym (from some));
       same = λ t. is ∙ same t;
     }
 
@@ -102,13 +102,13 @@ moves_push version bytes ps p moves one k d s lt before =
 -- what is read behind the points keeps what it says of any state that stands before it; a first point says of all values
 -- that they were read
 pub moved_next : (version : ℕ) (bytes : List ℕ) (ps : List PackedPoint) (t before after : State) (p : PackedPoint) (x e i : ℕ) → Small bytes → state_in version bytes p.place ≡ after → HasState version bytes p.place
-    → x ≤ length bytes → Stand version bytes x after.regs e → IsFrom bytes x p.anew → (i ≡ 0 → IsWhole 27 p.anew × (p.same ≡ false)) → (1 ≤ i → AreAnew before.regs after.regs p.anew) → (1 ≤ i → IsTrue p.same → after ≡ before)
+    → x ≤ length bytes → Stand version bytes x after.regs e → IsFrom bytes x p.row → (i ≡ 0 → IsWhole 27 p.row × (p.same ≡ false)) → (1 ≤ i → ChangesRow before.regs after.regs p.row) → (1 ≤ i → IsTrue p.same → after ≡ before)
     → length ps ≡ i → ((j : ℕ) (d : PackedPoint) → j + 1 ≡ i → before ≡ state_in version bytes (get_or ps j d).place) → StandsBefore version bytes ps (length ps) t → IsMoved version bytes t p
 moved_next version bytes ps t before after p x e zero small is there h s from whole row same size last b =
     let w = whole refl in
     let count : length after.regs ≡ 27 = ap (λ (u : State). length u.regs) (sym is) ∙ state_length version bytes p.place small there in
     moved_by version bytes t after p x e small is count b.count h s
-    (all_anew t.regs after.regs p.anew (omega (arith, b.count)) (w.0.0, omega (arith, w.0.1, b.count))) from
+    (row_of_all t.regs after.regs p.row (omega (arith, b.count)) (w.0.0, omega (arith, w.0.1, b.count))) from
     (λ y. absurd (let f : false ≡ true = sym w.1 ∙ y in cc))
 moved_next version bytes ps t before after p x e (suc j) small is there h s from whole row same size last b =
     let some : 1 ≤ suc j = omega arith in

@@ -14,7 +14,7 @@ use Rattle.tcd_base.proofs.FieldReads.{bind_ok}
 use Rattle.tcd_base.proofs.PassedLaws.{AreBytes, bytes_from, Passed, passed_bytes, passed_both, ok_pair, byte_passed}
 use Rattle.depth_cert.proofs.GrammarLaws.{next, flag_passed, values_passed}
 use Rattle.depth_cert.proofs.WrittenLaws.{IsRead, done, seq, byte, flag, values_read}
-use Rattle.packed_cert.specs.declared.state_places.ExitPlaces.{ExitPlaces}
+use Rattle.packed_cert.specs.declared.places.ExitPlaces.{ExitPlaces}
 use Rattle.packed_cert.specs.Standing.{at, MovedOver}
 use Rattle.packed_cert.specs.Nodes.{ReadsExit, ExitStands}
 use Rattle.packed_cert.proofs.SameBytes.{Small, split, moved}

@@ -16,7 +16,7 @@ use Rattle.depth_cert.specs.Spelling.{bytes_of_value, bytes_of_state}
 use Rattle.tcd_base.proofs.PassedLaws.{bytes_from}
 use Rattle.depth_cert.proofs.CertLaws.{state_passed}
 use Rattle.depth_cert.proofs.WrittenLaws.{IsRead, done, seq, test, byte, many_read, flag, values_read}
-use Rattle.packed_cert.specs.declared.state_places.StatePlaces.{StatePlaces}
+use Rattle.packed_cert.specs.declared.places.StatePlaces.{StatePlaces}
 use Rattle.packed_cert.specs.Standing.{at, MovedOver, StandFrom}
 use Rattle.packed_cert.specs.Points.{StandsAt}
 use Rattle.packed_cert.proofs.SameBytes.{Small, split, moved}

@@ -7,9 +7,9 @@ use Rattle.value_domain.specs.Values.{any_val}
 use Rattle.value_domain.specs.declared.states.State.{State}
 use Rattle.value_domain.specs.State.{Covers}
 use Rattle.depth_cert.specs.declared.points.Point.{Point}
-use Rattle.packed_cert.specs.declared.packed_points.PackedPoint.{PackedPoint}
-use Rattle.packed_cert.specs.declared.state_places.Anew.{Anew}
-use Rattle.packed_cert.specs.Standing.{AreAnew}
+use Rattle.packed_cert.specs.declared.places.PackedPoint.{PackedPoint}
+use Rattle.packed_cert.specs.declared.places.ValueRow.{ValueRow}
+use Rattle.packed_cert.specs.Standing.{ChangesRow}
 use Rattle.packed_cert.specs.Points.{state_in, points_in}
 use Rattle.packed_cert.specs.Walks.{KeepsOthers}
 
@@ -40,23 +40,23 @@ covers_at version bytes ps i d addr u h e covers =
 pub none_left : (version : ℕ) (bytes : List ℕ) (ps : List PackedPoint) (i : ℕ) → length ps ≤ i → points_in version bytes (drop i ps) ≡ []
 none_left version bytes ps i h = ap (points_in version bytes) (drop_all i ps h)
 
--- ---- values that were read anew
-pub keeps_others : (before after : State) (anew : Anew) (left points : List Point) → AreAnew before.regs after.regs anew → KeepsOthers before (record { points = points; current = after; anew = take (anew.behind - anew.first) (drop anew.first after.regs); left = left })
-keeps_others before after anew left points h r lt = elim (cases_lt r anew.first) [
+-- ---- values that were read row
+pub keeps_others : (before after : State) (row : ValueRow) (left points : List Point) → ChangesRow before.regs after.regs row → KeepsOthers before (record { points = points; current = after; anew = take (row.behind - row.first) (drop row.first after.regs); left = left })
+keeps_others before after row left points h r lt = elim (cases_lt r row.first) [
   | inl low ↦ inl (omega (arith, h.count), h.kept r (omega (arith, h.count)) (inl low))
   | inr from ↦
-      elim (cases_lt r anew.behind) [
+      elim (cases_lt r row.behind) [
         | inl within ↦
             let x : Val = get_or after.regs r any_val in
-            let k : ℕ = r - anew.first in
-            let there : anew.first + k ≡ r = omega arith in
-            let read : get_or (take (anew.behind - anew.first) (drop anew.first after.regs)) k x ≡ x =
-            get_or-take (anew.behind - anew.first) (drop anew.first after.regs) k x (omega arith)
-            ∙ get_or-drop anew.first after.regs k x
+            let k : ℕ = r - row.first in
+            let there : row.first + k ≡ r = omega arith in
+            let read : get_or (take (row.behind - row.first) (drop row.first after.regs)) k x ≡ x =
+            get_or-take (row.behind - row.first) (drop row.first after.regs) k x (omega arith)
+            ∙ get_or-drop row.first after.regs k x
             ∙ ap (λ (j : ℕ). get_or after.regs j x) there
             ∙ get_or_default after.regs r x any_val lt
             in
-            inr (k, omega (arith, length-take (anew.behind - anew.first) (drop anew.first after.regs), length-drop anew.first after.regs, h.within, h.count), read)
+            inr (k, omega (arith, length-take (row.behind - row.first) (drop row.first after.regs), length-drop row.first after.regs, h.within, h.count), read)
         | inr behind ↦ inl (omega (arith, h.count), h.kept r (omega (arith, h.count)) (inr behind))
       ]
 ]

@@ -1,4 +1,4 @@
--- Words and values that stand in bytes.
+-- Words and values in the bytes.
 use Rattle.std.specs.Prelude.{◌≡◌, ◌≤◌, ◌+◌, ℕ, zero, suc, List, [], ◌∷◌, length, Ok}
 use Rattle.tcd_base.specs.Bytes.{word_at}
 use Rattle.tcd_base.specs.Place.{Place}
@@ -13,11 +13,11 @@ unfoldable pub words_at : List ℕ → ℕ → ℕ → List ℕ
 words_at bytes place zero = []
 words_at bytes place (suc n) = word_at bytes place ∷ words_at bytes (place + 4) n
 
--- the value that stands at a place
+-- the value at a place
 abbrev pub value_in : ℕ → List ℕ → ℕ → Val
 value_in version bytes place = read_or any_val (value_at version (at bytes place))
 
--- a value stands at a place
+-- there is a value at a place
 abbrev pub HasValue : ℕ → List ℕ → ℕ → Type 0
 HasValue version bytes place = (x : Val × Place) × (value_at version (at bytes place) ≡ Ok x) × (place ≤ length bytes)
 
@@ -26,7 +26,7 @@ abbrev pub values_in : ℕ → List ℕ → ℕ → ℕ → List Val
 values_in version bytes place zero = []
 values_in version bytes place (suc n) = value_in version bytes place ∷ values_in version bytes (behind bytes place) n
 
--- n values stand from a place on
+-- there are n values from a place on
 abbrev pub HaveValues : ℕ → List ℕ → ℕ → ℕ → Type 0
 HaveValues version bytes place zero = Unit {0}
 HaveValues version bytes place (suc n) = HasValue version bytes place × HaveValues version bytes (behind bytes place) n

@@ -1,5 +1,5 @@
 -- Certificates on the bytes of their file.
-pub mod Asked
+pub mod ToCover
 pub mod Below
 pub mod Moves
 pub mod Nodes

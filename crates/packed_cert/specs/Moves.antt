@@ -1,11 +1,11 @@
--- What the states of points keep of those of the points before them.
+-- What the states of points share with those of the points before them.
 use Rattle.std.specs.Prelude.{◌≡◌, ◌≤◌, ◌<◌, ◌+◌, ◌-◌, ℕ, IsTrue, slice_index_or, List, length, drop}
 use Rattle.value_domain.specs.declared.states.State.{State}
 use Rattle.value_domain.specs.Values.{any_val, IsBelow}
 use Rattle.vd_transfer.specs.declared.change.Change.{Change}
 use Rattle.vd_transfer.specs.Changes.{state_after}
-use Rattle.packed_cert.specs.declared.packed_points.PackedPoint.{PackedPoint}
-use Rattle.packed_cert.specs.Standing.{AreAnew}
+use Rattle.packed_cert.specs.declared.places.PackedPoint.{PackedPoint}
+use Rattle.packed_cert.specs.Standing.{ChangesRow}
 use Rattle.packed_cert.specs.Points.{state_in}
 use Rattle.packed_cert.specs.Below.{values_in, HaveValues}
 
@@ -13,20 +13,21 @@ use Rattle.packed_cert.specs.Below.{values_in, HaveValues}
 abbrev pub IsBelowOwn : State → Change → ℕ → Type 0
 IsBelowOwn s c i = IsBelow (slice_index_or (state_after s c).regs i any_val) (slice_index_or s.regs i any_val)
 
--- The state of a point against one before it: outside a row it has the same values, the row's values and those behind it
--- stand where the point says, and where it says so all of the state is the same.
+-- The state of a point beside the one before it: outside its row the values are the same, the row's
+-- values and those after it are where the point says, and the whole state is the same if the point
+-- says so.
 pub record IsMoved (version : ℕ) (bytes : List ℕ) (before : State) (p : PackedPoint) : Type 0 where
-  pub row : AreAnew before.regs (state_in version bytes p.place).regs p.anew
-  pub few : (p.anew).behind ≤ 27
-  pub have : 0 < (p.anew).behind → HaveValues version bytes (p.anew).from (27 - (p.anew).first)
-  pub stand : 0 < (p.anew).behind → drop (p.anew).first (state_in version bytes p.place).regs ≡ values_in version bytes (p.anew).from (27 - (p.anew).first)
+  pub row : ChangesRow before.regs (state_in version bytes p.place).regs p.row
+  pub few : (p.row).behind ≤ 27
+  pub have : 0 < (p.row).behind → HaveValues version bytes (p.row).from (27 - (p.row).first)
+  pub stand : 0 < (p.row).behind → drop (p.row).first (state_in version bytes p.place).regs ≡ values_in version bytes (p.row).from (27 - (p.row).first)
   pub same : IsTrue p.same → state_in version bytes p.place ≡ before
 
--- the state stands before point k: that of the point before it, or any state where it is the first
+-- the state before point k: that of the point before it, or any state if it is the first
 pub record StandsBefore (version : ℕ) (bytes : List ℕ) (ps : List PackedPoint) (k : ℕ) (s : State) : Type 0 where
   pub count : length s.regs ≡ 27
   pub last : (j : ℕ) (d : PackedPoint) → j + 1 ≡ k → s ≡ state_in version bytes (slice_index_or ps j d).place
 
--- each point keeps of the state before it what it says
+-- each point says what it shares with the state before it
 abbrev pub AreMoves : ℕ → List ℕ → List PackedPoint → Type 0
 AreMoves version bytes ps = (k : ℕ) (d : PackedPoint) (s : State) → k < length ps → StandsBefore version bytes ps k s → IsMoved version bytes s (slice_index_or ps k d)

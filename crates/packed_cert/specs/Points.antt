@@ -1,46 +1,46 @@
--- Points of which only the address and the place of the state are kept; the bytes hold the state.
+-- Points by their addresses and the places of their states in the bytes.
 use Rattle.std.specs.Prelude.{◌≡◌, ℕ, List, [], map, false, Result, Ok, Err, ◌≤◌, ◌^◌, length}
 use Rattle.tcd_base.specs.declared.errors.FormErr.{FormErr}
 use Rattle.tcd_base.specs.Place.{Place}
 use Rattle.value_domain.specs.declared.states.State.{State}
 use Rattle.depth_cert.specs.declared.points.Point.{Point}
 use Rattle.depth_cert.specs.Grammar.{state_at}
-use Rattle.packed_cert.specs.declared.packed_points.PackedPoint.{PackedPoint}
-use Rattle.packed_cert.specs.declared.state_places.StatePlaces.{StatePlaces}
+use Rattle.packed_cert.specs.declared.places.PackedPoint.{PackedPoint}
+use Rattle.packed_cert.specs.declared.places.StatePlaces.{StatePlaces}
 use Rattle.packed_cert.specs.Standing.{at, StandFrom}
 
--- what was read, or something else where nothing was
+-- what was read, or something else if nothing was
 abbrev pub read_or : {A : Type 0} → A → Result (A × Place) FormErr → A
 read_or d (Ok x) = x.0
 read_or d (Err e) = d
 
--- a state of which nothing is known
+-- a state that knows nothing
 abbrev pub no_state : State
 no_state = record { regs = []; ie = false; ccpn = 0; lower = false; locals = record { items = [] } }
 
--- the state that stands at a place
+-- the state at a place
 abbrev pub state_in : ℕ → List ℕ → ℕ → State
 state_in version bytes place = read_or no_state (state_at version (at bytes place))
 
--- a state stands at a place
+-- there is a state at a place
 abbrev pub HasState : ℕ → List ℕ → ℕ → Type 0
 HasState version bytes place = (x : State × Place) × (state_at version (at bytes place) ≡ Ok x)
 
--- a point, with the state that stands at its place
+-- a point, with the state at its place
 abbrev pub point_in : ℕ → List ℕ → PackedPoint → Point
 point_in version bytes p = record { addr = p.addr; state = state_in version bytes p.place }
 
--- the points of a list, each with the state that stands at its place
+-- the points of a list, each with the state at its place
 abbrev pub points_in : ℕ → List ℕ → List PackedPoint → List Point
 points_in version bytes ps = map (point_in version bytes) ps
 
--- what a handle on a state keeps
+-- what always holds of a state in the bytes
 pub record IsStateAt (version : ℕ) (bytes : List ℕ) (place : ℕ) : Type 0 where
   pub short : length bytes ≤ 2 ^ 30
   pub inside : place ≤ length bytes
   pub state : HasState version bytes place
 
--- a state stands at these places
+-- there is a state at these places
 pub record StandsAt (version : ℕ) (bytes : List ℕ) (s : State) (p : StatePlaces) : Type 0 where
   pub order : p.start ≤ p.end
   pub within : p.end ≤ length bytes

@@ -8,25 +8,26 @@ use Rattle.value_domain.specs.Values.{any_val}
 use Rattle.value_domain.specs.State.{Covers}
 use Rattle.depth_cert.specs.declared.points.Point.{Point}
 use Rattle.depth_cert.specs.Points.{find_point}
-use Rattle.packed_cert.specs.declared.packed_points.PackedPoint.{PackedPoint}
-use Rattle.packed_cert.specs.declared.state_places.Anew.{Anew}
+use Rattle.packed_cert.specs.declared.places.PackedPoint.{PackedPoint}
+use Rattle.packed_cert.specs.declared.places.ValueRow.{ValueRow}
 use Rattle.packed_cert.specs.Points.{HasState}
 use Rattle.packed_cert.specs.Moves.{StandsBefore, AreMoves}
 
--- the points that are walked over, the state of the point at hand, values of it among which are all that the last step read, and
--- the points after it
+-- the points that are walked over, the state of the point at hand, values of it that hold all that
+-- the last step read, and the points after it
 pub record WalkData : Type 0 where
   pub points : List Point
   pub current : State
   pub anew : List Val
   pub left : List Point
 
--- each value at hand stood there before, or is among those that are told
+-- each value at hand is as it was before, or one of those that may be new
 abbrev pub KeepsOthers : State → WalkData → Type 0
 KeepsOthers before after =
     (r : ℕ) → r < length (after.current).regs → ((r < length before.regs) × (slice_index_or (after.current).regs r any_val ≡ slice_index_or before.regs r any_val)) ⊎ Contains after.anew (slice_index_or (after.current).regs r any_val)
 
--- a step gives the address of the first point that is left, whose state is then at hand; or none is left
+-- a step returns the address of the first point that is left, whose state is then at hand, or none
+-- is left
 abbrev pub StepsTo : WalkData → Option ℕ → WalkData → Type 0
 StepsTo before None after = (before.left ≡ []) × (after ≡ before)
 StepsTo before (Some addr) after =
@@ -44,9 +45,9 @@ CoversNext w addr s = (t : State) × (w.left ≡ record { addr = addr; state = t
 abbrev pub CoversAt : WalkData → ℕ → Type 0
 CoversAt w addr = IsSomeAnd (find_point addr w.points) (λ p. Covers p.state w.current)
 
--- what a walk keeps: states stand where it says, each point keeps what it says of the state before it, and the state at hand is
--- the one before the next point
-pub record IsWalk (version : ℕ) (bytes : List ℕ) (points : List PackedPoint) (next : ℕ) (read : Anew) (state : State) : Type 0 where
+-- what always holds of a walk: states are at their places, each point shares what it says with the
+-- state before it, and the state at hand is the one before the next point
+pub record IsWalk (version : ℕ) (bytes : List ℕ) (points : List PackedPoint) (next : ℕ) (read : ValueRow) (state : State) : Type 0 where
   pub short : length bytes ≤ 2 ^ 30
   pub states : All (λ p. HasState version bytes p.place) points
   pub rising : IsStrictlyIncreasing (map (λ p. p.addr) points)

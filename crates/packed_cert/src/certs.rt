@@ -1,13 +1,12 @@
-// Certificates on the bytes of their file.
+// The type `PackedCert`: a certificate that stays on the bytes of its file.
 ghost use Rattle.std.specs.Prelude.{◌≡◌, ◌≤◌, ◌<◌, ◌^◌, ℕ, nat_lt, true, false, map, sum_by, length, slice_index, Ok, IfOk, IfErr};
 ghost use Rattle.std.specs.List.{All, slice_get};
 ghost use Rattle.std.specs.List.Sorted.{IsStrictlyIncreasing, IsPartitionPoint};
 ghost use Rattle.depth_cert.specs.Answers.{IsFaultOf};
-ghost use Rattle.depth_cert.specs.Keys.{number_of_key};
 
-use crate::cert_fields::read_parts;
-use crate::node_places::NodePlaces;
-use crate::packed_nodes::PackedNode;
+use crate::cert_reader::read_parts;
+use crate::nodes::PackedNode;
+use crate::places::NodePlaces;
 use depth_cert::{Cert, CertErr, Key, number_of};
 use std::alloc::Global;
 use std::marker::Model;
@@ -38,7 +37,7 @@ impl PackedCert {
     ghost use Rattle.depth_cert.specs.Grammar.{certificate_of};
     ghost use Rattle.depth_cert.specs.Spelling.{bytes_of};
 
-    /// The certificate that the bytes spell, or their first fault.
+    /// Reads the certificate that the bytes spell, or returns their first fault.
     pub fn read(alloc: Global, bytes: Vec<u8>) -> Result<PackedCert, CertErr>
         requires { length bytes.items ≤ 2 ^ 30 }
         ensures ok { IfOk result (λ c. certificate_of bytes.items ≡ Ok c) }
@@ -56,7 +55,7 @@ impl PackedCert {
         })
     }
 
-    /// The bytes that spell the certificate.
+    /// Returns the bytes that spell the certificate.
     pub fn bytes(&self) -> &[u8]
         ensures spelled { result.now ≡ bytes_of self.now }
         ensures back { certificate_of result.now ≡ Ok self.now }
@@ -65,14 +64,14 @@ impl PackedCert {
         self.bytes.as_slice()
     }
 
-    /// The bytes that spell the certificate, which it gives up.
+    /// Gives up the certificate for the bytes that spell it.
     pub fn into_bytes(self) -> Vec<u8>
         ensures { result.items ≡ bytes_of self }
     {
         self.bytes
     }
 
-    /// A certificate in memory, put on the bytes that spell it.
+    /// Puts a certificate in memory on the bytes that spell it.
     pub fn of(alloc: Global, cert: &Cert) -> Result<PackedCert, NoMemory>
         ensures { IfOk result (λ c. c ≡ cert.now) }
     {
@@ -87,7 +86,7 @@ impl PackedCert {
         }
     }
 
-    /// The same certificate in memory, where each point has a place of its own.
+    /// Returns the same certificate in memory, where each point takes some 14 KB.
     pub fn unpack(&self, alloc: Global) -> Result<Cert, NoMemory>
         ensures { IfOk result (λ c. c ≡ self.now) }
     {
@@ -98,7 +97,7 @@ impl PackedCert {
         }
     }
 
-    /// The version, 1 or 2; a certificate keeps the order and the limits.
+    /// Returns the version, 1 or 2. A certificate keeps the order and the limits.
     pub fn version(&self) -> u8
         ensures version { result ≡ self.now.version }
         ensures limits { IsCert self.now }
@@ -106,21 +105,21 @@ impl PackedCert {
         self.version
     }
 
-    /// How many nodes there are.
+    /// Returns the number of nodes.
     pub fn len(&self) -> usize
         ensures { result ≡ length self.now.nodes }
     {
         self.nodes.len()
     }
 
-    /// How many points the nodes have together.
+    /// Returns the number of points that the nodes have together.
     pub fn count_points(&self) -> usize
         ensures { result ≡ count_points self.now.nodes }
     {
         count_places(&self.nodes)
     }
 
-    /// The node at an index, or nothing past the last.
+    /// Returns the node at an index, or `None` if the index is past the last.
     pub fn get(&self, index: usize) -> Option<PackedNode<'_>>
         ensures { result ≡ slice_get self.now.nodes index }
     {
@@ -130,14 +129,14 @@ impl PackedCert {
         None
     }
 
-    /// The node of a key, or nothing where there is none.
+    /// Returns the node of a key, or `None` if there is none.
     pub fn node(&self, key: &Key) -> Option<PackedNode<'_>>
         ensures { result ≡ find_node key.now self.now.nodes }
     {
         let nodes = self.nodes.as_slice();
         let number = number_of(key);
         let at = node_place(nodes, number);
-        if at < nodes.len() && number_of(&nodes[at].key) == number {
+        if at < nodes.len() && nodes[at].number == number {
             return Some(PackedNode::at(self.bytes.as_slice(), self.version, &nodes[at]));
         }
         None
@@ -149,7 +148,7 @@ pub(crate) fn are_bytes(bytes: &[u8])
     ensures { (k : ℕ) → slice_index bytes.now k < 2 ^ 8 }
 {}
 
-/// How many points these nodes have together.
+/// Returns the number of points that these nodes have together.
 fn count_places(nodes: &[NodePlaces]) -> usize
     requires { sum_by (λ n. length n.points.items) nodes.now ≤ 2 ^ 16 }
     ensures { result ≡ sum_by (λ n. length n.points.items) nodes.now }
@@ -162,16 +161,16 @@ fn count_places(nodes: &[NodePlaces]) -> usize
 }
 
 fn is_below(node: &NodePlaces, number: u64) -> bool
-    ensures { result ≡ nat_lt (number_of_key node.now.key) number }
+    ensures { result ≡ nat_lt node.now.number number }
 {
-    number_of(&node.key) < number
+    node.number < number
 }
 
-/// The place before which all keys are below.
+/// Returns the number of nodes whose keys are below `number`.
 fn node_place(nodes: &[NodePlaces], number: u64) -> usize
-    requires { IsStrictlyIncreasing (map (λ n. number_of_key n.key) nodes.now) }
-    ensures { IsPartitionPoint (λ n. nat_lt (number_of_key n.key) number ≡ true)
-        (λ n. nat_lt (number_of_key n.key) number ≡ false) nodes.now result }
+    requires { IsStrictlyIncreasing (map (λ n. n.number) nodes.now) }
+    ensures { IsPartitionPoint (λ n. nat_lt n.number number ≡ true)
+        (λ n. nat_lt n.number number ≡ false) nodes.now result }
 {
     nodes.partition_point(|n| is_below(n, number))
 }

@@ -1,17 +1,18 @@
-// Exits where they stand in bytes.
+// The type `ExitAt`: an exit that stays in the bytes of its certificate.
 ghost use Rattle.std.specs.Prelude.{◌≡◌, ◌≤◌, ◌^◌, ◌↔◌, IsTrue, length};
 ghost use Rattle.packed_cert.specs.Nodes.{exit_in, HasExit};
 
-use crate::asked::{Asked, are_asked_below_at};
-use crate::below::are_values_at;
 use crate::certs::are_bytes;
-use crate::restored::ValuesAt;
+use crate::places::LOWER_VALUES;
+use crate::return_covers::ValuesAt;
+use crate::state_covers::{ToCover, are_covered_at};
+use crate::value_covers::are_values_at;
 use depth_cert::{Exit, no_exit, read_exit};
 use std::marker::Model;
 use tcd_base::Cursor;
 use value_domain::{Bounds, State};
 
-/// An exit where it stands in bytes.
+/// An exit that stays in the bytes of its certificate.
 #[derive(Drop)]
 pub struct ExitAt<'a> {
     bytes: &'a [u8],
@@ -35,7 +36,7 @@ impl<'a> ExitAt<'a> {
     ghost use Rattle.depth_cert.specs.Exits.{exit_of, ExitCovers};
     ghost use Rattle.packed_cert.specs.Below.{values_in, HaveValues};
 
-    /// The exit that stands at a place.
+    /// Returns the exit at a place.
     pub(crate) fn at(bytes: &'a [u8], version: u8, place: usize) -> ExitAt<'a>
         requires short { length bytes.now ≤ 2 ^ 30 }
         requires exit { HasExit version bytes.now place }
@@ -48,21 +49,21 @@ impl<'a> ExitAt<'a> {
         }
     }
 
-    /// Whether interrupts may be enabled after the frame.
+    /// Returns true if interrupts may be enabled after the frame.
     pub fn ie(&self) -> bool
         ensures { result ≡ self.now.ie }
     {
         self.bytes[self.place] == 1
     }
 
-    /// A number that CCPN isn't below after the frame.
+    /// Returns a number that CCPN isn't below after the frame.
     pub fn ccpn(&self) -> u8
         ensures { result ≡ self.now.ccpn }
     {
         self.bytes[self.place + 1]
     }
 
-    /// Where the values of its lower registers stand.
+    /// Returns the place of the values of its lower registers.
     pub(crate) fn lower(&self) -> ValuesAt<'a>
         ensures short { length result.bytes.now ≤ 2 ^ 30 }
         ensures have { HaveValues result.version result.bytes.now result.place 14 }
@@ -77,15 +78,15 @@ impl<'a> ExitAt<'a> {
         }
     }
 
-    /// Whether its values are those of the plan and the version.
+    /// Returns true if its values are those of the plan and the version.
     pub fn are_values(&self, b: &Bounds) -> bool
         ensures { IsTrue result ↔ AreValues b.now self.now.lower }
     {
         let lower = self.lower();
-        are_values_at(b, lower.bytes, lower.version, lower.place, 14)
+        are_values_at(b, lower.bytes, lower.version, lower.place, LOWER_VALUES)
     }
 
-    /// Whether it covers that of a state, of which the values are compared where its own stand.
+    /// Returns true if it covers the exit of a state. Its own values are compared in the bytes.
     pub fn covers(&self, s: &State) -> bool
         requires { AreWell s.now.regs }
         ensures { IsTrue result ↔ ExitCovers self.now (exit_of s.now) }
@@ -98,16 +99,16 @@ impl<'a> ExitAt<'a> {
             return false;
         }
         let lower = self.lower();
-        are_asked_below_at(
-            &Asked::Leaving(s),
-            14,
+        are_covered_at(
+            &ToCover::Lower(s),
+            LOWER_VALUES,
             lower.bytes,
             lower.version,
             lower.place,
         )
     }
 
-    /// The exit, read.
+    /// Reads the exit.
     pub fn read(&self) -> Exit
         ensures { result ≡ self.now }
     {

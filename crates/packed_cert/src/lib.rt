@@ -1,27 +1,25 @@
 //! Certificates on the bytes of their file.
 #![tactic(auto)]
 
-mod asked;
-mod below;
-mod cert_fields;
+mod cert_reader;
 mod certs;
-mod changed;
 mod exits;
-mod node_fields;
-mod node_places;
-mod packed_nodes;
-mod packed_points;
-mod point_fields;
-mod restored;
-mod same_bytes;
-mod state_places;
+mod next_covers;
+mod node_reader;
+mod nodes;
+mod places;
+mod point_reader;
+mod repeated_bytes;
+mod return_covers;
+mod state_covers;
 mod states;
-mod values_after;
+mod value_covers;
+mod value_reader;
 mod walks;
 
 pub use certs::PackedCert;
 pub use exits::ExitAt;
-pub use packed_nodes::PackedNode;
-pub use packed_points::PackedPoint;
+pub use nodes::PackedNode;
+pub use places::PackedPoint;
 pub use states::StateAt;
 pub use walks::PointWalk;

@@ -1,4 +1,4 @@
-// States where they stand in bytes.
+// The type `StateAt`: a state that stays in the bytes of its certificate.
 ghost use Rattle.std.specs.Prelude.{◌≡◌, ◌≤◌, ◌+◌, ◌^◌, ◌↔◌, ◌==◌, if◌then◌else◌, IsTrue, length};
 ghost use Rattle.value_domain.specs.State.{AreWell, Covers};
 ghost use Rattle.vd_transfer.specs.declared.change.Base.TheVariants.{Same};
@@ -8,17 +8,18 @@ ghost use Rattle.packed_cert.specs.Standing.{flags_in};
 ghost use Rattle.packed_cert.specs.Points.{state_in, HasState};
 ghost use Rattle.packed_cert.specs.Below.{values_in, HaveValues};
 
-use crate::asked::{Asked, are_asked_below_at};
-use crate::changed::{are_puts_below, is_row_below};
 use crate::exits::ExitAt;
-use crate::packed_points::PackedPoint;
-use crate::restored::{ValuesAt, are_restored_below};
+use crate::next_covers::{are_puts_below, is_row_below};
+use crate::places::{PackedPoint, VALUES};
+use crate::return_covers::{ValuesAt, are_restored_below};
+use crate::state_covers::{ToCover, are_covered_at};
 use arrayvec::ArrayVec;
+use depth_cert::CALL;
 use std::marker::Model;
 use value_domain::{State, Val, are_implied};
 use vd_transfer::Change;
 
-/// A state where it stands in bytes.
+/// A state that stays in the bytes of its certificate.
 #[derive(Drop)]
 pub struct StateAt<'a> {
     bytes: &'a [u8],
@@ -38,7 +39,7 @@ impl<'a> Model for StateAt<'a> {
 }
 
 impl<'a> StateAt<'a> {
-    /// The state that stands at a place.
+    /// Returns the state at a place.
     pub(crate) fn at(bytes: &'a [u8], version: u8, place: usize) -> StateAt<'a>
         requires short { length bytes.now ≤ 2 ^ 30 }
         requires state { HasState version bytes.now place }
@@ -53,28 +54,28 @@ impl<'a> StateAt<'a> {
 }
 
 impl<'a> StateAt<'a> {
-    /// Whether interrupts may be enabled.
+    /// Returns true if interrupts may be enabled.
     pub fn ie(&self) -> bool
         ensures { result ≡ self.now.ie }
     {
         self.bytes[self.place] == 1
     }
 
-    /// A number that CCPN isn't below.
+    /// Returns a number that CCPN isn't below.
     pub fn ccpn(&self) -> u8
         ensures { result ≡ self.now.ccpn }
     {
         self.bytes[self.place + 1]
     }
 
-    /// Whether the lower context was saved.
+    /// Returns true if the lower context was saved.
     pub fn lower(&self) -> bool
         ensures { result ≡ self.now.lower }
     {
         self.bytes[self.place + 2] == 1
     }
 
-    /// What is known of the local areas.
+    /// Returns what is known of the local areas.
     pub fn locals(&self) -> ArrayVec<bool, 8>
         ensures { result.items ≡ self.now.locals.items }
     {
@@ -88,7 +89,7 @@ impl<'a> StateAt<'a> {
     ghost use Rattle.depth_cert.specs.Exits.{after_of};
     ghost use Rattle.vd_transfer.specs.Changes.{state_after};
 
-    /// Whether this context covers another.
+    /// Returns true if this context covers another.
     pub fn covers_context(&self, ie: bool, ccpn: u8, lower: bool) -> bool
         ensures { IsTrue result
             ↔ ((IsTrue ie → IsTrue self.now.ie) × (self.now.ccpn ≤ ccpn)
@@ -97,7 +98,7 @@ impl<'a> StateAt<'a> {
         (self.ie() || !ie) && self.ccpn() <= ccpn && (lower || !self.lower())
     }
 
-    /// Whether each run that a state allows is allowed by this one.
+    /// Returns true if this state covers another.
     pub fn covers(&self, s: &State) -> bool
         requires { AreWell s.now.regs }
         ensures { IsTrue result ↔ Covers self.now s.now }
@@ -110,10 +111,10 @@ impl<'a> StateAt<'a> {
             return false;
         }
         let place = place_of_values(self.bytes, self.version, self.place);
-        are_asked_below_at(&Asked::Same(s), 27, self.bytes, self.version, place)
+        are_covered_at(&ToCover::Whole(s), VALUES, self.bytes, self.version, place)
     }
 
-    /// Whether this state covers a changed one, which is never built.
+    /// Returns true if this state covers a changed one, which is never built.
     pub fn covers_changed(&self, s: &State, c: &Change) -> bool
         requires { AreWell (state_after s.now c.now).regs }
         ensures { IsTrue result ↔ Covers self.now (state_after s.now c.now) }
@@ -126,11 +127,17 @@ impl<'a> StateAt<'a> {
             return false;
         }
         let place = place_of_values(self.bytes, self.version, self.place);
-        are_asked_below_at(&Asked::Changed(s, c), 27, self.bytes, self.version, place)
+        are_covered_at(
+            &ToCover::Changed(s, c),
+            VALUES,
+            self.bytes,
+            self.version,
+            place,
+        )
     }
 
-    /// Whether this state covers the one after a call (`kind` 1) or a system call (`kind` 3) that came
-    /// back by the exit; neither is read.
+    /// Returns true if this state covers the one after a `CALL` or a `SYS` that returned by the
+    /// exit. Neither is read.
     pub fn covers_after(&self, s: &State, exit: &ExitAt<'_>, kind: u8) -> bool
         requires { AreWell s.now.regs }
         ensures { IsTrue result ↔ Covers self.now (after_of s.now exit.now kind) }
@@ -151,8 +158,8 @@ impl<'a> StateAt<'a> {
     }
 }
 
-/// Whether the state of a point covers the one before it, changed by what is put alone: the values
-/// that are put are looked at, and those of its row.
+/// Returns true if the state of a point covers the one before it, changed by what is put alone.
+/// Only the values that are put and those of the point's row are compared.
 pub(crate) fn covers_moved(
     s: &State,
     c: &Change,
@@ -177,21 +184,22 @@ pub(crate) fn covers_moved(
     if !are_implied(upper.locals().as_slice(), c.locals.as_slice()) {
         return false;
     }
-    are_puts_below(s, c, point.anew) && is_row_below(s, c, bytes, version, point)
+    are_puts_below(s, c, point.row) && is_row_below(s, c, bytes, version, point)
 }
 
-/// IE and CCPN after a call, which are its exit's, or after a system call, which are its caller's.
+/// Returns IE and CCPN after a call, which are its exit's, or after a system call, which are its
+/// caller's.
 fn status_after(s: &State, exit: &ExitAt<'_>, kind: u8) -> (bool, u8)
     ensures ie { result.0 ≡ (if kind == 1 then exit.now.ie else s.now.ie) }
     ensures ccpn { result.1 ≡ (if kind == 1 then exit.now.ccpn else s.now.ccpn) }
 {
-    if kind == 1 {
+    if kind == CALL {
         return (exit.ie(), exit.ccpn());
     }
     (s.ie, s.ccpn)
 }
 
-/// The truth values that stand from a place on.
+/// Returns the truth values from a place on.
 fn flags_at(bytes: &[u8], place: usize, count: u8) -> ArrayVec<bool, 8>
     requires short { length bytes.now ≤ 2 ^ 30 }
     requires within { place + count ≤ length bytes.now }
@@ -205,7 +213,7 @@ fn flags_at(bytes: &[u8], place: usize, count: u8) -> ArrayVec<bool, 8>
     flags
 }
 
-/// Where the values of a state stand.
+/// Returns the place of the values of a state.
 fn place_of_values(bytes: &[u8], version: u8, place: usize) -> usize
     requires short { length bytes.now ≤ 2 ^ 30 }
     requires inside { place ≤ length bytes.now }

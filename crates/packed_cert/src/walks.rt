@@ -1,31 +1,30 @@
-// Points of a node one after another, with room for one state.
+// The type `PointWalk`: the points of a node one after another, with room for one state.
 ghost use Rattle.std.specs.Prelude.{◌≡◌, ◌≤◌, ◌<◌, ◌-◌, ◌^◌, ◌↔◌, [], length, drop, map, IfSome, IsTrue};
 ghost use Rattle.std.specs.List.Sorted.{IsStrictlyIncreasing};
 ghost use Rattle.packed_cert.specs.Points.{state_in, HasState};
-ghost use Rattle.packed_cert.specs.Standing.{AreAnew};
+ghost use Rattle.packed_cert.specs.Standing.{ChangesRow};
 ghost use Rattle.packed_cert.specs.Below.{values_in, HaveValues};
 ghost use Rattle.packed_cert.specs.Moves.{IsMoved};
 
-use crate::below::read_at;
-use crate::packed_nodes::place_of;
-use crate::packed_points::PackedPoint;
-use crate::point_fields::blank;
-use crate::state_places::Anew;
+use crate::nodes::place_of;
+use crate::places::{PackedPoint, ValueRow};
+use crate::point_reader::blank;
 use crate::states::{StateAt, covers_moved};
-use crate::values_after::{length_by, none_anew};
+use crate::value_covers::read_at;
+use crate::value_reader::{length_by, no_row};
 use std::marker::Model;
 use value_domain::{State, Val};
 use vd_transfer::{Base, Change};
 
-/// A walk over the points of a node: the state of the point at hand, a row of its values among which
-/// are all that were read anew, and the points behind it.
+/// A walk over the points of a node: the state of the point at hand, the row of its values that
+/// were read, and the points after it.
 #[derive(Drop)]
 pub struct PointWalk<'a> {
     bytes: &'a [u8],
     version: u8,
     points: &'a [PackedPoint],
     next: usize,
-    anew: Anew,
+    row: ValueRow,
     state: State,
 }
 
@@ -39,12 +38,12 @@ impl<'a> Model for PointWalk<'a> {
     ghost view = { λ w. record {
       points = points_in w.version w.bytes.now w.points.now;
       current = w.state;
-      anew = take (w.anew.behind - w.anew.first) (drop w.anew.first (w.state).regs);
+      anew = take (w.row.behind - w.row.first) (drop w.row.first (w.state).regs);
       left = points_in w.version w.bytes.now (drop w.next w.points.now);
     } };
 
     ghost invariant = { λ w.
-        IsWalk w.version w.bytes.now w.points.now w.next w.anew w.state };
+        IsWalk w.version w.bytes.now w.points.now w.next w.row w.state };
 }
 
 impl<'a> PointWalk<'a> {
@@ -55,7 +54,7 @@ impl<'a> PointWalk<'a> {
     ghost use Rattle.packed_cert.specs.Moves.{AreMoves};
     ghost use Rattle.packed_cert.specs.Walks.{StepsTo, RepeatsAt, CoversNext, CoversAt};
 
-    /// A walk over no points.
+    /// Returns a walk over no points.
     pub fn none() -> PointWalk<'a>
         ensures { result.left ≡ [] }
     {
@@ -64,12 +63,12 @@ impl<'a> PointWalk<'a> {
             version: 1,
             points: &[],
             next: 0,
-            anew: none_anew(),
+            row: no_row(),
             state: blank(),
         }
     }
 
-    /// Goes before the first of these points; the state at hand is room for theirs.
+    /// Goes before the first of these points. The state at hand is room for theirs.
     pub(crate) fn go_before(&mut self, bytes: &'a [u8], version: u8, points: &'a [PackedPoint])
         requires short { length bytes.now ≤ 2 ^ 30 }
         requires states { All (λ p. HasState version bytes.now p.place) points.now }
@@ -82,10 +81,10 @@ impl<'a> PointWalk<'a> {
         self.version = version;
         self.points = points;
         self.next = 0;
-        self.anew = none_anew();
+        self.row = no_row();
     }
 
-    /// Goes on to the next point and gives its address, or nothing behind the last.
+    /// Goes on to the next point and returns its address, or `None` after the last.
     #[inline(always)]
     pub fn step(&mut self) -> Option<u32>
         ensures { StepsTo self.old result self.new }
@@ -94,12 +93,12 @@ impl<'a> PointWalk<'a> {
             return None;
         }
         let point = self.points[self.next];
-        self.anew = move_on(self.bytes, self.version, point, &mut self.state);
+        self.row = move_on(self.bytes, self.version, point, &mut self.state);
         self.next += 1;
         Some(point.addr)
     }
 
-    /// The address of the next point, where its state is the one at hand.
+    /// Returns the address of the next point if its state is the one at hand.
     pub fn repeats_at(&self) -> Option<u32>
         ensures { IfSome result (RepeatsAt self.now) }
     {
@@ -110,9 +109,9 @@ impl<'a> PointWalk<'a> {
         if point.same { Some(point.addr) } else { None }
     }
 
-    /// Whether the next point has this address, and its state covers the one at hand, changed. Only
-    /// values that are put, and those of the next point's row, are looked at; where the change doesn't
-    /// begin with the values at hand it isn't told.
+    /// Returns true if the next point has this address, and its state is seen to cover the one at
+    /// hand, changed. Only values that are put and those of the next point's row are compared, so a
+    /// change that doesn't begin with the values at hand gives false.
     pub fn covers_next(&self, addr: u32, c: &Change) -> bool
         requires hand { AreWell self.now.current.regs }
         requires changed { AreWell (state_after self.now.current c.now).regs }
@@ -149,35 +148,35 @@ impl<'a> PointWalk<'a> {
         false
     }
 
-    /// The state of the point at hand.
+    /// Returns the state of the point at hand.
     pub fn state(&self) -> &State
         ensures { result.now ≡ self.now.current }
     {
         &self.state
     }
 
-    /// A row of the values at hand, among which are all that the last step read anew; the others of
-    /// the state at hand were there before.
+    /// Returns the values at hand that the last step read, and perhaps others between them. The
+    /// rest were at hand before.
     pub fn anew(&self) -> &[Val]
         ensures { result.now ≡ self.now.anew }
     {
         let regs = &self.state.regs[..];
-        &regs[self.anew.first as usize..self.anew.behind as usize]
+        &regs[self.row.first as usize..self.row.behind as usize]
     }
 }
 
-/// Moves the room for a state on to that of a point which keeps of it what it says: only the values
-/// of its row are read. Gives the row.
-fn move_on(bytes: &[u8], version: u8, point: PackedPoint, room: &mut State) -> Anew
+/// Makes the state before a point that of the point: only the values of its row are read. Returns
+/// the row.
+fn move_on(bytes: &[u8], version: u8, point: PackedPoint, room: &mut State) -> ValueRow
     requires short { length bytes.now ≤ 2 ^ 30 }
     requires state { HasState version bytes.now point.place }
     requires moved { IsMoved version bytes.now room.old point }
     ensures state { room.new ≡ state_in version bytes.now point.place }
-    ensures anew { AreAnew room.old.regs room.new.regs result }
+    ensures row { ChangesRow room.old.regs room.new.regs result }
     ensures few { result.behind ≤ 27 }
 {
     if point.same {
-        return none_anew();
+        return no_row();
     }
     let at = StateAt::at(bytes, version, point.place as usize);
     room.ie = at.ie();
@@ -185,24 +184,24 @@ fn move_on(bytes: &[u8], version: u8, point: PackedPoint, room: &mut State) -> A
     room.lower = at.lower();
     room.locals = at.locals();
     read_row(bytes, version, point, &mut room.regs);
-    point.anew
+    point.row
 }
 
 /// Reads the values of a point's row over those of the state before it.
 fn read_row(bytes: &[u8], version: u8, point: PackedPoint, out: &mut [Val; 27])
     requires short { length bytes.now ≤ 2 ^ 30 }
-    requires row { AreAnew out.old (state_in version bytes.now point.place).regs point.anew }
-    requires few { point.anew.behind ≤ 27 }
-    requires have { 0 < point.anew.behind
-        → HaveValues version bytes.now point.anew.from (27 - point.anew.first) }
-    requires stand { 0 < point.anew.behind
-        → drop point.anew.first (state_in version bytes.now point.place).regs
-        ≡ values_in version bytes.now point.anew.from (27 - point.anew.first) }
+    requires row { ChangesRow out.old (state_in version bytes.now point.place).regs point.row }
+    requires few { point.row.behind ≤ 27 }
+    requires have { 0 < point.row.behind
+        → HaveValues version bytes.now point.row.from (27 - point.row.first) }
+    requires stand { 0 < point.row.behind
+        → drop point.row.first (state_in version bytes.now point.place).regs
+        ≡ values_in version bytes.now point.row.from (27 - point.row.first) }
     ensures { out.new ≡ (state_in version bytes.now point.place).regs }
 {
     let _regs = &out[..];
-    let mut at = point.anew.from as usize;
-    for i in point.anew.first as usize..point.anew.behind as usize {
+    let mut at = point.row.from as usize;
+    for i in point.row.first as usize..point.row.behind as usize {
         read_at(bytes, version, at, &mut out[i]);
         at += length_by(bytes[at]);
     }

@@ -1,5 +1,5 @@
 use Rattle.std.proofs.Common.{◌≡◌, length, take, sum_by}
-use Rattle.packed_cert.specs.declared.node_places.NodePlaces.{NodePlaces}
+use Rattle.packed_cert.specs.declared.places.NodePlaces.{NodePlaces}
 use Rattle.packed_cert.proofs.certs.count_places.Given as goal
 
 abbrev pub invariant-loop-node : goal.invariant-loop-node

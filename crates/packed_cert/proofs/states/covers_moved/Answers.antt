@@ -19,12 +19,12 @@ returns-then-are_puts_below c = λ t.
     record {
       regs = λ r h.
           let lt : r < 27 = omega (arith, len) in
-          let kept : (r < c.args.point.anew.first) ⊎ (c.args.point.anew.behind ≤ r) → IsBelow (get_or after.regs r any_val) (get_or there.regs r any_val) = λ o.
+          let kept : (r < c.args.point.row.first) ⊎ (c.args.point.row.behind ≤ r) → IsBelow (get_or after.regs r any_val) (get_or there.regs r any_val) = λ o.
           subst (λ (v : Val). IsBelow (get_or after.regs r any_val) v) (sym (c.requires.moved.row.kept r (omega (arith, own)) o)) (c.are_puts_below.ensures c.if-are_puts_below.true r lt o)
           in
-          elim (cases_lt r c.args.point.anew.first) [
+          elim (cases_lt r c.args.point.row.first) [
             | inl low ↦ kept (inl low)
-            | inr from ↦ elim (cases_lt r c.args.point.anew.behind) [ inl within ↦ c.is_row_below.ensures t r from within | inr past ↦ kept (inr past) ]
+            | inr from ↦ elim (cases_lt r c.args.point.row.behind) [ inl within ↦ c.is_row_below.ensures t r from within | inr past ↦ kept (inr past) ]
           ];
       context = rw upper at (c.covers_context.ensures.0 c.if-not-covers_context.false);
       locals = rw upper at (rw c.locals.ensures at locals);

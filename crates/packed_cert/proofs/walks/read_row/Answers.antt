@@ -56,7 +56,7 @@ loop-i-preserved c =
             | inr from ↦
                 elim (cases_lt i k) [
                   | inl high ↦
-                      let past : c.args.point.anew.behind ≤ k = elim told [ inl low2 ↦ absurd (omega arith) | inr p ↦ p ] in
+                      let past : c.args.point.row.behind ≤ k = elim told [ inl low2 ↦ absurd (omega arith) | inr p ↦ p ] in
                       get_or-set_other out i k c.read_at.new.out any_val (λ e. let same : k ≡ i = e in omega arith) ∙ inv.done k lt (inr past)
                   | inr there ↦
                       let same : k ≡ i = omega arith in

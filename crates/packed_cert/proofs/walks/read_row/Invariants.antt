@@ -7,7 +7,7 @@ use Rattle.packed_cert.proofs.walks.read_row.Given as goal
 abbrev pub invariant-loop-i : goal.invariant-loop-i
 invariant-loop-i l = record {
   count : length l.out ≡ 27;
-  have : 0 < l.fn.point.anew.behind → HaveValues l.version l.bytes l.at (27 - l.i);
-  left : 0 < l.fn.point.anew.behind → drop l.i (state_in l.version l.bytes l.fn.point.place).regs ≡ values_in l.version l.bytes l.at (27 - l.i);
-  done : (k : ℕ) → k < 27 → (k < l.i) ⊎ (l.fn.point.anew.behind ≤ k) → get_or l.out k any_val ≡ get_or (state_in l.version l.bytes l.fn.point.place).regs k any_val;
+  have : 0 < l.fn.point.row.behind → HaveValues l.version l.bytes l.at (27 - l.i);
+  left : 0 < l.fn.point.row.behind → drop l.i (state_in l.version l.bytes l.fn.point.place).regs ≡ values_in l.version l.bytes l.at (27 - l.i);
+  done : (k : ℕ) → k < 27 → (k < l.i) ⊎ (l.fn.point.row.behind ≤ k) → get_or l.out k any_val ≡ get_or (state_in l.version l.bytes l.fn.point.place).regs k any_val;
 }

@@ -9,11 +9,11 @@ pub returns : goal.returns
 returns c =
     let own = c.self.inside in
     let s = c.move_on-self-inside.new.room in
-    let anew = c.move_on-self-inside.result in
+    let row = c.move_on-self-inside.result in
     let left = points_in own.version own.bytes.now (drop (own.next + 1) own.points.now) in (
       ap (λ (w : WalkData). w.left) (sym c.self.view_is) ∙ first_left own.version own.bytes.now own.points.now own.next _ s c.if-self.false c.move_on-self-inside.ensures.state,
-      subst (λ (u : State). KeepsOthers u (record { points = points_in own.version own.bytes.now own.points.now; current = s; anew = take (anew.behind - anew.first) (drop anew.first s.regs); left = left })) (ap (λ (w : WalkData). w.current) c.self.view_is)
-          (keeps_others own.state s anew left (points_in own.version own.bytes.now own.points.now) c.move_on-self-inside.ensures.anew),
+      subst (λ (u : State). KeepsOthers u (record { points = points_in own.version own.bytes.now own.points.now; current = s; anew = take (row.behind - row.first) (drop row.first s.regs); left = left })) (ap (λ (w : WalkData). w.current) c.self.view_is)
+          (keeps_others own.state s row left (points_in own.version own.bytes.now own.points.now) c.move_on-self-inside.ensures.row),
       ap (λ (w : WalkData). w.points) c.self.view_is,
     )
 

@@ -1,0 +1,93 @@
+// Fast path: does the state of the next point cover the one at hand, changed?
+// A point keeps the row of values outside which its state is that of the point before. So only what
+// is put, and the values of that row, are compared, and not all 27.
+ghost use Rattle.std.specs.Prelude.{◌≡◌, ◌≤◌, ◌<◌, ◌-◌, ◌^◌, ◌↔◌, ℕ, IsTrue, Some, length, slice_index_or};
+ghost use Rattle.value_domain.specs.Values.{IsBelow, any_val};
+ghost use Rattle.value_domain.specs.State.{AreBelow, AreWell};
+ghost use Rattle.vd_transfer.specs.Changes.{state_after};
+ghost use Rattle.vd_transfer.specs.declared.change.Base.TheVariants.{Same};
+ghost use Rattle.packed_cert.specs.Below.{values_in, HaveValues};
+ghost use Rattle.packed_cert.specs.Points.{state_in};
+ghost use Rattle.packed_cert.specs.Moves.{IsMoved, IsBelowOwn};
+ghost use Rattle.packed_cert.specs.Standing.{IsOutside};
+
+use crate::places::{PackedPoint, VALUES, ValueRow};
+use crate::value_covers::is_below_at;
+use crate::value_reader::length_by;
+use value_domain::{State, Val, leq};
+use vd_transfer::{Change, changed_value};
+
+/// Returns true if each value that is put outside a row is below the state's own there.
+pub(crate) fn are_puts_below(s: &State, c: &Change, row: ValueRow) -> bool
+    requires base { c.now.base ≡ Same }
+    requires hand { AreWell s.now.regs }
+    requires well { AreWell (state_after s.now c.now).regs }
+    ensures { IsTrue result → (i : ℕ) → i < 27 → IsOutside row i → IsBelowOwn s.now c.now i }
+{
+    let _regs = &s.regs[..];
+    if !is_put_below(s, c, row, c.first.at) {
+        return false;
+    }
+    if !is_put_below(s, c, row, c.second.at) {
+        return false;
+    }
+    is_put_below(s, c, row, c.third.at)
+}
+
+/// Returns true if the changed value at a place is below the state's own, or if there is no place,
+/// or it is inside the row.
+fn is_put_below(s: &State, c: &Change, row: ValueRow, place: Option<usize>) -> bool
+    requires hand { AreWell s.now.regs }
+    requires well { AreWell (state_after s.now c.now).regs }
+    ensures { IsTrue result → (i : ℕ) → place ≡ Some i → i < 27 → IsOutside row i
+        → IsBelowOwn s.now c.now i }
+{
+    let Some(i) = place else {
+        return true;
+    };
+    if i >= VALUES || row.first as usize <= i && i < row.behind as usize {
+        return true;
+    }
+    let regs = &s.regs[..];
+    let any = Val::any();
+    let low = changed_value(s, c, &any, i);
+    let high = &regs[i];
+    // To see that two sets are equal takes less than to see that one is below the other.
+    if let Val::Set(own) = low {
+        if let Val::Set(words) = high {
+            if own.as_slice() == words.as_slice() {
+                return true;
+            }
+        }
+    }
+    leq(low, high)
+}
+
+/// Returns true if each changed value of a point's row is below the point's own.
+pub(crate) fn is_row_below(
+    s: &State,
+    c: &Change,
+    bytes: &[u8],
+    version: u8,
+    point: PackedPoint,
+) -> bool
+    requires short { length bytes.now ≤ 2 ^ 30 }
+    requires well { AreWell (state_after s.now c.now).regs }
+    requires moved { IsMoved version bytes.now s.now point }
+    ensures { IsTrue result → (i : ℕ) → point.row.first ≤ i → i < point.row.behind
+        → IsBelow (slice_index_or (state_after s.now c.now).regs i any_val)
+        (slice_index_or (state_in version bytes.now point.place).regs i any_val) }
+{
+    let _regs = &s.regs[..];
+    let any = Val::any();
+    let mut at = point.row.from as usize;
+    for i in point.row.first as usize..point.row.behind as usize {
+        let tag = bytes[at];
+        // All words: each value is below it.
+        if tag != 0 && !is_below_at(changed_value(s, c, &any, i), bytes, version, at) {
+            return false;
+        }
+        at += length_by(tag);
+    }
+    true
+}

@@ -1,0 +1,116 @@
+// The type `PackedNode`: a node whose exit and states stay in the bytes of its certificate.
+ghost use Rattle.std.specs.Prelude.{◌≡◌, ◌<◌, nat_lt, ◌==◌, true, false, map, find, length};
+ghost use Rattle.std.specs.Option.{option_map};
+ghost use Rattle.std.specs.List.Sorted.{IsStrictlyIncreasing, IsPartitionPoint};
+ghost use Rattle.packed_cert.specs.Nodes.{node_of, HasPlaces};
+
+use crate::exits::ExitAt;
+use crate::places::{NodePlaces, PackedPoint};
+use crate::states::StateAt;
+use crate::walks::PointWalk;
+use depth_cert::Key;
+use std::marker::Model;
+
+/// A node whose exit and states stay in the bytes of its certificate.
+#[derive(Drop)]
+pub struct PackedNode<'a> {
+    bytes: &'a [u8],
+    version: u8,
+    pub key: Key,
+    pub need: u16,
+    exit: Option<u32>,
+    points: &'a [PackedPoint],
+}
+
+impl<'a> Model for PackedNode<'a> {
+    ghost use Rattle.depth_cert.specs.Nodes.{NodeData};
+    ghost use Rattle.packed_cert.specs.Nodes.{node_in, IsPackedNode};
+
+    ghost Value = { NodeData };
+
+    ghost view = { λ n. node_in n.version n.bytes.now n.key n.need n.exit n.points.now };
+
+    ghost invariant = { λ n. IsPackedNode n.version n.bytes.now n.exit n.points.now };
+}
+
+impl<'a> PackedNode<'a> {
+    ghost use Rattle.depth_cert.specs.Points.{ArePoints, find_point};
+
+    /// Returns the node of these places.
+    pub(crate) fn at(bytes: &'a [u8], version: u8, places: &'a NodePlaces) -> PackedNode<'a>
+        requires { HasPlaces version bytes.now places.now }
+        ensures { result ≡ node_of version bytes.now places.now }
+    {
+        PackedNode {
+            bytes,
+            version,
+            key: places.key,
+            need: places.need,
+            exit: places.exit,
+            points: places.points.as_slice(),
+        }
+    }
+
+    /// Returns the exit, or `None` if the node has none.
+    pub fn exit(&self) -> Option<ExitAt<'a>>
+        ensures { result ≡ self.now.exit }
+    {
+        match self.exit {
+            Some(place) => Some(ExitAt::at(self.bytes, self.version, place as usize)),
+            None => None,
+        }
+    }
+
+    /// Returns the number of points.
+    pub fn len(&self) -> usize
+        ensures { result ≡ length self.now.points }
+    {
+        self.points.len()
+    }
+
+    /// Puts a walk before the first of the points, which are by ascending address.
+    pub fn walk(&self, walk: &mut PointWalk<'a>)
+        ensures all { walk.new.left ≡ self.now.points }
+        ensures points { walk.new.points ≡ self.now.points }
+        ensures rising { ArePoints self.now.points }
+    {
+        walk.go_before(self.bytes, self.version, self.points);
+    }
+
+    /// Returns the state at the address of a point, or `None` if there is none. Point number `near`
+    /// is tried first.
+    pub fn state(&self, addr: u32, near: usize) -> Option<StateAt<'a>>
+        ensures { result ≡ option_map (λ p. p.state) (find_point addr self.now.points) }
+    {
+        let points = self.points;
+        let at = place_of(points, addr, near);
+        if at < points.len() && points[at].addr == addr {
+            let place = points[at].place as usize;
+            return Some(StateAt::at(self.bytes, self.version, place));
+        }
+        None
+    }
+}
+
+fn is_below(point: &PackedPoint, addr: u32) -> bool
+    ensures { result ≡ nat_lt point.now.addr addr }
+{
+    point.addr < addr
+}
+
+/// Returns the number of points whose addresses are below `addr`. The points number `near` and
+/// `near + 1` are tried first: most instructions go on to the next one.
+pub(crate) fn place_of(points: &[PackedPoint], addr: u32, near: usize) -> usize
+    requires { IsStrictlyIncreasing (map (λ p. p.addr) points.now) }
+    ensures { IsPartitionPoint (λ p. nat_lt p.addr addr ≡ true) (λ p. nat_lt p.addr addr ≡ false)
+        points.now result }
+{
+    if near < points.len() && points[near].addr == addr {
+        return near;
+    }
+    let after = near.wrapping_add(1);
+    if after < points.len() && points[after].addr == addr {
+        return after;
+    }
+    points.partition_point(|p| is_below(p, addr))
+}

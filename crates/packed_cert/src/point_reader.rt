@@ -1,0 +1,271 @@
+// Reads points: their addresses and the places of their states.
+// Fast path: the state of the point before is at hand. If its bytes come again, they are passed
+// over, and else only the values whose bytes differ are read.
+ghost use Rattle.std.specs.Prelude.{◌≡◌, ◌≤◌, ◌<◌, ◌+◌, ◌^◌, ℕ, List, length, map, vec_len, true, false, Ok, Err, OnOk, IfOk, IfErr, IfSome, IsTrue, IsFalse};
+ghost use Rattle.std.specs.List.{All};
+ghost use Rattle.tcd_base.specs.Reading.{Reads};
+ghost use Rattle.depth_cert.specs.Grammar.{values_at, state_at, address_after, points_at, is_above};
+ghost use Rattle.depth_cert.specs.Answers.{IsFaultOf};
+ghost use Rattle.std.specs.List.Sorted.{IsStrictlyIncreasing};
+ghost use Rattle.packed_cert.specs.Standing.{StandFrom, ChangesRow, IsFrom, IsWhole};
+ghost use Rattle.packed_cert.specs.Points.{HasState, StandsAt, points_in};
+ghost use Rattle.packed_cert.specs.Moves.{AreMoves};
+
+use crate::places::{ExitPlaces, PackedPoint, ReadState, StatePlaces, VALUES, ValueRow};
+use crate::value_reader::{no_row, passes, read_values_after};
+use arrayvec::ArrayVec;
+use depth_cert::{CertErr, Exit, read_flag, read_locals, read_point_count, read_values};
+use std::alloc::Global;
+use tcd_base::{BAD_ORDER, Cursor, FormErr, fault, read_u8, read_u32};
+use value_domain::{State, Val};
+
+/// What the reading of a certificate carries from node to node.
+#[derive(Drop)]
+pub(crate) struct ReadingRoom {
+    pub(crate) exit: ExitRoom,
+    pub(crate) state: State,
+    /// The places of the state that was read last.
+    pub(crate) last: Option<StatePlaces>,
+    /// The number of points that were read.
+    pub(crate) used: usize,
+}
+
+/// Room for an exit, and the places of the one that was read last.
+#[derive(Drop)]
+pub(crate) struct ExitRoom {
+    pub(crate) exit: Exit,
+    pub(crate) last: Option<ExitPlaces>,
+}
+
+/// Returns a state that knows nothing.
+pub(crate) fn blank() -> State {
+    State {
+        regs: std::array::from_fn(|_| Val::any()),
+        ie: false,
+        ccpn: 0,
+        lower: false,
+        locals: ArrayVec::new(),
+    }
+}
+
+/// Reads the number of a node's points, and each point.
+#[tactic(auto, unfolding(depth_cert::specs::Grammar::points_at))]
+pub(crate) fn read_points(
+    alloc: Global,
+    c: &mut Cursor<'_>,
+    bytes: &[u8],
+    version: u8,
+    room: &mut ReadingRoom,
+) -> Result<Vec<PackedPoint>, CertErr>
+    requires short { length c.old.bytes ≤ 2 ^ 30 }
+    requires same { c.old.bytes ≡ bytes.now }
+    requires used { room.old.used ≤ 2 ^ 16 }
+    requires state { IfSome room.old.last (StandsAt version bytes.now room.old.state) }
+    ensures ok { IfOk result (λ ps.
+        points_at version room.old.used c.old ≡ Ok (points_in version bytes.now ps.items, c.new)) }
+    ensures err { IfErr result (IsFaultOf (points_at version room.old.used c.old)) }
+    ensures states { IfOk result (λ ps. All (λ p. HasState version bytes.now p.place) ps.items) }
+    ensures rising { IfOk result (λ ps. IsStrictlyIncreasing (map (λ p. p.addr) ps.items)) }
+    ensures moves { IfOk result (λ ps. AreMoves version bytes.now ps.items) }
+    ensures used { IfOk result (λ ps. room.new.used ≡ room.old.used + vec_len ps) }
+    ensures few { OnOk result (room.new.used ≤ 2 ^ 16) }
+    ensures exit { room.new.exit ≡ room.old.exit }
+    ensures state { OnOk result
+        (IfSome room.new.last (StandsAt version bytes.now room.new.state)) }
+    ensures bytes { c.new.bytes ≡ c.old.bytes }
+{
+    let count = read_point_count(c, room.used)?;
+    let mut points = Vec::new(alloc);
+    for i in 0..count {
+        let addr = read_address(c, &points)?;
+        let read = read_state_like(c, bytes, version, room.last, &mut room.state)?;
+        room.last = Some(read.at);
+        let kept = for_point(read, i == 0);
+        points.push(PackedPoint {
+            addr,
+            place: read.at.start as u32,
+            row: kept.row,
+            same: kept.same,
+        })?;
+    }
+    room.used += points.len();
+    Ok(points)
+}
+
+#[tactic(auto, unfolding(depth_cert::specs::Grammar::address_after))]
+fn read_address(c: &mut Cursor<'_>, before: &[PackedPoint]) -> Result<u32, FormErr>
+    requires { length c.old.bytes ≤ 2 ^ 30 }
+    ensures read { Reads result c.new (address_after (map (λ p. p.addr) before.now) c.old) }
+    ensures next { IfOk result (λ addr. is_above (map (λ p. p.addr) before.now) addr ≡ true) }
+    ensures bytes { c.new.bytes ≡ c.old.bytes }
+{
+    let start = c.place();
+    let addr = read_u32(c)?;
+    if !is_next(before, addr) {
+        return Err(fault(BAD_ORDER, start));
+    }
+    Ok(addr)
+}
+
+/// Returns true if an address is above that of the last point.
+fn is_next(before: &[PackedPoint], addr: u32) -> bool
+    ensures { result ≡ is_above (map (λ p. p.addr) before.now) addr }
+{
+    before.is_empty() || before[before.len() - 1].addr < addr
+}
+
+/// Returns what a point keeps of the state that was read. For a node's first point it is the row of
+/// all values, as any state may be at hand before it.
+fn for_point(read: ReadState, first: bool) -> ReadState
+    requires { read.at.values < 2 ^ 32 }
+    ensures first { IsTrue first → IsWhole 27 result.row × (result.same ≡ false) }
+    ensures later { IsFalse first → result ≡ read }
+    ensures from { (bytes : List ℕ) → IsFrom bytes read.at.values read.row
+        → IsFrom bytes read.at.values result.row }
+{
+    if !first {
+        return read;
+    }
+    ReadState {
+        at: read.at,
+        row: ValueRow {
+            first: 0,
+            behind: VALUES as u8,
+            from: read.at.values as u32,
+        },
+        same: false,
+    }
+}
+
+/// Reads a state over the one whose places are `before`. If its bytes come again, they are passed
+/// over at once, and the places stay those of the first state with these bytes.
+pub(crate) fn read_state_like(
+    c: &mut Cursor<'_>,
+    bytes: &[u8],
+    version: u8,
+    before: Option<StatePlaces>,
+    out: &mut State,
+) -> Result<ReadState, FormErr>
+    requires short { length c.old.bytes ≤ 2 ^ 30 }
+    requires same { c.old.bytes ≡ bytes.now }
+    requires before { IfSome before (StandsAt version bytes.now out.old) }
+    ensures ok { OnOk result (state_at version c.old ≡ Ok (out.new, c.new)) }
+    ensures err { IfErr result (λ e. state_at version c.old ≡ Err e) }
+    ensures held { IfOk result (λ r. StandsAt version bytes.now out.new r.at) }
+    ensures row { IfOk result (λ r. ChangesRow out.old.regs out.new.regs r.row) }
+    ensures from { IfOk result (λ r. IsFrom bytes.now r.at.values r.row) }
+    ensures again { IfOk result (λ r. IsTrue r.same → out.new ≡ out.old) }
+    ensures bytes { c.new.bytes ≡ c.old.bytes }
+{
+    if let Some(at) = before {
+        if passes(c, bytes, at.start, at.end - at.start) {
+            return Ok(ReadState {
+                at,
+                row: no_row(),
+                same: true,
+            });
+        }
+    }
+    read_state_after(c, bytes, version, before, out)
+}
+
+/// Reads a state over the one whose places are `before`, whose bytes don't come again.
+pub(crate) fn read_state_after(
+    c: &mut Cursor<'_>,
+    bytes: &[u8],
+    version: u8,
+    before: Option<StatePlaces>,
+    out: &mut State,
+) -> Result<ReadState, FormErr>
+    requires short { length c.old.bytes ≤ 2 ^ 30 }
+    requires same { c.old.bytes ≡ bytes.now }
+    requires held { IfSome before
+        (λ p. StandFrom version bytes.now out.old.regs p.values p.end) }
+    ensures ok { OnOk result (state_at version c.old ≡ Ok (out.new, c.new)) }
+    ensures err { IfErr result (λ e. state_at version c.old ≡ Err e) }
+    ensures held { IfOk result (λ r. StandsAt version bytes.now out.new r.at) }
+    ensures row { IfOk result (λ r. ChangesRow out.old.regs out.new.regs r.row) }
+    ensures from { IfOk result (λ r. IsFrom bytes.now r.at.values r.row) }
+    ensures other { IfOk result (λ r. r.same ≡ false) }
+    ensures bytes { c.new.bytes ≡ c.old.bytes }
+{
+    let start = c.place();
+    let fields = read_state_fields(c, bytes, version, before, out)?;
+    let end = c.place();
+    let at = StatePlaces {
+        start,
+        values: fields.0,
+        end,
+    };
+    Ok(ReadState {
+        at,
+        row: fields.1,
+        same: false,
+    })
+}
+
+/// Reads the fields of a state over the one whose places are `before`. Returns the place of the
+/// values, and the row of those that were read.
+#[tactic(auto, unfolding(depth_cert::specs::Grammar::state_at))]
+fn read_state_fields(
+    c: &mut Cursor<'_>,
+    bytes: &[u8],
+    version: u8,
+    before: Option<StatePlaces>,
+    out: &mut State,
+) -> Result<(usize, ValueRow), FormErr>
+    requires short { length c.old.bytes ≤ 2 ^ 30 }
+    requires same { c.old.bytes ≡ bytes.now }
+    requires held { IfSome before
+        (λ p. StandFrom version bytes.now out.old.regs p.values p.end) }
+    ensures ok { OnOk result (state_at version c.old ≡ Ok (out.new, c.new)) }
+    ensures err { IfErr result (λ e. state_at version c.old ≡ Err e) }
+    ensures held { IfOk result
+        (λ r. StandFrom version bytes.now out.new.regs r.0 c.new.place) }
+    ensures row { IfOk result (λ r. ChangesRow out.old.regs out.new.regs r.1) }
+    ensures from { IfOk result (λ r. IsFrom bytes.now r.0 r.1) }
+    ensures bytes { c.new.bytes ≡ c.old.bytes }
+{
+    out.ie = read_flag(c)?;
+    out.ccpn = read_u8(c)?;
+    out.lower = read_flag(c)?;
+    out.locals = read_locals(c, version)?;
+    let at = c.place();
+    let row = read_values_like(c, bytes, version, before, &mut out.regs)?;
+    Ok((at, row))
+}
+
+/// Reads values, and returns the row of those that were read. If `before` has places, `out` holds
+/// the values of these already.
+fn read_values_like(
+    c: &mut Cursor<'_>,
+    bytes: &[u8],
+    version: u8,
+    before: Option<StatePlaces>,
+    out: &mut [Val],
+) -> Result<ValueRow, FormErr>
+    requires short { length c.old.bytes ≤ 2 ^ 30 }
+    requires same { c.old.bytes ≡ bytes.now }
+    requires few { length out.old ≤ 27 }
+    requires held { IfSome before
+        (λ p. StandFrom version bytes.now out.old p.values p.end) }
+    ensures ok { OnOk result (values_at version (length out.old) c.old ≡ Ok (out.new, c.new)) }
+    ensures err { IfErr result (λ e. values_at version (length out.old) c.old ≡ Err e) }
+    ensures row { IfOk result (ChangesRow out.old out.new) }
+    ensures from { IfOk result (IsFrom bytes.now c.old.place) }
+    ensures bytes { c.new.bytes ≡ c.old.bytes }
+{
+    if let Some(at) = before {
+        return read_values_after(c, bytes, version, at, out);
+    }
+    let count = out.len() as u8;
+    let from = c.place() as u32;
+    match read_values(c, version, out) {
+        Ok(_) => Ok(ValueRow {
+            first: 0,
+            behind: count,
+            from,
+        }),
+        Err(e) => Err(e),
+    }
+}

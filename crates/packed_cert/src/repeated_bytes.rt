@@ -1,0 +1,116 @@
+// Fast path: how many bytes are equal at two places?
+// They are compared eight at a time, sixteen in a turn.
+ghost use Rattle.std.specs.Prelude.{◌≡◌, ◌≤◌, ◌<◌, ◌+◌, ◌*◌, IsTrue, length, slice_index, take, drop};
+ghost use Rattle.tcd_base.specs.Bytes.{word_at};
+ghost use Rattle.packed_cert.specs.Standing.{eight_at, StandAlike};
+
+/// Counts the bytes that are equal at two places, up to `end` at the first.
+pub(crate) fn count_same_before(bytes: &[u8], x: usize, y: usize, end: usize) -> usize
+    requires first { x ≤ length bytes.now }
+    requires second { y ≤ length bytes.now }
+    ensures first { x + result ≤ length bytes.now }
+    ensures second { y + result ≤ length bytes.now }
+    ensures same { StandAlike bytes.now x y result }
+{
+    let n = end.min(bytes.len()).saturating_sub(x).min(bytes.len() - y);
+    count_same(bytes, x, y, n)
+}
+
+/// Counts the bytes that are equal at two places: eight at a time, then byte by byte.
+pub(crate) fn count_same(bytes: &[u8], x: usize, y: usize, n: usize) -> usize
+    requires first { x + n ≤ length bytes.now }
+    requires second { y + n ≤ length bytes.now }
+    ensures within { result ≤ n }
+    ensures same { StandAlike bytes.now x y result }
+{
+    let from = same_eights(bytes, x, y, n);
+    if ends_alike(bytes, x, y, from, n) {
+        return n;
+    }
+    same_from(bytes, x, y, from, n)
+}
+
+/// Counts the bytes that are equal at two places, as far as eight at a time are.
+#[inline(always)]
+fn same_eights(bytes: &[u8], x: usize, y: usize, n: usize) -> usize
+    requires first { x + n ≤ length bytes.now }
+    requires second { y + n ≤ length bytes.now }
+    ensures within { result ≤ n }
+    ensures same { StandAlike bytes.now x y result }
+{
+    let mut i = 0;
+    while i + 16 <= n {
+        if !is_same_eight(bytes, x + i, y + i) {
+            return i;
+        }
+        let k = i + 8;
+        if !is_same_eight(bytes, x + k, y + k) {
+            return k;
+        }
+        i = k + 8;
+    }
+    if i + 8 <= n && is_same_eight(bytes, x + i, y + i) {
+        return i + 8;
+    }
+    i
+}
+
+/// Returns true if the last eight of these bytes are equal, and the first `from` reach up to them.
+#[inline(always)]
+fn ends_alike(bytes: &[u8], x: usize, y: usize, from: usize, n: usize) -> bool
+    requires first { x + n ≤ length bytes.now }
+    requires second { y + n ≤ length bytes.now }
+    requires same { StandAlike bytes.now x y from }
+    ensures { IsTrue result → StandAlike bytes.now x y n }
+{
+    if n < 8 || n - 8 > from {
+        return false;
+    }
+    is_same_eight(bytes, x + (n - 8), y + (n - 8))
+}
+
+/// Counts the bytes that are equal at two places, if the first `from` are.
+#[inline(always)]
+fn same_from(bytes: &[u8], x: usize, y: usize, from: usize, n: usize) -> usize
+    requires first { x + n ≤ length bytes.now }
+    requires second { y + n ≤ length bytes.now }
+    requires from { from ≤ n }
+    requires same { StandAlike bytes.now x y from }
+    ensures within { result ≤ n }
+    ensures same { StandAlike bytes.now x y result }
+{
+    let mut i = from;
+    while i < n {
+        if bytes[x + i] != bytes[y + i] {
+            return i;
+        }
+        i += 1;
+    }
+    i
+}
+
+fn is_same_eight(bytes: &[u8], x: usize, y: usize) -> bool
+    requires first { x + 8 ≤ length bytes.now }
+    requires second { y + 8 ≤ length bytes.now }
+    ensures { IsTrue result → eight_at bytes.now x ≡ eight_at bytes.now y }
+{
+    eight(bytes, x) == eight(bytes, y)
+}
+
+/// Returns the eight bytes from a place on as a number.
+#[inline(always)]
+fn eight(bytes: &[u8], place: usize) -> u64
+    requires { place + 8 ≤ length bytes.now }
+    ensures { result ≡ eight_at bytes.now place }
+{
+    u64::from_le_bytes([
+        bytes[place],
+        bytes[place + 1],
+        bytes[place + 2],
+        bytes[place + 3],
+        bytes[place + 4],
+        bytes[place + 5],
+        bytes[place + 6],
+        bytes[place + 7],
+    ])
+}

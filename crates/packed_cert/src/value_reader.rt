@@ -1,0 +1,142 @@
+// Reads values over those of the state before.
+// Fast path: a value whose bytes come again isn't read. Bytes are compared for many values at once.
+ghost use Rattle.std.specs.Prelude.{◌≡◌, ◌≤◌, ◌<◌, ◌+◌, ◌^◌, ℕ, List, IsTrue, IsFalse, length, Ok, Err, OnOk, IfOk, IfErr};
+ghost use Rattle.packed_cert.specs.Standing.{StandFrom, MovedOver, ChangesRow, IsFrom, IsWithRead, place_after};
+ghost use Rattle.packed_cert.specs.Standing as standing;
+ghost use Rattle.depth_cert.specs.Grammar.{values_at};
+
+use crate::places::{StatePlaces, ValueRow};
+use crate::repeated_bytes::{count_same, count_same_before};
+use depth_cert::read_value;
+use tcd_base::{Cursor, FormErr};
+use value_domain::Val;
+
+/// The greatest number of words of a value that lists them; it is the value's first byte.
+pub(crate) const MOST_WORDS: u8 = 128;
+
+/// Fewer bytes than these are compared here, as the comparison of std takes longer to begin.
+const FEW_BYTES: usize = 64;
+
+/// Reads a value into each place of `out`, over the values of the state whose places are `before`,
+/// and returns the row of those that were read.
+// The cursor stays until a value is read: `place` is where it would be, and the bytes from `from`
+// up to `stop` are the same there.
+pub(crate) fn read_values_after(
+    c: &mut Cursor<'_>,
+    bytes: &[u8],
+    version: u8,
+    before: StatePlaces,
+    out: &mut [Val],
+) -> Result<ValueRow, FormErr>
+    requires short { length c.old.bytes ≤ 2 ^ 30 }
+    requires same { c.old.bytes ≡ bytes.now }
+    requires few { length out.old ≤ 27 }
+    requires held { StandFrom version bytes.now out.old before.values before.end }
+    ensures ok { OnOk result (values_at version (length out.old) c.old ≡ Ok (out.new, c.new)) }
+    ensures err { IfErr result (λ e. values_at version (length out.old) c.old ≡ Err e) }
+    ensures row { IfOk result (ChangesRow out.old out.new) }
+    ensures from { IfOk result (IsFrom bytes.now c.old.place) }
+    ensures bytes { c.new.bytes ≡ c.old.bytes }
+{
+    let mut row = no_row();
+    let mut from = before.values;
+    let mut place = c.place();
+    let mut stop = from + count_same_before(bytes, from, place, before.end);
+    for i in 0..out.len() {
+        if stop == before.end {
+            move_to(c, place + (stop - from));
+            return Ok(row);
+        }
+        let n = length_by(bytes[from]);
+        let next = from + n;
+        if next <= stop {
+            place += n;
+        } else {
+            move_to(c, place);
+            read_value(c, version, &mut out[i])?;
+            row = with_read(row, i as u8, place as u32);
+            place = c.place();
+            stop = next + count_same_before(bytes, next, place, before.end);
+        }
+        from = next;
+    }
+    move_to(c, place);
+    Ok(row)
+}
+
+/// Returns true if the bytes from `x` on come again at the cursor, which then moves past them.
+#[inline(always)]
+pub(crate) fn passes(c: &mut Cursor<'_>, bytes: &[u8], x: usize, n: usize) -> bool
+    requires same { c.old.bytes ≡ bytes.now }
+    requires within { x + n ≤ length bytes.now }
+    ensures moved { IsTrue result → MovedOver bytes.now x n c.old c.new }
+    ensures kept { IsFalse result → c.new ≡ c.old }
+{
+    let y = c.place();
+    if n > bytes.len() - y {
+        return false;
+    }
+    if n < FEW_BYTES {
+        return count_same(bytes, x, y, n) == n && c.take(n).is_some();
+    }
+    let before = &bytes[x..x + n];
+    let here = &bytes[y..y + n];
+    before == here && c.take(n).is_some()
+}
+
+/// Returns the number of bytes of a value that begins with this one.
+#[inline(always)]
+pub(crate) fn length_by(tag: u8) -> usize
+    ensures { result ≡ standing.length_by tag }
+{
+    if tag <= MOST_WORDS {
+        1 + 4 * tag as usize
+    } else {
+        9
+    }
+}
+
+/// Returns the row of no value.
+pub(crate) fn no_row() -> ValueRow
+    ensures { result ≡ record { first = 0; behind = 0; from = 0 } }
+{
+    ValueRow {
+        first: 0,
+        behind: 0,
+        from: 0,
+    }
+}
+
+/// Returns the row with value number `i`, which is after its others and was read at `place`.
+fn with_read(row: ValueRow, i: u8, place: u32) -> ValueRow
+    requires order { row.first ≤ row.behind }
+    requires behind { row.behind ≤ i }
+    requires number { i < 27 }
+    ensures read { IsWithRead row i result }
+    ensures from { (bytes : List ℕ) (x : ℕ) → IsFrom bytes x row
+        → place ≡ place_after bytes x i → IsFrom bytes x result }
+{
+    if row.behind == 0 {
+        return ValueRow {
+            first: i,
+            behind: i + 1,
+            from: place,
+        };
+    }
+    ValueRow {
+        first: row.first,
+        behind: i + 1,
+        from: row.from,
+    }
+}
+
+/// Moves a cursor on to a place.
+#[inline(always)]
+fn move_to(c: &mut Cursor<'_>, place: usize)
+    requires order { c.old.place ≤ place }
+    requires within { place ≤ length c.old.bytes }
+    ensures { c.new ≡ record c.old { place = place } }
+{
+    let n = place - c.place();
+    let _passed = c.take(n);
+}
