@@ -40,6 +40,5 @@ pub mod MakeLemmas
 pub mod PlainRows
 pub mod PointEntries
 pub mod HearingLaws
-pub mod KeptLaws
 pub mod PaidHeard
 pub mod HandlerLaws

@@ -13,7 +13,6 @@ pub mod RowsBy
 pub mod NeedsBy
 pub mod Levels
 pub mod Hearing
-pub mod Keeping
 pub mod Handlers
 pub mod View
 pub mod Spelled

@@ -4,16 +4,15 @@ ghost use Rattle.indexmap.specs.IndexMap.{get};
 ghost use Rattle.frame_places.specs.declared.places.Spot as spots;
 ghost use Rattle.frame_places.specs.Nearby.{StandsAt};
 ghost use Rattle.frame_places.specs.Spots.{spot_eq};
+ghost use Rattle.cfg_recover.specs.SetOperations.{HoldsResults};
 ghost use Rattle.depth_maker.specs.Entered.{IsPlainIn};
-ghost use Rattle.depth_maker.specs.Keeping.{AreKept};
 ghost use Rattle.depth_maker.specs.View.{AnsweredOn, EndsOn, FineOn, IsDone, IsOpen, NoneOpen, PaidOn, StepsOn, TurnsOn};
 
 use crate::ground::{Ground, Visit};
 use crate::heard::Hearings;
-use crate::kept::Pairs;
 use crate::paying::pay;
 use crate::table::Table;
-use cfg_recover::{KnownCodes, start_key, start_state};
+use cfg_recover::{KnownCodes, OperationCache, start_key, start_state};
 use elf_image::Image;
 use frame_places::{Refusal, Spot, Work, add, has_work, open, settle};
 use indexmap::IndexMap;
@@ -79,24 +78,24 @@ fn begin(alloc: Global, ground: &Ground) -> Result<Table, Refusal>
 
 /// Joins what is owed at the place that is visited, and says whether an instruction there is seen to enter no frame by itself;
 /// nothing is owed at an exit. The state of a point is written over `scratch`, what its instruction
-/// changes over `change`, and operations on two sets are kept in `pairs`.
+/// changes over `change`; results of operations on two sets are in `cache`.
 fn pay_place(
     alloc: Global,
     ground: &Ground,
     table: &mut Table,
     scratch: &mut Scratch,
     change: &mut Change,
-    pairs: &mut Pairs,
+    cache: &mut OperationCache,
 ) -> Result<bool, Refusal>
     requires fine { FineOn ground.now table.old }
-    requires kept { AreKept ground.now.bounds.now pairs.old }
+    requires results { HoldsResults ground.now.bounds.now cache.old }
     ensures ok { (x : spots.Spot) → StandsAt table.old.places table.old.near x
         → OnOk result (PaidOn ground.now table.old table.new x) }
     ensures plain { (x : spots.Spot) → StandsAt table.old.places table.old.near x
         → IfOk result (λ plain. IsTrue plain
         → IsPlainIn ground.now.image.now ground.now.plan.now x) }
     ensures err { IfErr result (AnsweredOn ground.now) }
-    ensures kept { AreKept ground.now.bounds.now pairs.new }
+    ensures results { HoldsResults ground.now.bounds.now cache.new }
 {
     let Some((at, place)) = table.places.get_index(table.near) else {
         return Ok(false);
@@ -111,7 +110,7 @@ fn pay_place(
         addr,
         state: scratch.state.state(),
     };
-    pay(alloc, table, &v, change, &mut scratch.codes, pairs)
+    pay(alloc, table, &v, change, &mut scratch.codes, cache)
 }
 
 /// Visits the place that was taken off the list.
@@ -121,16 +120,16 @@ fn visit(
     table: &mut Table,
     scratch: &mut Scratch,
     change: &mut Change,
-    pairs: &mut Pairs,
+    cache: &mut OperationCache,
 ) -> Result<(), Refusal>
     requires fine { FineOn ground.now table.old }
     requires opened { IsOpen table.old }
-    requires kept { AreKept ground.now.bounds.now pairs.old }
+    requires results { HoldsResults ground.now.bounds.now cache.old }
     ensures ok { OnOk result (EndsOn ground.now table.old table.new) }
     ensures err { IfErr result (AnsweredOn ground.now) }
-    ensures kept { AreKept ground.now.bounds.now pairs.new }
+    ensures results { HoldsResults ground.now.bounds.now cache.new }
 {
-    let plain = pay_place(alloc, ground, table, scratch, change, pairs)?;
+    let plain = pay_place(alloc, ground, table, scratch, change, cache)?;
     settle(&mut table.places, table.near, plain);
     Ok(())
 }
@@ -142,13 +141,13 @@ fn step(
     table: &mut Table,
     scratch: &mut Scratch,
     change: &mut Change,
-    pairs: &mut Pairs,
+    cache: &mut OperationCache,
 ) -> Result<bool, Refusal>
     requires fine { FineOn ground.now table.old }
     requires none { NoneOpen table.old }
-    requires kept { AreKept ground.now.bounds.now pairs.old }
+    requires results { HoldsResults ground.now.bounds.now cache.old }
     ensures steps { StepsOn ground.now table.old table.new result }
-    ensures kept { AreKept ground.now.bounds.now pairs.new }
+    ensures results { HoldsResults ground.now.bounds.now cache.new }
 {
     let Some(number) = table.work.pop() else {
         return Ok(false);
@@ -158,7 +157,7 @@ fn step(
     }
     table.near = number;
     open(&mut table.places, number);
-    visit(alloc, ground, table, scratch, change, pairs)?;
+    visit(alloc, ground, table, scratch, change, cache)?;
     Ok(true)
 }
 
@@ -176,9 +175,9 @@ fn turn(
     ensures { TurnsOn ground.now table.old table.new result }
 {
     let mut change = unchanged(scratch.state.state());
-    let mut pairs = Pairs::none();
+    let mut cache = OperationCache::empty();
     for _done in 0..table.work.len() + 1024 {
-        if !step(alloc, ground, table, scratch, &mut change, &mut pairs)? {
+        if !step(alloc, ground, table, scratch, &mut change, &mut cache)? {
             return Ok(false);
         }
     }

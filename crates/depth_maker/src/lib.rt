@@ -9,7 +9,6 @@ mod entries;
 mod ground;
 mod handlers;
 mod heard;
-mod kept;
 mod laws;
 mod needs;
 mod paying;

@@ -1,18 +1,20 @@
 // The jumps of a point in its frame.
 ghost use Rattle.std.specs.Prelude.{◌≡◌, OnOk, IfErr, Some, [], ◌++◌, unwrap_or, false, true};
 ghost use Rattle.tc_isa.specs.Bounded.{IsShape, IsTarget};
+ghost use Rattle.value_domain.specs.State.{AreValues};
+ghost use Rattle.vd_transfer.specs.Changes.{state_after};
+ghost use Rattle.vd_transfer.specs.Effects.{HasRoom};
 ghost use Rattle.cfg_recover.specs.Assignments.{point};
 ghost use Rattle.cfg_recover.specs.Local.{targets_of};
 ghost use Rattle.cfg_recover.specs.Duties.{jumps_to, jump_on};
 ghost use Rattle.depth_cert.specs.Known.{state};
-ghost use Rattle.depth_maker.specs.Keeping.{AreKept};
-ghost use Rattle.depth_maker.specs.View.{AnsweredOn, OwesAll, PaidBy, StandsBy, VisitedBy, next_by, seen, side_by, successors_by};
+ghost use Rattle.cfg_recover.specs.SetOperations.{HoldsResults};
+ghost use Rattle.depth_maker.specs.View.{AnsweredOn, OwesAll, PaidBy, StandsBy, VisitedBy, next_by, seen, side_by, step_by, successors_by};
 
 use crate::asking::{pay_first, pay_jump};
 use crate::ground::Visit;
-use crate::kept::Pairs;
 use crate::table::Table;
-use cfg_recover::{Located, direct_target, targets};
+use cfg_recover::{Located, OperationCache, direct_target, step_change, targets};
 use frame_places::Refusal;
 use std::alloc::Global;
 use tc_isa::{Shape, Target};
@@ -147,6 +149,24 @@ fn pay_targets(
     }
 }
 
+/// Writes what the instruction makes of the state into `c`. The result of an operation on two sets
+/// may be in `cache`.
+#[inline(always)]
+fn change_at(v: &Visit, shape: Shape, c: &mut Change, cache: &mut OperationCache)
+    requires shape { IsShape shape }
+    requires values { AreValues v.now.ground.now.bounds.now v.now.state.now.regs }
+    requires room { HasRoom v.now.ground.now.bounds.now shape v.now.state.now }
+    requires results { HoldsResults v.now.ground.now.bounds.now cache.old }
+    ensures change { state_after v.now.state.now c.new ≡ step_by v.now shape }
+    ensures results { HoldsResults v.now.ground.now.bounds.now cache.new }
+{
+    let g = v.ground;
+    if cache.change(g.bounds, g.plan, shape, v.state, c) {
+        return;
+    }
+    step_change(g.bounds, g.image, g.plan, shape, v.state, c);
+}
+
 /// The step to the next instruction, before anything else is joined.
 fn pay_step(
     alloc: Global,
@@ -154,41 +174,41 @@ fn pay_step(
     v: &Visit,
     found: &Located,
     c: &mut Change,
-    pairs: &mut Pairs,
+    cache: &mut OperationCache,
 ) -> Result<(), Refusal>
     requires visited { VisitedBy v.now table.old }
     requires at { (seen table.old).cells (point v.now.key v.now.addr)
         ≡ Some (state v.now.state.now) }
     requires found { StandsBy v.now found.now }
     requires owes { OwesAll v.now (next_by v.now found.now) }
-    requires kept { AreKept v.now.ground.now.bounds.now pairs.old }
+    requires results { HoldsResults v.now.ground.now.bounds.now cache.old }
     ensures ok { OnOk result (PaidBy v.now table.old table.new (next_by v.now found.now)) }
     ensures err { IfErr result (AnsweredOn v.now.ground.now) }
-    ensures kept { AreKept v.now.ground.now.bounds.now pairs.new }
+    ensures results { HoldsResults v.now.ground.now.bounds.now cache.new }
 {
-    pairs.step(alloc, v, found.shape, c)?;
+    change_at(v, found.shape, c, cache);
     pay_first(alloc, table, v, v.addr.wrapping_add(found.size), &*c)
 }
 
 /// The successors in the same frame, without those after a call or a system call; they are joined before anything else.
-/// What the instruction changes is written over `c`; operations on two sets are kept in `pairs`.
+/// What the instruction changes is written over `c`; results of operations on two sets are in `cache`.
 pub(crate) fn pay_successors(
     alloc: Global,
     table: &mut Table,
     v: &Visit,
     found: &Located,
     c: &mut Change,
-    pairs: &mut Pairs,
+    cache: &mut OperationCache,
 ) -> Result<(), Refusal>
     requires visited { VisitedBy v.now table.old }
     requires at { (seen table.old).cells (point v.now.key v.now.addr)
         ≡ Some (state v.now.state.now) }
     requires found { StandsBy v.now found.now }
     requires owes { OwesAll v.now (successors_by v.now found.now) }
-    requires kept { AreKept v.now.ground.now.bounds.now pairs.old }
+    requires results { HoldsResults v.now.ground.now.bounds.now cache.old }
     ensures ok { OnOk result (PaidBy v.now table.old table.new (successors_by v.now found.now)) }
     ensures err { IfErr result (AnsweredOn v.now.ground.now) }
-    ensures kept { AreKept v.now.ground.now.bounds.now pairs.new }
+    ensures results { HoldsResults v.now.ground.now.bounds.now cache.new }
 {
     let shape = found.shape;
     match shape {
@@ -208,6 +228,6 @@ pub(crate) fn pay_successors(
         Shape::Jump { to } => pay_targets(alloc, table, v, to, c),
         Shape::Call { .. } | Shape::Ret | Shape::Rfe | Shape::Syscall { .. } | Shape::Mtcr { .. } =>
             Ok(()),
-        _ => pay_step(alloc, table, v, found, c, pairs),
+        _ => pay_step(alloc, table, v, found, c, cache),
     }
 }

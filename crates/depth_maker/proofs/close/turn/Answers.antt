@@ -3,7 +3,7 @@ use Rattle.depth_maker.proofs.LevelSteps.{left_over, turns_more}
 use Rattle.depth_maker.proofs.close.turn.Goals as goal
 
 pub loop-done-init : goal.loop-done-init
-loop-done-init c = (c.requires.fine, c.requires.none, inr (refl, omega (arith, c.len-done-end.ensures.listed)), c.none-pairs.ensures c.args.ground.now.bounds.now)
+loop-done-init c = (c.requires.fine, c.requires.none, inr (refl, omega (arith, c.len-done-end.ensures.listed)), c.empty-cache.ensures c.args.ground.now.bounds.now)
 
 pub loop-done-preserved : goal.loop-done-preserved
 loop-done-preserved c =
@@ -11,7 +11,7 @@ loop-done-preserved c =
       h.0,
       h.1,
       turns_more c.args.table.now c.loop-done.table c.step.new.table c.loop-done._done _ c.loop-done.invariant.2 h.2,
-      c.in_ok-step.ensures.kept,
+      c.in_ok-step.ensures.results,
     )
 
 pub step-requires-clause-fine : goal.step-requires-clause-fine

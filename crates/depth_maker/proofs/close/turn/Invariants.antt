@@ -1,6 +1,6 @@
 use Rattle.std.proofs.Common.{◌≡◌, ◌<◌, ◌≤◌, ◌+◌, ◌⊎◌, length}
+use Rattle.cfg_recover.specs.SetOperations.{HoldsResults}
 use Rattle.frame_places.specs.Work.{all_work}
-use Rattle.depth_maker.specs.Keeping.{AreKept}
 use Rattle.depth_maker.specs.Levels.{level}
 use Rattle.depth_maker.specs.View.{FineOn, NoneOpen}
 use Rattle.depth_maker.proofs.close.turn.Given as goal
@@ -9,4 +9,4 @@ abbrev pub invariant-loop-done : goal.invariant-loop-done
 invariant-loop-done l =
     FineOn l.ground l.table × NoneOpen l.table
     × ((level l.initial.table < level l.table) ⊎ ((level l.table ≡ level l.initial.table) × (length (all_work l.table.work) + l._done ≤ l._done-end)))
-    × AreKept l.ground.bounds.now l.pairs
+    × HoldsResults l.ground.bounds.now l.cache
