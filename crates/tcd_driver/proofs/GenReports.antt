@@ -7,7 +7,7 @@ use Rattle.tcd_plan.specs.PlanData.{PlanData}
 use Rattle.tcd_plan.specs.Plans.{Gives}
 use Rattle.tcd_base.specs.Files.{FilesSeen}
 use Rattle.tcd_report.specs.Generated.{generated_image}
-use Rattle.tcd_report.specs.Planned.{generated_text, generated_plan}
+use Rattle.tcd_report.specs.Generated.Planned.{generated_text, generated_plan}
 use Rattle.tcd_reading.specs.Outcomes.{IsTold, Comes}
 use Rattle.tcd_reading.specs.declared.outcome.Outcome.{Outcome}
 use Rattle.tcd_reading.proofs.Told.{comes_told}

@@ -5,7 +5,7 @@ use Rattle.tcd_plan.specs.PlanData.{PlanData}
 use Rattle.depth_cert.specs.declared.keys.Key.{Key}
 use Rattle.depth_cert.specs.Certs.{CertData}
 use Rattle.tcd_report.specs.Graphs.{IsGraph}
-use Rattle.tcd_report.specs.EdgeLaws.{EdgesStand}
+use Rattle.tcd_report.specs.Graphs.EdgeLaws.{EdgesStand}
 use Rattle.tcd_reading.specs.Reports.{Report, says}
 use Rattle.tcd_reading.specs.Inputs.{Reading, input, answer}
 use Rattle.tcd_forms.specs.Forms.{elf_form, plan_form}

@@ -12,7 +12,7 @@ use Rattle.cfg_recover.specs.Accepting.{certified_need}
 use Rattle.cfg_recover.specs.Refusals.{IsRefusal}
 use Rattle.depth_maker.specs.Making.{IsMade, NoneAccepted}
 use Rattle.tcd_report.specs.Generated.{generated_image}
-use Rattle.tcd_report.specs.Planned.{generated_plan}
+use Rattle.tcd_report.specs.Generated.Planned.{generated_plan}
 use Rattle.tcd_reading.specs.Reports.{Report, says}
 use Rattle.tcd_reading.specs.Inputs.{Reading, answer}
 use Rattle.tcd_forms.specs.Lines.{refused_line}

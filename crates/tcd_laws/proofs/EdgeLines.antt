@@ -22,8 +22,8 @@ use Rattle.depth_check.proofs.Held.{edges_are_owed}
 use Rattle.tcd_text.specs.Digits.{hex_digit, hex_byte, hex_word}
 use Rattle.tcd_report.specs.Texts.{kind_text, key_text}
 use Rattle.tcd_report.specs.Graphs.{Arrow, goes, back, line_front, end_to, way_end, arrow_end, line_text, ArePointLines, AreParts, AreJoined, AreNodeLines, AreGraphLines}
-use Rattle.tcd_report.specs.EdgeLaws.{EdgesStand}
-use Rattle.tcd_report.proofs.EdgeProofs.{edges_stand}
+use Rattle.tcd_report.specs.Graphs.EdgeLaws.{EdgesStand}
+use Rattle.tcd_report.proofs.GraphLemmas.EdgeProofs.{edges_stand}
 use Rattle.tcd_laws.specs.Edges.{printed_lines, AcceptedEdgesStand}
 
 -- ---- texts without a line feed

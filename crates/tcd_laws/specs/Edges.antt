@@ -6,7 +6,7 @@ use Rattle.depth_cert.specs.Certs.{CertData, IsCert}
 use Rattle.cfg_recover.specs.Accepting.{Accepts}
 use Rattle.tcd_text.specs.Lines.{lines_of}
 use Rattle.tcd_report.specs.Graphs.{IsGraph}
-use Rattle.tcd_report.specs.EdgeLaws.{EdgesStand}
+use Rattle.tcd_report.specs.Graphs.EdgeLaws.{EdgesStand}
 
 -- the lines of a text as it is printed, each with the line feed that ends it
 abbrev pub printed_lines : List ℕ → List (List ℕ)

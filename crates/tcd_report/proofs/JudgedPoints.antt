@@ -1,4 +1,4 @@
--- What an accepted certificate says of each of its points.
+-- What holds at each point of an accepted certificate.
 use Rattle.std.proofs.Common.{◌≡◌, ℕ, refl, sym, subst, All, Contains}
 use Rattle.std.proofs.lemmas.List.Elements.{All-contains}
 use Rattle.elf_image.specs.Images.{ImageData}

@@ -1,5 +1,7 @@
--- The generated image of n functions: a main program that calls one function after another by a table and then the
--- system, handlers of sixteen nested interrupts, a system call, and functions that call each other as the places of a heap.
+-- The generated image of n functions. Its main program calls functions of a table and makes system
+-- calls. It has the handlers of sixteen nested interrupts and of system calls. The functions call
+-- each other as the places of a binary heap.
+pub mod Planned
 use Rattle.std.specs.Prelude.{ℕ, ◌+◌, ◌-◌, ◌*◌, ◌/◌, ◌%◌, ◌^◌, List, [], ◌∷◌, ◌++◌, codes, length, replicate, nat_lt, if◌then◌else◌}
 use Rattle.std.specs.List.{find, flat_map, range_with_len}
 use Rattle.std.specs.Option.{option_map_or}
@@ -12,21 +14,22 @@ use Rattle.tc_isa.specs.Codec.{spelling}
 use Rattle.elf_image.specs.Images.{ImageData, SegmentData}
 
 -- ---- instructions
--- the bytes of the row with this name and these fields c, s1, s2, n and k, by the instruction table
+-- the bytes of the instruction with this name and these fields c, s1, s2, n and k
 unfoldable pub code : List ℕ → Fields → List ℕ
 code name f = option_map_or (λ r. spelling r f) (find (λ r. bytes_eq r.name name) listed) []
 
--- where function i begins: each has 32 bytes
+-- the address of function i: each function has 32 bytes
 abbrev pub function_at : ℕ → ℕ
 function_at i = 0x80008000 + 32 * i
 
--- a call, at an address, of code further on: the displacement counts halfwords
+-- the call instruction at an address, of later code: the displacement is in halfwords
 abbrev pub call_from : ℕ → ℕ → List ℕ
 call_from at to = code (codes "call") (fields 0 0 0 0 ((to - at) / 2))
 
 -- ---- the main program, at 80000000
--- a15 is the device at F0000000, whose word d15 picks a word of the table 256 bytes behind the program's begin; the
--- function that it names is called, then the system, and so on for ever
+-- a15 is the address of the device, F0000000. Its word d15 is the number of a word in the table,
+-- 256 bytes after the start of the program. That function is called, then a system call is made,
+-- and then all again.
 unfoldable pub main_code : List ℕ
 main_code =
     code (codes "movh.a") (fields 15 0 0 0 0xf000) ++ code (codes "ld.w.l") (fields 0 15 15 0 0)
@@ -34,26 +37,28 @@ main_code =
     ++ code (codes "ld.a.l") (fields 0 14 14 0 256) ++ code (codes "calli") (fields 0 14 0 0 0)
     ++ code (codes "syscall") (fields 0 0 0 0 1) ++ code (codes "j") (fields 0 0 0 0 (2 ^ 24 - 14))
 
--- ---- the table, at 80000100: sixteen addresses of functions, over and over
+-- ---- the table, at 80000100
+-- sixteen addresses of functions; after the last function comes the first
 unfoldable pub table : ℕ → List ℕ
 table n = flat_map (λ j. bytes_of_word (function_at (j % n))) (range_with_len 0 16)
 
 -- ---- the vectors
--- where the handler of interrupt p begins: BIV with the priority in bits 12:5
+-- the address of the handler of interrupt p: BIV with the priority in bits 12:5
 abbrev pub handler_at : ℕ → ℕ
 handler_at p = 0x80002000 + 32 * p
 
--- the handler of interrupt p: it saves the lower registers, lets interrupts above p in, and calls the last function
+-- the handler of interrupt p: it saves the lower context, enables interrupts of higher priority,
+-- and calls the last function
 unfoldable pub handler : ℕ → ℕ → List ℕ
 handler n p =
     code (codes "bisr16") (fields 0 0 0 0 p)
     ++ (call_from (handler_at p + 2) (function_at (n - 1)) ++ (code (codes "rslcx") (fields 0 0 0 0 0) ++ code (codes "rfe16") (fields 0 0 0 0 0)))
 
--- bytes, filled up with zeros to a length
+-- bytes, with zeros up to a length
 abbrev pub filled : ℕ → List ℕ → List ℕ
 filled size bytes = bytes ++ replicate (size - length bytes) 0
 
--- the handlers of the interrupts 10, 20, up to 160; 320 bytes lie between the begins of two
+-- the handlers of the interrupts 10, 20 .. 160; their addresses are 320 bytes apart
 unfoldable pub vectors : ℕ → List ℕ
 vectors n = flat_map (λ j. filled 320 (handler n (10 * j + 10))) (range_with_len 0 15) ++ handler n 160
 
@@ -62,11 +67,12 @@ unfoldable pub system_code : List ℕ
 system_code = code (codes "rfe16") (fields 0 0 0 0 0)
 
 -- ---- functions
--- a call of function i where there is one
+-- a call of function i, if i is below n
 abbrev pub call_if_below : ℕ → ℕ → ℕ → List ℕ
 call_if_below n at i = if nat_lt i n then call_from at (function_at i) else []
 
--- function i: it takes a word of the stack, and calls the functions 2i + 1 and 2i + 2 where there are
+-- function i: it reserves eight bytes of stack, stores a word there, and calls the functions 2i + 1
+-- and 2i + 2, if there are any
 unfoldable pub function_code : ℕ → ℕ → List ℕ
 function_code n i =
     code (codes "sub16.a") (fields 0 0 0 0 8)
@@ -74,21 +80,21 @@ function_code n i =
     ++ (call_if_below n (function_at i + 4) (2 * i + 1)
     ++ (call_if_below n (function_at i + 8) (2 * i + 2) ++ code (codes "ret16") (fields 0 0 0 0 0))))
 
--- the functions, each but the last filled up to 32 bytes
+-- the functions, each except the last with zeros up to 32 bytes
 unfoldable pub functions : ℕ → List ℕ
 functions n = flat_map (λ i. filled 32 (function_code n i)) (range_with_len 0 (n - 1)) ++ function_code n (n - 1)
 
 -- ---- the image
--- bytes from an address on
+-- these bytes at an address
 abbrev pub segment : ℕ → List ℕ → SegmentData
 segment at bytes = record { at = at; bytes = bytes }
 
--- the main program, the table, the vectors, the system call, and the functions
+-- the main program, the table, the vectors, the handler of system calls, and the functions
 abbrev pub generated_segments : ℕ → List SegmentData
 generated_segments n =
     segment 0x80000000 main_code ∷ segment 0x80000100 (table n) ∷ segment 0x80002140 (vectors n) ∷ segment 0x800040c0 system_code ∷
     segment 0x80008000 (functions n) ∷ []
 
--- the image of n functions, which begins with the main program
+-- the image of n functions; its entry is the main program
 abbrev pub generated_image : ℕ → ImageData
 generated_image n = record { entry = 0x80000000; segments = generated_segments n }

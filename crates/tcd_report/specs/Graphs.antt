@@ -1,4 +1,7 @@
--- The graph of a certificate: its lines, by key and address, one for each way on from a point.
+-- The graph of a certificate: one line for each way on from a point, in the order of keys and
+-- addresses.
+pub mod Edges
+pub mod EdgeLaws
 use Rattle.std.specs.Prelude.{◌≡◌, ◌==◌, ℕ, false, not, List, [], ◌∷◌, ◌++◌, map, filter, codes, is_some, if◌then◌else◌}
 use Rattle.std.specs.List.{flat_map}
 use Rattle.std.specs.Option.{option_map_or}
@@ -19,24 +22,25 @@ use Rattle.tcd_text.specs.Digits.{hex_word}
 use Rattle.tcd_report.specs.Texts.{key_text}
 
 -- ---- lines
--- a way of a step, or where a point goes on once a frame that it enters comes back
+-- what a line says: the way of a step, or the address where a point goes on after an entered frame
+-- returns
 pub data Arrow : Type 0 where
   goes : Way → Arrow
   back : ℕ → Arrow
 
--- what each line of a point begins with: the key, and the point's address
+-- the front of each line of a point: the key, and the point's address
 abbrev pub line_front : Key → ℕ → List ℕ
 line_front key p = key_text key ++ (codes ": " ++ (hex_word p ++ 32 ∷ []))
 
--- the end of a line: its word, and the address where it goes
+-- the end of a line: its word, and an address
 abbrev pub end_to : List ℕ → ℕ → List ℕ
 end_to word q = word ++ (hex_word q ++ 10 ∷ [])
 
--- a line with an address behind its word
+-- a line that ends with a word and an address
 abbrev pub line_to : Key → ℕ → List ℕ → ℕ → List ℕ
 line_to key p word q = line_front key p ++ end_to word q
 
--- a return has no address
+-- the end of a way's line; a return has no address
 abbrev pub way_end : Way → List ℕ
 way_end (to q) = end_to (codes "to ") q
 way_end (call q) = end_to (codes "call ") q
@@ -56,59 +60,75 @@ abbrev pub line_text : Key → ℕ → Arrow → List ℕ
 line_text key p a = line_front key p ++ arrow_end a
 
 -- ---- the arrows of a point
--- where a duty goes on in the frame
+-- the address in the frame that a duty leads to
 abbrev pub jump_by : Duty → List ℕ
 jump_by (jump q t) = q ∷ []
 jump_by _ = []
 
--- the entry that a duty of this rule asks for
+-- the entry that a duty asks for
 abbrev pub entry_by : Duty → List ℕ
 entry_by (enter k t) = k.entry ∷ []
 entry_by _ = []
+
+-- the rules that ask for entries: of called functions, of the handler of misaligned accesses, of
+-- the handlers of interrupts, and of the handler of system calls
+abbrev pub call_rule : ℕ
+call_rule = 5
+
+abbrev pub misaligned_rule : ℕ
+misaligned_rule = 10
+
+abbrev pub interrupt_rule : ℕ
+interrupt_rule = 11
+
+abbrev pub system_call_rule : ℕ
+system_call_rule = 12
 
 -- the entries that the duties of a rule ask for, in their order
 abbrev pub entries_in : ℕ → List Owed → List ℕ
 entries_in rule ds = flat_map (λ d. if d.rule == rule then entry_by d.duty else []) ds
 
--- where the frame goes on after the node of a key, if that node stands and has an exit
+-- the address where the frame goes on after the node of a key, if that node is there and has an
+-- exit
 abbrev pub back_by : CertData → Duty → List ℕ
 back_by cert (resume k q) = if option_map_or (λ n. is_some n.exit) (find_node k cert.nodes) false then q ∷ [] else []
 back_by cert _ = []
 
--- numbers, each once, where it comes first
+-- the numbers in the order of their first places, each once
 abbrev pub each_once : List ℕ → List ℕ
 each_once [] = []
 each_once (x ∷ xs) = x ∷ filter (λ y. not (y == x)) (each_once xs)
 
--- a return has a line of its own
+-- the arrow of a return, if the instruction is one
 abbrev pub leaves_by : Shape → List Arrow
 leaves_by shape.Ret = goes ret ∷ []
 leaves_by shape.Rfe = goes rfe ∷ []
 leaves_by _ = []
 
--- where the duties of a point jump in the frame, by ascending address
+-- the addresses in the frame that the duties of a point lead to, ascending
 abbrev pub jumps_in : List Owed → List ℕ
 jumps_in ds = distinct (flat_map (λ d. jump_by d.duty) ds)
 
--- the entries of what they call, by ascending address
+-- the entries of the called functions, ascending
 abbrev pub calls_in : List Owed → List ℕ
-calls_in ds = distinct (entries_in 5 ds)
+calls_in ds = distinct (entries_in call_rule ds)
 
--- where the frame goes on once what it enters comes back, each place once
+-- the addresses where the frame goes on after an entered frame returns, each once
 abbrev pub backs_in : CertData → List Owed → List ℕ
 backs_in cert ds = each_once (flat_map (λ d. back_by cert d.duty) ds)
 
 -- the entry of the handler of system calls
 abbrev pub systems_in : List Owed → List ℕ
-systems_in ds = each_once (entries_in 12 ds)
+systems_in ds = each_once (entries_in system_call_rule ds)
 
 -- the entry of the handler of misaligned accesses
 abbrev pub misaligned_in : List Owed → List ℕ
-misaligned_in ds = each_once (entries_in 10 ds)
+misaligned_in ds = each_once (entries_in misaligned_rule ds)
 
--- the entries of the interrupts by ascending priority, a vector that two of them share once
+-- the entries of the interrupts by ascending priority; a vector that two of them share is there
+-- once
 abbrev pub interrupts_in : List Owed → List ℕ
-interrupts_in ds = each_once (entries_in 11 ds)
+interrupts_in ds = each_once (entries_in interrupt_rule ds)
 
 -- the arrows of a point, by its duties and its instruction
 unfoldable pub arrows_of : CertData → List Owed → Shape → List Arrow
@@ -128,14 +148,14 @@ pub record ArePointLines (image : ImageData) (plan : PlanData) (cert : CertData)
   pub code : IsCode image plan point.addr shape size
   pub are : lines ≡ map (line_text key point.addr) (arrows_of cert (duties_of (limits_in plan cert) image plan key point.addr point.state shape size) shape)
 
--- parts, one for each element, in order
+-- one part for each element, in order
 abbrev pub AreParts : {A : Type 0} → (A → List (List ℕ) → Type 0) → List A → List (List (List ℕ)) → Type 0
 AreParts Has [] [] = Unit {0}
 AreParts Has [] (p ∷ ps) = ⊥
 AreParts Has (x ∷ xs) [] = ⊥
 AreParts Has (x ∷ xs) (p ∷ ps) = Has x p × AreParts Has xs ps
 
--- lines that are those of the elements, one behind the other
+-- the lines of the elements, one after another
 pub record AreJoined {A : Type 0} (Has : A → List (List ℕ) → Type 0) (xs : List A) (lines : List (List ℕ)) : Type 0 where
   pub parts : List (List (List ℕ))
   pub each : AreParts Has xs parts

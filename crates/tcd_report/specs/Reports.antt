@@ -1,4 +1,7 @@
--- The report of a certificate: one JSON object, compact, its keys in byte order.
+-- The report of a certificate: one compact JSON object with its keys in byte order.
+pub mod Calls
+pub mod Heights
+pub mod Longest
 use Rattle.std.specs.Prelude.{◌≡◌, ℕ, List, [], ◌∷◌, ◌++◌, length, map, codes, All}
 use Rattle.serde_json.specs.Data.{Data, number, unsigned, string, array, object, member, no_members}
 use Rattle.serde_json.specs.View.{items_of}
@@ -8,23 +11,24 @@ use Rattle.tcd_plan.specs.PlanData.{PlanData}
 use Rattle.depth_cert.specs.Nodes.{NodeData}
 use Rattle.depth_cert.specs.Certs.{CertData}
 use Rattle.cfg_recover.specs.Accepting.{certified_need}
-use Rattle.tcd_report.specs.declared.longest.Row.{Row}
+use Rattle.tcd_report.specs.declared.reports.longest.LongestCalls.{LongestCalls}
 use Rattle.tcd_report.specs.Texts.{key_text}
-use Rattle.tcd_report.specs.Calls.{IsLongest, prios_of}
+use Rattle.tcd_report.specs.Reports.Calls.{IsLongest, prios_of}
 
 -- a number of the report
 abbrev pub count : ℕ → Data
 count n = number (unsigned n)
 
--- a node: its key, its need, and how many points it has
+-- a node: its key, its need, and the number of its points
 abbrev pub node_data : NodeData → Data
 node_data n = object (member (codes "key") (string (key_text n.key)) (member (codes "need") (count n.need) (member (codes "points") (count (length n.points)) no_members)))
 
--- a priority's row
-abbrev pub row_data : Row → Data
+-- a priority, and the length of its longest call chain
+abbrev pub row_data : LongestCalls → Data
 row_data r = object (member (codes "longest") (count r.longest) (member (codes "prio") (count r.prio) no_members))
 
--- the whole: the areas, the rows of the priorities, the certified need, the nodes by their keys, and the reserve
+-- the whole: the CSAs, the longest call chains, the certified need, the nodes in the order of their
+-- keys, and the reserve
 abbrev pub whole_data : ℕ → Data → ℕ → Data → ℕ → Data
 whole_data areas calls certified nodes reserve =
     object
@@ -32,22 +36,22 @@ whole_data areas calls certified nodes reserve =
     (member (codes "calls") calls
     (member (codes "certified") (count certified) (member (codes "nodes") nodes (member (codes "reserve") (count reserve) no_members)))))
 
--- the rows
-abbrev pub rows_data : List Row → Data
+-- the longest call chains
+abbrev pub rows_data : List LongestCalls → Data
 rows_data rows = array (items_of (map row_data rows))
 
 -- the nodes
 abbrev pub nodes_data : List NodeData → Data
 nodes_data nodes = array (items_of (map node_data nodes))
 
--- of a certificate
-abbrev pub report_data : ImageData → PlanData → CertData → List Row → Data
+-- the report of a certificate with these longest call chains
+abbrev pub report_data : ImageData → PlanData → CertData → List LongestCalls → Data
 report_data image plan cert rows = whole_data plan.areas (rows_data rows) (certified_need image plan cert) (nodes_data cert.nodes) plan.reserve
 
--- the text is the report, and a line feed: the rows are those of the nodes' priorities, ascending, each with its longest row
--- of calls
+-- The text is the report and a line feed. It has the longest call chain of each priority that has
+-- nodes, by ascending priority.
 pub record IsReport (image : ImageData) (plan : PlanData) (cert : CertData) (text : List ℕ) : Type 0 where
-  pub rows : List Row
+  pub rows : List LongestCalls
   pub prios : map (λ r. r.prio) rows ≡ prios_of cert.nodes
   pub longest : All (λ r. IsLongest image plan cert r.prio r.longest) rows
   pub is : text ≡ compact_text (report_data image plan cert rows) ++ 10 ∷ []

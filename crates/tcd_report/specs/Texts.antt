@@ -1,11 +1,11 @@
--- Printed keys.
+-- Keys as text.
 use Rattle.std.specs.Prelude.{ℕ, ◌==◌, if◌then◌else◌, List, [], ◌∷◌, ◌++◌, codes}
 use Rattle.std.specs.Fmt.{decimal}
 use Rattle.tcd_text.specs.Digits.{hex_word}
 use Rattle.depth_cert.specs.Keys.{start_kind, call_kind, irq_kind, sys_kind}
 use Rattle.depth_cert.specs.declared.keys.Key.{Key}
 
--- a kind of frame, and a blank
+-- the kind of a key, and a blank
 unfoldable pub kind_text : ℕ → List ℕ
 kind_text kind =
     if kind == start_kind then codes "start "

@@ -1,10 +1,10 @@
-// What is drawn and reported.
+// The certificate that is drawn or reported.
 use elf_image::Image;
 use packed_cert::PackedCert;
 use tcd_plan::Plan;
 use value_domain::Bounds;
 
-/// A certificate over an image and a plan, with its bounds of values.
+/// A certificate with its image and its plan, and the limits on values in its version.
 #[derive(Drop)]
 pub(crate) struct Judged<'a> {
     pub(crate) bounds: &'a Bounds,

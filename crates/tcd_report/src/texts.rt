@@ -1,13 +1,13 @@
-// Keys, put behind the text that stands there.
+// Keys as text, and texts that grow at their end.
 ghost use Rattle.std.specs.Prelude.{◌≡◌, ◌++◌, ◌∷◌, [], OnOk, string_bytes, if◌then◌else◌};
 ghost use Rattle.std.specs.Fmt.{decimal};
 ghost use Rattle.tcd_report.specs.Texts.{kind_text, key_text};
 
-use depth_cert::Key;
+use depth_cert::{CALL, IRQ, Key, START, SYS};
 use tcd_base::NoMemory;
 use tcd_text::append_hex_word;
 
-/// Puts a text behind what stands there.
+/// Appends a text.
 pub(crate) fn append(text: &mut String, more: &str) -> Result<(), NoMemory>
     ensures { OnOk result (string_bytes text.new ≡ string_bytes text.old ++ more.now) }
 {
@@ -15,36 +15,7 @@ pub(crate) fn append(text: &mut String, more: &str) -> Result<(), NoMemory>
     Ok(())
 }
 
-// The kind of frame that a key names.
-#[tactic(auto, unfolding(crate::specs::Texts::kind_text))]
-fn kind_text(kind: u8) -> &'static str
-    ensures { result.now ≡ kind_text kind }
-{
-    match kind {
-        0 => "start ",
-        1 => "call ",
-        2 => "irq ",
-        3 => "sys ",
-        _ => "aln ",
-    }
-}
-
-// Whether the interrupt stack is in use.
-fn stack_text(is: bool) -> &'static str
-    ensures { result.now ≡ (if is then 49 else 48) ∷ [] }
-{
-    if is { "1" } else { "0" }
-}
-
-// A number, in decimal.
-fn append_decimal(text: &mut String, n: u8) -> Result<(), NoMemory>
-    ensures { OnOk result (string_bytes text.new ≡ string_bytes text.old ++ decimal n) }
-{
-    write!(text, "{n}")?;
-    Ok(())
-}
-
-/// Puts a key there.
+/// Appends a key.
 #[tactic(auto, unfolding(crate::specs::Texts::key_text))]
 pub(crate) fn append_key(text: &mut String, key: &Key) -> Result<(), NoMemory>
     ensures { OnOk result (string_bytes text.new ≡ string_bytes text.old ++ key_text key.now) }
@@ -55,4 +26,33 @@ pub(crate) fn append_key(text: &mut String, key: &Key) -> Result<(), NoMemory>
     append_decimal(text, key.prio)?;
     append(text, " is ")?;
     append(text, stack_text(key.is))
+}
+
+// The kind of a key, and a blank.
+#[tactic(auto, unfolding(crate::specs::Texts::kind_text))]
+fn kind_text(kind: u8) -> &'static str
+    ensures { result.now ≡ kind_text kind }
+{
+    match kind {
+        START => "start ",
+        CALL => "call ",
+        IRQ => "irq ",
+        SYS => "sys ",
+        _ => "aln ",
+    }
+}
+
+// Appends a number in decimal.
+fn append_decimal(text: &mut String, n: u8) -> Result<(), NoMemory>
+    ensures { OnOk result (string_bytes text.new ≡ string_bytes text.old ++ decimal n) }
+{
+    write!(text, "{n}")?;
+    Ok(())
+}
+
+// The digit for the interrupt stack (1: in use).
+fn stack_text(is: bool) -> &'static str
+    ensures { result.now ≡ (if is then 49 else 48) ∷ [] }
+{
+    if is { "1" } else { "0" }
 }

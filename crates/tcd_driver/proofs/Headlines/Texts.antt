@@ -6,7 +6,7 @@ use Rattle.tcd_plan.specs.PlanData.{PlanData}
 use Rattle.depth_cert.specs.Certs.{CertData, count_points}
 use Rattle.cfg_recover.specs.Accepting.{certified_need}
 use Rattle.tcd_report.specs.Generated.{generated_image}
-use Rattle.tcd_report.specs.Planned.{generated_plan}
+use Rattle.tcd_report.specs.Generated.Planned.{generated_plan}
 use Rattle.tcd_base.specs.Files.{Map}
 use Rattle.tcd_reading.specs.Reports.{Report}
 use Rattle.tcd_reading.specs.Inputs.{HoldsInput}

@@ -14,10 +14,10 @@ use Rattle.depth_cert.specs.Certs.{CertData, count_points}
 use Rattle.cfg_recover.specs.Accepting.{certified_need}
 use Rattle.cfg_recover.specs.Refusals.{IsRefusal}
 use Rattle.tcd_report.specs.Graphs.{AreGraphLines}
-use Rattle.tcd_report.specs.EdgeLaws.{EdgesStand}
+use Rattle.tcd_report.specs.Graphs.EdgeLaws.{EdgesStand}
 use Rattle.tcd_report.specs.Reports.{IsReport}
 use Rattle.tcd_report.specs.Generated.{generated_image}
-use Rattle.tcd_report.specs.Planned.{generated_plan}
+use Rattle.tcd_report.specs.Generated.Planned.{generated_plan}
 use Rattle.tcd_base.specs.Files.{Map}
 use Rattle.tcd_forms.specs.Lines.{elf_line}
 use Rattle.tcd_driver.specs.Headlines.{IsBadFile, HoldsImage, AreFirmwareFiles, AreCheckFiles, IsAcceptedWith, IsLeastOfItsVersion, IsBestWith, EachIsRefused, refused_words}

@@ -2,7 +2,7 @@
 ghost use Rattle.std.specs.Prelude.{◌≤◌};
 ghost use Rattle.depth_maker.specs.Made.{AreMade};
 ghost use Rattle.tcd_report.specs.Generated.{generated_image};
-ghost use Rattle.tcd_report.specs.Planned.{generated_plan};
+ghost use Rattle.tcd_report.specs.Generated.Planned.{generated_plan};
 ghost use Rattle.tcd_driver.specs.Gen.{IsSummary};
 ghost use Rattle.tcd_reading.specs.Outcomes.{IsTold};
 

@@ -1,4 +1,4 @@
-use Rattle.tcd_report.proofs.EdgeProofs as edges
+use Rattle.tcd_report.proofs.GraphLemmas.EdgeProofs as edges
 use Rattle.tcd_report.proofs.laws.graph_law.Goals as goal
 
 pub returns : goal.returns

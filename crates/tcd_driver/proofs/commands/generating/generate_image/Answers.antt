@@ -1,7 +1,7 @@
 use Rattle.std.proofs.Common.{subst}
 use Rattle.elf_image.specs.Images.{ImageData}
 use Rattle.tcd_plan.specs.PlanData.{PlanData}
-use Rattle.tcd_report.specs.Planned.{generated_plan}
+use Rattle.tcd_report.specs.Generated.Planned.{generated_plan}
 use Rattle.tcd_reading.specs.Outcomes.{IsTold}
 use Rattle.tcd_driver.specs.Gen.{IsSummary}
 use Rattle.tcd_driver.proofs.GenReports.{read_image, read_plan, text_most}

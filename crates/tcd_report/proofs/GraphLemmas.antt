@@ -1,0 +1,7 @@
+-- Lists of addresses, the text of lines, arrows of points, and edges of steps on lines.
+pub mod Lists
+pub mod DutyLists
+pub mod GraphTexts
+pub mod Joining
+pub mod Arrows
+pub mod EdgeProofs

@@ -1,0 +1,23 @@
+-- Reading the text of the plan gives the plan.
+use Rattle.std.proofs.Common.{◌≡◌, Some, Ok, refl}
+use Rattle.std.specs.Prelude.{IsUtf8, unwrap_or}
+use Rattle.serde_json.specs.Data.{Data, null}
+use Rattle.serde_json.specs.Read.{read}
+use Rattle.serde_json.proofs.OnLiterals.{serde_json_on_literals}
+use Rattle.tcd_plan.specs.KeyRows.{key_rows}
+use Rattle.tcd_plan.specs.Plans.{Gives, plan_of, missing_of, unknown_of, bad_value_of, plan_in, too_many_of, has_areas, has_vectors, overlap_of, refusal_of}
+use Rattle.tcd_report.specs.Generated.Planned.{generated_plan, generated_text}
+
+document : Data
+document = unwrap_or (read generated_text) null
+
+read_is : read generated_text ≡ Some document
+unfolding document serde_json_on_literals
+read_is = refl
+
+plan_is : plan_of document ≡ Ok generated_plan
+unfolding document serde_json_on_literals key_rows missing_of unknown_of bad_value_of plan_in too_many_of has_areas has_vectors overlap_of refusal_of
+plan_is = refl
+
+pub text_tells : IsUtf8 generated_text → Gives generated_text (Ok generated_plan)
+text_tells u = (document, u, read_is, plan_is)

@@ -1,0 +1,15 @@
+use Rattle.std.proofs.Common.{◌≡◌, ◌++◌, List, length, string_bytes}
+use Rattle.depth_cert.specs.declared.points.Point.{Point}
+use Rattle.tcd_report.specs.Graphs.{ArePointLines, AreJoined}
+use Rattle.tcd_report.specs.Judging.{GrowsBy}
+use Rattle.tcd_report.proofs.graphs.graph_text.append_node.Given as goal
+
+abbrev pub invariant-loop-addr : goal.invariant-loop-addr
+invariant-loop-addr l = record {
+  done : List Point;
+  split : (l.node).points ≡ done ++ (l.walk).left;
+  grown : GrowsBy (AreJoined (ArePointLines l.judged.image.now l.judged.plan.now l.judged.cert.now (l.node).key) done) (string_bytes l.initial.text) (string_bytes l.text);
+}
+
+abbrev pub decreases-loop-addr : goal.decreases-loop-addr
+decreases-loop-addr l = length (l.walk).left

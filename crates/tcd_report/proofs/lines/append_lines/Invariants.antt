@@ -1,6 +1,0 @@
-use Rattle.std.proofs.Common.{◌≡◌, ◌++◌, take, string_bytes}
-use Rattle.tcd_report.specs.Told.{lines_to}
-use Rattle.tcd_report.proofs.lines.append_lines.Given as goal
-
-abbrev pub invariant-loop-to : goal.invariant-loop-to
-invariant-loop-to l = string_bytes l.text ≡ string_bytes l.initial.text ++ lines_to l.key l.addr l.word (take l.to-index l.targets)

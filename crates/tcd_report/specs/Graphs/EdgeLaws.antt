@@ -1,0 +1,31 @@
+-- What the graph of an accepted certificate says of runs.
+use Rattle.std.specs.Prelude.{ℕ, ◌<◌, ◌^◌, List, [], ◌∷◌, Contains}
+use Rattle.elf_image.specs.Images.{ImageData}
+use Rattle.tcd_plan.specs.PlanData.{PlanData, IsPlan}
+use Rattle.tc_machine.specs.declared.events.Event.{Event}
+use Rattle.tc_machine.specs.declared.state.Machine.{Machine}
+use Rattle.tc_machine.specs.Stepping.{run}
+use Rattle.tc_machine.specs.Safe.{Starts, Fits, AllFit, Safe}
+use Rattle.depth_cert.specs.Certs.{CertData, IsCert}
+use Rattle.cfg_recover.specs.Accepting.{certified_need}
+use Rattle.cfg_recover.specs.Frames.{Standing, frames, edge_of_step, EdgesOwed}
+use Rattle.tcd_report.specs.Graphs.{AreGraphLines, goes, line_text}
+
+-- one of the lines has the key of the newest frame, the address of a step and the word of its edge
+abbrev pub IsOnLine : List (List ℕ) → Machine → Event → List Standing → Type 0
+IsOnLine lines m e [] = ⊥
+IsOnLine lines m e (f ∷ fs) = Contains lines (line_text f.key (edge_of_step m e).at (goes (edge_of_step m e).way))
+
+-- this holds for each step of every run from every start state
+abbrev pub EdgesStand : ImageData → PlanData → CertData → List (List ℕ) → Type 0
+EdgesStand image plan cert lines =
+    (m : Machine) (es : List Event) (e : Event) → Starts image plan m → AllFit plan m es → Fits plan (run m es) e
+    → IsOnLine lines (run m es) e (frames image plan m es)
+
+-- If each run is safe and each edge is owed, as for an accepted certificate, each edge is on a line
+-- of the graph.
+abbrev pub EdgesStandOnLines : Type 0
+EdgesStandOnLines =
+    (image : ImageData) (plan : PlanData) (cert : CertData) (lines : List (List ℕ)) → IsPlan plan → IsCert cert → image.entry < 2 ^ 32
+    → Safe image plan (certified_need image plan cert) → EdgesOwed image plan cert → AreGraphLines image plan cert lines
+    → EdgesStand image plan cert lines

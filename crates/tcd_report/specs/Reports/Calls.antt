@@ -1,0 +1,63 @@
+-- The calls between the nodes of a certificate, and the longest call chains.
+use Rattle.std.specs.Prelude.{◌≡◌, ◌≤◌, ◌==◌, ℕ, zero, suc, List, [], ◌∷◌, filter, Contains, if◌then◌else◌}
+use Rattle.std.specs.List.{flat_map, list_any, range_with_len}
+use Rattle.elf_image.specs.Images.{ImageData}
+use Rattle.tcd_plan.specs.PlanData.{PlanData}
+use Rattle.tc_isa.specs.declared.shapes.Shape.{Shape}
+use Rattle.depth_cert.specs.declared.keys.Key.{Key}
+use Rattle.depth_cert.specs.declared.points.Point.{Point}
+use Rattle.depth_cert.specs.Nodes.{NodeData}
+use Rattle.depth_cert.specs.Certs.{CertData}
+use Rattle.cfg_recover.specs.Code.{IsCode}
+use Rattle.cfg_recover.specs.Duties.{Duty, enter, Owed, duties_of}
+use Rattle.cfg_recover.specs.Accepting.{limits_in}
+use Rattle.tcd_report.specs.Graphs.{call_rule}
+
+-- the key of the node whose entry a duty asks for
+abbrev pub key_by : Duty → List Key
+key_by (enter k t) = k ∷ []
+key_by _ = []
+
+-- the keys of the functions that an instruction calls: rule 5 asks for their entries
+abbrev pub called_by : List Owed → List Key
+called_by ds = flat_map (λ d. if d.rule == call_rule then key_by d.duty else []) ds
+
+-- the instruction at a point calls the function with this key
+pub record CallsAt (image : ImageData) (plan : PlanData) (cert : CertData) (caller : Key) (point : Point) (key : Key) : Type 0 where
+  pub shape : Shape
+  pub size : ℕ
+  pub code : IsCode image plan point.addr shape size
+  pub called : Contains (called_by (duties_of (limits_in plan cert) image plan caller point.addr point.state shape size)) key
+
+-- the instruction at some point of a node calls the function with this key
+pub record Calls (image : ImageData) (plan : PlanData) (cert : CertData) (caller : NodeData) (key : Key) : Type 0 where
+  pub point : Point
+  pub stands : Contains caller.points point
+  pub at : CallsAt image plan cert caller.key point key
+
+-- a call chain of this length begins in a node
+abbrev pub CallsInARow : ImageData → PlanData → CertData → NodeData → ℕ → Type 0
+CallsInARow image plan cert node zero = Unit {0}
+CallsInARow image plan cert node (suc n) =
+    (callee : NodeData) × (Contains cert.nodes callee × (Calls image plan cert node callee.key × CallsInARow image plan cert callee n))
+
+-- n is the length of the longest call chain that begins in a node of this priority (a callee has
+-- the priority of its caller)
+pub record IsLongest (image : ImageData) (plan : PlanData) (cert : CertData) (prio n : ℕ) : Type 0 where
+  pub node : NodeData
+  pub stands : Contains cert.nodes node
+  pub at_prio : (node.key).prio ≡ prio
+  pub reached : CallsInARow image plan cert node n
+  pub most : (other : NodeData) (m : ℕ) → Contains cert.nodes other → (other.key).prio ≡ prio → CallsInARow image plan cert other m → m ≤ n
+
+-- the priorities of the nodes that are below a number, ascending
+unfoldable pub prios_below : List NodeData → ℕ → List ℕ
+prios_below nodes n = filter (λ p. list_any (λ n. (n.key).prio == p) nodes) (range_with_len 0 n)
+
+-- the number of priorities: an interrupt's priority is one byte
+unfoldable pub priorities : ℕ
+priorities = 256
+
+-- the priorities of the nodes, ascending
+abbrev pub prios_of : List NodeData → List ℕ
+prios_of nodes = prios_below nodes priorities

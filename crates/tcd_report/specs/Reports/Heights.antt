@@ -1,0 +1,66 @@
+-- The length of the longest call chain that begins in each node (its height), in a map by keys.
+use Rattle.std.specs.Prelude.{◌≡◌, ◌≤◌, ◌⊎◌, ℕ, suc, Bool, List, Some, Contains}
+use Rattle.std.specs.declared.cmp.Ordering.{Ordering}
+use Rattle.std.specs.HashMap.{HashMap, get}
+use Rattle.elf_image.specs.Images.{ImageData}
+use Rattle.tcd_plan.specs.PlanData.{PlanData}
+use Rattle.depth_cert.specs.declared.keys.Key.{Key}
+use Rattle.depth_cert.specs.declared.points.Point.{Point}
+use Rattle.depth_cert.specs.Nodes.{NodeData}
+use Rattle.depth_cert.specs.Certs.{CertData}
+use Rattle.depth_cert.specs.contracts.keys.KeyPartialEq.TheImpl as block
+use Rattle.depth_cert.specs.contracts.keys.KeyOrd.TheImpl as order_block
+use Rattle.tcd_report.specs.Reports.Calls.{CallsAt, CallsInARow}
+
+-- the comparison of keys in maps
+abbrev pub key_eq : Key → Key → Bool
+key_eq = (block.ghosts).eq
+
+-- a node's need, and its key
+abbrev pub rank_of : NodeData → ℕ × Key
+rank_of n = (n.need, n.key)
+
+-- the order of keys in sorting
+abbrev pub key_cmp : Key → Key → Ordering
+key_cmp = (order_block.ghosts).cmp
+
+-- n is the greatest number with this property, or 0 if there is none
+pub record IsMost (P : ℕ → Type 0) (n : ℕ) : Type 0 where
+  pub reached : (n ≡ 0) ⊎ P n
+  pub most : (m : ℕ) → P m → m ≤ n
+
+-- n is the greatest number that belongs to an element of a list, or 0 if there is none
+abbrev pub IsMostOf : {A : Type 0} → (A → ℕ → Type 0) → List A → ℕ → Type 0
+IsMostOf {A = A} Has xs n = IsMost (λ m. (x : A) × (Contains xs x × Has x m)) n
+
+-- the number is the height of a key in the map, plus 1
+abbrev pub HasRow : {S : Type 0} → HashMap Key ℕ S → Key → ℕ → Type 0
+HasRow heights k m = (h : ℕ) × ((get key_eq heights k ≡ Some h) × (m ≡ suc h))
+
+-- the number is the height of a key that a point calls, plus 1
+abbrev pub HasRowAt : {S : Type 0} → ImageData → PlanData → CertData → HashMap Key ℕ S → Key → Point → ℕ → Type 0
+HasRowAt image plan cert heights key point m = (k : Key) × (CallsAt image plan cert key point k × HasRow heights k m)
+
+-- no height in the map is above 4,096
+abbrev pub AreLow : {S : Type 0} → HashMap Key ℕ S → Type 0
+AreLow heights = (k : Key) (h : ℕ) → get key_eq heights k ≡ Some h → h ≤ 4096
+
+-- h is the length of the longest call chain that begins in a node
+pub record IsHeight (image : ImageData) (plan : PlanData) (cert : CertData) (node : NodeData) (h : ℕ) : Type 0 where
+  pub reached : CallsInARow image plan cert node h
+  pub most : (m : ℕ) → CallsInARow image plan cert node m → m ≤ h
+
+-- a node with this key has this height
+pub record IsTold (image : ImageData) (plan : PlanData) (cert : CertData) (k : Key) (h : ℕ) : Type 0 where
+  pub node : NodeData
+  pub stands : Contains cert.nodes node
+  pub key : node.key ≡ k
+  pub height : IsHeight image plan cert node h
+
+-- the map has only heights of nodes
+abbrev pub TellsHeights : {S : Type 0} → ImageData → PlanData → CertData → HashMap Key ℕ S → Type 0
+TellsHeights image plan cert heights = (k : Key) (h : ℕ) → get key_eq heights k ≡ Some h → IsTold image plan cert k h
+
+-- the map has a height for each of these keys
+abbrev pub HasHeights : {S : Type 0} → HashMap Key ℕ S → List (ℕ × Key) → Type 0
+HasHeights heights ranks = (r : ℕ × Key) → Contains ranks r → (h : ℕ) × (get key_eq heights r.1 ≡ Some h)

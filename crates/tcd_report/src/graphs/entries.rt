@@ -1,0 +1,98 @@
+// The entries of the frames that an instruction enters.
+ghost use Rattle.std.specs.Prelude.{◌≡◌, ◌++◌, ◌∷◌, [], OnOk, IfOk, not, if◌then◌else◌};
+ghost use Rattle.tc_isa.specs.Bounded.{IsShape, IsSize};
+ghost use Rattle.value_domain.specs.State.{AreValues};
+ghost use Rattle.vd_transfer.specs.Effects.{address_of};
+ghost use Rattle.depth_cert.specs.declared.keys.Key.{Key};
+ghost use Rattle.cfg_recover.specs.Local.{are_aligned};
+ghost use Rattle.cfg_recover.specs.Duties.{misaligned_entry, misaligned_of};
+ghost use Rattle.tcd_report.specs.Graphs.{entries_in, misaligned_rule};
+ghost use Rattle.tcd_report.specs.Graphs.Edges.{called_of, systems_of};
+
+use crate::judged::Judged;
+use arrayvec::ArrayVec;
+use cfg_recover::{aln_key, is_aligned, sys_key, targets};
+use depth_cert::Key;
+use std::alloc::Global;
+use tc_isa::Shape;
+use tcd_base::NoMemory;
+use tcd_plan::Plan;
+use value_domain::State;
+use vd_transfer::address_by;
+
+/// The functions that an instruction of this shape calls.
+pub(crate) fn call_targets(plan: &Plan, addr: u32, s: &State, shape: Shape) -> ArrayVec<u32, 128>
+    requires { IsShape shape }
+    ensures { result.items ≡ called_of plan.now s.now addr shape }
+{
+    match shape {
+        Shape::Call { to } => targets(plan, s, addr, to),
+        _ => ArrayVec::new(),
+    }
+}
+
+/// The entry of the handler of system calls, if the instruction is a system call.
+pub(crate) fn system_call_entries(
+    alloc: Global,
+    plan: &Plan,
+    key: &Key,
+    shape: Shape,
+) -> Result<Vec<u32>, NoMemory>
+    ensures { IfOk result (λ v. v.items ≡ systems_of plan.now key.now shape) }
+{
+    let mut all = Vec::new(alloc);
+    if let Shape::Syscall { .. } = shape {
+        all.push(sys_key(plan, key).entry)?;
+    }
+    Ok(all)
+}
+
+/// The entry of the handler of misaligned accesses, if the instruction's access may be misaligned.
+pub(crate) fn misaligned_entries(
+    alloc: Global,
+    judged: &Judged,
+    key: &Key,
+    s: &State,
+    shape: Shape,
+) -> Result<Vec<u32>, NoMemory>
+    requires values { AreValues judged.now.bounds.now s.now.regs }
+    requires shape { IsShape shape }
+    ensures { let j = judged.now in IfOk result (λ v. v.items
+        ≡ entries_in misaligned_rule (misaligned_of j.bounds.now j.plan.now key.now s.now shape)) }
+{
+    let mut all = Vec::new(alloc);
+    if !is_misaligned(judged, s, shape) {
+        return Ok(all);
+    }
+    all.push(aln_key(judged.plan, key).entry)?;
+    Ok(all)
+}
+
+// Whether the instruction's access may be misaligned.
+fn is_misaligned(judged: &Judged, s: &State, shape: Shape) -> bool
+    requires values { AreValues judged.now.bounds.now s.now.regs }
+    requires shape { IsShape shape }
+    ensures { let j = judged.now in
+        (key : Key) → misaligned_of j.bounds.now j.plan.now key s.now shape
+        ≡ (if result then misaligned_entry j.plan.now key s.now ∷ [] else []) }
+{
+    match shape {
+        Shape::Load { size, .. } => accesses_misaligned(judged, s, shape, size),
+        Shape::Store { size, .. } => accesses_misaligned(judged, s, shape, size),
+        _ => false,
+    }
+}
+
+// Whether an access of this shape and size may be misaligned. A function of its own, as it has room
+// for a value.
+#[inline(never)]
+fn accesses_misaligned(judged: &Judged, s: &State, shape: Shape, size: u8) -> bool
+    requires values { AreValues judged.now.bounds.now s.now.regs }
+    requires shape { IsShape shape }
+    requires size { IsSize size }
+    ensures { let j = judged.now in
+        result ≡ not (are_aligned (address_of j.bounds.now j.plan.now shape s.now) size) }
+{
+    let at = address_by(judged.bounds, judged.plan, shape, s);
+    !is_aligned(judged.bounds, &at, size)
+}

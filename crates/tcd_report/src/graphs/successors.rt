@@ -1,0 +1,115 @@
+// The addresses where a point goes on in its frame.
+ghost use Rattle.std.specs.Prelude.{◌≡◌, ◌++◌, [], OnOk, false, is_some, true, unwrap_or};
+ghost use Rattle.tc_isa.specs.Bounded.{IsShape, IsTarget};
+ghost use Rattle.value_domain.specs.State.{AreValues};
+ghost use Rattle.vd_transfer.specs.Branches.{refine_of};
+ghost use Rattle.cfg_recover.specs.Local.{targets_of};
+ghost use Rattle.cfg_recover.specs.Duties.{jump_on};
+ghost use Rattle.tcd_report.specs.Judging.{point_of, successors_at};
+ghost use Rattle.tcd_report.specs.Graphs.Edges.{jumped_in};
+
+use crate::judged::Judged;
+use cfg_recover::{Located, targets};
+use tc_isa::{Shape, Target};
+use tcd_base::NoMemory;
+use tcd_plan::Plan;
+use value_domain::State;
+use vd_transfer::{change_on, unchanged};
+
+/// Appends the addresses where the point may go on in its frame, except those after a call or a
+/// system call.
+pub(crate) fn push_successors(
+    all: &mut Vec<u32>,
+    judged: &Judged,
+    addr: u32,
+    s: &State,
+    found: &Located,
+) -> Result<(), NoMemory>
+    requires shape { IsShape found.now.shape }
+    requires values { AreValues judged.now.bounds.now s.now.regs }
+    ensures { OnOk result (all.new.items ≡ all.old.items
+        ++ jumped_in (successors_at judged.now (point_of addr s.now) found.now)) }
+{
+    let shape = found.shape;
+    let next = addr.wrapping_add(found.size);
+    match shape {
+        Shape::Branch { by, .. } => {
+            push_sides(all, judged, shape, s, next, addr.wrapping_add(by))
+        }
+        Shape::Jump { to } => push_targets(all, judged.plan, addr, s, to),
+        Shape::Call { .. } | Shape::Ret | Shape::Rfe | Shape::Syscall { .. } | Shape::Mtcr { .. } =>
+            Ok(()),
+        _ => {
+            all.push(next)?;
+            Ok(())
+        }
+    }
+}
+
+// Appends the addresses of those sides of a branch that are possible.
+fn push_sides(
+    all: &mut Vec<u32>,
+    judged: &Judged,
+    shape: Shape,
+    s: &State,
+    next: u32,
+    to: u32,
+) -> Result<(), NoMemory>
+    requires shape { IsShape shape }
+    requires values { AreValues judged.now.bounds.now s.now.regs }
+    ensures { let j = judged.now in OnOk result (all.new.items ≡ all.old.items
+        ++ jumped_in (jump_on next (refine_of j.bounds.now j.plan.now shape s.now false)
+        ++ jump_on to (refine_of j.bounds.now j.plan.now shape s.now true))) }
+{
+    push_side(all, judged, shape, s, false, next)?;
+    push_side(all, judged, shape, s, true, to)
+}
+
+// Appends the address of a side of a branch, if that side is possible.
+fn push_side(
+    all: &mut Vec<u32>,
+    judged: &Judged,
+    shape: Shape,
+    s: &State,
+    taken: bool,
+    to: u32,
+) -> Result<(), NoMemory>
+    requires shape { IsShape shape }
+    requires values { AreValues judged.now.bounds.now s.now.regs }
+    ensures { let j = judged.now in OnOk result (all.new.items ≡ all.old.items
+        ++ jumped_in (jump_on to (refine_of j.bounds.now j.plan.now shape s.now taken))) }
+{
+    if is_possible(judged, shape, s, taken) {
+        all.push(to)?;
+    }
+    Ok(())
+}
+
+// Whether a side of a branch is possible. A function of its own, as it has room for a change.
+#[inline(never)]
+fn is_possible(judged: &Judged, shape: Shape, s: &State, taken: bool) -> bool
+    requires shape { IsShape shape }
+    requires values { AreValues judged.now.bounds.now s.now.regs }
+    ensures { let j = judged.now in
+        result ≡ is_some (refine_of j.bounds.now j.plan.now shape s.now taken) }
+{
+    let mut c = unchanged(s);
+    change_on(judged.bounds, judged.plan, shape, s, taken, &mut c)
+}
+
+// Appends the addresses where a jump may go.
+fn push_targets(
+    all: &mut Vec<u32>,
+    plan: &Plan,
+    addr: u32,
+    s: &State,
+    to: Target,
+) -> Result<(), NoMemory>
+    requires { IsTarget to }
+    ensures { OnOk result (all.new.items ≡ all.old.items
+        ++ unwrap_or (targets_of plan.now s.now addr to) []) }
+{
+    let targets = targets(plan, s, addr, to);
+    all.extend_from_slice(targets.as_slice())?;
+    Ok(())
+}
