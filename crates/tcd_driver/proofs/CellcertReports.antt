@@ -30,15 +30,15 @@ use Rattle.tcd_reading.proofs.Decided.{AreAlike, status_is, writes_are}
 use Rattle.tcd_driver.proofs.MakingLaws.{same_cert}
 
 -- ---- the certificate that was made
--- it is made under the plan by another name
+-- a certificate that is made under a plan is made under an equal plan
 pub made_under : (i : ImageData) (p q : PlanData) (version : ℕ) (bytes : List ℕ) → p ≡ q → AreMade i p version bytes → AreMade i q version bytes
 made_under i p q version bytes same made = subst (λ (x : PlanData). AreMade i x version bytes) same made
 
--- its bytes are few enough to be read
+-- the bytes of a certificate that is made are few enough to be read
 pub made_most : (i : ImageData) (p : PlanData) (version : ℕ) (lent bytes : List ℕ) → lent ≡ bytes → AreMade i p version bytes → length lent ≤ 2 ^ 30
 made_most i p version lent bytes e made = subst (λ (b : List ℕ). length b ≤ 2 ^ 30) (sym (e ∙ made.spell)) (cert_most made.cert made.is_cert)
 
--- what is known of a certificate that was made, once it is read
+-- what holds of a certificate that is made, after it is read
 record IsReadBack (i : ImageData) (p : PlanData) (bytes : List ℕ) (c : CertData) : Type 0 where
   spell : bytes ≡ bytes_of c
   is_cert : IsCert c
@@ -50,7 +50,7 @@ read_back i p lent bytes c e made read =
     subst (λ (d : CertData). IsReadBack i p bytes d) same (record { spell = made.spell; is_cert = made.is_cert; made = made.made })
 
 -- ---- rule 16
--- where the least certificate breaks it, each one does
+-- if the least certificate breaks rule 16, each one does
 none_keeps : (i : ImageData) (p : PlanData) (cells : List Cell) (c : CertData) (k : Key) (x : ℕ) → IsPlan (with_cells p cells) → IsCert c → IsMade i (with_cells p cells) 2 c → BreaksCells i (with_cells p cells) cells c k x → NoneKeepsCells i p cells
 none_keeps i p cells c k x ok is made breaks other is_other version accepted keeps =
     let better = made.best other is_other version accepted in
@@ -58,7 +58,7 @@ none_keeps i p cells c k x ok is made breaks other is_other version accepted kee
     (cell_faults_grow i (with_cells p cells) cells c other k x ok is is_other (made.of_version ∙ sym version) made.accepted accepted better.below breaks) keeps
 
 -- ---- reports
--- none is accepted under that plan, by its other name
+-- the report if no certificate is accepted under that plan
 pub refused_report : (name : List ℕ) (i : ImageData) (under p : PlanData) (cells : List Cell) (e : MakeErr) (rule : ℕ) (key : Key) (addr : ℕ) (r : Report) → under ≡ with_cells p cells → e ≡ making.Refused rule key addr → IsRefused i under 2 e
     → r ≡ says Refused (refused_line rule key addr) → IsCertifyingCells name i p cells r
 refused_report name i under p cells e rule key addr r it is why told =
@@ -70,12 +70,12 @@ module _ (name : List ℕ) (i : ImageData) (fields p : PlanData) (cells : List C
   back : IsReadBack i (with_cells p cells) bytes c
   back = read_back i (with_cells p cells) lent bytes c e made read
 
-  -- the least certificate breaks the rule
+  -- the report if the least certificate breaks the rule
   pub broken_report : (key : Key) (addr : ℕ) (r : Report) → IsFirstBreak i (with_cells p cells) cells c key addr → r ≡ says Refused (refused_line 16 key addr) → IsCertifyingCells name i p cells r
   broken_report key addr r first is =
       broken c key addr (none_keeps i p cells c key addr (IsPlan-with_cells (subst IsPlan same is_plan) cells are) back.is_cert back.made first.breaks) back.is_cert back.made first is
 
-  -- it keeps the cells, and is written; the plan in which they are devices has another name
+  -- the report if the certificate keeps the cells, and is written
   pub kept_report : (under : PlanData) (need count : ℕ) (r : Report) → under ≡ with_cells p cells → Accepts i under c → need ≡ certified_need i under c → Safe i under need → KeepsCells i (with_cells p cells) cells c → count ≡ length cells
       → r ≡ writes_file name bytes (certified_cells_line need (fields.areas - fields.reserve) count) → IsCertifyingCells name i p cells r
   kept_report under need count r it accepts needs safe keeps many told =

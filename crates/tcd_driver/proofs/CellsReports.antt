@@ -56,7 +56,7 @@ module _ (i : ImageData) (p : PlanData) (cells : List Cell) (c : CertData) where
   pub cells_alike : AreAlike (IsCellsVerdict i p cells c)
   cells_alike = record { told = told; done = done; one = one }
 
--- the rules accept the certificate, and it keeps the cells
+-- the report on a certificate that is accepted and keeps the cells
 pub cells_report : (i : ImageData) (fields p : PlanData) (cells : List Cell) (parts c : CertData) (need count : ℕ) (r : Report) → fields ≡ p → IsPlan fields → AreCells p cells → parts ≡ c → IsCert parts
     → Accepts i (with_cells p cells) c → need ≡ certified_need i (with_cells p cells) c → Safe i (with_cells p cells) need → KeepsCells i (with_cells p cells) cells c → count ≡ length cells
     → r ≡ says Done (certified_cells_line need (fields.areas - fields.reserve) count) → IsCellsVerdict i p cells c r

@@ -62,12 +62,12 @@ made_read : (v : ImageData) (b : PlanData) (lent bytes : List ℕ) (c : CertData
 made_read v b lent bytes c e m read =
     same_cert (certificate_of lent) m.cert c (ap certificate_of (e ∙ m.spell) ∙ written_is_read m.cert m.is_cert) read
 
--- where the least certificate fails rule 17, each one does
+-- if the least certificate fails rule 17, each one does
 none_apart : (v : ImageData) (b : PlanData) (t : TasksData) (c : CertData) (k : Key) (x : ℕ) → IsPlan b → IsCert c → IsMade v b 2 c → FailsApart v b t c k x → NoneApart v b t
 none_apart v b t c k x ok is_c made fails d is_d version accepted apart =
     task_faults_refute v b t d k x (task_faults_grow v b t c d k x ok is_c is_d (made.of_version ∙ sym version) made.accepted accepted (made.best d is_d version accepted).below fails) apart
 
--- the certificate that was read keeps rule 17, so the one that the bytes spell does
+-- if the certificate that was read keeps rule 17, the one that the bytes spell does
 pub apart_made : (v : ImageData) (b : PlanData) (t : TasksData) (lent bytes : List ℕ) (c : CertData) (need : ℕ) → lent ≡ bytes → AreMade v b 2 bytes → certificate_of lent ≡ Ok c
     → need ≡ certified_need v b c → Safe v b need → KeepsApart v b t c → SpellApart v b t bytes need
 apart_made v b t lent bytes c need e m read is safe apart =
@@ -82,7 +82,7 @@ apart_made v b t lent bytes c need e m read is safe apart =
       need_is = is ∙ ap (certified_need v b) same;
     }
 
--- or it fails it, and with it each one
+-- if it fails rule 17, each one does
 pub apart_fails : (v : ImageData) (fields b : PlanData) (t : TasksData) (lent bytes : List ℕ) (c : CertData) (k : Key) (x : ℕ) → fields ≡ b → IsPlan fields → lent ≡ bytes → AreMade v b 2 bytes
     → certificate_of lent ≡ Ok c → IsTaskFault v b t c k x → IsUncertified v b t 17 k x
 apart_fails v fields b t lent bytes c k x plan_is is_plan e m read fault =
@@ -90,7 +90,7 @@ apart_fails v fields b t lent bytes c k x plan_is is_plan e m read fault =
     let there : IsTaskFault v b t m.cert k x = subst (λ (d : CertData). IsTaskFault v b t d k x) same fault in
     not_apart m.cert k x m.is_cert m.made there (none_apart v b t m.cert k x (subst IsPlan plan_is is_plan) m.is_cert m.made there.fails)
 
--- none is made
+-- no certificate is made
 pub unmade : (v : ImageData) (b : PlanData) (t : TasksData) (e : MakeErr) (rule r : ℕ) (key k : Key) (addr a : ℕ) → e ≡ make_err.Refused rule key addr → IsRefused v b 2 e → r ≡ rule → k ≡ key → a ≡ addr → IsUncertified v b t r k a
 unmade v b t e rule r key k addr a is why same_r same_k same_a =
     let h : IsRefused v b 2 (make_err.Refused rule key addr) = subst (IsRefused v b 2) is why in
@@ -117,7 +117,7 @@ pub task_uncertified : (i : ImageData) (p : PlanData) (t : TasksData) (u rule : 
 task_uncertified i p t u rule k x v b seen planned h =
     subst (λ (q : PlanData). IsUncertified (view_image_of i t u) q t rule k x) planned (subst (λ (w : ImageData). IsUncertified w b t rule k x) seen h)
 
--- what making one for its view came to
+-- the result of making a certificate for the task's view
 pub makes_task : (i : ImageData) (fields p : PlanData) (parts t : TasksData) (u : ℕ) (v : ImageData) (b : PlanData) (m : Making) → fields ≡ p → IsPlan fields → parts ≡ t → AreTasks parts → FitPlan p t → u < count t
     → v ≡ view_image_of i t u → b ≡ view_plan_of p t u → MakesApart v b t m → MakesTask i p t u m
 makes_task i fields p parts t u v b (making.Certified bytes need) same is_plan same_t are fit lt seen planned h = task_made i fields p parts t u _ need v b same is_plan same_t are fit lt seen planned h
@@ -213,7 +213,7 @@ module _ (names : List (List ℕ)) (i : ImageData) (p : PlanData) (t : TasksData
   taskcert_decided = decided_each_named names t _ (decided_answer _ taskcert_alike)
 
 -- ---- one task after another
--- the files of the certificates of the tasks below n, with their needs together
+-- the files of the certificates of the tasks below n, with the sum of their needs
 pub record AreFilesSoFar (names : List (List ℕ)) (i : ImageData) (p : PlanData) (t : TasksData) (n : ℕ) (writes : List Written) (sum : ℕ) : Type 0 where
   pub certs : List CertData
   pub many : length certs ≡ n

@@ -47,7 +47,7 @@ refused_refutes : (i : ImageData) (p : PlanData) (t : TasksData) (c : CertData) 
 refused_refutes i p t c u _ _ _ (unaccepted rule k x first) good = fails_refutes (view_image_of i t u) (view_plan_of p t u) c rule k x first.fails good.accepted
 refused_refutes i p t c u _ _ _ (not_apart k x accepted fault) good = task_faults_refute (view_image_of i t u) (view_plan_of p t u) t c k x fault.fails good.apart
 
--- it isn't accepted for its view, or fails rule 17, by other names
+-- a certificate that isn't accepted for its view, or fails rule 17, with equal images and plans
 pub first_there : (i : ImageData) (p : PlanData) (t : TasksData) (c : CertData) (u rule : ℕ) (k : Key) (x : ℕ) (view : ImageData) (board : PlanData) → view ≡ view_image_of i t u → board ≡ view_plan_of p t u
     → IsFirstFault view board c rule k x → IsTaskRefused i p t c u rule k x
 first_there i p t c u rule k x view board seen planned first =
@@ -60,14 +60,7 @@ fault_there i p t c u k x view board seen planned accepted fault =
     (subst (λ (q : PlanData). Accepts (view_image_of i t u) q c) planned (subst (λ (v : ImageData). Accepts v board c) seen accepted))
     (subst (λ (q : PlanData). IsTaskFault (view_image_of i t u) q t c k x) planned (subst (λ (v : ImageData). IsTaskFault v board t c k x) seen fault))
 
--- what a certificate fails or keeps, the same one in memory does
-pub same_fault : {v : ImageData} {b : PlanData} {t : TasksData} {c d : CertData} {k : Key} {x : ℕ} → c ≡ d → IsTaskFault v b t c k x → IsTaskFault v b t d k x
-same_fault {v} {b} {t} {c} {d} {k} {x} same fault = subst (λ (e : CertData). IsTaskFault v b t e k x) same fault
-
-pub same_apart : {v : ImageData} {b : PlanData} {t : TasksData} {c d : CertData} → c ≡ d → KeepsApart v b t c → KeepsApart v b t d
-same_apart {v} {b} {t} same keeps = subst (KeepsApart v b t) same keeps
-
--- it is judged well, by other names
+-- a certificate that is judged well, with equal images and plans
 pub judged_well : (i : ImageData) (fields p : PlanData) (parts t : TasksData) (all c : CertData) (u need : ℕ) (view : ImageData) (board : PlanData) → fields ≡ p → IsPlan fields → parts ≡ t → AreTasks parts → all ≡ c → IsCert all → FitPlan p t → u < count t
     → view ≡ view_image_of i t u → board ≡ view_plan_of p t u → Accepts view board c → need ≡ certified_need view board c → Safe view board need → KeepsApart view board t c
     → IsJudged i p t c u × (need ≡ certified_need (view_image_of i t u) (view_plan_of p t u) c)
@@ -154,7 +147,7 @@ pub not_as_many : (P : Reading → Type 0) (names : List (List ℕ)) (t : TasksD
 not_as_many P names t reading e h = elim (eqb_tells (length names) (count t)) [ inl y ↦ absurd (e y.1) | inr n ↦ by_bool P reading _ false n.0 h ]
 
 -- ---- the reports of a sum
--- the certificates of the tasks below n are judged well, and their needs are together this
+-- the certificates of the tasks below n are judged well, and this is the sum of their needs
 pub record AreTallied (image : ImageData) (plan : PlanData) (tasks : TasksData) (certs : List CertData) (n total : ℕ) : Type 0 where
   pub judged : AreJudged image plan tasks certs n
   pub sum : total ≡ sum_below n (needs_of image plan tasks certs)

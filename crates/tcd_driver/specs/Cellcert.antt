@@ -1,4 +1,4 @@
--- What `cellcert` reads, says and writes.
+-- What `cellcert` reads, prints and writes.
 use Rattle.std.specs.Prelude.{◌≡◌, ◌-◌, ℕ, List, length}
 use Rattle.elf_image.specs.Images.{ImageData}
 use Rattle.tcd_plan.specs.PlanData.{PlanData}
@@ -20,22 +20,24 @@ use Rattle.tcd_forms.specs.Results.{certified_cells_line}
 use Rattle.tcd_forms.specs.Lines.{refused_line}
 use Rattle.tcd_reading.specs.declared.status.Status.TheVariants.{Refused}
 
--- the names of the files that `cellcert` reads and of the one that it writes
+-- the names of the files that `cellcert` reads, and of the one that it writes
 pub record CellcertNames : Type 0 where
   pub elf : List ℕ
   pub plan : List ℕ
   pub cells : List ℕ
   pub cert : List ℕ
 
--- each certificate of version 2 that is accepted under the plan in which the cells are devices breaks rule 16
+-- each certificate of version 2 that is accepted under the plan in which the cells are devices
+-- breaks rule 16
 abbrev pub NoneKeepsCells : ImageData → PlanData → List Cell → Type 0
 NoneKeepsCells image plan cells =
     (cert : CertData) → IsCert cert → cert.version ≡ 2 → Accepts image (with_cells plan cells) cert → KeepsCells image (with_cells plan cells) cells cert → ⊥
 
--- what is said of an image, a plan and its cells, all of it under the plan in which they are devices: no certificate of version 2
--- is accepted, and why is told; or each that is breaks rule 16, and the first place at which the least one does is told; or the
--- least one breaks it nowhere and is written under this name, and then every run in which each cell's word starts in its bounds is
--- safe, and keeps them there
+-- The report on an image, a plan and its cells, under the plan in which the cells are devices. If
+-- no certificate of version 2 is accepted, the reason is printed. If each one that is accepted
+-- breaks rule 16, the first place at which the least one does is printed. Else the least one keeps
+-- the rule, and is written under this name; then every run in which each cell's word starts in its
+-- bounds is safe, and keeps the words there.
 pub data IsCertifyingCells (name : List ℕ) (image : ImageData) (plan : PlanData) (cells : List Cell) (report : Report) : Type 0 where
   refused :
       (rule : ℕ) (key : Key) (addr : ℕ) → NoneAccepted image (with_cells plan cells) 2 → IsRefusal image (with_cells plan cells) 2 rule key addr
@@ -51,7 +53,7 @@ pub data IsCertifyingCells (name : List ℕ) (image : ImageData) (plan : PlanDat
       ≡ writes_file name (bytes_of cert) (certified_cells_line (certified_need image (with_cells plan cells) cert) (plan.areas - plan.reserve) (length cells))
       → IsCertifyingCells name image plan cells report
 
--- an executable, a plan and its cells are read; then a certificate is made
+-- reads an executable, a plan and its cells; then a certificate is made
 abbrev pub cellcert_reading : CellcertNames → Reading
 cellcert_reading names =
     input ImageData elf_form names.elf

@@ -1,4 +1,4 @@
--- What `cells` reads and says.
+-- What `cells` reads and prints.
 use Rattle.std.specs.Prelude.{◌≡◌, ◌-◌, ℕ, List, length}
 use Rattle.elf_image.specs.Images.{ImageData}
 use Rattle.tcd_plan.specs.PlanData.{PlanData}
@@ -24,9 +24,10 @@ pub record CellsNames : Type 0 where
   pub cells : List ℕ
   pub cert : List ℕ
 
--- the verdict on an image, a plan, its cells and a certificate, which is asked for under the plan in which the cells are devices:
--- it isn't accepted, and its first fault is told; or it is, and the first place at which rule 16 fails is told; or none does, and
--- then every run in which each cell's word starts in its bounds is safe, and keeps them there
+-- The verdict on an image, a plan, its cells and a certificate, under the plan in which the cells
+-- are devices. If the certificate isn't accepted, its first fault is printed. If it is, and rule 16
+-- fails, the first place at which it fails is printed. Else every run in which each cell's word
+-- starts in its bounds is safe, and keeps the words there.
 pub data IsCellsVerdict (image : ImageData) (plan : PlanData) (cells : List Cell) (cert : CertData) (report : Report) : Type 0 where
   refused :
       (rule : ℕ) (key : Key) (addr : ℕ) → IsFirstFault image (with_cells plan cells) cert rule key addr → report ≡ says Refused (refused_line rule key addr)
@@ -40,7 +41,7 @@ pub data IsCellsVerdict (image : ImageData) (plan : PlanData) (cells : List Cell
       → report ≡ says Done (certified_cells_line (certified_need image (with_cells plan cells) cert) (plan.areas - plan.reserve) (length cells))
       → IsCellsVerdict image plan cells cert report
 
--- an executable, a plan, its cells and a certificate are read; then the verdict is told
+-- reads an executable, a plan, its cells and a certificate; then the verdict is printed
 abbrev pub cells_reading : CellsNames → Reading
 cells_reading names =
     input ImageData elf_form names.elf

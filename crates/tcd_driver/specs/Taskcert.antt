@@ -1,4 +1,4 @@
--- What `taskcert` reads, says and writes.
+-- What `taskcert` reads, prints and writes.
 use Rattle.std.specs.Prelude.{◌≡◌, ◌-◌, ◌<◌, ◌≤◌, ℕ, List, [], ◌∷◌, length}
 use Rattle.elf_image.specs.Images.{ImageData}
 use Rattle.tcd_plan.specs.PlanData.{PlanData}
@@ -34,7 +34,8 @@ pub record TaskcertNames : Type 0 where
   pub certs : List (List ℕ)
 
 -- ---- one task
--- the least certificate of version 2 that is accepted for the task's view, and it is judged well
+-- this is the least certificate of version 2 that is accepted for the task's view, and it is judged
+-- well
 pub record IsTaskMade (image : ImageData) (plan : PlanData) (tasks : TasksData) (u : ℕ) (cert : CertData) : Type 0 where
   pub made : IsMade (view_image_of image tasks u) (view_plan_of plan tasks u) 2 cert
   pub judged : IsJudged image plan tasks cert u
@@ -44,8 +45,8 @@ abbrev pub NoneApart : ImageData → PlanData → TasksData → Type 0
 NoneApart view plan tasks =
     (cert : CertData) → IsCert cert → cert.version ≡ 2 → Accepts view plan cert → KeepsApart view plan tasks cert → ⊥
 
--- no certificate of version 2 is accepted for a view, and this is why; or each one that is fails rule 17, and the least one fails
--- it here first
+-- no certificate of version 2 is accepted for a view, for this reason; or each one that is accepted
+-- fails rule 17, and this is the first place at which the least one fails it
 pub data IsUncertified (view : ImageData) (plan : PlanData) (tasks : TasksData) : ℕ → Key → ℕ → Type 0 where
   unaccepted : (rule : ℕ) (key : Key) (addr : ℕ) → NoneAccepted view plan 2 → IsRefusal view plan 2 rule key addr → IsUncertified view plan tasks rule key addr
   not_apart :
@@ -57,7 +58,7 @@ pub data IsUncertified (view : ImageData) (plan : PlanData) (tasks : TasksData) 
 abbrev pub AreTasksMade : ImageData → PlanData → TasksData → List CertData → Type 0
 AreTasksMade image plan tasks certs = (u : ℕ) → u < length certs → IsTaskMade image plan tasks u (cert_of certs u)
 
--- task u is the first that no certificate is judged well for
+-- task u is the first for which no certificate is judged well
 pub record IsFirstUncertified (image : ImageData) (plan : PlanData) (tasks : TasksData) (u rule : ℕ) (key : Key) (addr : ℕ) : Type 0 where
   pub task : u < count tasks
   pub before : (w : ℕ) → w < u → (cert : CertData) × IsTaskMade image plan tasks w cert
@@ -72,9 +73,10 @@ unfoldable pub cert_files : List (List ℕ) → List CertData → List Written
 cert_files (name ∷ names) (cert ∷ certs) = record { name = name; bytes = bytes_of cert } ∷ cert_files names certs
 cert_files _ _ = []
 
--- What is said of an image, a plan and its tasks: the image hasn't the switch routine; or it has, and the first task that no
--- certificate is judged well for is told; or there is one for each, but the needs of the least ones are together above the areas
--- without the reserve; or they aren't, and then these are written under their names, and every run of all tasks is safe.
+-- The report on an image, a plan and its tasks. The image doesn't have the switch routine; or it
+-- has, and the first task for which no certificate is judged well is printed; or each task has one,
+-- but the sum of the least ones' needs is above the areas without the reserve. Else the least ones
+-- are written under their names, and every run of all tasks is safe.
 pub data IsTaskcerting (names : List (List ℕ)) (image : ImageData) (plan : PlanData) (tasks : TasksData) (report : Report) : Type 0 where
   no_switch : (addr : ℕ) → IsRoutineFault image plan tasks addr → report ≡ says Refused (switch_line addr) → IsTaskcerting names image plan tasks report
   refused :
@@ -90,7 +92,7 @@ pub data IsTaskcerting (names : List (List ℕ)) (image : ImageData) (plan : Pla
       → report ≡ writes_files (cert_files names certs) (certified_tasks_line (sum_of_needs image plan tasks certs) (plan.areas - plan.reserve) (count tasks))
       → IsTaskcerting names image plan tasks report
 
--- an executable, a plan and its tasks are read; then a certificate for each task is made
+-- reads an executable, a plan and its tasks; then a certificate for each task is made
 abbrev pub taskcert_reading : TaskcertNames → Reading
 taskcert_reading names =
     input ImageData elf_form names.elf
@@ -99,7 +101,7 @@ taskcert_reading names =
     (λ tasks. with_a_name_each names.certs tasks (answer (IsTaskcerting names.certs image plan tasks)))))
 
 -- ---- by what the code has
--- the bytes spell such a certificate of a view, with this need, where it keeps rule 17
+-- the bytes spell the least certificate of a view, which keeps rule 17, and this is its need
 pub record SpellApart (view : ImageData) (plan : PlanData) (tasks : TasksData) (bytes : List ℕ) (need : ℕ) : Type 0 where
   pub cert : CertData
   pub spell : bytes ≡ bytes_of cert
@@ -109,7 +111,7 @@ pub record SpellApart (view : ImageData) (plan : PlanData) (tasks : TasksData) (
   pub safe : Safe view plan need
   pub need_is : need ≡ certified_need view plan cert
 
--- what making a certificate for a view comes to
+-- the result of making a certificate for a view
 abbrev pub MakesApart : ImageData → PlanData → TasksData → Making → Type 0
 MakesApart view plan tasks (making.Certified bytes need) = SpellApart view plan tasks bytes.items need
 MakesApart view plan tasks (making.Refused rule key addr) = IsUncertified view plan tasks rule key addr
@@ -122,13 +124,13 @@ pub record SpellTask (image : ImageData) (plan : PlanData) (tasks : TasksData) (
   pub made : IsTaskMade image plan tasks u cert
   pub need_is : need ≡ certified_need (view_image_of image tasks u) (view_plan_of plan tasks u) cert
 
--- what making one for task u comes to
+-- the result of making a certificate for task u
 abbrev pub MakesTask : ImageData → PlanData → TasksData → ℕ → Making → Type 0
 MakesTask image plan tasks u (making.Certified bytes need) = SpellTask image plan tasks u bytes.items need
 MakesTask image plan tasks u (making.Refused rule key addr) = IsUncertified (view_image_of image tasks u) (view_plan_of plan tasks u) tasks rule key addr
 MakesTask image plan tasks u making.NoMemory = Unit {0}
 
--- these are the files of a certificate for each task, and the needs are together this
+-- these are the files of a certificate for each task, and this is the sum of the needs
 pub record AreFiles (names : List (List ℕ)) (image : ImageData) (plan : PlanData) (tasks : TasksData) (writes : List Written) (sum : ℕ) : Type 0 where
   pub certs : List CertData
   pub many : length certs ≡ count tasks
@@ -136,7 +138,7 @@ pub record AreFiles (names : List (List ℕ)) (image : ImageData) (plan : PlanDa
   pub files : writes ≡ cert_files names certs
   pub sum_is : sum ≡ sum_of_needs image plan tasks certs
 
--- what making one for each task comes to
+-- the result of making a certificate for each task
 abbrev pub MakesAll : List (List ℕ) → ImageData → PlanData → TasksData → TasksMaking → Type 0
 MakesAll names image plan tasks (all.Certified writes sum) = AreFiles names image plan tasks writes.items sum
 MakesAll names image plan tasks (all.Against u rule key addr) = IsFirstUncertified image plan tasks u rule key addr

@@ -1,4 +1,4 @@
--- What `tasks` reads and says.
+-- What `tasks` reads and prints.
 use Rattle.std.specs.Prelude.{◌≡◌, ◌-◌, ◌<◌, ◌≤◌, ◌==◌, ℕ, Bool, true, false, List, [], length, slice_index_or}
 use Rattle.csa_chain.specs.SeveralChains.{sum_below}
 use Rattle.elf_image.specs.Images.{ImageData}
@@ -36,7 +36,8 @@ abbrev pub cert_of : List CertData → ℕ → CertData
 cert_of certs u = slice_index_or certs u (record { version = 1; nodes = [] })
 
 -- ---- one task
--- its certificate isn't accepted for its view, and its first fault is this; or it is, and rule 17 fails here first
+-- the certificate isn't accepted for the task's view, and its first fault is this; or it is
+-- accepted, and this is the first place at which rule 17 fails
 pub data IsTaskRefused (image : ImageData) (plan : PlanData) (tasks : TasksData) (cert : CertData) (u : ℕ) : ℕ → Key → ℕ → Type 0 where
   unaccepted :
       (rule : ℕ) (key : Key) (addr : ℕ) → IsFirstFault (view_image_of image tasks u) (view_plan_of plan tasks u) cert rule key addr
@@ -45,18 +46,18 @@ pub data IsTaskRefused (image : ImageData) (plan : PlanData) (tasks : TasksData)
       (key : Key) (addr : ℕ) → Accepts (view_image_of image tasks u) (view_plan_of plan tasks u) cert
       → IsTaskFault (view_image_of image tasks u) (view_plan_of plan tasks u) tasks cert key addr → IsTaskRefused image plan tasks cert u 17 key addr
 
--- the answer on it: it is judged well, with this need; or it is refused
+-- the answer for a task: its certificate is judged well, with this need; or it is refused
 abbrev pub JudgesTask : ImageData → PlanData → TasksData → CertData → ℕ → Verdict → Type 0
 JudgesTask image plan tasks cert u (Yes n) =
     IsJudged image plan tasks cert u × (n ≡ certified_need (view_image_of image tasks u) (view_plan_of plan tasks u) cert)
 JudgesTask image plan tasks cert u (No rule key addr) = IsTaskRefused image plan tasks cert u rule key addr
 
 -- ---- all tasks
--- the needs that count, two at least for each task but the first
+-- the needs that count: at least two for each task except the first
 abbrev pub needs_of : ImageData → PlanData → TasksData → List CertData → ℕ → ℕ
 needs_of image plan tasks certs = need_of_task image plan tasks (cert_of certs)
 
--- their sum
+-- the sum of the needs
 abbrev pub sum_of_needs : ImageData → PlanData → TasksData → List CertData → ℕ
 sum_of_needs image plan tasks certs = sum_below (count tasks) (needs_of image plan tasks certs)
 
@@ -75,9 +76,10 @@ abbrev pub Tallies : ImageData → PlanData → TasksData → List CertData → 
 Tallies image plan tasks certs (Sum n) = AreJudged image plan tasks certs (count tasks) × (n ≡ sum_of_needs image plan tasks certs)
 Tallies image plan tasks certs (Against u rule key addr) = IsFirstRefused image plan tasks certs u rule key addr
 
--- the verdict on an image, a plan, its tasks and a certificate for each: the image hasn't the switch routine; or it has, and the
--- first task whose certificate is refused is told; or none is, and the needs are together above the areas without the reserve; or
--- they aren't, and then every run of all tasks is safe with these needs
+-- The verdict on an image, a plan, its tasks and a certificate for each. The image doesn't have the
+-- switch routine; or it has, and the first task whose certificate is refused is printed; or no
+-- certificate is refused, and the sum of the needs is above the areas without the reserve. Else
+-- every run of all tasks is safe with these needs.
 pub data IsTasksVerdict (image : ImageData) (plan : PlanData) (tasks : TasksData) (certs : List CertData) (report : Report) : Type 0 where
   no_switch : (addr : ℕ) → IsRoutineFault image plan tasks addr → report ≡ says Refused (switch_line addr) → IsTasksVerdict image plan tasks certs report
   refused :
@@ -93,21 +95,21 @@ pub data IsTasksVerdict (image : ImageData) (plan : PlanData) (tasks : TasksData
       → IsTasksVerdict image plan tasks certs report
 
 -- ---- what is read
--- where there are as many names as tasks, this is read; else that is told, and nothing more is read
+-- reads this if there are as many names as tasks; else that is printed, and nothing more is read
 abbrev pub if_as_many : Bool → Reading → Reading
 if_as_many true reading = reading
 if_as_many false reading = answer (λ report. report ≡ says BadInput (tasks_line Count))
 
--- the same, of these names and tasks
+-- reads this if there are as many of these names as tasks
 abbrev pub with_a_name_each : List (List ℕ) → TasksData → Reading → Reading
 with_a_name_each names tasks reading = if_as_many (length names == count tasks) reading
 
--- a certificate for each task is read; then the verdict is told
+-- reads a certificate for each task; then the verdict is printed
 abbrev pub certs_reading : List (List ℕ) → ImageData → PlanData → TasksData → Reading
 certs_reading names image plan tasks =
     with_a_name_each names tasks (each CertData (λ _. cert_form) 0 names (λ certs. answer (IsTasksVerdict image plan tasks certs)))
 
--- an executable, a plan and its tasks are read, and then the certificates
+-- reads an executable, a plan and its tasks, and then the certificates
 abbrev pub tasks_reading : TasksNames → Reading
 tasks_reading names =
     input ImageData elf_form names.elf

@@ -16,7 +16,7 @@ use tcd_base::Files;
 use tcd_forms::{ElfFile, PlanFile, certified_cells_line, refused_line};
 use tcd_plan::Plan;
 use tcd_reading::{Outcome, Status, read_input, report, report_file};
-use value_cells::{Cells, cells_fault, with_cells};
+use value_cells::{Cells, cells_fault_packed, with_cells};
 
 /// Reads an executable, a plan and its cells, and makes their certificate.
 #[inline(never)]
@@ -49,16 +49,17 @@ pub(crate) fn certify_cells<F: Files>(
         Ok(words) => words,
         Err(outcome) => return outcome,
     };
-    certified_cells(alloc, cert, &image, &board, &words)
+    make_cert(alloc, cert, &image, &board, &words)
 }
 
-// Makes a certificate of version 2 under the plan in which the cells are devices, to write under a name, and the line on it.
-fn certified_cells(alloc: Global, name: &str, image: &Image, plan: &Plan, cells: &Cells) -> Outcome
+// Makes the certificate of version 2 under the plan in which the cells are devices, and reports it
+// with the file to write.
+fn make_cert(alloc: Global, name: &str, image: &Image, plan: &Plan, cells: &Cells) -> Outcome
     requires { AreCells plan.now cells.now }
     ensures { IsTold (IsCertifyingCells name.now image.now plan.now cells.now) ⊥ result }
 {
     match make_bytes(alloc, image, &with_cells(plan, cells), 2) {
-        Ok(bytes) => kept_cells(alloc, name, image, plan, cells, bytes),
+        Ok(bytes) => report_made(alloc, name, image, plan, cells, bytes),
         Err(MakeErr::Refused { rule, key, addr }) => {
             report(alloc, Status::Refused, refused_line(alloc, rule, key, addr))
         }
@@ -66,8 +67,9 @@ fn certified_cells(alloc: Global, name: &str, image: &Image, plan: &Plan, cells:
     }
 }
 
-// Checks the certificate that these bytes spell, and whether it keeps the cells.
-fn kept_cells(
+// Checks the certificate in these bytes, and whether it keeps the cells. Reports it with the file
+// to write.
+fn report_made(
     alloc: Global,
     name: &str,
     image: &Image,
@@ -86,18 +88,15 @@ fn kept_cells(
         Err(CertErr::Bad(_)) => unreachable!(),
     };
     match check_packed(image, &with_cells(plan, cells), &cert) {
-        Verdict::Yes(need) => match cert.unpack(alloc) {
-            Ok(frames) => match cells_fault(image, plan, cells, &frames) {
-                Some((key, addr)) => {
-                    report(alloc, Status::Refused, refused_line(alloc, 16, key, addr))
-                }
-                None => {
-                    let count = cells.list().len();
-                    let line = certified_cells_line(alloc, need, areas, count);
-                    report_file(alloc, name, cert.into_bytes(), line)
-                }
-            },
-            Err(_) => Outcome::NoMemory,
+        Verdict::Yes(need) => match cells_fault_packed(image, plan, cells, &cert) {
+            Some((key, addr)) => {
+                report(alloc, Status::Refused, refused_line(alloc, 16, key, addr))
+            }
+            None => {
+                let count = cells.list().len();
+                let line = certified_cells_line(alloc, need, areas, count);
+                report_file(alloc, name, cert.into_bytes(), line)
+            }
         },
         Verdict::No { .. } => unreachable!(),
     }

@@ -12,10 +12,10 @@ use tcd_base::Files;
 use tcd_forms::{CertFile, ElfFile, PlanFile, certified_cells_line, refused_line};
 use tcd_plan::Plan;
 use tcd_reading::{Outcome, Status, read_input, report};
-use value_cells::{Cells, cells_fault, with_cells};
+use value_cells::{Cells, cells_fault_packed, with_cells};
 
-/// Reads the four files, and tells whether the certificate is accepted under the plan in which the cells are devices, and keeps
-/// the cells.
+/// Reads the four files, and reports whether the certificate is accepted under the plan in which
+/// the cells are devices, and keeps the cells.
 #[inline(never)]
 pub(crate) fn check_cells<F: Files>(
     alloc: Global,
@@ -53,8 +53,8 @@ pub(crate) fn check_cells<F: Files>(
     cells_verdict(alloc, &image, &board, &words, &proof)
 }
 
-// Checks a certificate under the plan in which the cells are devices, and makes the line of the verdict. Whether it keeps the cells
-// is asked of the certificate in memory.
+// Checks a certificate under the plan in which the cells are devices, and whether it keeps the
+// cells. Reports the verdict.
 fn cells_verdict(
     alloc: Global,
     image: &Image,
@@ -65,22 +65,19 @@ fn cells_verdict(
     requires { AreCells plan.now cells.now }
     ensures { IsTold (IsCellsVerdict image.now plan.now cells.now cert.now) ⊥ result }
 {
-    // What every certificate keeps is known once its version is asked for.
+    // What holds of every certificate is known after its version is read.
     let _version = cert.version();
     match check_packed(image, &with_cells(plan, cells), cert) {
-        Verdict::Yes(need) => match cert.unpack(alloc) {
-            Ok(frames) => match cells_fault(image, plan, cells, &frames) {
-                Some((key, addr)) => {
-                    report(alloc, Status::Refused, refused_line(alloc, 16, key, addr))
-                }
-                None => {
-                    let areas = plan.areas - plan.reserve;
-                    let count = cells.list().len();
-                    let line = certified_cells_line(alloc, need, areas, count);
-                    report(alloc, Status::Done, line)
-                }
-            },
-            Err(_) => Outcome::NoMemory,
+        Verdict::Yes(need) => match cells_fault_packed(image, plan, cells, cert) {
+            Some((key, addr)) => {
+                report(alloc, Status::Refused, refused_line(alloc, 16, key, addr))
+            }
+            None => {
+                let areas = plan.areas - plan.reserve;
+                let count = cells.list().len();
+                let line = certified_cells_line(alloc, need, areas, count);
+                report(alloc, Status::Done, line)
+            }
         },
         Verdict::No { rule, key, addr } => {
             report(alloc, Status::Refused, refused_line(alloc, rule, key, addr))

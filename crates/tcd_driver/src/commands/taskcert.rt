@@ -6,7 +6,7 @@ ghost use Rattle.task_chains.specs.Views.{FitPlan};
 ghost use Rattle.tcd_reading.specs.Outcomes.{Comes, IsTold};
 ghost use Rattle.tcd_driver.specs.Taskcert.{IsTaskcerting, MakesApart, MakesTask, MakesAll, writes_files, taskcert_reading};
 
-use crate::commands::tasks::counted;
+use crate::commands::tasks::need_to_count;
 use crate::forms::TasksFile;
 use crate::lines::tasks_line;
 use crate::making::Making;
@@ -16,7 +16,7 @@ use depth_maker::{MakeErr, make_bytes};
 use elf_image::Image;
 use packed_cert::PackedCert;
 use std::alloc::Global;
-use task_chains::{Tasks, TasksErr, routine_fault, task_fault, view_image, view_plan};
+use task_chains::{Tasks, TasksErr, routine_fault, task_fault_packed, view_image, view_plan};
 use tcd_base::{Files, NoMemory};
 use tcd_forms::{
     ElfFile, PlanFile, certified_tasks_line, refused_task_line, sum_line, switch_line,
@@ -24,7 +24,7 @@ use tcd_forms::{
 use tcd_plan::Plan;
 use tcd_reading::{Outcome, Status, Write, read_input, report};
 
-/// What making a certificate for each task comes to.
+/// The result of making a certificate for each task.
 #[derive(Drop)]
 pub(crate) enum TasksMaking {
     /// The files of the certificates, and the sum of their needs.
@@ -74,14 +74,14 @@ pub(crate) fn certify_tasks<F: Files>(
         Err(outcome) => return outcome,
     };
     if certs.len() == list.list.len() {
-        certified(alloc, &image, &board, &list, certs)
+        make_certs(alloc, &image, &board, &list, certs)
     } else {
         report(alloc, Status::BadInput, tasks_line(alloc, TasksErr::Count))
     }
 }
 
-// Makes a certificate for each task to write under its name, and the line on them.
-fn certified(alloc: Global, image: &Image, plan: &Plan, tasks: &Tasks, names: &[String]) -> Outcome
+// Makes a certificate for each task, and reports them with the files to write.
+fn make_certs(alloc: Global, image: &Image, plan: &Plan, tasks: &Tasks, names: &[String]) -> Outcome
     requires fit { FitPlan plan.now tasks.now }
     requires many { length names.now ≡ count tasks.now }
     ensures { IsTold
@@ -114,7 +114,7 @@ fn certified(alloc: Global, image: &Image, plan: &Plan, tasks: &Tasks, names: &[
     }
 }
 
-// Files to write, one after another, and the text on them, unless memory ran out.
+// Reports files to write, one after another, and the text on them, unless memory ran out.
 fn report_files(writes: Vec<Write>, line: Result<Vec<u8>, NoMemory>) -> Outcome
     ensures { IsTold (λ r. IsOkAnd line (λ l. r ≡ writes_files writes.items l.items)) ⊥ result }
 {
@@ -128,7 +128,7 @@ fn report_files(writes: Vec<Write>, line: Result<Vec<u8>, NoMemory>) -> Outcome
     }
 }
 
-// One file more to write.
+// Adds one file to write.
 fn add_file(
     alloc: Global,
     writes: &mut Vec<Write>,
@@ -154,7 +154,7 @@ fn make_each(
     requires many { length names.now ≡ count tasks.now }
     ensures { MakesAll (map string_bytes names.now) image.now plan.now tasks.now result }
 {
-    // What all tasks keep is known once they are read.
+    // What holds of all tasks is known after they are read.
     let _switch = tasks.switch;
     let mut writes = Vec::new(alloc);
     let mut sum = 0u64;
@@ -162,7 +162,7 @@ fn make_each(
         match make_task(alloc, image, plan, tasks, u) {
             Making::Certified { bytes, need } => {
                 match add_file(alloc, &mut writes, names[u].as_str(), bytes) {
-                    Ok(()) => sum += u64::from(counted(u, need)),
+                    Ok(()) => sum += u64::from(need_to_count(u, need)),
                     Err(_) => return TasksMaking::NoMemory,
                 }
             }
@@ -180,13 +180,13 @@ fn make_each(
     TasksMaking::Certified { writes, sum }
 }
 
-// Makes the least certificate of version 2 for a task's view, which is to keep rule 17.
+// Makes the least certificate of version 2 for a task's view, and checks that it keeps rule 17.
 fn make_task(alloc: Global, image: &Image, plan: &Plan, tasks: &Tasks, u: usize) -> Making
     requires task { u < count tasks.now }
     requires fit { FitPlan plan.now tasks.now }
     ensures { MakesTask image.now plan.now tasks.now u result }
 {
-    // What plans and tasks keep is known once they are read.
+    // What holds of plans and tasks is known after they are read.
     let _areas = plan.areas;
     let _switch = tasks.switch;
     match view_image(alloc, image, tasks, u) {
@@ -195,7 +195,7 @@ fn make_task(alloc: Global, image: &Image, plan: &Plan, tasks: &Tasks, u: usize)
     }
 }
 
-// Makes the least certificate of version 2 for a view, which is to keep rule 17.
+// Makes the least certificate of version 2 for a view, and checks that it keeps rule 17.
 fn make_apart(alloc: Global, view: &Image, plan: &Plan, tasks: &Tasks) -> Making
     ensures { MakesApart view.now plan.now tasks.now result }
 {
@@ -206,12 +206,12 @@ fn make_apart(alloc: Global, view: &Image, plan: &Plan, tasks: &Tasks) -> Making
     }
 }
 
-// Checks the least certificate, which these bytes spell, and that it keeps rule 17.
+// Checks that the least certificate, which is in these bytes, keeps rule 17.
 fn apart(alloc: Global, view: &Image, plan: &Plan, tasks: &Tasks, bytes: Vec<u8>) -> Making
     requires { AreMade view.now plan.now 2 bytes.items }
     ensures { MakesApart view.now plan.now tasks.now result }
 {
-    // What every plan keeps is known once it is read.
+    // What holds of every plan is known after it is read.
     let _areas = plan.areas;
     let cert = match PackedCert::read(alloc, bytes) {
         Ok(cert) => cert,
@@ -219,19 +219,16 @@ fn apart(alloc: Global, view: &Image, plan: &Plan, tasks: &Tasks, bytes: Vec<u8>
         Err(CertErr::Bad(_)) => unreachable!(),
     };
     match check_packed(view, plan, &cert) {
-        Verdict::Yes(need) => match cert.unpack(alloc) {
-            Ok(frames) => match task_fault(view, plan, tasks, &frames) {
-                Some((key, addr)) => Making::Refused {
-                    rule: 17,
-                    key,
-                    addr,
-                },
-                None => Making::Certified {
-                    bytes: cert.into_bytes(),
-                    need,
-                },
+        Verdict::Yes(need) => match task_fault_packed(view, plan, tasks, &cert) {
+            Some((key, addr)) => Making::Refused {
+                rule: 17,
+                key,
+                addr,
             },
-            Err(_) => Making::NoMemory,
+            None => Making::Certified {
+                bytes: cert.into_bytes(),
+                need,
+            },
         },
         Verdict::No { .. } => unreachable!(),
     }

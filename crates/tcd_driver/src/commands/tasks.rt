@@ -15,7 +15,7 @@ use depth_check::{Verdict, check_packed};
 use elf_image::Image;
 use packed_cert::PackedCert;
 use std::alloc::Global;
-use task_chains::{Tasks, TasksErr, routine_fault, task_fault, view_image, view_plan};
+use task_chains::{Tasks, TasksErr, routine_fault, task_fault_packed, view_image, view_plan};
 use tcd_base::{Files, NoMemory};
 use tcd_forms::{
     CertFile, ElfFile, PlanFile, certified_tasks_line, refused_task_line, sum_line, switch_line,
@@ -23,7 +23,8 @@ use tcd_forms::{
 use tcd_plan::Plan;
 use tcd_reading::{Outcome, Status, read_input, report};
 
-/// What judging all certificates comes to: the sum of the needs, or the first task whose certificate is refused.
+/// The result for all certificates: the sum of the needs, or the first task whose certificate is
+/// refused.
 #[derive(Clone, Copy)]
 pub(crate) enum Tally {
     Sum(u64),
@@ -35,7 +36,8 @@ pub(crate) enum Tally {
     },
 }
 
-/// Reads an executable, a plan, its tasks and a certificate for each, and tells whether all runs of the tasks are certified.
+/// Reads an executable, a plan, its tasks and a certificate for each, and reports whether all runs
+/// of the tasks are certified.
 #[inline(never)]
 pub(crate) fn check_tasks<F: Files>(
     alloc: Global,
@@ -69,7 +71,7 @@ pub(crate) fn check_tasks<F: Files>(
     read_certs(alloc, &image, &board, &list, certs, files)
 }
 
-// Reads the certificates where there are as many as tasks, and tells the verdict.
+// Reads the certificates if there are as many as tasks, and reports the verdict.
 fn read_certs<F: Files>(
     alloc: Global,
     image: &Image,
@@ -89,7 +91,7 @@ fn read_certs<F: Files>(
     }
 }
 
-// Reads the certificates, and tells the verdict.
+// Reads the certificates, and reports the verdict.
 fn read_each<F: Files>(
     alloc: Global,
     image: &Image,
@@ -119,7 +121,8 @@ fn read_each<F: Files>(
     tasks_verdict(alloc, image, plan, tasks, &certs)
 }
 
-// Tells the verdict on the switch routine, on each task's certificate, and on the sum of the needs.
+// Reports the verdict on the switch routine, on each task's certificate, and on the sum of the
+// needs.
 fn tasks_verdict(
     alloc: Global,
     image: &Image,
@@ -172,12 +175,12 @@ fn judge_tasks(
     requires many { length certs.now ≡ count tasks.now }
     ensures { IfOk result (Tallies image.now plan.now tasks.now certs.now) }
 {
-    // What all tasks keep is known once they are read.
+    // What holds of all tasks is known after they are read.
     let _switch = tasks.switch;
     let mut sum = 0u64;
     for u in 0..certs.len() {
         match judge_task(alloc, image, plan, tasks, u, &certs[u])? {
-            Verdict::Yes(need) => sum += u64::from(counted(u, need)),
+            Verdict::Yes(need) => sum += u64::from(need_to_count(u, need)),
             Verdict::No { rule, key, addr } => {
                 return Ok(Tally::Against {
                     task: u,
@@ -191,15 +194,15 @@ fn judge_tasks(
     Ok(Tally::Sum(sum))
 }
 
-/// The need that counts for a task: all but the first start with two areas.
-pub(crate) fn counted(u: usize, need: u32) -> u32
+/// Returns the need that counts for a task: all tasks except the first start with two areas.
+pub(crate) fn need_to_count(u: usize, need: u32) -> u32
     ensures { result ≡ (if u == 0 then need else max need 2) }
 {
     if u == 0 { need } else { need.max(2) }
 }
 
-// Judges the certificate of a task for its view: the rules of all certificates, and then rule 17, which is asked of the
-// certificate in memory.
+// Judges the certificate of a task for its view: by the rules of all certificates, and then by rule
+// 17.
 fn judge_task(
     alloc: Global,
     image: &Image,
@@ -212,24 +215,22 @@ fn judge_task(
     requires fit { FitPlan plan.now tasks.now }
     ensures { IfOk result (JudgesTask image.now plan.now tasks.now cert.now u) }
 {
-    // What plans and tasks keep is known once they are read, what certificates keep once their version is asked for.
+    // What holds of plans and tasks is known after they are read, and what holds of certificates
+    // after their version is read.
     let _areas = plan.areas;
     let _switch = tasks.switch;
     let _version = cert.version();
     let view = view_image(alloc, image, tasks, u)?;
     let board = view_plan(plan, tasks, u);
     match check_packed(&view, &board, cert) {
-        Verdict::Yes(need) => {
-            let frames = cert.unpack(alloc)?;
-            match task_fault(&view, &board, tasks, &frames) {
-                Some((key, addr)) => Ok(Verdict::No {
-                    rule: 17,
-                    key,
-                    addr,
-                }),
-                None => Ok(Verdict::Yes(need)),
-            }
-        }
+        Verdict::Yes(need) => match task_fault_packed(&view, &board, tasks, cert) {
+            Some((key, addr)) => Ok(Verdict::No {
+                rule: 17,
+                key,
+                addr,
+            }),
+            None => Ok(Verdict::Yes(need)),
+        },
         Verdict::No { rule, key, addr } => Ok(Verdict::No { rule, key, addr }),
     }
 }

@@ -2,7 +2,6 @@ use Rattle.std.proofs.Common.{refl, sym, subst, ◌∙◌}
 use Rattle.depth_cert.specs.Answers.{IsFaultOf}
 use Rattle.depth_cert.specs.Grammar.{certificate_of}
 use Rattle.depth_maker.specs.Made.{AreMade}
-use Rattle.tcd_driver.proofs.TasksReports.{same_fault, same_apart}
 use Rattle.tcd_driver.proofs.MakingLaws.{made_is_read, made_has_no_fault}
 use Rattle.tcd_driver.proofs.TaskcertReports.{made_most, apart_made, apart_fails}
 use Rattle.tcd_driver.proofs.commands.taskcert.apart.Goals as goal
@@ -13,13 +12,13 @@ read-requires c = made_most c.args.view.now c.args.plan.now c.args.bytes.items c
 pub returns-in-Some : goal.returns-in-Some
 returns-in-Some c =
     apart_fails c.args.view.now _ c.args.plan.now c.args.tasks.now c.args.bytes.items c.args.bytes.items _ c.in-Some.key c.in-Some.addr c.plan.view_is c.plan.invariant refl c.requires
-    c.in-Ok.ensures.ok (same_fault c.in-Ok-unpack.ensures c.in-Some.ensures.some)
+    c.in-Ok.ensures.ok c.in-Some.ensures.some
 
 pub returns-in-None : goal.returns-in-None
 returns-in-None c =
     let e = sym (c.into_bytes.ensures ∙ c.in-Ok.ensures.one) in
     apart_made c.args.view.now c.args.plan.now c.args.tasks.now c.args.bytes.items c.into_bytes.result.items _ c.in-Yes.need e (subst (AreMade c.args.view.now c.args.plan.now 2) e c.requires) c.in-Ok.ensures.ok
-    c.in-Yes.ensures.judges.1 c.in-Yes.ensures.safe (same_apart c.in-Ok-unpack.ensures c.in-None.ensures.none)
+    c.in-Yes.ensures.judges.1 c.in-Yes.ensures.safe c.in-None.ensures.none
 
 pub unreachable-requires : goal.unreachable-requires
 unreachable-requires c =

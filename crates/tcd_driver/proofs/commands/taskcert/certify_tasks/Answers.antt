@@ -30,8 +30,8 @@ returns-then-certs-len g c =
     ((leads_read _ _ _ _ _ _ _ c.in-Ok-read_input.ensures.leaves c.in-Ok-read_input.ensures.later c.in-Ok-read_input.ensures.found).comes _ _
     ((leads_read _ _ _ _ _ _ _ c.in-Ok-read_input-2.ensures.leaves c.in-Ok-read_input-2.ensures.later c.in-Ok-read_input-2.ensures.found).comes _ _
     (comes_counted (map string_bytes c.args.certs.now) c.in-Ok-read_input-2.list
-    (IsTaskcerting (map string_bytes c.args.certs.now) c.in-Ok.image c.in-Ok-read_input.board c.in-Ok-read_input-2.list) (g.F.Files.seen c.read_input-3.new.files) c.certified.result
-    (length-map c.args.certs.now string_bytes ∙ c.if-certs-len.true ∙ c.len.ensures.value ∙ ap (λ (t : TasksData). length t.list) c.list.view_is) c.certified.ensures)))
+    (IsTaskcerting (map string_bytes c.args.certs.now) c.in-Ok.image c.in-Ok-read_input.board c.in-Ok-read_input-2.list) (g.F.Files.seen c.read_input-3.new.files) c.make_certs.result
+    (length-map c.args.certs.now string_bytes ∙ c.if-certs-len.true ∙ c.len.ensures.value ∙ ap (λ (t : TasksData). length t.list) c.list.view_is) c.make_certs.ensures)))
 
 pub returns : goal.returns
 returns g c =

@@ -8,7 +8,7 @@ use Rattle.tcd_reading.specs.declared.status.Status.TheVariants.{Refused}
 use Rattle.tcd_reading.proofs.Told.{told_more}
 use Rattle.tcd_reading.proofs.ReportLaws.{report_is}
 use Rattle.tcd_driver.proofs.TaskcertReports.{written_tasks, above_made}
-use Rattle.tcd_driver.proofs.commands.taskcert.certified.Goals as goal
+use Rattle.tcd_driver.proofs.commands.taskcert.make_certs.Goals as goal
 
 pub returns-in-Some : goal.returns-in-Some
 returns-in-Some c =

@@ -3,10 +3,10 @@ use Rattle.tcd_reading.specs.declared.status.Status.TheVariants.{Refused}
 use Rattle.tcd_reading.proofs.Told.{told_more}
 use Rattle.tcd_reading.proofs.ReportLaws.{report_is}
 use Rattle.tcd_driver.proofs.CellcertReports.{made_under, refused_report}
-use Rattle.tcd_driver.proofs.commands.cellcert.certified_cells.Goals as goal
+use Rattle.tcd_driver.proofs.commands.cellcert.make_cert.Goals as goal
 
-pub kept_cells-requires-clause-made : goal.kept_cells-requires-clause-made
-kept_cells-requires-clause-made c = made_under c.args.image.now _ _ _ _ c.with_cells.ensures c.in-Ok.ensures.made
+pub report_made-requires-clause-made : goal.report_made-requires-clause-made
+report_made-requires-clause-made c = made_under c.args.image.now _ _ _ _ c.with_cells.ensures c.in-Ok.ensures.made
 
 pub returns-in-Err-Refused : goal.returns-in-Err-Refused
 returns-in-Err-Refused c =
