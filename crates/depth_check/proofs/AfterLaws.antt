@@ -1,4 +1,4 @@
--- The state after a frame came back has well-formed values.
+-- The state after a frame has returned has well-formed values.
 use Rattle.std.proofs.Common.{ℕ, zero, suc, ◌+◌, ◌-◌, List, [], ◌∷◌, length, get_or, arith, inl, inr, ltb, if◌then◌else◌}
 use Rattle.std.proofs.lemmas.Bool.{cases_lt, cases_Bool}
 use Rattle.std.proofs.Math.ListN.{get_or-eq_default}

@@ -1,4 +1,4 @@
--- What an answer of the check says.
+-- What an answer of a check says.
 use Rattle.std.proofs.Common.{◌≡◌, ℕ, ◌-◌, ◌≤◌, refl, ap, ◌∙◌, arith, Option, Some, None}
 use Rattle.std.specs.Prelude.{IsSomeAnd}
 use Rattle.elf_image.specs.Images.{ImageData}

@@ -1,4 +1,4 @@
--- Calls and jumps by a register that hold in a state, where another point has that state.
+-- Calls and jumps by a register that hold in a state hold at each point that has the state.
 use Rattle.std.proofs.Common.{◌≡◌, ℕ, List, [], ◌∷◌, Option, Some, None, drop, ◌∙◌, sym, ap, subst}
 use Rattle.std.specs.Prelude.{IfSome, IsSomeAnd, unwrap_or}
 use Rattle.std.specs.List.{flat_map}
@@ -19,11 +19,11 @@ use Rattle.cfg_recover.specs.Entries.{call_key, call_entry}
 use Rattle.cfg_recover.specs.Local.{named_by}
 use Rattle.cfg_recover.specs.Duties.{Owed, owed, enter, resume, entered_and_back}
 use Rattle.packed_cert.specs.Walks.{WalkData, RepeatsAt}
-use Rattle.depth_check.specs.declared.kept.ByRegister.{ByRegister}
-use Rattle.depth_check.specs.Calling.{calls_by, CallsHold, HoldBy}
+use Rattle.depth_check.specs.declared.fast_paths.CheckedRegisters.{CheckedRegisters}
+use Rattle.depth_check.specs.CheckedRegisters.{calls_by, CallsHold, RegistersHold}
 use Rattle.depth_check.specs.Finding.{StandsAt, DutyHolds, DutiesHold}
 
--- points with one state cover the same
+-- points with the same state cover the same states
 cover_alike : (node : NodeData) (a b : ℕ) (s t : State) → StandsAt node a s → StandsAt node b s → HasPoint node a t → HasPoint node b t
 cover_alike node a b s t here there h =
     let covers : Covers s t = subst (λ (o : Option Point). IsSomeAnd o (λ p. Covers p.state t)) here h in
@@ -38,7 +38,7 @@ back_alike : (node : NodeData) (a b kind : ℕ) (s : State) (o : Option NodeData
 back_alike node a b kind s None here there h = tt
 back_alike node a b kind s (Some n) here there h = exit_alike node a b kind s n.exit here there h
 
--- so what is asked of calls that come back to one is asked of those that come back to another
+-- so what holds of calls that return to one of them holds of calls that return to another
 calls_alike : (cert : CertData) (node : NodeData) (s u : State) (key : Key) (a b q : ℕ) (ts : List ℕ) → StandsAt node a s → StandsAt node b s
     → DutiesHold cert node s (flat_map (λ t. entered_and_back 5 (call_key key t) u a) ts) q → DutiesHold cert node s (flat_map (λ t. entered_and_back 5 (call_key key t) u b) ts) q
 calls_alike cert node s u key a b q [] here there h = All-nil (DutyHolds cert node s q)
@@ -55,13 +55,13 @@ calls_alike cert node s u key a b q (t ∷ ts) here there h =
     })
     (calls_alike cert node s u key a b q ts here there (All-tail (DutyHolds cert node s q) (owed 4 (resume k a)) (rest a) on)))
 
--- calls that hold where they come back to one point with the state are kept
+-- calls that hold if they return to one point with the state
 pub calls_kept : (plan : PlanData) (cert : CertData) (node : NodeData) (s : State) (r : ℕ) (next : Option ℕ) (back : ℕ) → next ≡ Some back → IfSome next (λ a. StandsAt node a s)
     → ((q : ℕ) → DutiesHold cert node s (calls_by plan node.key s r back) q) → CallsHold plan cert node s r
 calls_kept plan cert node s r next back e there h = λ other stands q.
     calls_alike cert node s (call_entry s) node.key back other q (unwrap_or (named_by (reg_of plan s r)) []) (subst (λ (o : Option ℕ). IfSome o (λ a. StandsAt node a s)) e there) stands (h q)
 
--- and hold where they come back to another
+-- hold if they return to another
 pub kept_calls : (plan : PlanData) (cert : CertData) (node : NodeData) (s : State) (r : ℕ) (called next : Option ℕ) (back : ℕ) → called ≡ Some r → next ≡ Some back → IfSome called (CallsHold plan cert node s) → IfSome next (λ a. StandsAt node a s)
     → (q : ℕ) → DutiesHold cert node s (calls_by plan node.key s r back) q
 kept_calls plan cert node s r called next back e f h there =
@@ -69,19 +69,19 @@ kept_calls plan cert node s r called next back e f h there =
     holds back (subst (λ (o : Option ℕ). IfSome o (λ a. StandsAt node a s)) f there)
 
 -- ---- from point to point
--- what is kept holds in the state of the next point
-abbrev pub HoldsNext : PlanData → CertData → NodeData → List Point → ByRegister → Type 0
-HoldsNext plan cert node left by = (p : Point) (after : List Point) → left ≡ p ∷ after → HoldBy plan cert node p.state by
+-- calls and jumps by these registers hold in the state of the next point
+abbrev pub HoldsNext : PlanData → CertData → NodeData → List Point → CheckedRegisters → Type 0
+HoldsNext plan cert node left rs = (p : Point) (after : List Point) → left ≡ p ∷ after → RegistersHold plan cert node p.state rs
 
-pub next_holds : (plan : PlanData) (cert : CertData) (node : NodeData) (left after : List Point) (p : Point) (s : State) (by : ByRegister) → HoldsNext plan cert node left by → left ≡ p ∷ after → s ≡ p.state → HoldBy plan cert node s by
-next_holds plan cert node left after p s by h e f = subst (λ (t : State). HoldBy plan cert node t by) (sym f) (h p after e)
+pub next_holds : (plan : PlanData) (cert : CertData) (node : NodeData) (left after : List Point) (p : Point) (s : State) (rs : CheckedRegisters) → HoldsNext plan cert node left rs → left ≡ p ∷ after → s ≡ p.state → RegistersHold plan cert node s rs
+next_holds plan cert node left after p s rs h e f = subst (λ (t : State). RegistersHold plan cert node t rs) (sym f) (h p after e)
 
 first_same : (p q : Point) (ps qs : List Point) → p ∷ ps ≡ q ∷ qs → p ≡ q
 first_same p q ps qs e = cc
 
--- it is so where that is the state at hand
-pub holds_next : (plan : PlanData) (cert : CertData) (node : NodeData) (w : WalkData) (s : State) (repeats : Option ℕ) (by : ByRegister) → s ≡ w.current → IfSome repeats (RepeatsAt w) → HoldBy plan cert node s by
-    → HoldsNext plan cert node w.left (record { called = option_and repeats by.called; jumped = option_and repeats by.jumped })
-holds_next plan cert node w s None by e f h = λ p after split. record { called = tt; jumped = tt }
-holds_next plan cert node w s (Some a) by e f h = λ p after split.
-    subst (λ (t : State). HoldBy plan cert node t by) (e ∙ ap (λ (q : Point). q.state) (first_same (record { addr = a; state = w.current }) p (drop 1 w.left) after (sym f ∙ split))) h
+-- they do if that is the current state
+pub holds_next : (plan : PlanData) (cert : CertData) (node : NodeData) (w : WalkData) (s : State) (repeats : Option ℕ) (rs : CheckedRegisters) → s ≡ w.current → IfSome repeats (RepeatsAt w) → RegistersHold plan cert node s rs
+    → HoldsNext plan cert node w.left (record { called = option_and repeats rs.called; jumped = option_and repeats rs.jumped })
+holds_next plan cert node w s None rs e f h = λ p after split. record { called = tt; jumped = tt }
+holds_next plan cert node w s (Some a) rs e f h = λ p after split.
+    subst (λ (t : State). RegistersHold plan cert node t rs) (e ∙ ap (λ (q : Point). q.state) (first_same (record { addr = a; state = w.current }) p (drop 1 w.left) after (sym f ∙ split))) h

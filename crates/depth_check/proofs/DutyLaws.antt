@@ -1,4 +1,4 @@
--- The least rule that duties break, from those of parts of their list.
+-- The least rule that duties break, from the least rules that parts of their list break.
 use Rattle.std.proofs.Common.{◌≡◌, ℕ, ◌≤◌, ◌<◌, ◌+◌, Bool, true, false, List, [], ◌∷◌, ◌++◌, length, take, get_or, map, Option, Some, None, inl, inr, arith, refl, subst, sym, ◌∙◌, ap, eq-eqb, ◌==◌}
 use Rattle.std.specs.Prelude.{IsTrue, ◌↔◌, All}
 use Rattle.std.specs.List.{flat_map}
@@ -32,7 +32,7 @@ use Rattle.cfg_recover.specs.Accepting.{HasPoint}
 use Rattle.depth_check.specs.Finding.{Finds, least_of, unless, DutyHolds, DutiesHold, HasPoints, GoesOn, HasExit, LeavingHolds}
 use Rattle.depth_check.proofs.LeastLaws.{found_by, found_both, found_same}
 
--- what holds of an appended list holds of its parts
+-- a property of an appended list holds of its parts
 pub All-left : {X : Type 0} (P : X → Type 0) (xs ys : List X) → All P (xs ++ ys) → All P xs
 All-left P xs ys h k d lt = subst P (get_or_append_left xs ys d k lt) (h k d (omega (arith, length-append xs ys)))
 
@@ -48,7 +48,7 @@ duties_append cert node s xs ys a b f g =
     (found_both (DutiesHold cert node s xs) (DutiesHold cert node s ys) a b f g)
 
 -- ---- jumps
--- duties that one rule asks for, all of them jumps
+-- duties that are all jumps, of one rule
 jump_part : (cert : CertData) (node : NodeData) (s t : State) (q x : ℕ) (xs : List ℕ) → (4 ≡ q → HasPoints node t (x ∷ xs)) → DutiesHold cert node s (jumps_to t xs) q → DutiesHold cert node s (jumps_to t (x ∷ xs)) q
 jump_part cert node s t q x xs h rest =
     All-cons (DutyHolds cert node s q) (owed 4 (jump x t)) (jumps_to t xs) (record { met = λ e. All-head (λ y. HasPoint node y t) x xs (h e); need = λ e. tt }) rest
@@ -63,13 +63,13 @@ jump_from cert node s t q (x ∷ xs) e h =
     All-cons (λ y. HasPoint node y t) x xs ((All-head (DutyHolds cert node s q) (owed 4 (jump x t)) (jumps_to t xs) h).met e)
     (jump_from cert node s t q xs e (All-tail (DutyHolds cert node s q) (owed 4 (jump x t)) (jumps_to t xs) h))
 
--- jumps with one state, by the test of all of them
+-- jumps with one state, from the test of all of them
 pub points_found : (cert : CertData) (node : NodeData) (s t : State) (xs : List ℕ) (b : Bool) → (IsTrue b ↔ HasPoints node t xs) → Finds (DutiesHold cert node s (jumps_to t xs)) (unless b 4)
 points_found cert node s t xs b d =
     found_same (λ q. 4 ≡ q → HasPoints node t xs) (DutiesHold cert node s (jumps_to t xs)) (unless b 4) (λ q h. jump_to cert node s t q xs h) (λ q h e. jump_from cert node s t q xs e h)
     (found_by b 4 (HasPoints node t xs) (omega arith) d)
 
--- one jump
+-- a single jump
 pub point_found : (cert : CertData) (node : NodeData) (s t : State) (x : ℕ) (b : Bool) → (IsTrue b ↔ HasPoint node x t) → Finds (DutiesHold cert node s (owed 4 (jump x t) ∷ [])) (unless b 4)
 point_found cert node s t x b d =
     points_found cert node s t (x ∷ []) b
@@ -80,7 +80,7 @@ pub nothing_found : (cert : CertData) (node : NodeData) (s : State) → Finds (D
 nothing_found cert node s = λ q. All-nil (DutyHolds cert node s q)
 
 -- ---- entries
--- what rules ask of an entry of the node n that stands, and of its coming back
+-- what the rules ask of an entry of a node n that exists, and of its return
 abbrev pub EntryHolds : NodeData → State → ℕ → Key → State → Option ℕ → NodeData → ℕ → Type 0
 EntryHolds node s rule key entry back n q =
     ((rule ≡ q → HasPoint n key.entry entry) × (14 ≡ q → length s.locals.items + 1 + n.need ≤ node.need)) × (4 ≡ q → GoesOn node s n key.kind back)
@@ -100,7 +100,7 @@ back_from : (cert : CertData) (node : NodeData) (s : State) (key : Key) (back : 
 back_from cert node s key None n q found h e = tt
 back_from cert node s key (Some at) n q found h e = rw found at ((All-head (DutyHolds cert node s q) (owed 4 (resume key at)) [] h).met e)
 
--- where the entered node stands
+-- the entered node exists
 pub entry_found : (cert : CertData) (node : NodeData) (s : State) (rule : ℕ) (key : Key) (entry : State) (back : Option ℕ) (n : NodeData) (into need on : Bool) → find_node key cert.nodes ≡ Some n
     → rule ≤ 14 → (IsTrue into ↔ HasPoint n key.entry entry) → (IsTrue need ↔ (length s.locals.items + 1 + n.need ≤ node.need)) → (IsTrue on ↔ GoesOn node s n key.kind back)
     → Finds (DutiesHold cert node s (owed rule (enter key entry) ∷ told_back key back)) (least_of (least_of (unless into rule) (unless need 14)) (unless on 4))
@@ -117,7 +117,7 @@ entry_found cert node s rule key entry back n into need on found small i d a =
     (found_by into rule (HasPoint n key.entry entry) small i) (found_by need 14 (length s.locals.items + 1 + n.need ≤ node.need) (omega arith) d))
     (found_by on 4 (GoesOn node s n key.kind back) (omega arith) a))
 
--- where it doesn't
+-- the entered node doesn't exist
 back_missing : (cert : CertData) (node : NodeData) (s : State) (key : Key) (back : Option ℕ) (q : ℕ) → find_node key cert.nodes ≡ None → DutiesHold cert node s (told_back key back) q
 back_missing cert node s key None q missing = All-nil (DutyHolds cert node s q)
 back_missing cert node s key (Some at) q missing =
@@ -133,11 +133,11 @@ entry_missing cert node s rule key entry back missing small = record {
   known = small;
 }
 
--- calls that begin with a state
+-- calls whose entry is a state
 abbrev pub called : State → List ℕ → ℕ → Enter
 called t targets back = record { kind = 1; targets = record { items = targets }; state = t; resume = Some back }
 
--- the entries at a list of targets
+-- the entries of a list of targets
 abbrev pub told_to : ℕ → Key → Enter → List ℕ → List Owed
 told_to rule key e targets = flat_map (λ t. owed rule (enter (entered_key key e.kind t) e.state) ∷ told_back (entered_key key e.kind t) e.resume) targets
 
@@ -156,7 +156,7 @@ told_irqs_more plan entry irqs i lt =
     ap (told_irqs plan entry) (take_more irqs i 0 lt)
     ∙ map-append (λ p. owed 11 (enter (irq_key plan p) (record entry { ccpn = p }))) (take i irqs) (get_or irqs i 0 ∷ [])
 
--- one more part of a list
+-- a further part of a list
 duties_more : (cert : CertData) (node : NodeData) (s : State) (xs ys zs : List Owed) (found one o : Option ℕ) → zs ≡ xs ++ ys → o ≡ least_of found one
     → Finds (DutiesHold cert node s xs) found → Finds (DutiesHold cert node s ys) one → Finds (DutiesHold cert node s zs) o
 duties_more cert node s xs ys zs found one o same is f g =
@@ -211,7 +211,7 @@ pub leaving_found : (cert : CertData) (node : NodeData) (s : State) (l : Leave) 
 leaving_found cert node s l o f =
     found_same (LeavingHolds node s l) (DutiesHold cert node s (told_leaving node.key s l)) o (λ q h. leaving_to cert node s l q h) (λ q h. leaving_from cert node s l q h) f
 
--- as an instruction's shape says
+-- from an instruction's shape
 leavings-is : (key : Key) (s : State) (shape : Shape) → told_leaving key s (leave_of shape) ≡ leavings_of key s shape
 unfolding leave_of
 leavings-is key s (Compute op dst x y) = refl
@@ -236,24 +236,24 @@ parts_found b image plan cert node p s shape n jumps entered misaligned interrup
     duties_append cert node s (js ++ es ++ ms ++ is) (leavings_of node.key s shape) _ leaving
     (duties_append cert node s (js ++ es ++ ms) is _ interrupts (duties_append cert node s (js ++ es) ms _ misaligned (duties_append cert node s js es jumps entered j e) m) i) l
 
--- where no rule's own part fails there is room
+-- there is room if the instruction breaks no rule by itself
 pub room_at : (b : Limits) (image : ImageData) (plan : PlanData) (key : Key) (p : ℕ) (s : State) (found : Located) → StandsFaultless b image plan key p s found → HasRoom b found.shape s
 room_at b image plan key p s found f = ((f.faultless 8).own found.shape found.size f.code).room refl
 
--- no interrupt, no duty
+-- without an interrupt there is no duty
 pub interrupts_none : (plan : PlanData) (key : Key) (s : State) (irqs : List ℕ) → irqs ≡ irqs_of plan s → length irqs ≡ 0 → [] ≡ interrupts_of plan key s
 interrupts_none plan key s [] e len = ap (λ (l : List ℕ). map (λ p. owed 11 (enter (irq_key plan p) (irq_entry plan key s p))) l) e
 interrupts_none plan key s (p ∷ ps) e len = absurd (omega arith)
 
--- nor where interrupts are disabled
+-- and none if interrupts are disabled
 pub disabled_none : (plan : PlanData) (key : Key) (s : State) → s.ie ≡ false → [] ≡ interrupts_of plan key s
 disabled_none plan key s e = rw e refl
 
--- addresses that are all multiples of the size, and others
+-- addresses that are all multiples of the size, and others that aren't
 pub aligned_none : (plan : PlanData) (key : Key) (s : State) (at : Val) (size : ℕ) → are_aligned at size ≡ true → [] ≡ misaligned_at plan key s at size
 aligned_none plan key s at size e = rw e refl
 
--- where the trap isn't stated, rule 10 has each address aligned
+-- if the plan doesn't state the trap, rule 10 has each address aligned
 access_none : (b : Limits) (plan : PlanData) (key : Key) (s : State) (shape : Shape) → plan.aln ≡ false → MayAccess b plan s shape → [] ≡ misaligned_of b plan key s shape
 access_none b plan key s (Load dst base offset size signed after) off may =
     elim may [ inl a ↦ aligned_none plan key s (address_of b plan (Load dst base offset size signed after) s) size a | inr on ↦ absurd (let f : false ≡ true = sym off ∙ on in cc) ]

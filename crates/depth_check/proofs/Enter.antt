@@ -29,10 +29,10 @@ use Rattle.depth_cert.specs.Nodes.{NodeData}
 use Rattle.depth_cert.specs.Certs.{CertData}
 use Rattle.depth_check.proofs.Registers.{reg_of_lt}
 use Rattle.cfg_recover.proofs.PointLaws.{Stands}
-use Rattle.depth_check.proofs.Frames.{Frame, oldest_first, LowerSame, UpperSame, Leaves, Resumed, used_by, Kept, Frames-same, need-Frames, own_locals, length-Locals, length-ImpliedBy, length-oldest_first}
+use Rattle.depth_check.proofs.Frames.{Frame, oldest_first, LowerSame, UpperSame, Leaves, Resumed, used_by, Invariant, Frames-same, need-Frames, own_locals, length-Locals, length-ImpliedBy, length-oldest_first}
 use Rattle.tc_mem.specs.PlanMemory.{IsPlanMemory}
 
--- the machine once its upper context is saved, with these registers, address and status
+-- the machine after a save of its upper context, with these registers, address and status
 abbrev pub begun : Machine → List ℕ → List ℕ → ℕ → ℕ → Bool → ℕ → Machine
 begun m d a pc psw ie ccpn = record (saved m true) { d = d; a = a; pc = pc; psw = psw; ie = ie; ccpn = ccpn }
 
@@ -40,8 +40,8 @@ begun m d a pc psw ie ccpn = record (saved m true) { d = d; a = a; pc = pc; psw 
 abbrev pub entered : Machine → NodeData → ℕ → Frame
 entered m node back = record { node = node; area = link_in m.fcx; back = back; word0 = reg m; locals = []; flags = [] }
 
--- What a frame's beginning from a point with this state asks of the certificate: the node with its point, room for it, and
--- where the suspended frame goes on.
+-- What a frame that begins at a point with this state asks of the certificate: the node with its
+-- point, room for it, and where the suspended frame goes on.
 pub record Begins (plan : PlanData) (cert : CertData) (m : Machine) (frame : Frame) (s : State) (d a : List ℕ) (pc psw : ℕ) (ie : Bool) (ccpn back : ℕ) (key : Key) : Type 0 where
   pub node : NodeData
   pub stands : Stands cert node
@@ -75,14 +75,14 @@ pub reg_lt : (m : Machine) → IsMachine m → (r : ℕ) → reg m r < 2 ^ 32
 reg_lt m k r = reg_of_lt m.d m.a k.d k.a r
 
 module _ (image : ImageData) (plan : PlanData) (ok : IsPlan plan) (cert : CertData) (most : ℕ) (few : most ≤ plan.areas - plan.reserve) where
-  module _ (m : Machine) (frame : Frame) (below : List Frame) (k : Kept image plan cert most m frame below) where
+  module _ (m : Machine) (frame : Frame) (below : List Frame) (k : Invariant image plan cert most m frame below) where
     -- the state has as many lower contexts as the frame
     pub counted : length ((k.point).state).locals.items ≡ length frame.locals
     counted =
         length-ImpliedBy ((k.point).state).locals.items (oldest_first frame.flags) k.flags ∙ length-oldest_first frame.flags
         ∙ length-Locals m.core m.mem m.pcxi (a11 m) frame.word0 frame.flags frame.locals (own_locals plan cert most m.core m.mem m.pcxi (a11 m) frame below k.frames)
 
-    -- where the need has room for one more area, there is a free one
+    -- if the need has room for another area, there is a free one
     pub room : (need : ℕ) → length ((k.point).state).locals.items + 1 + need ≤ (frame.node).need → HasFree plan m.mem m.fcx m.lcx (used_by frame below)
     room need fits =
         let within = need-Frames plan cert most m.core m.mem m.pcxi (a11 m) frame below k.frames in
@@ -100,7 +100,7 @@ module _ (image : ImageData) (plan : PlanData) (ok : IsPlan plan) (cert : CertDa
 
     pub begins : IsMachine m → (d a : List ℕ) (pc psw : ℕ) (ie : Bool) (ccpn back : ℕ) (key : Key) (b : Begins plan cert m frame (k.point).state d a pc psw ie ccpn back key) → HasFree plan m.mem m.fcx m.lcx (used_by frame below) →
         ((j : ℕ) → j < 4 → reg m (get_or global_regs j 0) ≡ global_of plan (get_or global_regs j 0)) →
-        Kept image plan cert most (record (begun m d a pc psw ie ccpn) { end = Running }) (entered m b.node back) (frame ∷ below)
+        Invariant image plan cert most (record (begun m d a pc psw ie ccpn) { end = Running }) (entered m b.node back) (frame ∷ below)
     begins words d a pc psw ie ccpn back key b free globals =
         let count = counted in
         let need = b.need in

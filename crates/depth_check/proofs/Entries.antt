@@ -1,4 +1,4 @@
--- What calls, interrupts and traps begin.
+-- The frames that calls, interrupts and traps begin.
 use Rattle.std.proofs.Common.{◌≡◌, ◌≢◌, ℕ, ◌+◌, ◌^◌, ◌<◌, ◌≤◌, inl, inr, Bool, true, false, List, [], length, get_or, set, Some, refl, sym, ap, ◌∙◌, subst, arith}
 use Rattle.std.proofs.lemmas.Bool.{cases_Bool, cases_eq}
 use Rattle.std.proofs.lemmas.List.{get_or-set_same}
@@ -24,7 +24,7 @@ use Rattle.cfg_recover.specs.Entries.{call_key, call_entry}
 use Rattle.depth_cert.specs.Exits.{after_of}
 use Rattle.cfg_recover.specs.Accepting.{Accepts}
 use Rattle.cfg_recover.proofs.EntryLaws.{holds_covered, holds_same, holds_call, holds_after_call, after_length}
-use Rattle.depth_check.proofs.Frames.{Frame, LowerSame, UpperSame, Leaves, by_return, from_system, from_handler, Resumed, Kept, length-ImpliedBy, ImpliedBy-trans}
+use Rattle.depth_check.proofs.Frames.{Frame, LowerSame, UpperSame, Leaves, by_return, from_system, from_handler, Resumed, Invariant, length-ImpliedBy, ImpliedBy-trans}
 use Rattle.depth_check.proofs.Registers.{set_a11}
 use Rattle.depth_check.proofs.Enter.{Begins}
 use Rattle.cfg_recover.proofs.PointLaws.{even_at, Found}
@@ -37,7 +37,7 @@ any_a11 : (plan : PlanData) (s : State) (w : ℕ) → w < 2 ^ 32 → IsMember w 
 unfolding slot
 any_a11 plan s w small = (omega arith, omega arith, omega arith)
 
--- the point of a node that covers a state
+-- a node's point that covers a state
 pub record PointFor (node : NodeData) (q : ℕ) (s : State) : Type 0 where
   pub point : Point
   pub found : find_point q node.points ≡ Some point
@@ -47,15 +47,15 @@ pub point_for : (node : NodeData) (q : ℕ) (s : State) (o : Option Point) → f
 point_for node q s None e h = absurd h
 point_for node q s (Some p) e h = record { point = p; found = e; covers = h }
 
--- an exit that is there has what an exit must have
+-- an exit that exists covers what an exit must cover
 pub if_some : {A : Type 0} (P : A → Type 0) (o : Option A) (x : A) → IfSome o P → o ≡ Some x → P x
 if_some P None x h e = absurd (let f : None ≡ Some x = e in cc)
 if_some P (Some y) x h e = let same : y ≡ x = cc in subst P same h
 
 module _ (image : ImageData) (plan : PlanData) (cert : CertData) (most : ℕ) (is_cert : IsCert cert) (accepted : Accepts image plan cert) where
-  module _ (m : Machine) (words : IsMachine m) (frame : Frame) (below : List Frame) (k : Kept image plan cert most m frame below) (regs : length ((k.point).state).regs ≡ 27) where
-    -- ---- where a frame goes on
-    -- the upper registers that come back lie in the state
+  module _ (m : Machine) (words : IsMachine m) (frame : Frame) (below : List Frame) (k : Invariant image plan cert most m frame below) (regs : length ((k.point).state).regs ≡ 27) where
+    -- ---- the point at which a frame goes on
+    -- the restored upper registers are in the state
     pub upper_in : (word : ℕ → ℕ) → UpperSame (reg m) word → word 27 < 2 ^ 32 → (r : ℕ) → r < 32 → is_lower r ≡ false → IsMember (word r) (registers.reg_of plan (k.point).state r)
     upper_in word upper small r lt high =
         elim (cases_eq r 27) [

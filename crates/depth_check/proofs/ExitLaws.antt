@@ -1,4 +1,4 @@
--- The lower registers and the status of a state against those of an exit.
+-- The lower registers and the status of a state, compared with those of an exit.
 use Rattle.std.proofs.Common.{◌≡◌, ℕ, Bool, true, false, not, ◌&&◌, ◌||◌, leb, refl, ◌≤◌, ◌<◌, ◌+◌, ◌-◌, List, length, get_or, take, drop, sym, ◌∙◌, ap, arith, inl, inr, subst}
 use Rattle.std.specs.Prelude.{IsTrue, ◌↔◌}
 use Rattle.std.proofs.lemmas.Bool.{cases_lt, leb-true, le-leb}
@@ -54,7 +54,7 @@ back_below regs lower len below r h =
     (sym (ap (λ n. get_or (take 6 (drop 8 lower)) n any_val) (sym e) ∙ exit_back lower (r + 8) (omega arith) (omega arith)))
     (below (r + 8) (omega (arith, length_lower regs len)))
 
--- whether IE and CCPN are covered, by tests one after another
+-- whether IE and CCPN are covered, from tests one after another
 status_decides : (e s : Bool) (x y : ℕ) → IsTrue ((e || not s) && leb x y) ↔ ((IsTrue s → IsTrue e) × (x ≤ y))
 status_decides true s x y = (λ t. ((λ i. refl), leb-true x y t), λ h. le-leb x y h.1)
 status_decides false false x y = (λ t. ((λ i. i), leb-true x y t), λ h. le-leb x y h.1)

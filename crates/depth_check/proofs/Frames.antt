@@ -1,4 +1,4 @@
--- The invariant of a run of certified code: a list of frames, the newest first, stands for the state.
+-- The invariant of a run of certified code: the state has a list of frames, the newest first.
 use Rattle.std.proofs.Common.{◌≡◌, ◌≢◌, ℕ, suc, ◌+◌, ◌*◌, ◌/◌, ◌^◌, ◌<◌, ◌≤◌, ◌⊎◌, Bool, true, false, List, [], ◌∷◌, ◌++◌, length, get_or, Some, refl, sym, ap, ◌∙◌, subst, arith, length-append}
 use Rattle.std.proofs.lemmas.List.{append-nil}
 use Rattle.csa_chain.specs.Memory.{Memory}
@@ -27,8 +27,9 @@ use Rattle.cfg_recover.specs.Moves.{InState}
 use Rattle.cfg_recover.proofs.EntryLaws.{HoldsExit}
 use Rattle.cfg_recover.proofs.PointLaws.{Stands}
 
--- What stays of a frame while it runs: its node, the area that was saved at its entry and the word that A11 got there (0 for
--- the start), the registers at its entry, and the areas of its lower contexts with their flags, the newest first.
+-- What stays of a frame while it runs: its node, the area that was saved at its entry and the word
+-- that A11 got there (0 for the start), the registers at its entry, and the areas of its lower
+-- contexts with their flags, the newest first.
 pub record Frame : Type 0 where
   pub node : NodeData
   pub area : ℕ
@@ -37,21 +38,22 @@ pub record Frame : Type 0 where
   pub locals : List ℕ
   pub flags : List Bool
 
--- flags as a state has them
+-- the flags in the order of a state
 abbrev pub oldest_first : List Bool → List Bool
 oldest_first [] = []
 oldest_first (f ∷ fs) = oldest_first fs ++ f ∷ []
 
 -- ---- registers
--- the lower registers are the same; so are all others but A11
+-- the lower registers are the same; all others except A11 are the same
 abbrev pub LowerSame : (ℕ → ℕ) → (ℕ → ℕ) → Type 0
 LowerSame word0 word = (r : ℕ) → is_lower r ≡ true → word r ≡ word0 r
 
 abbrev pub UpperSame : (ℕ → ℕ) → (ℕ → ℕ) → Type 0
 UpperSame word0 word = (r : ℕ) → r < 32 → is_lower r ≡ false → r ≢ 27 → word r ≡ word0 r
 
--- How a frame may end: by RET, with the exit's values; by RFE of a system call, with those and the status of PCXI; and by RFE
--- of another handler, with the lower registers of its entry and the status of PCXI.
+-- How a frame may end: by RET, with the exit's values; by RFE of a system call, with those and the
+-- status of PCXI; and by RFE of another handler, with the lower registers of its entry and the
+-- status of PCXI.
 pub data Leaves (pie : Bool) (pcpn : ℕ) (node : NodeData) (word0 word : ℕ → ℕ) (ie : Bool) (ccpn : ℕ) : Type 0 where
   by_return : (x : Exit) → node.exit ≡ Some x → (node.key).kind ≡ 1 → HoldsExit word ie ccpn x → Leaves pie pcpn node word0 word ie ccpn
   from_system :
@@ -59,7 +61,7 @@ pub data Leaves (pie : Bool) (pcpn : ℕ) (node : NodeData) (word0 word : ℕ �
       → Leaves pie pcpn node word0 word ie ccpn
   from_handler : ((node.key).kind ≡ 2) ⊎ ((node.key).kind ≡ 4) → LowerSame word0 word → ie ≡ pie → ccpn ≡ pcpn → Leaves pie pcpn node word0 word ie ccpn
 
--- a suspended frame that goes on at A11, bit 0 cleared, with these registers and this status
+-- a suspended frame goes on at A11, bit 0 cleared, with these registers and this status
 pub record Resumed (plan : PlanData) (suspended : Frame) (back : ℕ) (word : ℕ → ℕ) (ie : Bool) (ccpn : ℕ) : Type 0 where
   pub point : Point
   pub found : find_point (back / 2 * 2) (suspended.node).points ≡ Some point
@@ -84,13 +86,14 @@ Locals core mem pcxi back word0 (f ∷ fs) (l ∷ ls) = Local core mem pcxi back
 Locals core mem pcxi back word0 [] (l ∷ ls) = ⊥
 Locals core mem pcxi back word0 (f ∷ fs) [] = ⊥
 
--- the word PCXI under the lower contexts
+-- the word PCXI below the lower contexts
 abbrev pub under : Memory → ℕ → List ℕ → ℕ
 under mem pcxi [] = pcxi
 under mem pcxi (l ∷ ls) = under mem (area_word mem l 0) ls
 
--- The entry of a frame from a suspended one. PCXI names the area of the entry, an upper context with the suspended frame's
--- registers; the need of the suspended frame has room for the entered one; and if that ends, the suspended one goes on.
+-- The entry of a frame from a suspended one. PCXI names the area of the entry, an upper context
+-- with the suspended frame's registers; the need of the suspended frame has room for the entered
+-- one; and if that ends, the suspended one goes on.
 pub record Entry (plan : PlanData) (cert : CertData) (core : Core) (mem : Memory) (pcxi back : ℕ) (node : NodeData) (entry back0 : ℕ) (word0 : ℕ → ℕ) (suspended : Frame) : Type 0 where
   pub some : entry ≢ 0
   pub named : link_in pcxi ≡ entry
@@ -112,8 +115,8 @@ pub record Oldest (most pcxi : ℕ) (node : NodeData) : Type 0 where
   pub kind : (node.key).kind ≡ 0
   pub need : node.need ≤ most
 
--- The frames of a state with these words in PCXI and A11. Those words of a suspended frame lie in the area of the frame
--- that was entered from it, as words 0 and 3.
+-- The frames of a state with these words in PCXI and A11. Those words of a suspended frame are
+-- words 0 and 3 of the area of the frame that was entered from it.
 abbrev pub Frames : PlanData → CertData → ℕ → Core → Memory → ℕ → ℕ → Frame → List Frame → Type 0
 Frames plan cert most core mem pcxi back frame [] =
     Locals core mem pcxi back frame.word0 frame.flags frame.locals × Oldest most (under mem pcxi frame.locals) frame.node
@@ -127,13 +130,13 @@ abbrev pub used_by : Frame → List Frame → List ℕ
 used_by frame [] = frame.locals
 used_by frame (suspended ∷ below) = frame.locals ++ frame.area ∷ used_by suspended below
 
--- the frames as a run tells them, the running one at an address
+-- the frames as a run has them, the running one at an address
 abbrev pub standing : ℕ → Frame → List Frame → List Standing
 standing pc frame [] = record { key = (frame.node).key; at = pc } ∷ []
 standing pc frame (suspended ∷ below) = record { key = (frame.node).key; at = pc } ∷ standing frame.back suspended below
 
--- the invariant, with the frames that stand for the state
-pub record Kept (image : ImageData) (plan : PlanData) (cert : CertData) (most : ℕ) (m : Machine) (frame : Frame) (below : List Frame) : Type 0 where
+-- the invariant, with the frames of the state
+pub record Invariant (image : ImageData) (plan : PlanData) (cert : CertData) (most : ℕ) (m : Machine) (frame : Frame) (below : List Frame) : Type 0 where
   pub stands : Stands cert frame.node
   pub point : Point
   pub found : find_point m.pc (frame.node).points ≡ Some point
@@ -151,7 +154,7 @@ pub record Kept (image : ImageData) (plan : PlanData) (cert : CertData) (most : 
   pub isp : m.isp ≡ plan.isp
   pub running : m.end ≡ Running
 
--- ---- where the used areas stay, the frames stay
+-- ---- the frames stay if the areas in use stay
 pub SameAreas-left : (m n : Memory) (xs ys : List ℕ) → SameAreas m n (xs ++ ys) → SameAreas m n xs
 SameAreas-left m n [] ys h = tt
 SameAreas-left m n (x ∷ xs) ys h = (h.0, SameAreas-left m n xs ys h.1)
@@ -212,7 +215,7 @@ module _ (plan : PlanData) (cert : CertData) (most : ℕ) (core : Core) where
         rw (area_word_same rest.0 0 (omega arith), area_word_same rest.0 3 (omega arith)) (Frames-same m n (area_word m frame.area 0) (area_word m frame.area 3) suspended below rest.1 h.2),
       )
 
-  -- ---- what the frames say of the chain
+  -- ---- the frames and the chain of areas
   Links-Locals : (mem : Memory) (pcxi back : ℕ) (word0 : ℕ → ℕ) (fs : List Bool) (ls rest : List ℕ) → Locals core mem pcxi back word0 fs ls → Links mem (under mem pcxi ls) rest → Links mem pcxi (ls ++ rest)
   Links-Locals mem pcxi back word0 [] [] rest h g = g
   Links-Locals mem pcxi back word0 (f ∷ fs) (l ∷ ls) rest h g =
@@ -242,7 +245,7 @@ module _ (plan : PlanData) (cert : CertData) (most : ℕ) (core : Core) where
   own_locals mem pcxi back frame (s ∷ below) h = h.0
 
   -- ---- a frame whose lower contexts change
-  -- what lies under them stays
+  -- what is below them stays
   pub Frames-moved : (mem : Memory) (pcxi pcxi' back : ℕ) (frame : Frame) (below : List Frame) (locals : List ℕ) (flags : List Bool) →
       under mem pcxi' locals ≡ under mem pcxi frame.locals → Locals core mem pcxi' back frame.word0 flags locals →
       Frames plan cert most core mem pcxi back frame below → Frames plan cert most core mem pcxi' back (record frame { locals = locals; flags = flags }) below

@@ -1,4 +1,4 @@
--- What interrupts and traps begin.
+-- The frames that interrupts and traps begin.
 use Rattle.std.proofs.Common.{◌≡◌, ◌≢◌, ℕ, ◌+◌, ◌*◌, ◌/◌, ◌%◌, ◌^◌, ◌<◌, ◌≤◌, ◌⊎◌, inl, inr, Bool, true, false, List, [], length, get_or, set, Some, refl, sym, ap, ◌∙◌, arith, length-set}
 use Rattle.std.proofs.lemmas.Bool.{cond_both, eq-eqb}
 use Rattle.std.proofs.lemmas.List.{get_or-set_same, get_or-set_other}
@@ -22,7 +22,7 @@ use Rattle.depth_cert.specs.Exits.{after_of}
 use Rattle.cfg_recover.specs.Frames.{handler_key}
 use Rattle.cfg_recover.specs.Accepting.{Accepts}
 use Rattle.cfg_recover.proofs.EntryLaws.{holds_covered, holds_irq, holds_aln, holds_sys, entry_length, aln_length, sys_length, stack_member, holds_after_system}
-use Rattle.depth_check.proofs.Frames.{Frame, LowerSame, UpperSame, Leaves, by_return, from_system, from_handler, Resumed, Kept, length-ImpliedBy}
+use Rattle.depth_check.proofs.Frames.{Frame, LowerSame, UpperSame, Leaves, by_return, from_system, from_handler, Resumed, Invariant, length-ImpliedBy}
 use Rattle.depth_check.proofs.Registers.{reg_of_lt, set_a11, set_a10, set_d15}
 use Rattle.depth_check.proofs.Enter.{Begins}
 use Rattle.cfg_recover.proofs.PointLaws.{Found}
@@ -47,7 +47,7 @@ abbrev pub handler_a : Machine → ℕ → List ℕ
 handler_a m back = set (set m.a 11 back) 10 (handler_stack m)
 
 module _ (image : ImageData) (plan : PlanData) (cert : CertData) (most : ℕ) (is_cert : IsCert cert) (accepted : Accepts image plan cert) where
-  module _ (m : Machine) (words : IsMachine m) (frame : Frame) (below : List Frame) (k : Kept image plan cert most m frame below) (regs : length ((k.point).state).regs ≡ 27) where
+  module _ (m : Machine) (words : IsMachine m) (frame : Frame) (below : List Frame) (k : Invariant image plan cert most m frame below) (regs : length ((k.point).state).regs ≡ 27) where
     module _ (d : List ℕ) (ds : AreRegisters d) (d_same : (a : List ℕ) (r : ℕ) → r ≢ 15 → reg_of d a r ≡ reg_of m.d a r) (back : ℕ) (small : back < 2 ^ 32) where
       handler_back : get_or (handler_a m back) 11 0 ≡ back
       handler_back =

@@ -1,4 +1,4 @@
--- The frames of runs are held by the certificate, and edges are owed.
+-- The certificate holds the frames of runs, and each edge is a duty.
 use Rattle.std.proofs.Common.{ℕ, zero, suc, ◌-◌, ◌<◌, ◌≤◌, List, [], ◌∷◌, length, get_or, refl, sym, ap, subst, arith}
 use Rattle.std.specs.Prelude.{IsSome, IsSomeAnd, is_some}
 use Rattle.csa_chain.specs.Memory.{Memory}
@@ -19,12 +19,12 @@ use Rattle.cfg_recover.specs.Frames.{Standing, LiesAt, HoldFrames, EdgeOwed}
 use Rattle.cfg_recover.specs.Moves.{InState}
 use Rattle.depth_check.specs.Headline.{AcceptedHoldsFrames, AcceptedOwesEdges}
 use Rattle.cfg_recover.proofs.PointLaws.{Stands}
-use Rattle.depth_check.proofs.Frames.{Frame, standing, Frames, Kept}
+use Rattle.depth_check.proofs.Frames.{Frame, standing, Frames, Invariant}
 use Rattle.depth_check.proofs.Step.{step-done}
 use Rattle.depth_check.proofs.Sound.{few, held}
 
 module _ (image : ImageData) (plan : PlanData) (cert : CertData) (most : ℕ) where
-  -- each frame's node stands
+  -- the node of each frame exists
   all_stand : (core : Core) (mem : Memory) (pcxi back pc : ℕ) (frame : Frame) (below : List Frame) → Stands cert frame.node → Frames plan cert most core mem pcxi back frame below →
       (i : ℕ) (d : Standing) → i < length (standing pc frame below) → IsSome (find_node (get_or (standing pc frame below) i d).key cert.nodes)
   all_stand core mem pcxi back pc frame [] stands h zero d lt = ap is_some stands
@@ -33,20 +33,20 @@ module _ (image : ImageData) (plan : PlanData) (cert : CertData) (most : ℕ) wh
   all_stand core mem pcxi back pc frame (s ∷ below) stands h (suc i) d lt =
       all_stand core mem (area_word mem frame.area 0) (area_word mem frame.area 3) frame.back s below (h.1).stands h.2 i d (omega arith)
 
-  lies_at : (m : Machine) (frame : Frame) (below : List Frame) → Kept image plan cert most m frame below → LiesAt plan cert m (record { key = (frame.node).key; at = m.pc })
+  lies_at : (m : Machine) (frame : Frame) (below : List Frame) → Invariant image plan cert most m frame below → LiesAt plan cert m (record { key = (frame.node).key; at = m.pc })
   lies_at m frame below k =
       subst (λ o. IsSomeAnd o (λ n. IsSomeAnd (find_point m.pc n.points) (λ p. InState plan m p.state))) (sym k.stands)
       (subst (λ o. IsSomeAnd o (λ p. InState plan m p.state)) (sym k.found) k.inside)
 
-  -- the invariant says that the frames are held
-  hold_kept : (m : Machine) (frame : Frame) (below : List Frame) → Kept image plan cert most m frame below → HoldFrames plan cert m (standing m.pc frame below)
+  -- the frames are held by the invariant
+  hold_kept : (m : Machine) (frame : Frame) (below : List Frame) → Invariant image plan cert most m frame below → HoldFrames plan cert m (standing m.pc frame below)
   hold_kept m frame [] k = record { at = refl; nodes = all_stand m.core m.mem m.pcxi (a11 m) m.pc frame [] k.stands k.frames; point = lies_at m frame [] k; is = k.is }
   hold_kept m frame (s ∷ below) k =
       record { at = refl; nodes = all_stand m.core m.mem m.pcxi (a11 m) m.pc frame (s ∷ below) k.stands k.frames; point = lies_at m frame (s ∷ below) k; is = k.is }
 
-  -- what a step does says that its edge is owed
+  -- the edge of a step is a duty
   edge_done : (m : Machine) (e : Event) (ok : IsPlan plan) (fits_reserve : most ≤ plan.areas - plan.reserve) (is_cert : IsCert cert) (accepted : Accepts image plan cert) (words : IsMachine m) → Fits plan m e →
-      (frame : Frame) (below : List Frame) → Kept image plan cert most m frame below → EdgeOwed image plan cert m e (standing m.pc frame below)
+      (frame : Frame) (below : List Frame) → Invariant image plan cert most m frame below → EdgeOwed image plan cert m e (standing m.pc frame below)
   edge_done m e ok fits_reserve is_cert accepted words fits frame [] k =
       let d = step-done image plan ok cert most fits_reserve is_cert accepted m words e fits frame [] k in
       record { node = frame.node; stands = k.stands; point = k.point; found = k.found; shape = d.shape; size = d.size; code = d.code; owed = d.owes }

@@ -1,4 +1,5 @@
--- A point whose instruction only passes the state on: no rule's own part fails there, and it owes the next point and the interrupts.
+-- A point whose instruction only passes the state on: it breaks no rule by itself, and its duties
+-- are the next point and the interrupts.
 use Rattle.std.proofs.Common.{◌≡◌, ℕ, List, [], ◌∷◌, Option, Some, None, refl, sym, subst, ap, ◌∙◌}
 use Rattle.std.specs.Prelude.{IsSome, IfSome, unwrap_or}
 use Rattle.elf_image.specs.Images.{ImageData}
@@ -22,7 +23,7 @@ use Rattle.depth_check.specs.Finding.{Finds, DutiesHold, least_of}
 use Rattle.depth_check.specs.Passing.{Passes, PassesOn}
 use Rattle.depth_check.proofs.DutyLaws.{nothing_found, parts_found}
 
--- where such an instruction jumps to is known
+-- the target of such an instruction is known
 known_target : (plan : PlanData) (s : State) (p : ℕ) (to : Target) (next : ℕ) → direct_target p to ≡ Some next → targets_of plan s p to ≡ Some (next ∷ [])
 known_target plan s p (target.Rel by) next e = let same : moved p by ≡ next = cc in ap (λ (x : ℕ). Some (x ∷ [])) same
 known_target plan s p (target.Abs x) next e = let same : x ≡ next = cc in ap (λ (y : ℕ). Some (y ∷ [])) same
@@ -60,7 +61,7 @@ least_none : (o : Option ℕ) → least_of o None ≡ o
 least_none None = refl
 least_none (Some r) = refl
 
--- a point that owes its successors and the interrupts alone
+-- a point whose only duties are its successors and the interrupts
 alone_found : (b : Limits) (image : ImageData) (plan : PlanData) (cert : CertData) (node : NodeData) (p : ℕ) (s : State) (shape : Shape) (n : ℕ) (on irqs : Option ℕ)
     → Finds (DutiesHold cert node s (successors_of b image plan p s shape n)) on → Finds (DutiesHold cert node s (entries_of plan node.key p s shape n)) None
     → Finds (DutiesHold cert node s (misaligned_of b plan node.key s shape)) None → Finds (DutiesHold cert node s (interrupts_of plan node.key s)) irqs

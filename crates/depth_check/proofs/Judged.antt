@@ -9,7 +9,7 @@ use Rattle.depth_check.specs.declared.verdicts.Verdict.TheVariants.{Yes, No}
 use Rattle.depth_check.specs.Judging.{Judges, IfYes}
 use Rattle.depth_check.proofs.Sound.{accepted_is_safe}
 
--- by a plan and a certificate that keep their promises
+-- for a plan and a certificate with their invariants
 pub judged_is_safe : (image : ImageData) (plan fields : PlanData) (cert parts : CertData) (v : Verdict) → fields ≡ plan → IsPlan fields → parts ≡ cert → IsCert parts → Judges image plan cert v → IfYes v (Safe image plan)
 judged_is_safe image plan fields cert parts (Yes n) e ok f is judges =
     subst (Safe image plan) (sym judges.1) (accepted_is_safe image plan cert (subst IsPlan e ok) (subst IsCert f is) judges.0)

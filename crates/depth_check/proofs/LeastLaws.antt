@@ -1,10 +1,10 @@
--- The least rule that fails, from those of parts.
+-- The least rule that fails, from the least rules of parts.
 use Rattle.std.proofs.Common.{◌≡◌, ℕ, ◌≤◌, Bool, true, false, Option, Some, None, min, arith, inl, inr, refl, subst, sym}
 use Rattle.std.specs.Prelude.{IsTrue, ◌↔◌}
 use Rattle.std.proofs.lemmas.Bool.{cases_lt}
 use Rattle.depth_check.specs.Finding.{Finds, IsLeastBroken, least_of, unless}
 
--- a test decides what one rule asks
+-- a test decides what a single rule asks
 pub found_by : (b : Bool) (r : ℕ) (X : Type 0) → r ≤ 14 → (IsTrue b ↔ X) → Finds (λ q. r ≡ q → X) (unless b r)
 found_by true r X small d = λ q e. d.0 refl
 found_by false r X small d = record {
@@ -28,7 +28,7 @@ found_both P Q (Some a) (Some b) f g =
           subst (λ n. IsLeastBroken (λ q. P q × Q q) n) (sym e) (record { broken = λ h. f.broken h.0; least = λ q l. (f.least q l, g.least q (omega arith)); known = f.known })
     ]
 
--- the same facts in other words
+-- the least rule for equivalent facts
 pub found_same : (P Q : ℕ → Type 0) (o : Option ℕ) → ((q : ℕ) → P q → Q q) → ((q : ℕ) → Q q → P q) → Finds P o → Finds Q o
 found_same P Q None to from f = λ q. to q (f q)
 found_same P Q (Some r) to from f = record { broken = λ h. f.broken (from r h); least = λ q lt. to q (f.least q lt); known = f.known }

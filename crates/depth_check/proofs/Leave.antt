@@ -1,4 +1,4 @@
--- A restored upper context ends a frame, and the suspended one goes on.
+-- A restore of the upper context ends a frame, and the suspended frame goes on.
 use Rattle.std.proofs.Common.{◌≡◌, ℕ, zero, suc, ◌-◌, ◌*◌, ◌/◌, ◌^◌, ◌<◌, ◌≤◌, inl, inr, Bool, true, List, [], ◌∷◌, ◌++◌, length, get_or, refl, sym, ap, ◌∙◌, subst, arith}
 use Rattle.csa_chain.specs.Memory.{Memory, with_words}
 use Rattle.csa_chain.specs.Chain.{link_in, link_address, area_word}
@@ -23,11 +23,11 @@ use Rattle.depth_cert.specs.declared.points.Exit.{Exit}
 use Rattle.depth_cert.specs.Nodes.{NodeData}
 use Rattle.depth_cert.specs.Certs.{CertData}
 use Rattle.cfg_recover.proofs.EntryLaws.{HoldsExit}
-use Rattle.depth_check.proofs.Frames.{Frame, LowerSame, UpperSame, Leaves, by_return, from_system, from_handler, under, Entry, used_by, Kept, Frames-same, Links-Frames, no_locals}
+use Rattle.depth_check.proofs.Frames.{Frame, LowerSame, UpperSame, Leaves, by_return, from_system, from_handler, under, Entry, used_by, Invariant, Frames-same, Links-Frames, no_locals}
 use Rattle.depth_check.proofs.Registers.{each_upper, upper_leaves_globals, upper-LowerSame}
 use Rattle.depth_check.proofs.Enter.{IsPlanMemory-written, counted}
 
--- the globals are the plan's wherever registers lie in a state
+-- the globals are the plan's if the registers are in a state
 pub globals_held : (plan : PlanData) (word : ℕ → ℕ) (ie : Bool) (ccpn : ℕ) (s : State) → Holds plan word ie ccpn s → (j : ℕ) → j < 4 → word (get_or global_regs j 0) ≡ global_of plan (get_or global_regs j 0)
 unfolding slot
 globals_held plan word ie ccpn s h zero lt = elim (h.regs 16 (omega arith)) [ inl e ↦ e | inr n ↦ absurd n ]
@@ -40,7 +40,7 @@ globals_held plan word ie ccpn s h (suc (suc (suc (suc j)))) lt = absurd (omega 
 pub area_words-at : (mem : Memory) (l : ℕ) (i : ℕ) → i < 16 → get_or (area_words mem l) i 0 ≡ area_word mem l i
 area_words-at mem l = below_16 (λ i. get_or (area_words mem l) i 0 ≡ area_word mem l i) refl refl refl refl refl refl refl refl refl refl refl refl refl refl refl refl
 
--- the lower registers tell how a frame ends
+-- the lower registers at the end of a frame
 HoldsExit-same : (word word' : ℕ → ℕ) (ie : Bool) (ccpn : ℕ) (x : Exit) → LowerSame word word' → HoldsExit word ie ccpn x → HoldsExit word' ie ccpn x
 HoldsExit-same word word' ie ccpn x same h = record { lower = λ r low. rw (same r low) (h.lower r low); enabled = h.enabled; priority = h.priority }
 
@@ -52,7 +52,7 @@ Leaves-same node word0 word word' ie ccpn same (from_handler kind lower enabled 
     from_handler kind (λ r low. same r low ∙ lower r low) enabled priority
 
 module _ (image : ImageData) (plan : PlanData) (ok : IsPlan plan) (cert : CertData) (most : ℕ) (few : most ≤ plan.areas - plan.reserve) where
-  module _ (m : Machine) (words : IsMachine m) (frame suspended : Frame) (below : List Frame) (k : Kept image plan cert most m frame (suspended ∷ below)) (none : frame.locals ≡ []) where
+  module _ (m : Machine) (words : IsMachine m) (frame suspended : Frame) (below : List Frame) (k : Invariant image plan cert most m frame (suspended ∷ below)) (none : frame.locals ≡ []) where
     entry : Entry plan cert m.core m.mem m.pcxi (a11 m) frame.node frame.area frame.back frame.word0 suspended
     entry = subst (λ ls. Entry plan cert m.core m.mem (under m.mem m.pcxi ls) (a11 m) frame.node frame.area frame.back frame.word0 suspended) none (k.frames).1
 
@@ -66,7 +66,7 @@ module _ (image : ImageData) (plan : PlanData) (ok : IsPlan plan) (cert : CertDa
 
     pub record Back (ie : Bool) (ccpn : ℕ) : Type 0 where
       pub at : a11 m / 2 * 2 ≡ frame.back
-      pub kept : Kept image plan cert most (record (restored m true) { pc = a11 m / 2 * 2; ie = ie; ccpn = ccpn; end = Running }) suspended below
+      pub kept : Invariant image plan cert most (record (restored m true) { pc = a11 m / 2 * 2; ie = ie; ccpn = ccpn; end = Running }) suspended below
 
     pub comes_back : (ie : Bool) (ccpn : ℕ) → Leaves (pie_of m.core m.pcxi) (pcpn_of m.core m.pcxi) frame.node frame.word0 (reg m) ie ccpn → Back ie ccpn
     comes_back ie ccpn leaves =
@@ -105,5 +105,5 @@ module _ (image : ImageData) (plan : PlanData) (ok : IsPlan plan) (cert : CertDa
     pub restores : restore m true ≡ restored m true
     restores = restore-is m true (λ z. (entry).some (sym (entry).named ∙ z)) (entry).ul (rw (entry).named (entry).area)
 
-  pub none_held : (m : Machine) (frame : Frame) (below : List Frame) (k : Kept image plan cert most m frame below) → length ((k.point).state).locals.items ≡ 0 → frame.locals ≡ []
+  pub none_held : (m : Machine) (frame : Frame) (below : List Frame) (k : Invariant image plan cert most m frame below) → length ((k.point).state).locals.items ≡ 0 → frame.locals ≡ []
   none_held m frame below k e = no_locals frame.locals (sym (counted image plan ok cert most few m frame below k) ∙ e)

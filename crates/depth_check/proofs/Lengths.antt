@@ -1,4 +1,4 @@
--- The states that a point owes jumps to have a value for each register.
+-- The states of a point's jumps have a value for each register.
 use Rattle.std.proofs.Common.{◌≡◌, ℕ, true, false, length, Some, ◌∙◌, subst, Contains}
 use Rattle.std.specs.Prelude.{Option, None, IfSome}
 use Rattle.elf_image.specs.Images.{ImageData}
@@ -24,6 +24,6 @@ module _ (b : Limits) (image : ImageData) (plan : PlanData) (key : Key) (p : ℕ
   long_by _ _ (target to q c) = long
   long_by _ _ _ = tt
 
-  -- the state of a jump that is owed
+  -- the state of a jump that is a duty
   pub jump_long : (shape : Shape) (q : ℕ) (t : State) → Contains (duties_of b image plan key p s shape n) (owed 4 (jump q t)) → length t.regs ≡ 27
   jump_long shape q t c = long_by shape (owed 4 (jump q t)) (duty_at b image plan key p s n shape (owed 4 (jump q t)) c)

@@ -27,7 +27,7 @@ use Rattle.vd_transfer.proofs.HoldLaws.{restore_holds}
 use Rattle.vd_transfer.proofs.RegisterLaws.{length-forgotten}
 use Rattle.depth_cert.specs.Certs.{CertData}
 use Rattle.cfg_recover.proofs.EntryLaws.{holds_covered}
-use Rattle.depth_check.proofs.Frames.{Frame, oldest_first, Local, Locals, under, Frames, used_by, Kept, Frames-same, Links-Frames, Frames-moved, own_locals, ImpliedBy-trans}
+use Rattle.depth_check.proofs.Frames.{Frame, oldest_first, Local, Locals, under, Frames, used_by, Invariant, Frames-same, Links-Frames, Frames-moved, own_locals, ImpliedBy-trans}
 use Rattle.depth_check.proofs.Registers.{each_lower, lower_is_lower, lower-UpperSame}
 use Rattle.depth_check.proofs.Enter.{reg_lt, IsPlanMemory-written, counted}
 use Rattle.depth_check.proofs.Leave.{area_words-at}
@@ -81,7 +81,7 @@ used_popped frame [] l rest flags e = e
 used_popped frame (s ∷ below) l rest flags e = ap (λ ls. ls ++ frame.area ∷ used_by s below) e
 
 module _ (image : ImageData) (plan : PlanData) (ok : IsPlan plan) (cert : CertData) (most : ℕ) (few : most ≤ plan.areas - plan.reserve) where
-  module _ (m : Machine) (words : IsMachine m) (frame : Frame) (below : List Frame) (k : Kept image plan cert most m frame below) where
+  module _ (m : Machine) (words : IsMachine m) (frame : Frame) (below : List Frame) (k : Invariant image plan cert most m frame below) where
     -- ---- a save of the lower context
     module _ (free : HasFree plan m.mem m.fcx m.lcx (used_by frame below)) where
       -- a word of the new area
@@ -94,7 +94,7 @@ module _ (image : ImageData) (plan : PlanData) (ok : IsPlan plan) (cert : CertDa
           word (suc (suc j)) (omega arith) (subst (λ x. x < 2 ^ 32) (sym e) (reg_lt m words (get_or lower_regs j 0))) ∙ e
 
       pub lower_pushed : (pc : ℕ) (ie : Bool) (ccpn : ℕ) (t : State) → t.locals.items ≡ ((k.point).state).locals.items ++ ((k.point).state).lower ∷ [] → t.lower ≡ ((k.point).state).lower → length t.regs ≡ 27 → Holds plan (reg m) ie ccpn t → PointFor frame.node pc t →
-          Kept image plan cert most (record (saved m false) { pc = pc; ie = ie; ccpn = ccpn; end = Running }) (with_locals frame (link_in m.fcx ∷ frame.locals) (((k.point).state).lower ∷ frame.flags)) below
+          Invariant image plan cert most (record (saved m false) { pc = pc; ie = ie; ccpn = ccpn; end = Running }) (with_locals frame (link_in m.fcx ∷ frame.locals) (((k.point).state).lower ∷ frame.flags)) below
       lower_pushed pc ie ccpn t pushed same_lower long holds at =
           let stay = Frames-same plan cert most m.core m.mem (with_words m.mem (link_address (link_in m.fcx)) (context_of m false)) m.pcxi (a11 m) frame below
           (SameAreas-written m.mem (link_in m.fcx) (used_by frame below) (context_of m false) (omega arith) free.avoids_used) k.frames in
@@ -138,7 +138,7 @@ module _ (image : ImageData) (plan : PlanData) (ok : IsPlan plan) (cert : CertDa
       pub restores : restore m false ≡ restored m false
       pub areas : List ℕ
       pub flags : List Bool
-      pub kept : Kept image plan cert most (record (restored m false) { pc = pc; end = Running }) (with_locals frame areas flags) below
+      pub kept : Invariant image plan cert most (record (restored m false) { pc = pc; end = Running }) (with_locals frame areas flags) below
 
     pub lower_popped : (pc : ℕ) → 1 ≤ length ((k.point).state).locals.items → length ((k.point).state).regs ≡ 27 → PointFor frame.node pc (effects.restored_lower (k.point).state) → Popped pc
     lower_popped pc some long at =

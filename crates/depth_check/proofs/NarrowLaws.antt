@@ -1,4 +1,4 @@
--- What covers a state covers it on a side of a branch, too, where the branch lowers no counter.
+-- A state that covers another also covers it on each side of a branch that lowers no counter.
 use Rattle.std.proofs.Common.{◌≡◌, ℕ, ◌<◌, ◌∷◌, [], Bool, true, false, List, length, set, get_or, Option, Some, None, inl, inr, arith, refl, sym, subst, ◌∙◌, eq-eqb, ◌==◌}
 use Rattle.std.specs.Prelude.{IfSome, IsSomeAnd}
 use Rattle.std.specs.List.{list_any}
@@ -35,7 +35,7 @@ use Rattle.depth_check.proofs.Frames.{ImpliedBy-trans}
 use Rattle.depth_check.proofs.RepeatLaws.{covers_same}
 
 -- ---- covering
--- what covers a state that covers another covers that one, too
+-- covering is transitive
 pub covers_trans : (upper s t : State) → length t.regs ≡ length s.regs → Covers upper s → Covers s t → Covers upper t
 covers_trans upper s t len c d = record {
   regs = λ r h x m. c.regs r (omega arith) x (d.regs r h x m);
@@ -43,13 +43,13 @@ covers_trans upper s t len c d = record {
   locals = ImpliedBy-trans upper.locals.items s.locals.items t.locals.items c.locals d.locals;
 }
 
--- so a point that covers the one covers the other
+-- so a point that covers the first covers the second
 pub found_more : (o : Option Point) (s t : State) → ((upper : State) → Covers upper s → Covers upper t) → IsSomeAnd o (λ (p : Point). Covers p.state s) → IsSomeAnd o (λ (p : Point). Covers p.state t)
 found_more None s t f h = absurd h
 found_more (Some p) s t f h = f p.state h
 
 -- ---- values
--- the cover of some of a value's members is below it
+-- the cover of some members of a value is below the value
 cover_below : (b : Limits) (v z : Val) (xs : List ℕ) → IsValue b v → Within xs (members v) → cover_some b xs ≡ Some z → IsBelow z v
 cover_below b v z [] value there e = absurd (let f : None ≡ Some z = e in cc)
 cover_below b v z (x ∷ xs) value there e =
@@ -140,7 +140,7 @@ branch_covers b plan test x y by true s side e values = absurd (let f : true ≡
 branch_covers b plan test x y by false s side e values = unlowered b plan x (state_on_side b plan test x y s side) (Covers s) (side_covers b plan test x y s side values)
 
 -- ---- duties
--- the jump to a point that covers the state is met
+-- a jump to a point that covers the state is met
 pub side_found : (cert : CertData) (node : NodeData) (s : State) (to : ℕ) (o : Option State) → IfSome o (λ t. length t.regs ≡ length s.regs) → IfSome o (Covers s) → HasPoint node to s → Finds (DutiesHold cert node s (jump_on to o)) None
 side_found cert node s to None len c h = nothing_found cert node s
 side_found cert node s to (Some t) len c h = point_found cert node s t to true (yes _ (found_more (find_point to node.points) s t (λ upper d. covers_trans upper s t len d c) h))

@@ -1,4 +1,4 @@
--- The instructions that leave a state as it is.
+-- Instructions that leave a state as it is.
 use Rattle.std.proofs.Common.{◌≡◌, ℕ, Bool, true, false, not, refl}
 use Rattle.std.specs.Prelude.{IsTrue}
 use Rattle.tcd_plan.specs.PlanData.{PlanData}
@@ -15,7 +15,7 @@ pub nothing_keeps : (b : Limits) (plan : PlanData) (s : State) (v : Val) → tra
 unfolding transfer_of
 nothing_keeps b plan s v = refl
 
--- a store that doesn't increase its base
+-- a store that leaves its base as it is
 pub store_keeps : (b : Limits) (plan : PlanData) (s : State) (v : Val) (src : ℕ) (base : Arg) (offset size : ℕ) (after : Bool) → IsTrue (not after) → transfer_of b plan (Store src base offset size after) s v ≡ s
 unfolding transfer_of
 store_keeps b plan s v src (Reg r) offset size false t = refl

@@ -1,4 +1,4 @@
--- The first fault of a node, from what is found at its points one after another.
+-- The first fault of a node, from the faults of its points one after another.
 use Rattle.std.proofs.Common.{◌≡◌, ℕ, ◌≤◌, ◌<◌, ◌+◌, ◌*◌, ◌^◌, ◌⊎◌, Bool, true, false, List, length, get_or, take, map, min, Option, Some, None, arith, inl, inr, refl, subst, sym, ap, ◌∙◌}
 use Rattle.std.specs.Prelude.{IsTrue, ◌↔◌, All, Contains, unwrap_or}
 use Rattle.std.specs.Option.{option_map}
@@ -23,7 +23,7 @@ use Rattle.depth_check.specs.NodeFaults.{IsNodeFault, first_of}
 next_above : {A : Type 0} (f : A → ℕ) (xs : List A) (i : ℕ) (d : A) → IsStrictlyIncreasing (map f xs) → i + 1 < length xs → f (get_or xs i d) < f (get_or xs (i + 1) d)
 next_above f xs i d rising lt = omega (arith, rising i (omega (arith, length-map xs f)), get_or-map f xs i d 0 (omega arith), get_or-map f xs (i + 1) d 0 lt)
 
--- an element stands among the first i, or is that at i, or is above it
+-- an element is among the first i, or is that at i, or is above it
 pub place_of : {A : Type 0} (f : A → ℕ) (xs : List A) (i : ℕ) (x y : A) → IsStrictlyIncreasing (map f xs) → i < length xs → y ≡ get_or xs i y → Contains xs x → Contains (take i xs) x ⊎ ((x ≡ y) ⊎ (f y < f x))
 place_of f xs i x y rising lt at (k, within, is) =
     let here : get_or xs i x ≡ y = at_read xs (λ z. z ≡ y) i y lt at refl x in
@@ -47,7 +47,7 @@ module _ (image : ImageData) (plan : PlanData) (cert : CertData) (node : NodeDat
   is_point : (p : Point) → Contains points p → Contains node.points p
   is_point p c = subst (λ (l : List Point). Contains l p) same c
 
-  -- a fault that comes no later than those of the point at i, where all before hold
+  -- a fault that comes no later than those of the point at i, if all points before hold
   made : (i : ℕ) (point : Point) (r p : ℕ) → i < length points → point ≡ get_or points i point → All AllHold (take i points) → Fails image plan cert r node.key p
       → ((HoldsAtEntry (limits_in plan cert) node → ⊥) → p * 2 ^ 4 + r ≤ (node.key).entry * 2 ^ 4 + 2)
       → ((q : ℕ) → (RuleHolds image plan cert node point q → ⊥) → p * 2 ^ 4 + r ≤ point.addr * 2 ^ 4 + q) → p ≤ point.addr → r ≤ 14 → p < 2 ^ 32
@@ -76,13 +76,13 @@ module _ (image : ImageData) (plan : PlanData) (cert : CertData) (node : NodeDat
       made i point r point.addr lt at before (at_point node point r member (is_point point (i, lt, sym at)) f.broken) entry
       (λ q broken. elim (cases_lt q r) [ inl less ↦ absurd (broken (f.least q less)) | inr more ↦ omega arith ]) (omega arith) f.known addr
 
-  -- rule 2 at the entry, which doesn't lie behind the point
+  -- rule 2 at the entry, which doesn't come after the point
   at_its_entry : (i : ℕ) (point : Point) → i < length points → point ≡ get_or points i point → All AllHold (take i points) → (HoldsAtEntry (limits_in plan cert) node → ⊥) → (node.key).entry < 2 ^ 32
       → (node.key).entry ≤ point.addr → ((q : ℕ) → (RuleHolds image plan cert node point q → ⊥) → (node.key).entry * 2 ^ 4 + 2 ≤ point.addr * 2 ^ 4 + q) → IsNodeFault image plan cert node 2 (node.key).entry
   at_its_entry i point lt at before wrong entry below here =
       made i point 2 (node.key).entry lt at before (at_entry node member wrong) (λ w. omega arith) here below (omega arith) entry
 
-  -- where the entry and the point have one address
+  -- the entry and the point have the same address
   at_both : (i : ℕ) (point : Point) (found : Option ℕ) (r : ℕ) → i < length points → point ≡ get_or points i point → All AllHold (take i points) → Finds (RuleHolds image plan cert node point) found
       → (HoldsAtEntry (limits_in plan cert) node → ⊥) → (node.key).entry < 2 ^ 32 → (node.key).entry ≡ point.addr → r ≡ min (unwrap_or found 2) 2 → IsNodeFault image plan cert node r point.addr
   at_both i point None r lt at before f wrong entry e is =
@@ -99,7 +99,7 @@ module _ (image : ImageData) (plan : PlanData) (cert : CertData) (node : NodeDat
             (at_its_entry i point lt at before wrong entry (omega arith) (λ q broken. elim (cases_lt q a) [ inl lower ↦ absurd (broken (f.least q lower)) | inr upper ↦ omega arith ])))
       ]
 
-  -- where the node's entry is good, or lies behind the point
+  -- the node's entry is good, or comes after the point
   found_this : (i : ℕ) (point : Point) (found : Option ℕ) (fault : Fault) → i < length points → point ≡ get_or points i point → All AllHold (take i points) → Finds (RuleHolds image plan cert node point) found → point.addr < 2 ^ 32
       → ((HoldsAtEntry (limits_in plan cert) node → ⊥) → point.addr < (node.key).entry) → option_map (λ r. record { rule = r; addr = point.addr }) found ≡ Some fault → IsNodeFault image plan cert node fault.rule fault.addr
   found_this i point None fault lt at before f addr behind is = absurd (let n : None ≡ Some fault = is in cc)
@@ -125,7 +125,7 @@ module _ (image : ImageData) (plan : PlanData) (cert : CertData) (node : NodeDat
             ]
       ]
 
-  -- nothing is told at a point only where all rules hold there
+  -- no fault is found at a point only if all rules hold there
   abbrev fault_of : Point → ℕ → Fault
   fault_of point r = record { rule = r; addr = point.addr }
 

@@ -1,4 +1,4 @@
--- What an instruction owes, and what it does where its contexts are there.
+-- The duties of an instruction, and what it does if its contexts exist.
 use Rattle.std.proofs.Common.{◌≡◌, ℕ, ◌*◌, ◌/◌, ◌^◌, Bool, true, false, cond, [], ◌∷◌, ◌++◌, set, refl, sym, ap, ◌∙◌, subst, arith, Contains}
 use Rattle.std.proofs.lemmas.Bool.{eq-eqb}
 use Rattle.std.proofs.lemmas.List.Elements.{Contains-append_right}
@@ -61,7 +61,7 @@ module _ (b : Limits) (image : ImageData) (plan : PlanData) (key : Key) (p : ℕ
       (Contains-append_right (interrupts_of plan key s) (owed 7 (leave (exit_of s)) ∷ []) (owed 7 (leave (exit_of s))) (0, omega arith, refl))
 
 -- ---- what is done
--- after a save that stands, and after a restore
+-- after a successful save, and after a restore
 pub saved_then : (m : Machine) (upper : Bool) (next : Machine → Machine) → save m upper ≡ saved m upper → m.end ≡ Running → then_ (save m upper) next ≡ next (record (saved m upper) { end = Running })
 saved_then m upper next is running = ap (λ s. then_ s next) is ∙ then_-running (saved m upper) next running ∙ ap (λ x. next (record (saved m upper) { end = x })) running
 

@@ -18,10 +18,10 @@ use Rattle.depth_cert.specs.Points.{find_point}
 use Rattle.depth_cert.specs.Certs.{CertData}
 use Rattle.cfg_recover.specs.Moves.{MovesTo}
 use Rattle.cfg_recover.proofs.EntryLaws.{holds_covered}
-use Rattle.depth_check.proofs.Frames.{Frame, Frames, used_by, Kept, Frames-same, ImpliedBy-trans}
+use Rattle.depth_check.proofs.Frames.{Frame, Frames, used_by, Invariant, Frames-same, ImpliedBy-trans}
 use Rattle.tc_machine.specs.PlanAreas.{links_up, first_link, plan_areas}
 
--- areas of two lists, one behind the other
+-- areas of two lists, one after the other
 SameAreas-onto : (m n : Memory) (xs ys : List ℕ) → SameAreas m n (reverse_onto xs ys) → SameAreas m n xs × SameAreas m n ys
 SameAreas-onto m n [] ys h = (tt, h)
 SameAreas-onto m n (x ∷ xs) ys h = let rest = SameAreas-onto m n xs (x ∷ ys) h in ((rest.1.0, rest.0), rest.1.1)
@@ -41,16 +41,16 @@ module _ (plan : PlanData) (ok : IsPlan plan) (m n : Memory) (same : (x : ℕ) �
   areas_from i (suc k) e =
       (area_same i (omega arith), subst (λ l. SameAreas m n (links_up l k)) (next_one (first_link plan) i) (areas_from (i + 1) k (omega arith)))
 
-  -- all areas of the plan are the same, so those in use and the free ones
+  -- all areas of the plan are the same, so are those in use and the free ones
   pub all_same : (used free : List ℕ) → reverse_onto used free ≡ plan_areas plan → SameAreas m n used × SameAreas m n free
   all_same used free whole =
       SameAreas-onto m n used free
       (subst (SameAreas m n) (sym whole) (subst (λ l. SameAreas m n (links_up l plan.areas)) (plus_zero (first_link plan)) (areas_from 0 plan.areas (omega arith))))
 
 module _ (image : ImageData) (plan : PlanData) (ok : IsPlan plan) (cert : CertData) (most : ℕ) where
-  pub Kept-moved : (m n : Machine) (frame : Frame) (below : List Frame) (k : Kept image plan cert most m frame below) (t : State) → MovesTo image plan m n (k.point).state t → length t.regs ≡ 27 →
-      (point : Point) → find_point n.pc (frame.node).points ≡ Some point → Covers point.state t → Kept image plan cert most n frame below
-  Kept-moved m n frame below k t moves long point found covers =
+  pub Invariant-moved : (m n : Machine) (frame : Frame) (below : List Frame) (k : Invariant image plan cert most m frame below) (t : State) → MovesTo image plan m n (k.point).state t → length t.regs ≡ 27 →
+      (point : Point) → find_point n.pc (frame.node).points ≡ Some point → Covers point.state t → Invariant image plan cert most n frame below
+  Invariant-moved m n frame below k t moves long point found covers =
       let same = all_same plan ok m.mem n.mem moves.areas (used_by frame below) k.free (k.areas).whole in
       let areas = k.areas in
       record {

@@ -1,4 +1,4 @@
--- Registers one after another, and what saves and restores leave of them.
+-- Registers one after another, and which of them saves and restores keep.
 use Rattle.std.proofs.Common.{◌≡◌, ◌≢◌, ℕ, zero, suc, ◌+◌, ◌-◌, ◌^◌, ◌<◌, ◌≤◌, true, false, List, get_or, inl, inr, refl, sym, ap, ◌∙◌, subst, arith, set}
 use Rattle.std.proofs.lemmas.Bool.{cond_both, cases_lt, le-ltb, lt-ltb, le-leb, lt-leb}
 use Rattle.std.proofs.lemmas.List.{get_or-set_other}
@@ -40,7 +40,7 @@ each_lower P at r low =
       ]
     ]
 
--- a fact of each other register but A11
+-- a fact of each other register except A11
 pub each_upper : (P : ℕ → Type 0) → ((j : ℕ) → j < 14 → j ≢ 1 → P (get_or upper_regs j 0)) → ((j : ℕ) → j < 4 → P (get_or global_regs j 0)) → (r : ℕ) → r < 32 → is_lower r ≡ false → r ≢ 27 → P r
 each_upper P at global r small high other =
     elim (cases_lt r 16) [
@@ -56,7 +56,7 @@ each_upper P at global r small high other =
     ]
 
 module _ (words d a : List ℕ) where
-  -- globals stay where an upper context comes back, and where a lower one does
+  -- globals stay when an upper context is restored, and when a lower one is
   pub upper_leaves_globals : (j : ℕ) → j < 4 → reg_of (d_after_upper words d) (a_after_upper words a) (get_or global_regs j 0) ≡ reg_of d a (get_or global_regs j 0)
   upper_leaves_globals zero lt = refl
   upper_leaves_globals (suc zero) lt = refl
@@ -71,11 +71,11 @@ module _ (words d a : List ℕ) where
   lower_leaves_globals (suc (suc (suc zero))) lt = refl
   lower_leaves_globals (suc (suc (suc (suc j)))) lt = absurd (omega arith)
 
-  -- where an upper context comes back, the lower registers stay
+  -- when an upper context is restored, the lower registers stay
   pub upper-LowerSame : LowerSame (reg_of d a) (reg_of (d_after_upper words d) (a_after_upper words a))
   upper-LowerSame = each_lower (λ r. reg_of (d_after_upper words d) (a_after_upper words a) r ≡ reg_of d a r) (upper_leaves_lower words d a)
 
-  -- where a lower context comes back, all others but A11
+  -- when a lower context is restored, all others except A11 stay
   pub lower-UpperSame : UpperSame (reg_of d a) (reg_of (d_after_lower words d) (a_after_lower words a))
   lower-UpperSame = each_upper (λ r. reg_of (d_after_lower words d) (a_after_lower words a) r ≡ reg_of d a r) (lower_leaves_upper words d a) lower_leaves_globals
 

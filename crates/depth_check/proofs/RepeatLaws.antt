@@ -1,4 +1,4 @@
--- Points that have the state of the one before.
+-- Points with the state of the point before.
 use Rattle.std.proofs.Common.{◌≡◌, ℕ, ◌+◌, ◌<◌, List, [], ◌∷◌, ◌++◌, length, get_or, map, drop, Option, Some, None, Bool, arith, inl, inr, refl, sym, ap, ◌∙◌, subst, eq-eqb, ◌==◌}
 use Rattle.std.specs.Prelude.{IfSome, IsSomeAnd}
 use Rattle.std.specs.List.{find}
@@ -45,7 +45,7 @@ find_at f xs i d rising lt =
     )
     (eq-eqb _ _ refl)
 
--- ---- the next point stands at its address
+-- ---- the next point is at its address
 next_stands : (node : NodeData) (done left rest : List Point) (p q : Point) → ArePoints node.points → node.points ≡ done ++ (p ∷ left) → left ≡ q ∷ rest → find_point q.addr node.points ≡ Some q
 next_stands node done left rest p q rising split next =
     let more : node.points ≡ (done ++ p ∷ []) ++ (q ∷ rest) = split_more node.points done (p ∷ left) left p split refl ∙ ap (λ (l : List Point). (done ++ p ∷ []) ++ l) next in
@@ -53,7 +53,7 @@ next_stands node done left rest p q rising split next =
     let one = find_at (λ (z : Point). z.addr) node.points (length (done ++ p ∷ [])) q rising b.within in
     subst (λ (z : Point). find_point z.addr node.points ≡ Some z) (sym b.here) one
 
--- and covers what its own state covers
+-- and it covers what its own state covers
 stands_covers : (points : List Point) (q : Point) (t : State) → find_point q.addr points ≡ Some q → Covers q.state t → IsSomeAnd (find_point q.addr points) (λ z. Covers z.state t)
 stands_covers points q t is covers = subst (λ (o : Option Point). IsSomeAnd o (λ z. Covers z.state t)) (sym is) covers
 

@@ -1,4 +1,5 @@
--- The least rule that fails at a point, from its values, its own fault, its duties and its need.
+-- The least rule that fails at a point, from its values, the fault of its instruction, its duties
+-- and its need.
 use Rattle.std.proofs.Common.{◌≡◌, ℕ, ◌≤◌, Bool, List, get_or, Option, Some, inl, inr, arith, refl, subst, sym, ap, ◌∙◌}
 use Rattle.std.specs.Prelude.{IsTrue, ◌↔◌, All, Contains}
 use Rattle.std.proofs.lemmas.Bool.{cases_lt}
@@ -20,7 +21,7 @@ use Rattle.cfg_recover.proofs.CodeLaws.{IsCode-one}
 use Rattle.depth_check.specs.Finding.{Finds, least_of, unless, DutyHolds, DutiesHold, HasOwnNeed}
 use Rattle.depth_check.proofs.LeastLaws.{found_by, found_both, found_same}
 
--- what holds of each contained element
+-- a property of each element that a list contains
 pub All-from_contains : {X : Type 0} (P : X → Type 0) (xs : List X) → ((x : X) → Contains xs x → P x) → All P xs
 All-from_contains P xs each k d lt = each (get_or xs k d) (Contains-get_or xs k d lt)
 
@@ -30,7 +31,7 @@ values_well b vs values r lt = (values r lt).well
 
 -- ---- rules
 module _ (image : ImageData) (plan : PlanData) (cert : CertData) (node : NodeData) (point : Point) where
-  -- a rule's own part
+  -- what a rule asks of the instruction alone
   own_known : (b : Limits) (r : ℕ) → IsLocalFault b image plan node.key point.addr point.state r → r ≤ 14
   own_known b r fault =
       elim (cases_lt 14 r) [
@@ -61,7 +62,7 @@ module _ (image : ImageData) (plan : PlanData) (cert : CertData) (node : NodeDat
         known = own_known b r fault;
       }
 
-  -- a value that isn't the plan's
+  -- a value that isn't one of the plan
   pub values_broken : (b : Limits) → b ≡ limits_in plan cert → (AreValues b (point.state).regs → ⊥) → Finds (RuleHolds image plan cert node point) (Some 2)
   values_broken b limits not =
       let none : AreValues (limits_in plan cert) (point.state).regs → ⊥ = λ v. not (subst (λ (c : Limits). AreValues c (point.state).regs) (sym limits) v) in
@@ -73,7 +74,7 @@ module _ (image : ImageData) (plan : PlanData) (cert : CertData) (node : NodeDat
 
   -- duties and the need
   module _ (shape : Shape) (size : ℕ) (values : AreValues (limits_in plan cert) (point.state).regs) (faultless : IsFaultless (limits_in plan cert) image plan node.key point.addr point.state) (code : IsCode image plan point.addr shape size) where
-    -- at any shape and size of the code there
+    -- for any shape and size of the code there
     told_is : (other : Shape) (n : ℕ) → IsCode image plan point.addr other n
         → duties_of (limits_in plan cert) image plan node.key point.addr point.state shape size ≡ duties_of (limits_in plan cert) image plan node.key point.addr point.state other n
     told_is other n found =

@@ -24,7 +24,7 @@ use Rattle.cfg_recover.specs.Accepting.{limits_in, HasPoint, Accepts, need_of, c
 use Rattle.cfg_recover.proofs.MoveLaws.{stores_held}
 use Rattle.cfg_recover.proofs.EntryLaws.{holds_covered, holds_start, entry_length}
 use Rattle.depth_check.specs.Headline.{AcceptedIsSafe}
-use Rattle.depth_check.proofs.Frames.{Frame, used_by, Kept, Links-Frames, need-Frames, length-ImpliedBy}
+use Rattle.depth_check.proofs.Frames.{Frame, used_by, Invariant, Links-Frames, need-Frames, length-ImpliedBy}
 use Rattle.depth_check.proofs.Enter.{implied_none, counted}
 use Rattle.cfg_recover.proofs.PointLaws.{rules_at, Found, node_found}
 use Rattle.depth_check.proofs.Entries.{PointFor, point_for}
@@ -48,8 +48,8 @@ module _ (image : ImageData) (plan : PlanData) (ok : IsPlan plan) (cert : CertDa
   begun small (Some n) e h = record { node = n; found = node_found image plan cert is_cert accepted (start_key image plan) n small e; at = point_for n image.entry (start_state plan) (find_point image.entry n.points) refl h; need = refl }
 
   -- the invariant holds of every start state
-  Kept-start : (m : Machine) → Starts image plan m → (most : ℕ) (b : Begun most) → Kept image plan cert most m (oldest m b.node) []
-  Kept-start m start most b =
+  Invariant-start : (m : Machine) → Starts image plan m → (most : ℕ) (b : Begun most) → Invariant image plan cert most m (oldest m b.node) []
+  Invariant-start m start most b =
       let at = b.at in
       let need = b.need in
       let found = b.found in
@@ -89,8 +89,8 @@ module _ (image : ImageData) (plan : PlanData) (ok : IsPlan plan) (cert : CertDa
         run-kept (step m e) es (stays_step m e words (irq_lt ok m e fits.0) (fits.0).input (fits.0).status) (frames_after m e now)
         (step-kept image plan ok cert most few is_cert accepted m words e fits.0 now g) fits.1
 
-    -- the invariant says that the state is safe
-    safe-kept : (m : Machine) (e : Event) → IsMachine m → (frame : Frame) (below : List Frame) → Kept image plan cert most m frame below → IsSafeAt image plan most m e
+    -- the state is safe by the invariant
+    safe-kept : (m : Machine) (e : Event) → IsMachine m → (frame : Frame) (below : List Frame) → Invariant image plan cert most m frame below → IsSafeAt image plan most m e
     safe-kept m e words frame below k =
         let r = rules_at image plan cert is_cert accepted frame.node m.pc k.point k.stands k.found in
         let code = (r.holds).code in
@@ -123,7 +123,7 @@ module _ (image : ImageData) (plan : PlanData) (ok : IsPlan plan) (cert : CertDa
       (record {
         frame = oldest m (first).node;
         below = [];
-        kept = Kept-start image plan ok cert is_cert accepted m start (certified_need image plan cert) first;
+        kept = Invariant-start image plan ok cert is_cert accepted m start (certified_need image plan cert) first;
         stands = ap (λ j. record { key = j; at = m.pc } ∷ []) ((first).found).key;
       }) all_fit
 

@@ -43,10 +43,10 @@ use Rattle.cfg_recover.specs.Frames.{Way, to, call, irq, sys, aln, Standing, way
 use Rattle.cfg_recover.specs.Moves.{IsAtPoint, StaysInFrame, traps}
 use Rattle.cfg_recover.proofs.MoveLaws.{moves_in_frame, traps_owed, calls_owed, interrupts_owed}
 use Rattle.cfg_recover.proofs.EntryLaws.{holds_same, holds_exit}
-use Rattle.depth_check.proofs.Frames.{Frame, standing, Leaves, by_return, from_system, from_handler, Kept, length-ImpliedBy}
+use Rattle.depth_check.proofs.Frames.{Frame, standing, Leaves, by_return, from_system, from_handler, Invariant, length-ImpliedBy}
 use Rattle.depth_check.proofs.Enter.{Begins, begun, entered, room, begins, saves, reg_lt}
 use Rattle.depth_check.proofs.Leave.{globals_held, comes_back, restores, none_held}
-use Rattle.depth_check.proofs.Plain.{Kept-moved}
+use Rattle.depth_check.proofs.Plain.{Invariant-moved}
 use Rattle.cfg_recover.proofs.PointLaws.{limits_are, PointHolds, duties_at, node_is, rules_at, Found, node_found}
 use Rattle.depth_check.proofs.Entries.{PointFor, point_for, if_some, call_begins}
 use Rattle.depth_check.proofs.Handlers.{handler_a, irq_begins, aln_begins, sys_begins}
@@ -59,7 +59,7 @@ use Rattle.tc_mem.specs.PlanMemory.{HoldsRom}
 pub record Goes (image : ImageData) (plan : PlanData) (cert : CertData) (most : ℕ) (m : Machine) (now : List Standing) : Type 0 where
   pub frame : Frame
   pub below : List Frame
-  pub kept : Kept image plan cert most m frame below
+  pub kept : Invariant image plan cert most m frame below
   pub stands : standing m.pc frame below ≡ now
 
 Goes-as : {image : ImageData} {plan : PlanData} {cert : CertData} {most : ℕ} {m : Machine} {now then : List Standing} → now ≡ then → Goes image plan cert most m now → Goes image plan cert most m then
@@ -78,8 +78,8 @@ entered_standing : (key : Key → Key) (back q pc : ℕ) (frame : Frame) (below 
 entered_standing key back q pc frame [] = refl
 entered_standing key back q pc frame (s ∷ below) = refl
 
--- The invariant of a machine x after a step from m with these frames, where the step goes this way: which is among the duties
--- of the point, or the return to the frame before it.
+-- The invariant of a machine x after a step from m with these frames. The step's way is among the
+-- duties of the point, or is the return to the frame before it.
 pub record Steps (image : ImageData) (plan : PlanData) (cert : CertData) (most : ℕ) (m : Machine) (frame : Frame) (below : List Frame) (ds : List Owed) (e : Event) (n : ℕ) (way : Way) (x : Machine) : Type 0 where
   pub goes : Goes image plan cert most x (frames_by m.pc (moved m.pc n) e.irq way (standing m.pc frame below))
   pub owes : IsOwed ds (frame.node).key e.irq (standing m.pc frame below) x.pc way
@@ -109,7 +109,7 @@ stays_to _ stays q = refl
 shape_is : (image : ImageData) (plan : PlanData) (p : ℕ) (shape : Shape) (n : ℕ) → IsCode image plan p shape n → IsShape shape
 shape_is image plan p shape n code = subst IsShape code.shaped (shape_of-suits code.inst ((code.spells).spelled).inst)
 
--- what is fetched at code
+-- the fetched instruction at an address with code
 pub fetched_at : (image : ImageData) (plan : PlanData) → IsPlan plan → (m : Machine) → HoldsRom image plan m.mem → (shape : Shape) (n : ℕ) → IsCode image plan m.pc shape n → fetched m ≡ Ok (shape, n)
 fetched_at image plan ok m rom shape n code =
     fetched-is image ok m rom code.even code.bytes code.inst code.spells ∙ ap (λ s. Ok (s, length code.bytes)) code.shaped ∙ ap (λ l. Ok (shape, l)) code.sized
@@ -126,8 +126,8 @@ status_is psw status = ap (λ b. b == 1) (bit psw status)
     bit : (psw status : ℕ) → (status * 2 ^ 24 + psw % 2 ^ 24) / 2 ^ 9 % 2 ≡ psw / 2 ^ 9 % 2
     bit psw status = omega arith
 
-pub Kept-event : (image : ImageData) (plan : PlanData) (cert : CertData) (most : ℕ) (m : Machine) (e : Event) (frame : Frame) (below : List Frame) → Kept image plan cert most m frame below → Kept image plan cert most (with_event m e) frame below
-Kept-event image plan cert most m e frame below k = record {
+pub Invariant-event : (image : ImageData) (plan : PlanData) (cert : CertData) (most : ℕ) (m : Machine) (e : Event) (frame : Frame) (below : List Frame) → Invariant image plan cert most m frame below → Invariant image plan cert most (with_event m e) frame below
+Invariant-event image plan cert most m e frame below k = record {
   stands = k.stands;
   point = k.point;
   found = k.found;
@@ -161,7 +161,7 @@ exit_for node x None e h = absurd h
 exit_for node x (Some y) e h = record { exit = y; is = e; covers = h }
 
 module _ (image : ImageData) (plan : PlanData) (ok : IsPlan plan) (cert : CertData) (most : ℕ) (few : most ≤ plan.areas - plan.reserve) (is_cert : IsCert cert) (accepted : Accepts image plan cert) where
-  -- the node that a duty to enter names
+  -- the node of a duty to enter
   record NodeFor (frame : Frame) (s : State) (key : Key) (t : State) : Type 0 where
     pub node : NodeData
     pub is : find_node key cert.nodes ≡ Some node
@@ -174,7 +174,7 @@ module _ (image : ImageData) (plan : PlanData) (ok : IsPlan plan) (cert : CertDa
   node_for frame s key t small (Some n) e h fits =
       record { node = n; is = e; found = node_found image plan cert is_cert accepted key n small e; at = point_for n key.entry t (find_point key.entry n.points) refl h; room = fits }
 
-  module _ (m : Machine) (words : IsMachine m) (frame : Frame) (below : List Frame) (k : Kept image plan cert most m frame below) where
+  module _ (m : Machine) (words : IsMachine m) (frame : Frame) (below : List Frame) (k : Invariant image plan cert most m frame below) where
     key_small : IsKey (frame.node).key
     key_small = (node_is image plan cert is_cert accepted frame.node k.stands).key
 
@@ -237,7 +237,7 @@ module _ (image : ImageData) (plan : PlanData) (ok : IsPlan plan) (cert : CertDa
             goes = record {
               frame = frame;
               below = below;
-              kept = Kept-moved image plan ok cert most m (does m e shape n) frame below k mv.state mv.moves
+              kept = Invariant-moved image plan ok cert most m (does m e shape n) frame below k mv.state mv.moves
                   (jump_long (limits_in plan cert) image plan (frame.node).key m.pc (k.point).state n h.regs shape (does m e shape n).pc mv.state mv.owes) at.point at.found at.covers;
               stands = at_standing (does m e shape n).pc m.pc frame below;
             };
@@ -313,7 +313,7 @@ module _ (image : ImageData) (plan : PlanData) (ok : IsPlan plan) (cert : CertDa
     pub owes : IsReturn x.pc (standing m.pc frame below)
 
   -- no frame is left below the start's
-  left_to : (m : Machine) (words : IsMachine m) (frame : Frame) (below : List Frame) (k : Kept image plan cert most m frame below) → length ((k.point).state).locals.items ≡ 0 → (frame.node).key.kind ≢ 0 →
+  left_to : (m : Machine) (words : IsMachine m) (frame : Frame) (below : List Frame) (k : Invariant image plan cert most m frame below) → length ((k.point).state).locals.items ≡ 0 → (frame.node).key.kind ≢ 0 →
       (ie : Bool) (ccpn : ℕ) → Leaves (pie_of m.core m.pcxi) (pcpn_of m.core m.pcxi) frame.node frame.word0 (reg m) ie ccpn → (n : Machine) →
       (restore m true ≡ restored m true → n ≡ record (restored m true) { pc = a11 m / 2 * 2; ie = ie; ccpn = ccpn; end = Running }) → Left m frame below n
   left_to m words frame [] k none other ie ccpn leaves n is = absurd (other ((k.frames).1).kind)
@@ -326,7 +326,7 @@ module _ (image : ImageData) (plan : PlanData) (ok : IsPlan plan) (cert : CertDa
         owes = return_standing (a11 m / 2 * 2) m.pc frame suspended below (sym back.at);
       })
 
-  module _ (m : Machine) (words : IsMachine m) (frame : Frame) (below : List Frame) (k : Kept image plan cert most m frame below) where
+  module _ (m : Machine) (words : IsMachine m) (frame : Frame) (below : List Frame) (k : Invariant image plan cert most m frame below) where
     leaving : (rule n : ℕ) (shape : Shape) → (h : PointHolds image plan cert frame.node m.pc (k.point).state shape n) → Contains (duties_at image plan cert frame.node m.pc (k.point).state shape n) (owed rule (leave (exit_of (k.point).state))) → ExitFor frame.node (exit_of (k.point).state)
     leaving rule n shape h owes = exit_for frame.node (exit_of (k.point).state) (frame.node).exit refl (h.met (owed rule (leave (exit_of (k.point).state))) owes)
 
@@ -408,19 +408,19 @@ module _ (image : ImageData) (plan : PlanData) (ok : IsPlan plan) (cert : CertDa
       follows shape n h = accesses shape n h tt
 
   -- ---- one event
-  -- the frames of m after a step of an event to q, by what is fetched
+  -- the frames of m after a step of an event to q, from what is fetched
   abbrev by : Machine → Event → Bool → Result (Shape × ℕ) Cause → ℕ → List Standing → List Standing
   by m e taken f q fs = frames_by m.pc (moved m.pc (size_in f)) e.irq (cond taken (irq q) (way_in m e f q)) fs
 
-  -- what a step keeps, and how it goes
-  pub record Done (m : Machine) (frame : Frame) (below : List Frame) (k : Kept image plan cert most m frame below) (e : Event) (x : Machine) : Type 0 where
+  -- what a step keeps, and which way it goes
+  pub record Done (m : Machine) (frame : Frame) (below : List Frame) (k : Invariant image plan cert most m frame below) (e : Event) (x : Machine) : Type 0 where
     pub shape : Shape
     pub size : ℕ
     pub code : IsCode image plan m.pc shape size
     pub goes : Goes image plan cert most x (by m e (is_taken m e) (fetched m) x.pc (standing m.pc frame below))
     pub owes : IsOwed (duties_at image plan cert frame.node m.pc (k.point).state shape size) (frame.node).key e.irq (standing m.pc frame below) x.pc (cond (is_taken m e) (irq x.pc) (way_in m e (fetched m) x.pc))
 
-  done-kept : (m : Machine) → IsMachine m → (e : Event) → Fits plan m e → (frame : Frame) (below : List Frame) (k : Kept image plan cert most m frame below) → Done m frame below k e (done m e)
+  done-kept : (m : Machine) → IsMachine m → (e : Event) → Fits plan m e → (frame : Frame) (below : List Frame) (k : Invariant image plan cert most m frame below) → Done m frame below k e (done m e)
   done-kept m words e fits frame below k =
       let r = rules_at image plan cert is_cert accepted frame.node m.pc k.point k.stands k.found in
       let code = (r.holds).code in
@@ -451,7 +451,7 @@ module _ (image : ImageData) (plan : PlanData) (ok : IsPlan plan) (cert : CertDa
             })
       ]
 
-  pub step-done : (m : Machine) → IsMachine m → (e : Event) → Fits plan m e → (frame : Frame) (below : List Frame) (k : Kept image plan cert most m frame below) → Done m frame below k e (step m e)
+  pub step-done : (m : Machine) → IsMachine m → (e : Event) → Fits plan m e → (frame : Frame) (below : List Frame) (k : Invariant image plan cert most m frame below) → Done m frame below k e (step m e)
   step-done m words e fits frame below k =
       let d = done-kept m words e fits frame below k in
       let after = d.goes in
@@ -460,7 +460,7 @@ module _ (image : ImageData) (plan : PlanData) (ok : IsPlan plan) (cert : CertDa
         shape = d.shape;
         size = d.size;
         code = d.code;
-        goes = record { frame = after.frame; below = after.below; kept = Kept-event image plan cert most (done m e) e after.frame after.below after.kept; stands = after.stands };
+        goes = record { frame = after.frame; below = after.below; kept = Invariant-event image plan cert most (done m e) e after.frame after.below after.kept; stands = after.stands };
         owes = d.owes;
       })
 

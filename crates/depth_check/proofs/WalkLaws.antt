@@ -3,7 +3,7 @@ use Rattle.std.proofs.Common.{◌≡◌, ◌<◌, List, [], ◌∷◌, ◌++◌,
 use Rattle.std.proofs.Math.Seq.{get_or-append_seam, take-append_seam}
 use Rattle.depth_cert.specs.declared.points.Point.{Point}
 
--- the point at hand stands behind those that are done
+-- the current point comes after those that are done
 pub record StandsBehind (points done : List Point) (p : Point) : Type 0 where
   pub within : length done < length points
   pub here : p ≡ get_or points (length done) p
@@ -16,6 +16,6 @@ stands_behind points done left p e = record {
   before = ap (take (length done)) e ∙ take-append_seam done (p ∷ left);
 }
 
--- one step
+-- a single step
 pub split_more : (points done left after : List Point) (p : Point) → points ≡ done ++ left → left ≡ p ∷ after → points ≡ (done ++ p ∷ []) ++ after
 split_more points done left after p e f = e ∙ ap (λ (l : List Point). done ++ l) f ∙ sym (append_assoc done (p ∷ []) after)

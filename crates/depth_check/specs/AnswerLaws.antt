@@ -1,4 +1,5 @@
--- What an answer says, in the words of the line that is printed: the statement of the law that guards its definition.
+-- What an answer says, in the words of the printed line. It is the statement of the law that guards
+-- the answer's definition.
 use Rattle.std.specs.Prelude.{◌≡◌, ◌+◌, ◌^◌, ◌<◌, ◌≤◌, ℕ, Some}
 use Rattle.elf_image.specs.Images.{ImageData}
 use Rattle.tcd_plan.specs.PlanData.{PlanData, IsPlan}
@@ -11,7 +12,8 @@ use Rattle.cfg_recover.specs.FaultLaws.{FirstFaultSays}
 use Rattle.depth_check.specs.declared.verdicts.Verdict.TheVariants.{Yes, No}
 use Rattle.depth_check.specs.Judging.{Judges, IfYes}
 
--- the number is the need of the start's node, beside which the reserve has room in the areas, and no rule fails
+-- the number is the need of the start's node, the areas have room for it and the reserve, and no
+-- rule fails
 pub record YesSays (image : ImageData) (plan : PlanData) (cert : CertData) (n : ℕ) : Type 0 where
   pub node : NodeData
   pub stands : find_node (record { kind = 0; entry = image.entry; prio = 0; is = plan.start_is }) cert.nodes ≡ Some node
@@ -19,7 +21,7 @@ pub record YesSays (image : ImageData) (plan : PlanData) (cert : CertData) (n : 
   pub room : n + plan.reserve ≤ plan.areas
   pub holds : (r : ℕ) (k : Key) (p : ℕ) → Fails image plan cert r k p → ⊥
 
--- a yes says so, and what is promised where the answer is yes holds of its number; a no names the first fault
+-- a yes says this, and what is promised for a yes holds of its number; a no names the first fault
 pub record AnswerSays (image : ImageData) (plan : PlanData) (cert : CertData) : Type 0 where
   pub yes : (n : ℕ) → Judges image plan cert (Yes n) → YesSays image plan cert n
   pub safe : (n : ℕ) → IfYes (Yes n) (Safe image plan) → Safe image plan n

@@ -1,4 +1,4 @@
--- The least rule that fails, and what is looked at for it: the duties of a point and its need.
+-- The least rule that fails, and what is tested for it: the duties of a point, and its need.
 use Rattle.std.specs.Prelude.{◌≡◌, ◌-◌, ◌<◌, ◌≤◌, ℕ, Bool, if◌then◌else◌, min, List, length, Option, Some, None, IfSome, IsSomeAnd, All}
 use Rattle.depth_cert.specs.Keys.{sys_kind}
 use Rattle.elf_image.specs.Images.{ImageData}
@@ -22,29 +22,29 @@ pub record IsWellNode (node : NodeData) : Type 0 where
   pub exit : IfSome node.exit (λ x. AreWell x.lower)
 
 -- ---- rules
--- r is the least rule that doesn't hold
+-- r is the least rule that fails
 pub record IsLeastBroken (holds : ℕ → Type 0) (r : ℕ) : Type 0 where
   pub broken : holds r → ⊥
   pub least : (q : ℕ) → q < r → holds q
   pub known : r ≤ 14
 
--- nothing where all rules hold, else the least that doesn't
+-- `None` if all rules hold, else the least that fails
 abbrev pub Finds : (ℕ → Type 0) → Option ℕ → Type 0
 Finds holds None = (q : ℕ) → holds q
 Finds holds (Some r) = IsLeastBroken holds r
 
--- the lesser of two rules that were found
+-- the lesser of two rules that fail
 abbrev pub least_of : Option ℕ → Option ℕ → Option ℕ
 least_of None o = o
 least_of (Some a) None = Some a
 least_of (Some a) (Some b) = Some (min a b)
 
--- a rule, unless what it asks holds
+-- the rule, unless its condition holds
 abbrev pub unless : Bool → ℕ → Option ℕ
 unless holds rule = if holds then None else Some rule
 
 -- ---- duties
--- what rule q asks of a duty: that it is met, and the need of the entered node
+-- what rule q asks of a duty: that it is met, and that the need has room for the entered node
 pub record DutyHolds (cert : CertData) (node : NodeData) (s : State) (q : ℕ) (d : Owed) : Type 0 where
   pub met : d.rule ≡ q → IsMet cert node s d.duty
   pub need : q ≡ 14 → IsNeedAbove cert node s d.duty
@@ -61,21 +61,23 @@ DutiesHold cert node s duties q = All (DutyHolds cert node s q) duties
 abbrev pub HasPoints : NodeData → State → List ℕ → Type 0
 HasPoints node s targets = All (λ t. HasPoint node t s) targets
 
--- the node goes on where the entered one comes back
+-- the node goes on where a frame of the entered node returns
 abbrev pub GoesOn : NodeData → State → NodeData → ℕ → Option ℕ → Type 0
 GoesOn node s entered kind back = IfSome back (λ q. IfSome entered.exit (λ x. HasPoint node q (after_of s x kind)))
 
--- the node has an exit that covers that of the state
+-- the node has an exit that covers the exit of the state
 abbrev pub HasExit : NodeData → State → Type 0
 HasExit node s = IsSomeAnd node.exit (λ y. ExitCovers y (exit_of s))
 
--- what rule q asks where the node is left: rule 6 after a call, rule 7 after a system call
+-- what rule q asks of an instruction that leaves the node: rule 6 of RET, rule 7 of RFE in the
+-- handler of system calls
 abbrev pub LeavingHolds : NodeData → State → Leave → ℕ → Type 0
 LeavingHolds node s Stays q = Unit {0}
 LeavingHolds node s Ret q = 6 ≡ q → HasExit node s
 LeavingHolds node s Rfe q = (node.key).kind ≡ sys_kind → 7 ≡ q → HasExit node s
 
--- what rule 14 asks of the node itself: room for the locals; at the start's entry the reserve stays free
+-- what rule 14 asks of the node itself: room for the locals and, at the start's entry, that the
+-- reserve stays free
 pub record HasOwnNeed (image : ImageData) (plan : PlanData) (node : NodeData) (point : Point) : Type 0 where
   pub locals : length (point.state).locals.items ≤ node.need
   pub start : node.key ≡ start_key image plan → point.addr ≡ image.entry → node.need ≤ plan.areas - plan.reserve

@@ -1,4 +1,4 @@
--- What an accepted certificate promises of the runs of an image under a plan.
+-- What an accepted certificate promises about the runs of an image under a plan.
 use Rattle.elf_image.specs.Images.{ImageData}
 use Rattle.tcd_plan.specs.PlanData.{PlanData, IsPlan}
 use Rattle.tc_machine.specs.Safe.{Safe}
@@ -15,7 +15,7 @@ OfAccepted Promise =
 abbrev pub AcceptedIsSafe : Type 0
 AcceptedIsSafe = OfAccepted (λ image plan cert. Safe image plan (certified_need image plan cert))
 
--- the frames of each run stand at points whose states hold the machine
+-- the frames of each run are at points whose states hold the machine
 abbrev pub AcceptedHoldsFrames : Type 0
 AcceptedHoldsFrames = OfAccepted FramesHeld
 

@@ -1,10 +1,10 @@
 pub mod AnswerLaws
-pub mod Asking
-pub mod Calling
+pub mod CheckedRegisters
 pub mod Finding
 pub mod FirstFaults
 pub mod Forms
 pub mod Headline
+pub mod Interrupts
 pub mod Judging
 pub mod NodeFaults
 pub mod Passing

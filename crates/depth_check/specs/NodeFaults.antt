@@ -9,7 +9,7 @@ use Rattle.depth_cert.specs.Certs.{CertData}
 use Rattle.cfg_recover.specs.Accepting.{limits_in, RuleHolds, HoldsAtEntry, Fails}
 use Rattle.depth_check.specs.declared.nodes.Fault.{Fault}
 
--- rule r is the first that fails in a node, at the address p
+-- rule r at the address p is the first fault of a node
 pub record IsNodeFault (image : ImageData) (plan : PlanData) (cert : CertData) (node : NodeData) (r p : ℕ) : Type 0 where
   pub fails : Fails image plan cert r node.key p
   pub entry : (HoldsAtEntry (limits_in plan cert) node → ⊥) → p * 2 ^ 4 + r ≤ (node.key).entry * 2 ^ 4 + 2
@@ -17,7 +17,8 @@ pub record IsNodeFault (image : ImageData) (plan : PlanData) (cert : CertData) (
   pub rule : r ≤ 14
   pub addr : p < 2 ^ 32
 
--- the fault at an address, or rule 2 at an entry that isn't good, whichever comes first; nothing where the entry lies behind
+-- the first of two faults: that at an address, and rule 2 at the entry unless it is good; an entry
+-- after the address doesn't count
 abbrev pub first_of : Bool → ℕ → ℕ → Option ℕ → Option Fault
 first_of good entry addr found =
     if good || nat_lt addr entry then option_map (λ r. record { rule = r; addr = addr }) found

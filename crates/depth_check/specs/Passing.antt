@@ -8,7 +8,8 @@ use Rattle.tc_machine.specs.Machine.{moved}
 use Rattle.cfg_recover.specs.Code.{IsCode}
 use Rattle.cfg_recover.specs.Local.{direct_target}
 
--- an instruction of this shape and size at p changes nothing, and goes on at this address alone
+-- an instruction of this shape and size at p changes nothing, and this address is its only
+-- successor
 abbrev pub Passes : ℕ → Shape → ℕ → ℕ → Type 0
 Passes p Nothing n next = moved p n ≡ next
 Passes p (Jump to) n next = direct_target p to ≡ Some next

@@ -1,4 +1,4 @@
--- A point of a check, and the least rule that some of its duties break.
+-- A point that is checked, and the least rule that some of its duties break.
 use Rattle.std.specs.Prelude.{◌≡◌, ℕ, List, Option, IsTrue, IfSome, All}
 use Rattle.value_domain.specs.State.{AreValues}
 use Rattle.value_domain.specs.declared.states.State.{State}
@@ -6,19 +6,20 @@ use Rattle.depth_cert.specs.Nodes.{NodeData}
 use Rattle.packed_cert.specs.Walks.{WalkData, CoversNext}
 use Rattle.cfg_recover.specs.Duties.{Owed}
 use Rattle.cfg_recover.specs.Accepting.{limits_in, HasPoint}
-use Rattle.depth_check.specs.declared.point_at.At.{At}
+use Rattle.depth_check.specs.declared.points.PointCheck.{PointCheck}
 use Rattle.depth_check.specs.Finding.{IsWellNode, StandsAt, Finds, DutiesHold}
-use Rattle.depth_check.specs.Asking.{InterruptsHold}
+use Rattle.depth_check.specs.Interrupts.{InterruptsHold}
 
--- a walk has this state at hand, and where its next point covers a state, the node does there
+-- the walk is at this state, and if its next point covers a state, the node has a point there that
+-- covers it
 pub record LooksAhead (node : NodeData) (s : State) (w : WalkData) : Type 0 where
   pub current : w.current ≡ s
   pub ahead : (addr : ℕ) (t : State) → CoversNext w addr t → HasPoint node addr t
 
--- the limits are the certificate's, all its values are well-formed, those of the point are the plan's, and what is said of the
--- point is so: what its interrupts ask for was found to hold, at the next address the node has its state, too, and the walk
--- stands there
-pub record IsAt (at : At) : Type 0 where
+-- the limits are the certificate's, all its values are well-formed, those of the point are values
+-- of the plan, and the facts for the fast paths hold: the entries of its interrupts hold if this is
+-- known, the node has its state at the next address, and the walk is at the point
+pub record IsPointCheck (at : PointCheck) : Type 0 where
   pub limits : at.bounds.now ≡ limits_in at.plan.now at.cert.now
   pub nodes : All IsWellNode (at.cert.now).nodes
   pub node : IsWellNode at.node.now
@@ -28,5 +29,5 @@ pub record IsAt (at : At) : Type 0 where
   pub walk : IfSome at.point.walk (λ w. LooksAhead at.node.now at.point.state.now w.now)
 
 -- the least rule that these duties of the point break
-abbrev pub Breaks : At → List Owed → Option ℕ → Type 0
+abbrev pub Breaks : PointCheck → List Owed → Option ℕ → Type 0
 Breaks at duties found = Finds (DutiesHold at.cert.now at.node.now at.point.state.now duties) found

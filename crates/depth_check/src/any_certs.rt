@@ -3,23 +3,23 @@ ghost use Rattle.std.specs.Prelude.{◌≡◌, length};
 ghost use Rattle.std.specs.List.{slice_get};
 ghost use Rattle.depth_cert.specs.Certs.{find_node};
 
-use crate::forms::Frame;
+use crate::any_nodes::AnyNode;
 use depth_cert::{Cert, Key};
 use packed_cert::PackedCert;
 use std::marker::Model;
 
-/// Where the certificate lies.
-#[derive(Drop)]
-enum CertForm<'a> {
-    InMemory(&'a Cert),
-    OnBytes(&'a PackedCert),
-}
-
-/// A certificate in either form.
+/// A certificate, in memory or on bytes.
 #[derive(Drop)]
 pub(crate) struct AnyCert<'a> {
     pub(crate) version: u8,
     form: CertForm<'a>,
+}
+
+/// The place of a certificate.
+#[derive(Drop)]
+enum CertForm<'a> {
+    InMemory(&'a Cert),
+    OnBytes(&'a PackedCert),
 }
 
 impl<'a> Model for AnyCert<'a> {
@@ -55,7 +55,7 @@ impl<'a> AnyCert<'a> {
         }
     }
 
-    /// How many nodes there are.
+    /// The number of nodes.
     pub(crate) fn len(&self) -> usize
         ensures { result ≡ length self.now.nodes }
     {
@@ -65,35 +65,35 @@ impl<'a> AnyCert<'a> {
         }
     }
 
-    /// The node at an index, or nothing past the last.
-    pub(crate) fn get(&self, index: usize) -> Option<Frame<'a>>
+    /// The node at an index, or `None` past the last.
+    pub(crate) fn get(&self, index: usize) -> Option<AnyNode<'a>>
         ensures { result ≡ slice_get self.now.nodes index }
     {
         match &self.form {
             CertForm::InMemory(cert) => {
                 if index < cert.nodes.len() {
-                    return Some(Frame::plain(&cert.nodes[index]));
+                    return Some(AnyNode::plain(&cert.nodes[index]));
                 }
                 None
             }
             CertForm::OnBytes(cert) => match cert.get(index) {
-                Some(node) => Some(Frame::packed(node)),
+                Some(node) => Some(AnyNode::packed(node)),
                 None => None,
             },
         }
     }
 
-    /// The node of a key, or nothing where there is none.
-    pub(crate) fn node(&self, key: &Key) -> Option<Frame<'a>>
+    /// The node of a key, or `None` if there is none.
+    pub(crate) fn node(&self, key: &Key) -> Option<AnyNode<'a>>
         ensures { result ≡ find_node key.now self.now.nodes }
     {
         match &self.form {
             CertForm::InMemory(cert) => match cert.node(key) {
-                Some(node) => Some(Frame::plain(node)),
+                Some(node) => Some(AnyNode::plain(node)),
                 None => None,
             },
             CertForm::OnBytes(cert) => match cert.node(key) {
-                Some(node) => Some(Frame::packed(node)),
+                Some(node) => Some(AnyNode::packed(node)),
                 None => None,
             },
         }

@@ -1,22 +1,29 @@
-// What holds of every accepted certificate.
+// The laws of accepted certificates and of answers.
+ghost use Rattle.depth_check.specs.FirstFaults.{FirstFaultsRefute};
 ghost use Rattle.depth_check.specs.AnswerLaws.{AnswersSay};
 ghost use Rattle.depth_check.specs.Headline.{AcceptedHoldsFrames, AcceptedIsSafe, AcceptedOwesEdges};
 
-/// Where the rules accept a certificate, every run of the image under the plan is safe with its need, whatever interrupts,
-/// traps and devices do.
+/// If the rules accept a certificate, every run of the image under the plan is safe with its need,
+/// whatever interrupts, traps and devices do.
 pub fn accepted_is_safe()
     ensures { AcceptedIsSafe }
 {}
 
-/// Where the rules accept a certificate, the frames of every run stand at points whose states hold the machine, and the edge
-/// of each step is a duty of the newest frame's point, or the return to the frame before it.
+/// If the rules accept a certificate, the frames of every run are at points whose states hold the
+/// machine, and the edge of each step is a duty of the newest frame's point, or the return to the
+/// frame before it.
 pub fn accepted_holds_frames()
     ensures frames { AcceptedHoldsFrames }
     ensures edges { AcceptedOwesEdges }
 {}
 
-/// What the numbers of an answer are: a yes names the need of the start's node, and no rule fails; a no names the rule that
-/// fails first, and where.
+/// What the numbers of an answer are. A yes has the need of the start's node, and no rule fails. A
+/// no has the first rule that fails, and where.
 pub fn answer_laws()
     ensures { AnswersSay }
+{}
+
+/// A certificate with a first fault isn't accepted.
+pub fn first_fault_laws()
+    ensures { FirstFaultsRefute }
 {}

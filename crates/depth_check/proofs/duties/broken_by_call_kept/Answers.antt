@@ -1,4 +1,5 @@
-use Rattle.depth_check.proofs.Deciding.{same_word, not_another, is_nothing}
+use Rattle.cfg_recover.proofs.OperationLaws.{same_word, is_nothing}
+use Rattle.depth_check.proofs.Deciding.{not_another}
 use Rattle.depth_check.proofs.CallLaws.{calls_kept, kept_calls}
 use Rattle.depth_check.proofs.duties.broken_by_call_kept.Goals as goal
 

@@ -13,8 +13,8 @@ use Rattle.value_domain.specs.Values.{IsWell, IsValue, any_val}
 use Rattle.depth_check.specs.declared.nodes.Fault.{Fault}
 use Rattle.depth_check.specs.Finding.{Finds, IsWellNode}
 use Rattle.depth_check.specs.NodeFaults.{IsNodeFault, first_of}
-use Rattle.depth_check.specs.Asking.{HoldsWith}
-use Rattle.depth_check.proofs.AskedLaws.{interrupts_at, stack_well, stacks_well}
+use Rattle.depth_check.specs.Interrupts.{HoldsWith}
+use Rattle.depth_check.proofs.InterruptLaws.{interrupts_at, stack_well, stacks_well}
 use Rattle.depth_check.proofs.CallLaws.{HoldsNext, next_holds, holds_next}
 use Rattle.depth_check.proofs.Deciding.{refuted}
 use Rattle.depth_check.proofs.RepeatLaws.{looks_ahead, repeats_stand, known_values}
@@ -32,7 +32,7 @@ returns-in-Some-first_of-clause-fault c =
     let b = stands_behind points inv.done c.step.new.self.left p split in
     let finds =
     subst (λ (s : State). let q : Point = record { addr = c.in-Some.addr; state = s } in Finds (RuleHolds c.args.image.now c.args.plan.now c.args.cert.now c.args.node.now q) c.broken_by_point-found.result) c.state-s.ensures
-    (rw c.near-frame.ensures at c.broken_by_point-found.ensures.found)
+    (rw c.near-any_node.ensures at c.broken_by_point-found.ensures.found)
     in
     fault_at c.args.image.now c.args.plan.now c.args.cert.now c.args.node.now c.requires.member points refl c.walk.ensures.rising (length inv.done) p c.packed_holds_at_entry-good.result c.broken_by_point-found.result c.in-Some-first_of.fault b.within b.here
     (subst (λ (l : List Point). All (λ (q : Point). (r : ℕ) → RuleHolds c.args.image.now c.args.plan.now c.args.cert.now c.args.node.now q r) l) (sym b.before) inv.all)
@@ -41,11 +41,11 @@ returns-in-Some-first_of-clause-fault c =
     (subst (λ (l : Limits). IsTrue c.packed_holds_at_entry-good.result ↔ HoldsAtEntry l c.args.node.now) c.requires.limits c.packed_holds_at_entry-good.ensures)
     (ap (λ (n : NodeData). first_of c.packed_holds_at_entry-good.result (n.key).entry c.in-Some.addr c.broken_by_point-found.result) (sym c.node.view_is) ∙ sym c.first_of.ensures ∙ c.in-Some-first_of.is)
 
-pub have-again-requires-clause-stacks : goal.have-again-requires-clause-stacks
-have-again-requires-clause-stacks c = stacks_well c.args.plan.now c.args.cert.now c.loop-addr.scratch.asks c.loop-addr.invariant.asked
+pub covers-again-requires-clause-stacks : goal.covers-again-requires-clause-stacks
+covers-again-requires-clause-stacks c = stacks_well c.args.plan.now c.args.cert.now c.loop-addr.scratch.interrupts c.loop-addr.invariant.interrupts
 
-pub have-again-requires-clause-other : goal.have-again-requires-clause-other
-have-again-requires-clause-other c =
+pub covers-again-requires-clause-stack : goal.covers-again-requires-clause-stack
+covers-again-requires-clause-stack c =
     let p : Point = record { addr = c.in-Some.addr; state = c.step.new.self.current } in
     let well : IsWellNode c.args.node.now = All-contains IsWellNode (c.args.cert.now).nodes c.args.node.now c.requires.nodes c.requires.member in
     subst (λ (s : State). IsWell (slice_index_or s.regs 22 any_val)) (sym c.state-s.ensures)
@@ -53,8 +53,8 @@ have-again-requires-clause-other c =
 
 pub broken_by_point-found-requires-clause-again : goal.broken_by_point-found-requires-clause-again
 broken_by_point-found-requires-clause-again c = λ again.
-    rw c.near-frame.ensures
-    (c.have-again.ensures again c.args.plan.now c.args.cert.now c.loop-addr.invariant.asked)
+    rw c.near-any_node.ensures
+    (c.covers-again.ensures again c.args.plan.now c.args.cert.now c.loop-addr.invariant.interrupts)
 
 pub broken_by_point-found-requires-clause-known : goal.broken_by_point-found-requires-clause-known
 broken_by_point-found-requires-clause-known c = λ known.
@@ -74,19 +74,19 @@ broken_by_point-found-requires-clause-known c = λ known.
 pub broken_by_point-found-requires-clause-next : goal.broken_by_point-found-requires-clause-next
 broken_by_point-found-requires-clause-next c =
     let p : Point = record { addr = c.in-Some.addr; state = c.step.new.self.current } in
-    rw c.near-frame.ensures
+    rw c.near-any_node.ensures
     (repeats_stand c.args.node.now c.loop-addr.invariant.done c.loop-addr.scratch.walk.left c.step.new.self p c.repeats_at-repeats.result c.state-s.result.now c.walk.ensures.rising c.loop-addr.invariant.split c.in-Some.ensures.0 c.state-s.ensures c.repeats_at-repeats.ensures)
 
-pub broken_by_point-found-requires-clause-by : goal.broken_by_point-found-requires-clause-by
-broken_by_point-found-requires-clause-by c =
+pub broken_by_point-found-requires-clause-registers : goal.broken_by_point-found-requires-clause-registers
+broken_by_point-found-requires-clause-registers c =
     let p : Point = record { addr = c.in-Some.addr; state = c.step.new.self.current } in
-    rw c.near-frame.ensures
-    (next_holds c.args.plan.now c.args.cert.now c.args.node.now c.loop-addr.scratch.walk.left c.step.new.self.left p c.state-s.result.now c.loop-addr.scratch.room.by c.loop-addr.invariant.by c.in-Some.ensures.0 c.state-s.ensures)
+    rw c.near-any_node.ensures
+    (next_holds c.args.plan.now c.args.cert.now c.args.node.now c.loop-addr.scratch.walk.left c.step.new.self.left p c.state-s.result.now c.loop-addr.scratch.point.registers c.loop-addr.invariant.registers c.in-Some.ensures.0 c.state-s.ensures)
 
 pub broken_by_point-found-requires-clause-walk : goal.broken_by_point-found-requires-clause-walk
 broken_by_point-found-requires-clause-walk c =
     let p : Point = record { addr = c.in-Some.addr; state = c.step.new.self.current } in
-    rw c.near-frame.ensures
+    rw c.near-any_node.ensures
     (looks_ahead c.args.node.now c.loop-addr.invariant.done c.loop-addr.scratch.walk.left c.step.new.self p c.state-s.result.now c.walk.ensures.rising c.loop-addr.invariant.split c.in-Some.ensures.0 c.state-s.ensures)
 
 pub loop-addr-init : goal.loop-addr-init
@@ -95,9 +95,9 @@ loop-addr-init c = record {
   split = sym c.walk.ensures.all;
   all = All-nil (λ (q : Point). (r : ℕ) → RuleHolds c.args.image.now c.args.plan.now c.args.cert.now c.args.node.now q r);
   known = λ t. absurd (let f : false ≡ true = t in cc);
-  asked = c.requires.asked;
+  interrupts = c.requires.interrupts;
   results = c.requires.results;
-  by = λ p after e. record { called = tt; jumped = tt };
+  registers = λ p after e. record { called = tt; jumped = tt };
 }
 
 pub loop-addr-preserved : goal.loop-addr-preserved
@@ -107,77 +107,77 @@ loop-addr-preserved c =
     let p : Point = record { addr = c.in-Some.addr; state = c.step.new.self.current } in
     let finds =
     subst (λ (s : State). let q : Point = record { addr = c.in-Some.addr; state = s } in Finds (RuleHolds c.args.image.now c.args.plan.now c.args.cert.now c.args.node.now q) c.broken_by_point-found.result) c.state-s.ensures
-    (rw c.near-frame.ensures at c.broken_by_point-found.ensures.found)
+    (rw c.near-any_node.ensures at c.broken_by_point-found.ensures.found)
     in
     let told = ap (λ (n : NodeData). first_of c.packed_holds_at_entry-good.result (n.key).entry c.in-Some.addr c.broken_by_point-found.result) (sym c.node.view_is) ∙ sym c.first_of.ensures ∙ c.in_default-first_of.is in
     let holds = none_at c.args.image.now c.args.plan.now c.args.cert.now c.args.node.now c.requires.member points refl c.walk.ensures.rising p c.packed_holds_at_entry-good.result c.broken_by_point-found.result told finds in
-    let by : HoldsNext c.args.plan.now c.args.cert.now c.args.node.now c.step.new.self.left (record { called = c.and.result; jumped = c.and-in-Some.result }) =
+    let registers : HoldsNext c.args.plan.now c.args.cert.now c.args.node.now c.step.new.self.left (record { called = c.and.result; jumped = c.and-in-Some.result }) =
     rw (c.and.ensures, c.and-in-Some.ensures)
-    (holds_next c.args.plan.now c.args.cert.now c.args.node.now c.step.new.self c.state-s.result.now c.repeats_at-repeats.result c.broken_by_point-found.new.room.by c.state-s.ensures c.repeats_at-repeats.ensures (rw c.near-frame.ensures at c.broken_by_point-found.ensures.by)) in
+    (holds_next c.args.plan.now c.args.cert.now c.args.node.now c.step.new.self c.state-s.result.now c.repeats_at-repeats.result c.broken_by_point-found.new.scratch.registers c.state-s.ensures c.repeats_at-repeats.ensures (rw c.near-any_node.ensures at c.broken_by_point-found.ensures.registers)) in
     record {
       done = inv.done ++ p ∷ [];
       split = split_more points inv.done c.loop-addr.scratch.walk.left c.step.new.self.left p inv.split c.in-Some.ensures.0;
       all = All-push (λ (q : Point). (r : ℕ) → RuleHolds c.args.image.now c.args.plan.now c.args.cert.now c.args.node.now q r) inv.done p inv.all holds;
       known = λ t. (holds 2).values refl;
-      asked = inv.asked;
+      interrupts = inv.interrupts;
       results = c.broken_by_point-found.ensures.results;
-      by = by;
+      registers = registers;
     }
 
-pub held_stack-sp-requires-clause-node : goal.held_stack-sp-requires-clause-node
-held_stack-sp-requires-clause-node c = rw c.near-frame.ensures (All-contains IsWellNode (c.args.cert.now).nodes c.args.node.now c.requires.nodes c.requires.member)
+pub common_stack-sp-requires-clause-node : goal.common_stack-sp-requires-clause-node
+common_stack-sp-requires-clause-node c = rw c.near-any_node.ensures (All-contains IsWellNode (c.args.cert.now).nodes c.args.node.now c.requires.nodes c.requires.member)
 
-pub held_stack-sp-requires-clause-values : goal.held_stack-sp-requires-clause-values
-held_stack-sp-requires-clause-values c =
+pub common_stack-sp-requires-clause-values : goal.common_stack-sp-requires-clause-values
+common_stack-sp-requires-clause-values c =
     let inv = c.loop-addr.invariant in
     let points = c.args.node.now.points in
     let p : Point = record { addr = c.in-Some.addr; state = c.step.new.self.current } in
     let finds =
     subst (λ (s : State). let q : Point = record { addr = c.in-Some.addr; state = s } in Finds (RuleHolds c.args.image.now c.args.plan.now c.args.cert.now c.args.node.now q) c.broken_by_point-found.result) c.state-s.ensures
-    (rw c.near-frame.ensures at c.broken_by_point-found.ensures.found)
+    (rw c.near-any_node.ensures at c.broken_by_point-found.ensures.found)
     in
     let told = ap (λ (n : NodeData). first_of c.packed_holds_at_entry-good.result (n.key).entry c.in-Some.addr c.broken_by_point-found.result) (sym c.node.view_is) ∙ sym c.first_of.ensures ∙ c.in_default-first_of.is in
     let holds = none_at c.args.image.now c.args.plan.now c.args.cert.now c.args.node.now c.requires.member points refl c.walk.ensures.rising p c.packed_holds_at_entry-good.result c.broken_by_point-found.result told finds in
     subst (λ (l : Limits). AreValues l p.state.regs) (sym c.requires.limits) ((holds 2).values refl)
 
-pub held_stack-sp-requires-clause-holds : goal.held_stack-sp-requires-clause-holds
-held_stack-sp-requires-clause-holds c =
+pub common_stack-sp-requires-clause-holds : goal.common_stack-sp-requires-clause-holds
+common_stack-sp-requires-clause-holds c =
     let inv = c.loop-addr.invariant in
     let points = c.args.node.now.points in
     let p : Point = record { addr = c.in-Some.addr; state = c.step.new.self.current } in
     let finds =
     subst (λ (s : State). let q : Point = record { addr = c.in-Some.addr; state = s } in Finds (RuleHolds c.args.image.now c.args.plan.now c.args.cert.now c.args.node.now q) c.broken_by_point-found.result) c.state-s.ensures
-    (rw c.near-frame.ensures at c.broken_by_point-found.ensures.found)
+    (rw c.near-any_node.ensures at c.broken_by_point-found.ensures.found)
     in
     let told = ap (λ (n : NodeData). first_of c.packed_holds_at_entry-good.result (n.key).entry c.in-Some.addr c.broken_by_point-found.result) (sym c.node.view_is) ∙ sym c.first_of.ensures ∙ c.in_default-first_of.is in
     let holds = none_at c.args.image.now c.args.plan.now c.args.cert.now c.args.node.now c.requires.member points refl c.walk.ensures.rising p c.packed_holds_at_entry-good.result c.broken_by_point-found.result told finds in
-    rw c.near-frame.ensures (interrupts_at c.args.image.now c.args.plan.now c.args.cert.now c.args.node.now p holds)
+    rw c.near-any_node.ensures (interrupts_at c.args.image.now c.args.plan.now c.args.cert.now c.args.node.now p holds)
 
-pub loop-addr-preserved-then-asked : goal.loop-addr-preserved-then-asked
-loop-addr-preserved-then-asked c =
+pub loop-addr-preserved-then-is_checked : goal.loop-addr-preserved-then-is_checked
+loop-addr-preserved-then-is_checked c =
     let inv = c.loop-addr.invariant in
     let points = c.args.node.now.points in
     let p : Point = record { addr = c.in-Some.addr; state = c.step.new.self.current } in
     let finds =
     subst (λ (s : State). let q : Point = record { addr = c.in-Some.addr; state = s } in Finds (RuleHolds c.args.image.now c.args.plan.now c.args.cert.now c.args.node.now q) c.broken_by_point-found.result) c.state-s.ensures
-    (rw c.near-frame.ensures at c.broken_by_point-found.ensures.found)
+    (rw c.near-any_node.ensures at c.broken_by_point-found.ensures.found)
     in
     let told = ap (λ (n : NodeData). first_of c.packed_holds_at_entry-good.result (n.key).entry c.in-Some.addr c.broken_by_point-found.result) (sym c.node.view_is) ∙ sym c.first_of.ensures ∙ c.in_default-first_of.is in
     let holds = none_at c.args.image.now c.args.plan.now c.args.cert.now c.args.node.now c.requires.member points refl c.walk.ensures.rising p c.packed_holds_at_entry-good.result c.broken_by_point-found.result told finds in
-    let by : HoldsNext c.args.plan.now c.args.cert.now c.args.node.now c.step.new.self.left (record { called = c.and.result; jumped = c.and-in-Some.result }) =
+    let registers : HoldsNext c.args.plan.now c.args.cert.now c.args.node.now c.step.new.self.left (record { called = c.and.result; jumped = c.and-in-Some.result }) =
     rw (c.and.ensures, c.and-in-Some.ensures)
-    (holds_next c.args.plan.now c.args.cert.now c.args.node.now c.step.new.self c.state-s.result.now c.repeats_at-repeats.result c.broken_by_point-found.new.room.by c.state-s.ensures c.repeats_at-repeats.ensures (rw c.near-frame.ensures at c.broken_by_point-found.ensures.by)) in
+    (holds_next c.args.plan.now c.args.cert.now c.args.node.now c.step.new.self c.state-s.result.now c.repeats_at-repeats.result c.broken_by_point-found.new.scratch.registers c.state-s.ensures c.repeats_at-repeats.ensures (rw c.near-any_node.ensures at c.broken_by_point-found.ensures.registers)) in
     record {
       done = inv.done ++ p ∷ [];
       split = split_more points inv.done c.loop-addr.scratch.walk.left c.step.new.self.left p inv.split c.in-Some.ensures.0;
       all = All-push (λ (q : Point). (r : ℕ) → RuleHolds c.args.image.now c.args.plan.now c.args.cert.now c.args.node.now q r) inv.done p inv.all holds;
       known = λ t. (holds 2).values refl;
-      asked =
-          c.add.ensures c.args.plan.now c.args.cert.now inv.asked
-          (subst (λ (l : Limits). IsValue l c.held_stack-sp.result) c.requires.limits c.held_stack-sp.ensures.value)
-          (subst (λ (s : State). HoldsWith c.args.plan.now c.args.cert.now c.args.node.now s c.held_stack-sp.result) (sym c.state-t.ensures) (rw c.near-frame.ensures at c.held_stack-sp.ensures.holds));
+      interrupts =
+          c.add.ensures c.args.plan.now c.args.cert.now inv.interrupts
+          (subst (λ (l : Limits). IsValue l c.common_stack-sp.result) c.requires.limits c.common_stack-sp.ensures.value)
+          (subst (λ (s : State). HoldsWith c.args.plan.now c.args.cert.now c.args.node.now s c.common_stack-sp.result) (sym c.state-t.ensures) (rw c.near-any_node.ensures at c.common_stack-sp.ensures.holds));
       results = c.broken_by_point-found.ensures.results;
-      by = by;
+      registers = registers;
     }
 
 pub returns-else-good-clause-fault : goal.returns-else-good-clause-fault

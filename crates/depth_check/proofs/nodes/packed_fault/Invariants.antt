@@ -3,7 +3,7 @@ use Rattle.std.specs.Prelude.{All, IsTrue}
 use Rattle.value_domain.specs.State.{AreValues}
 use Rattle.cfg_recover.specs.Accepting.{limits_in, RuleHolds}
 use Rattle.depth_cert.specs.declared.points.Point.{Point}
-use Rattle.depth_check.specs.Asking.{AreAsked}
+use Rattle.depth_check.specs.Interrupts.{LastInterruptsHold}
 use Rattle.cfg_recover.specs.SetOperations.{HoldsResults}
 use Rattle.depth_check.proofs.CallLaws.{HoldsNext}
 use Rattle.depth_check.proofs.nodes.packed_fault.Given as goal
@@ -14,9 +14,9 @@ invariant-loop-addr l = record {
   split : (l.node).points ≡ done ++ (l.scratch.walk).left;
   all : All (λ (p : Point). (r : ℕ) → RuleHolds l.image l.plan l.cert l.node p r) done;
   known : IsTrue l.known → AreValues (limits_in l.plan l.cert) ((l.scratch.walk).current).regs;
-  asked : AreAsked l.plan l.cert l.scratch.asks;
-  results : HoldsResults l.b (l.scratch.room).cache;
-  by : HoldsNext l.plan l.cert l.node (l.scratch.walk).left (l.scratch.room).by;
+  interrupts : LastInterruptsHold l.plan l.cert l.scratch.interrupts;
+  results : HoldsResults l.b (l.scratch.point).cache;
+  registers : HoldsNext l.plan l.cert l.node (l.scratch.walk).left (l.scratch.point).registers;
 }
 
 abbrev pub decreases-loop-addr : goal.decreases-loop-addr

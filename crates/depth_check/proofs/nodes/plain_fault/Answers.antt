@@ -16,7 +16,7 @@ returns-in-Some-clause-fault c =
     fault_at c.args.image.now c.args.plan.now c.args.cert.now c.args.node.now c.requires.member c.deref-point-items.result.now
     (c.deref-point-items.ensures.value ∙ ap (λ (n : NodeData). n.points) c.node.view_is)
     (subst (λ (n : NodeData). ArePoints n.points) c.node.view_is c.node.invariant)
-    c.loop-point.point-index c.point-item.result c.plain_holds_at_entry-good.result c.broken_by_point-found.result c.in-Some.fault c.loop-point-test.true c.point-item.is c.loop-point.invariant.all (rw c.plain-frame.ensures at c.broken_by_point-found.ensures.found)
+    c.loop-point.point-index c.point-item.result c.plain_holds_at_entry-good.result c.broken_by_point-found.result c.in-Some.fault c.loop-point-test.true c.point-item.is c.loop-point.invariant.all (rw c.plain-any_node.ensures at c.broken_by_point-found.ensures.found)
     (omega arith)
     (subst (λ (n : NodeData). (n.key).entry < 2 ^ 32) c.node.view_is (omega arith))
     (subst (λ (b : Limits). IsTrue c.plain_holds_at_entry-good.result ↔ HoldsAtEntry b c.args.node.now) c.requires.limits c.plain_holds_at_entry-good.ensures)
@@ -32,7 +32,7 @@ loop-point-preserved c = record {
       (subst (λ (n : NodeData). ArePoints n.points) c.node.view_is c.node.invariant)
       c.point-item.result c.plain_holds_at_entry-good.result c.broken_by_point-found.result
       (ap (λ (n : NodeData). first_of c.plain_holds_at_entry-good.result (n.key).entry c.point-item.result.addr c.broken_by_point-found.result) (sym c.node.view_is) ∙ sym c.first_of.ensures ∙ c.in_default.is)
-      (rw c.plain-frame.ensures at c.broken_by_point-found.ensures.found));
+      (rw c.plain-any_node.ensures at c.broken_by_point-found.ensures.found));
   results = c.broken_by_point-found.ensures.results;
 }
 

@@ -8,5 +8,5 @@ use Rattle.depth_check.proofs.nodes.plain_fault.Given as goal
 abbrev pub invariant-loop-point : goal.invariant-loop-point
 invariant-loop-point l = record {
   all : All (λ (p : Point). (r : ℕ) → RuleHolds l.image l.plan l.cert l.node p r) (take l.point-index l.point-items);
-  results : HoldsResults l.b (l.room).cache;
+  results : HoldsResults l.b (l.scratch).cache;
 }

@@ -3,9 +3,10 @@ use Rattle.std.specs.Prelude.{IfSome, unwrap_or}
 use Rattle.vd_transfer.specs.Registers.{reg_of}
 use Rattle.cfg_recover.specs.Local.{named_by}
 use Rattle.cfg_recover.specs.Duties.{jumps_to}
-use Rattle.depth_check.specs.Calling.{JumpsHold}
+use Rattle.depth_check.specs.CheckedRegisters.{JumpsHold}
 use Rattle.depth_check.specs.Finding.{Finds, DutiesHold, HasPoints}
-use Rattle.depth_check.proofs.Deciding.{yes, same_word}
+use Rattle.cfg_recover.proofs.OperationLaws.{same_word}
+use Rattle.depth_check.proofs.Deciding.{yes}
 use Rattle.depth_check.proofs.DutyLaws.{points_found}
 use Rattle.depth_check.proofs.RuleLaws.{values_well}
 use Rattle.depth_check.proofs.successors.broken_by_listed_jumps.Goals as goal
@@ -22,7 +23,7 @@ returns-then-eq-clause-found c =
     subst (λ (o : Option ℕ). IfSome o (JumpsHold t.plan.now t.node.now s)) (same_word c.args.jumped.now c.args.r c.eq.result c.eq.ensures c.if-eq.true) c.requires.jumped in
     points_found t.cert.now t.node.now s s (unwrap_or (named_by (reg_of t.plan.now s c.args.r)) []) true (yes _ holds)
 
--- where all were found
+-- all targets have points
 found_all : (c : Then-has_points) → JumpsHold c.args.at.now.plan.now c.args.at.now.node.now c.args.at.now.point.state.now c.args.r
 found_all c =
     let t = c.args.at.now in

@@ -19,4 +19,4 @@ returns-clause-found c =
     let there = moved t.point.addr c.args.found.now.size in
     rw c.unless.ensures
     (subst (λ (u : State). Breaks t (owed 4 (jump there u) ∷ []) (unless c.has_changed_next.result 4)) c.change_at.ensures.change
-    (point_found t.cert.now t.node.now s (state_after s c.change_at.new.room.change) there c.has_changed_next.result c.has_changed_next.ensures))
+    (point_found t.cert.now t.node.now s (state_after s c.change_at.new.scratch.change) there c.has_changed_next.result c.has_changed_next.ensures))

@@ -1,0 +1,10 @@
+use Rattle.std.proofs.Common.{refl}
+use Rattle.depth_check.proofs.Judged.{judged_is_safe}
+use Rattle.depth_check.proofs.certificates.check_packed.Goals as goal
+
+pub returns-clause-judges : goal.returns-clause-judges
+returns-clause-judges c = rw c.on_bytes.ensures at c.judge.ensures
+
+pub returns-clause-safe : goal.returns-clause-safe
+returns-clause-safe c =
+    judged_is_safe c.args.image.now c.args.plan.now _ c.args.cert.now c.args.cert.now c.judge.result c.plan.view_is c.plan.invariant refl c.version-version.ensures.limits (rw c.on_bytes.ensures at c.judge.ensures)

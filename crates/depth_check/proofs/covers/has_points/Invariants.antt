@@ -1,0 +1,6 @@
+use Rattle.std.proofs.Common.{take}
+use Rattle.depth_check.specs.Finding.{HasPoints}
+use Rattle.depth_check.proofs.covers.has_points.Given as goal
+
+abbrev pub invariant-loop-t : goal.invariant-loop-t
+invariant-loop-t l = HasPoints l.node l.s (take l.t-index l.targets)

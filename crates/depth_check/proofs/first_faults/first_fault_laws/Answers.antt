@@ -1,5 +1,0 @@
-use Rattle.depth_check.proofs.FirstLaws.{fails_refutes}
-use Rattle.depth_check.proofs.first_faults.first_fault_laws.Goals as goal
-
-pub returns : goal.returns
-returns c image plan cert r k p f accepts = fails_refutes image plan cert r k p f.fails accepts

@@ -1,0 +1,136 @@
+// A fast path: entries of interrupts that hold in one state hold in other states too.
+ghost use Rattle.std.specs.Prelude.{◌≡◌, IfSome, IsTrue, IsSomeAnd, slice_index_or};
+ghost use Rattle.depth_cert.specs.Certs.{CertData};
+ghost use Rattle.cfg_recover.specs.Accepting.{limits_in};
+ghost use Rattle.value_domain.specs.State.{AreValues};
+ghost use Rattle.value_domain.specs.Values.{IsWell, IsValue, any_val};
+ghost use Rattle.tcd_plan.specs.PlanData.{PlanData};
+ghost use Rattle.depth_check.specs.Interrupts.{IsContext, FitsContext, IsBelowContext, InterruptsHold, HoldsWith, AreWellStacks, LastInterruptsHold};
+
+use crate::any_nodes::{AnyNode, NodeForm};
+use packed_cert::PackedNode;
+use value_domain::{A10_SLOT, Bounds, State, Val, join, leq};
+
+/// The last two contexts in which entries of interrupts were found to hold. They are checked again
+/// only at points that need more. In bench/, 16 interrupts at each of 4,000 points cost 32
+/// instructions a point; `plain.c`, which checks them at each point, takes 19,800 for them.
+#[derive(Drop)]
+pub(crate) struct LastInterrupts {
+    last: Option<InterruptContext>,
+    before: Option<InterruptContext>,
+}
+
+impl LastInterrupts {
+    /// No context is kept.
+    pub(crate) fn none() -> LastInterrupts
+        ensures { (plan : PlanData) (cert : CertData) → LastInterruptsHold plan cert result }
+    {
+        LastInterrupts {
+            last: None,
+            before: None,
+        }
+    }
+
+    /// Whether the entries are known to hold in a state of the node's point. It isn't looked up if
+    /// interrupts are off.
+    pub(crate) fn covers(&self, node: &PackedNode<'_>, s: &State) -> bool
+        requires stacks { AreWellStacks self.now }
+        requires stack { IsWell (slice_index_or s.now.regs 22 any_val) }
+        ensures { IsTrue result → (plan : PlanData) (cert : CertData)
+            → LastInterruptsHold plan cert self.now → InterruptsHold plan cert node.now s.now }
+    {
+        if !s.ie {
+            return false;
+        }
+        if context_covers(&self.last, node, s) {
+            return true;
+        }
+        context_covers(&self.before, node, s)
+    }
+
+    /// The join of the last context's A10 and the state's, if the state needs more only because of
+    /// A10.
+    pub(crate) fn join_stack(&self, b: &Bounds, any_node: &AnyNode<'_>, s: &State) -> Option<Val>
+        requires last { IfSome self.now.last (λ a. IsValue b.now a.sp) }
+        requires values { AreValues b.now s.now.regs }
+        ensures value { IfSome result (IsValue b.now) }
+        ensures stack { IfSome result (λ v. IsTrue any_node.now.key.is) }
+    {
+        let NodeForm::Near(node, _) = &any_node.form else {
+            return None;
+        };
+        match &self.last {
+            Some(context) => {
+                if context.is && context.is_like(node, s) {
+                    Some(join(b, &context.sp, &s.regs[A10_SLOT]))
+                } else {
+                    None
+                }
+            }
+            None => None,
+        }
+    }
+
+    /// Keeps the context of a state with an A10 with which the entries hold. The older of the two
+    /// contexts is dropped.
+    pub(crate) fn add(&mut self, node: &PackedNode<'_>, s: &State, sp: Val)
+        ensures { (plan : PlanData) (cert : CertData) → LastInterruptsHold plan cert self.old
+            → IsValue (limits_in plan cert) sp → HoldsWith plan cert node.now s.now sp
+            → LastInterruptsHold plan cert self.new }
+    {
+        self.before = self.last.take();
+        self.last = Some(InterruptContext::at(node, s, sp));
+    }
+}
+
+/// What the entries of interrupts depend on: whether the node uses the interrupt stack and, if it
+/// does, an A10 with which they hold; IE; CCPN; and the areas that the node's need leaves beside
+/// its locals.
+#[derive(Drop)]
+pub(crate) struct InterruptContext {
+    is: bool,
+    sp: Val,
+    ie: bool,
+    ccpn: u8,
+    spare: u16,
+}
+
+impl InterruptContext {
+    /// The context of a state of the node's point, with this A10.
+    fn at(node: &PackedNode<'_>, s: &State, sp: Val) -> InterruptContext
+        ensures same { IsContext result node.now s.now }
+        ensures sp { result.sp ≡ sp }
+    {
+        InterruptContext {
+            is: node.key.is,
+            sp,
+            ie: s.ie,
+            ccpn: s.ccpn,
+            spare: node.need.saturating_sub(s.locals.len() as u16),
+        }
+    }
+
+    /// Whether a state of the node's point has this context, apart from A10, with no fewer areas
+    /// left.
+    fn is_like(&self, node: &PackedNode<'_>, s: &State) -> bool
+        ensures { IsTrue result → FitsContext self.now node.now s.now }
+    {
+        self.ie == s.ie
+            && self.ccpn == s.ccpn
+            && self.is == node.key.is
+            && usize::from(self.spare) + s.locals.len() <= usize::from(node.need)
+    }
+}
+
+/// Whether the entries of interrupts that hold in this context hold in the state too.
+fn context_covers(context: &Option<InterruptContext>, node: &PackedNode<'_>, s: &State) -> bool
+    requires own { IfSome context.now (λ a. IsWell a.sp) }
+    requires stack { IsWell (slice_index_or s.now.regs 22 any_val) }
+    ensures { IsTrue result → IsSomeAnd context.now (λ a. IsBelowContext a node.now s.now) }
+{
+    match context {
+        Some(context) => context.is_like(node, s)
+            && (!context.is || leq(&s.regs[A10_SLOT], &context.sp)),
+        None => false,
+    }
+}

@@ -1,0 +1,182 @@
+// The rules at a point of a node.
+ghost use Rattle.std.specs.Prelude.{◌≡◌, All, IfSome, ◌↔◌, IsTrue};
+ghost use Rattle.cfg_recover.specs.Accepting.{limits_in, RuleHolds};
+ghost use Rattle.depth_check.specs.Finding.{IsWellNode, StandsAt, Finds, HasOwnNeed};
+ghost use Rattle.value_domain.specs.State.{AreValues};
+ghost use Rattle.depth_check.specs.Points.{IsPointCheck, LooksAhead};
+ghost use Rattle.cfg_recover.specs.SetOperations.{HoldsResults};
+ghost use Rattle.depth_check.specs.CheckedRegisters.{RegistersHoldAt, RegistersHold};
+ghost use Rattle.depth_check.specs.Interrupts.{InterruptsHold};
+ghost use Rattle.depth_check.specs.Forms.{point_here};
+
+use crate::any_certs::AnyCert;
+use crate::any_nodes::AnyNode;
+use crate::covers::are_values;
+use crate::duties::{broken_by_duties, least, unless};
+use crate::fast_paths::{CheckedRegisters, broken_by_idle, idle_next};
+use crate::rules::{BAD_VALUES, SMALL_NEED};
+use arrayvec::ArrayVec;
+use cfg_recover::{KnownCodes, OperationCache, check_located, start_key};
+use elf_image::Image;
+use packed_cert::PointWalk;
+use tcd_plan::Plan;
+use value_domain::{Bounds, State, Val};
+use vd_transfer::{Base, Change, Put};
+
+/// A point that is checked: what it is checked against, its node, and the point itself.
+#[derive(Drop)]
+pub(crate) struct PointCheck<'a, 'b> {
+    pub(crate) bounds: &'a Bounds,
+    pub(crate) image: &'a Image,
+    pub(crate) plan: &'a Plan,
+    pub(crate) cert: &'a AnyCert<'a>,
+    pub(crate) node: &'a AnyNode<'a>,
+    pub(crate) point: CurrentPoint<'a, 'b>,
+}
+
+/// A point of a node: its address, and the state before its instruction.
+///
+/// The rest are facts for the fast paths: whether the entries of its interrupts are known to hold,
+/// whether its values are known to be values of the plan, an address at which the node is known to
+/// have a point with the same state, and the walk over the node's points.
+#[derive(Clone, Copy)]
+pub(crate) struct CurrentPoint<'a, 'b> {
+    pub(crate) node: &'a AnyNode<'a>,
+    pub(crate) addr: u32,
+    pub(crate) state: &'b State,
+    pub(crate) again: bool,
+    pub(crate) known: bool,
+    pub(crate) next: Option<u32>,
+    pub(crate) walk: Option<&'b PointWalk<'b>>,
+}
+
+/// What the check of a point uses again: room for a change, results of operations on two sets,
+/// decoded words of code, and the registers whose targets were checked in this state.
+#[derive(Drop)]
+pub(crate) struct PointScratch {
+    pub(crate) change: Change,
+    pub(crate) cache: OperationCache,
+    pub(crate) codes: KnownCodes,
+    pub(crate) registers: CheckedRegisters,
+}
+
+/// Returns a change that puts nothing. It is room for other changes.
+#[inline(always)]
+pub(crate) fn no_change() -> Change {
+    Change {
+        base: Base::Same,
+        first: Put {
+            at: None,
+            value: Val::any(),
+        },
+        second: Put {
+            at: None,
+            value: Val::any(),
+        },
+        third: Put {
+            at: None,
+            value: Val::any(),
+        },
+        ie: false,
+        ccpn: 0,
+        lower: false,
+        locals: ArrayVec::new(),
+    }
+}
+
+/// The least rule that fails at a point of a node. `scratch.change` is overwritten.
+pub(crate) fn broken_by_point(
+    b: &Bounds,
+    image: &Image,
+    plan: &Plan,
+    cert: &AnyCert<'_>,
+    point: CurrentPoint<'_, '_>,
+    scratch: &mut PointScratch,
+) -> Option<u8>
+    requires limits { b.now ≡ limits_in plan.now cert.now }
+    requires nodes { All IsWellNode cert.now.nodes }
+    requires node { IsWellNode point.node.now }
+    requires again { IsTrue point.again
+        → InterruptsHold plan.now cert.now point.node.now point.state.now }
+    requires known { IsTrue point.known → AreValues b.now point.state.now.regs }
+    requires next { IfSome point.next (λ a. StandsAt point.node.now a point.state.now) }
+    requires walk { IfSome point.walk
+        (λ w. LooksAhead point.node.now point.state.now w.now) }
+    requires results { HoldsResults b.now scratch.old.cache }
+    requires registers { RegistersHold plan.now cert.now point.node.now point.state.now
+        scratch.old.registers }
+    ensures found { Finds (RuleHolds image.now plan.now cert.now point.entry.node.now
+        (point_here point.entry)) result }
+    ensures results { HoldsResults b.now scratch.new.cache }
+    ensures registers { RegistersHold plan.now cert.now point.entry.node.now point.entry.state.now
+        scratch.new.registers }
+{
+    if !has_values(b, point) {
+        return Some(BAD_VALUES);
+    }
+    let at = PointCheck {
+        bounds: b,
+        image,
+        plan,
+        cert,
+        node: point.node,
+        point,
+    };
+    match idle_next(&at, &mut scratch.codes) {
+        Some(next) => broken_by_idle(&at, next),
+        None => broken_by_any(&at, scratch),
+    }
+}
+
+/// The least rule that fails at a point whose values are values of the plan.
+#[inline(never)]
+fn broken_by_any(at: &PointCheck<'_, '_>, scratch: &mut PointScratch) -> Option<u8>
+    requires point { IsPointCheck at.now }
+    requires results { HoldsResults at.now.bounds.now scratch.old.cache }
+    requires registers { RegistersHoldAt at.now scratch.old.registers }
+    ensures found { Finds (RuleHolds at.now.image.now at.now.plan.now at.now.cert.now
+        at.now.node.now (point_here at.now.point)) result }
+    ensures results { HoldsResults at.now.bounds.now scratch.new.cache }
+    ensures registers { RegistersHoldAt at.now scratch.new.registers }
+{
+    let node = at.node;
+    let s = at.point.state;
+    let located = scratch.codes.located(at.image, at.plan, at.point.addr);
+    match check_located(at.bounds, at.plan, &node.key, s, &located) {
+        Err(rule) => Some(rule),
+        Ok(found) => {
+            let duties = broken_by_duties(at, found, scratch);
+            let need = unless(has_own_need(at), SMALL_NEED);
+            least(duties, need)
+        }
+    }
+}
+
+/// Whether the values of a point are values of the plan.
+fn has_values(b: &Bounds, point: CurrentPoint<'_, '_>) -> bool
+    requires { IsTrue point.known → AreValues b.now point.state.now.regs }
+    ensures { IsTrue result ↔ AreValues b.now point.entry.state.now.regs }
+{
+    if point.known {
+        return true;
+    }
+    are_values(b, &point.state.regs)
+}
+
+/// Whether the node's need has room for the point's locals and, at the start's entry, leaves the
+/// reserve free.
+pub(crate) fn has_own_need(at: &PointCheck<'_, '_>) -> bool
+    ensures { IsTrue result
+        ↔ HasOwnNeed at.now.image.now at.now.plan.now at.now.node.now (point_here at.now.point) }
+{
+    let image = at.image;
+    let plan = at.plan;
+    let node = at.node;
+    if usize::from(node.need) < at.point.state.locals.len() {
+        return false;
+    }
+    if at.point.addr == image.entry && node.key == start_key(image, plan) {
+        return u32::from(node.need) <= plan.areas - plan.reserve;
+    }
+    true
+}
