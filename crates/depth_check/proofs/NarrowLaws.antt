@@ -32,7 +32,7 @@ use Rattle.depth_check.specs.Finding.{Finds, DutiesHold}
 use Rattle.depth_check.proofs.Deciding.{yes}
 use Rattle.depth_check.proofs.DutyLaws.{nothing_found, point_found}
 use Rattle.depth_check.proofs.Frames.{ImpliedBy-trans}
-use Rattle.depth_check.proofs.RepeatLaws.{covers_same}
+use Rattle.packed_cert.proofs.NodeFinds.{covers_same}
 
 -- ---- covering
 -- covering is transitive

@@ -8,24 +8,17 @@ use Rattle.std.proofs.lemmas.List.{length-map, get_or-map, get_or_default}
 use Rattle.value_domain.specs.declared.states.State.{State}
 use Rattle.value_domain.specs.Limits.{Limits}
 use Rattle.value_domain.specs.Values.{any_val, IsValue}
-use Rattle.value_domain.specs.State.{AreValues, Covers, ImpliedBy}
+use Rattle.value_domain.specs.State.{AreValues, Covers}
 use Rattle.depth_cert.specs.declared.points.Point.{Point}
 use Rattle.depth_cert.specs.Points.{ArePoints, find_point}
 use Rattle.depth_cert.specs.Nodes.{NodeData}
 use Rattle.depth_cert.proofs.FindLaws.{non_decreasing, found}
 use Rattle.cfg_recover.specs.Accepting.{HasPoint}
 use Rattle.packed_cert.specs.Walks.{WalkData, RepeatsAt, KeepsOthers}
+use Rattle.packed_cert.proofs.NodeFinds.{covers_same}
 use Rattle.depth_check.specs.Finding.{StandsAt}
 use Rattle.depth_check.specs.Points.{LooksAhead}
 use Rattle.depth_check.proofs.WalkLaws.{stands_behind, split_more}
-
--- ---- a state covers itself
-implied_same : (xs : List Bool) → ImpliedBy xs xs
-implied_same [] = tt
-implied_same (x ∷ xs) = ((λ t. t), implied_same xs)
-
-pub covers_same : (s : State) → Covers s s
-covers_same s = record { regs = λ r h x m. m; context = ((λ t. t), omega arith, (λ t. t)); locals = implied_same s.locals.items }
 
 -- ---- an element of a list that rises by a number is found by its number
 number_at : {A : Type 0} (f : A → ℕ) (xs : List A) (k : ℕ) (d : A) → k < length xs → get_or (map f xs) k 0 ≡ f (get_or xs k d)
@@ -64,8 +57,9 @@ pub known_covers : (node : NodeData) (known : Option ℕ) (a : ℕ) (s : State) 
 known_covers node known a s e h = same_covers node a s (subst (λ (o : Option ℕ). IfSome o (λ x. StandsAt node x s)) e h)
 
 -- so a walk looks ahead
-pub looks_ahead : (node : NodeData) (done before : List Point) (w : WalkData) (p : Point) (s : State) → ArePoints node.points → node.points ≡ done ++ before → before ≡ p ∷ w.left → s ≡ w.current → LooksAhead node s w
-looks_ahead node done before w p s rising split step same = record {
+pub looks_ahead : (node : NodeData) (done before : List Point) (w : WalkData) (p : Point) (s : State) → ArePoints node.points → w.points ≡ node.points → node.points ≡ done ++ before → before ≡ p ∷ w.left → s ≡ w.current → LooksAhead node s w
+looks_ahead node done before w p s rising all split step same = record {
+  points = all;
   current = sym same;
   ahead = λ a t h.
       let q : Point = record { addr = a; state = h.0 } in

@@ -10,9 +10,10 @@ use Rattle.depth_check.specs.declared.points.PointCheck.{PointCheck}
 use Rattle.depth_check.specs.Finding.{IsWellNode, StandsAt, Finds, DutiesHold}
 use Rattle.depth_check.specs.Interrupts.{InterruptsHold}
 
--- the walk is at this state, and if its next point covers a state, the node has a point there that
--- covers it
+-- the walk is over the node's points and at this state, and if its next point covers a state, the
+-- node has a point there that covers it
 pub record LooksAhead (node : NodeData) (s : State) (w : WalkData) : Type 0 where
+  pub points : w.points ≡ node.points
   pub current : w.current ≡ s
   pub ahead : (addr : ℕ) (t : State) → CoversNext w addr t → HasPoint node addr t
 

@@ -1,7 +1,7 @@
 // Whether the points and the exit of a node cover states.
 ghost use Rattle.std.specs.Prelude.{◌≡◌, length, IfSome, ◌↔◌, IsTrue};
 ghost use Rattle.cfg_recover.specs.Accepting.{HasPoint};
-ghost use Rattle.depth_check.specs.Finding.{IsWellNode, StandsAt, HasPoints, HasExit};
+ghost use Rattle.depth_check.specs.Finding.{IsWellNode, HasPoints, HasExit};
 ghost use Rattle.value_domain.specs.State.{AreWell, AreBelow, AreValues};
 ghost use Rattle.vd_transfer.specs.Changes.{state_after};
 ghost use Rattle.depth_cert.specs.Exits.{after_of, exit_of, lower_values, ExitCovers};
@@ -28,32 +28,32 @@ pub(crate) fn has_point(node: &AnyNode<'_>, addr: u32, s: &State) -> bool
     }
 }
 
-/// Whether the node has points at all these addresses that cover the state.
-pub(crate) fn has_points(node: &AnyNode<'_>, targets: &[u32], s: &State) -> bool
-    requires node { IsWellNode node.now }
-    requires state { AreWell s.now.regs }
-    ensures { IsTrue result ↔ HasPoints node.now s.now targets.now }
+/// Whether the node of a point has points at all these addresses that cover the point's state.
+pub(crate) fn has_points(at: &PointCheck<'_, '_>, targets: &[u32]) -> bool
+    requires { IsPointCheck at.now }
+    ensures { IsTrue result ↔ HasPoints at.now.node.now at.now.point.state.now targets.now }
 {
     for t in targets {
-        if !has_point(node, *t, s) {
+        if !has_next(at, *t) {
             return false;
         }
     }
     true
 }
 
-/// Whether the node has a point at this address that covers the state. At the address `known` it
-/// has a point with the same state, so nothing is compared there.
-pub(crate) fn has_next(node: &AnyNode<'_>, addr: u32, s: &State, known: Option<u32>) -> bool
-    requires node { IsWellNode node.now }
-    requires state { AreWell s.now.regs }
-    requires known { IfSome known (λ a. StandsAt node.now a s.now) }
-    ensures { IsTrue result ↔ HasPoint node.now addr s.now }
+/// Whether the node of a point has a point at this address that covers the point's state. A walk
+/// knows which points have the same state, so that nothing is compared there.
+pub(crate) fn has_next(at: &PointCheck<'_, '_>, addr: u32) -> bool
+    requires { IsPointCheck at.now }
+    ensures { IsTrue result ↔ HasPoint at.now.node.now addr at.now.point.state.now }
 {
-    if known == Some(addr) {
+    if at.point.next == Some(addr) {
         return true;
     }
-    has_point(node, addr, s)
+    match at.point.walk {
+        Some(walk) => walk.covers_at(addr),
+        None => has_point(at.node, addr, at.point.state),
+    }
 }
 
 /// Whether the node of a point has a point at this address that covers the point's own state. `c`
@@ -66,7 +66,12 @@ pub(crate) fn has_kept_next(at: &PointCheck<'_, '_>, addr: u32, c: &mut Change) 
         return true;
     }
     c.keep(at.point.state);
-    has_changed_next(at, addr, c)
+    if let Some(walk) = at.point.walk {
+        if walk.covers_next(addr, c) {
+            return true;
+        }
+    }
+    has_next(at, addr)
 }
 
 /// Whether the node has a point at this address that covers the changed state.

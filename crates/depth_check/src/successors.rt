@@ -62,10 +62,7 @@ pub(crate) fn broken_by_pass(at: &PointCheck<'_, '_>, next: u32) -> Option<u8>
     requires { IsPointCheck at.now }
     ensures { Breaks at.now (owed 4 (jump next at.now.point.state.now) ∷ []) result }
 {
-    unless(
-        has_next(at.node, next, at.point.state, at.point.next),
-        NO_POINT,
-    )
+    unless(has_next(at, next), NO_POINT)
 }
 
 /// The least rule that both sides of a branch break.
@@ -170,7 +167,7 @@ fn broken_by_listed_jumps(at: &PointCheck<'_, '_>, r: u8, jumped: &mut Option<u8
     }
     let s = at.point.state;
     let targets = targets(at.plan, s, at.point.addr, Target::Reg(r));
-    if has_points(at.node, targets.as_slice(), s) {
+    if has_points(at, targets.as_slice()) {
         *jumped = Some(r);
         None
     } else {

@@ -87,12 +87,13 @@ pub broken_by_point-found-requires-clause-walk : goal.broken_by_point-found-requ
 broken_by_point-found-requires-clause-walk c =
     let p : Point = record { addr = c.in-Some.addr; state = c.step.new.self.current } in
     rw c.near-any_node.ensures
-    (looks_ahead c.args.node.now c.loop-addr.invariant.done c.loop-addr.scratch.walk.left c.step.new.self p c.state-s.result.now c.walk.ensures.rising c.loop-addr.invariant.split c.in-Some.ensures.0 c.state-s.ensures)
+    (looks_ahead c.args.node.now c.loop-addr.invariant.done c.loop-addr.scratch.walk.left c.step.new.self p c.state-s.result.now c.walk.ensures.rising (c.in-Some.ensures.2 ∙ c.loop-addr.invariant.points) c.loop-addr.invariant.split c.in-Some.ensures.0 c.state-s.ensures)
 
 pub loop-addr-init : goal.loop-addr-init
 loop-addr-init c = record {
   done = [];
   split = sym c.walk.ensures.all;
+  points = c.walk.ensures.points;
   all = All-nil (λ (q : Point). (r : ℕ) → RuleHolds c.args.image.now c.args.plan.now c.args.cert.now c.args.node.now q r);
   known = λ t. absurd (let f : false ≡ true = t in cc);
   interrupts = c.requires.interrupts;
@@ -117,6 +118,7 @@ loop-addr-preserved c =
     record {
       done = inv.done ++ p ∷ [];
       split = split_more points inv.done c.loop-addr.scratch.walk.left c.step.new.self.left p inv.split c.in-Some.ensures.0;
+      points = c.in-Some.ensures.2 ∙ inv.points;
       all = All-push (λ (q : Point). (r : ℕ) → RuleHolds c.args.image.now c.args.plan.now c.args.cert.now c.args.node.now q r) inv.done p inv.all holds;
       known = λ t. (holds 2).values refl;
       interrupts = inv.interrupts;
@@ -170,6 +172,7 @@ loop-addr-preserved-then-is_checked c =
     record {
       done = inv.done ++ p ∷ [];
       split = split_more points inv.done c.loop-addr.scratch.walk.left c.step.new.self.left p inv.split c.in-Some.ensures.0;
+      points = c.in-Some.ensures.2 ∙ inv.points;
       all = All-push (λ (q : Point). (r : ℕ) → RuleHolds c.args.image.now c.args.plan.now c.args.cert.now c.args.node.now q r) inv.done p inv.all holds;
       known = λ t. (holds 2).values refl;
       interrupts =

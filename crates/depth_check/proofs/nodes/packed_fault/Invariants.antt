@@ -12,6 +12,7 @@ abbrev pub invariant-loop-addr : goal.invariant-loop-addr
 invariant-loop-addr l = record {
   done : List Point;
   split : (l.node).points ≡ done ++ (l.scratch.walk).left;
+  points : (l.scratch.walk).points ≡ (l.node).points;
   all : All (λ (p : Point). (r : ℕ) → RuleHolds l.image l.plan l.cert l.node p r) done;
   known : IsTrue l.known → AreValues (limits_in l.plan l.cert) ((l.scratch.walk).current).regs;
   interrupts : LastInterruptsHold l.plan l.cert l.scratch.interrupts;

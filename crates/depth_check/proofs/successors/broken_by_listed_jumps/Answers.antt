@@ -8,12 +8,8 @@ use Rattle.depth_check.specs.Finding.{Finds, DutiesHold, HasPoints}
 use Rattle.cfg_recover.proofs.OperationLaws.{same_word}
 use Rattle.depth_check.proofs.Deciding.{yes}
 use Rattle.depth_check.proofs.DutyLaws.{points_found}
-use Rattle.depth_check.proofs.RuleLaws.{values_well}
 use Rattle.depth_check.proofs.successors.broken_by_listed_jumps.Goals as goal
 use Rattle.depth_check.proofs.successors.broken_by_listed_jumps.Goals.{Then-has_points}
-
-pub has_points-requires-clause-state : goal.has_points-requires-clause-state
-has_points-requires-clause-state c = values_well c.args.at.now.bounds.now _ c.requires.point.values
 
 pub returns-then-eq-clause-found : goal.returns-then-eq-clause-found
 returns-then-eq-clause-found c =
