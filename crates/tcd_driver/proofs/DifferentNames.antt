@@ -1,51 +1,66 @@
--- That words are different, from the last one on.
-use Rattle.std.proofs.Common.{◌≡◌, ◌∙◌, ◌+◌, ◌<◌, ℕ, zero, suc, Bool, true, false, not, ◌&&◌, ◌||◌, List, [], ◌∷◌, length, get_or, map, drop, refl, sym, ap, arith}
+-- Names are different: a proof from the last name on.
+use Rattle.std.proofs.Common.{◌≡◌, ◌∙◌, ◌+◌, ◌-◌, ◌<◌, inl, inr, ◌⊎◌, ℕ, zero, suc, Bool, true, false, not, ◌&&◌, ◌||◌, List, [], ◌∷◌, length, get_or, set, map, take, drop, refl, sym, ap, arith}
 use Rattle.std.specs.List.{list_any}
 use Rattle.std.specs.Str.{bytes_eq}
-use Rattle.std.specs.List.Sorted.{IsPermutation}
-use Rattle.std.proofs.lemmas.List.{drop_more}
-use Rattle.std.proofs.lemmas.List.Sorted.{list_any-IsPermutation}
+use Rattle.std.proofs.lemmas.List.{drop_more, drop-map, length-drop, take_all}
+use Rattle.std.proofs.lemmas.Bool.{or_cases}
+use Rattle.std.proofs.lemmas.Grind.{get_or-set_at}
+use Rattle.std.proofs.lemmas.Slice.Eq.{bytes_eq-Decides}
 use Rattle.tcd_driver.specs.Commands.{are_different}
+use Rattle.tcd_driver.specs.Marks.{mark_of}
 
 and_false : (b c : Bool) → c ≡ false → (b && c) ≡ false
 and_false true c e = e
 and_false false c e = refl
 
--- where some of them aren't, all aren't
-pub not_different : (names : List (List ℕ)) (i : ℕ) → are_different (drop i names) ≡ false → are_different names ≡ false
+-- if the names from a place on aren't different, all names aren't different
+not_different : (names : List (List ℕ)) (i : ℕ) → are_different (drop i names) ≡ false → are_different names ≡ false
 not_different names zero e = e
 not_different [] (suc i) e = e
 not_different (name ∷ names) (suc i) e = and_false (not (list_any (bytes_eq name) names)) (are_different names) (not_different names i e)
 
--- the words from number i on: one, and those behind it
-pub one_more : (names : List (List ℕ)) (i : ℕ) (name : List ℕ) → i < length names → get_or names i [] ≡ name → drop i names ≡ name ∷ drop (i + 1) names
-one_more names i name h e = drop_more names i [] h ∙ ap (λ (n : List ℕ). n ∷ drop (i + 1) names) e
-
--- a word that stands among those behind it
-pub found_again : (names : List (List ℕ)) (i j : ℕ) (name : List ℕ) (new : Bool) → i + 1 ≡ j → i < length names → get_or names i [] ≡ name → new ≡ not (list_any (bytes_eq name) (drop j names)) → new ≡ false
-    → are_different names ≡ false
-found_again names i j name new next h e is old =
-    let at : drop i names ≡ name ∷ drop j names = one_more names i name h e ∙ ap (λ (k : ℕ). name ∷ drop k names) next in
-    not_different names i (ap are_different at ∙ ap (λ (b : Bool). b && are_different (drop j names)) (sym is ∙ old))
-
--- one that doesn't
-pub still_different : (names : List (List ℕ)) (i j : ℕ) (name : List ℕ) (new : Bool) → i + 1 ≡ j → i < length names → get_or names i [] ≡ name → new ≡ not (list_any (bytes_eq name) (drop j names)) → new ≡ true
-    → are_different (drop j names) ≡ true → are_different (drop i names) ≡ true
-still_different names i j name new next h e is added rest =
-    let at : drop i names ≡ name ∷ drop j names = one_more names i name h e ∙ ap (λ (k : ℕ). name ∷ drop k names) next in
-    ap are_different at ∙ ap (λ (b : Bool). b && are_different (drop j names)) (sym is ∙ added) ∙ rest
-
--- the set has it then, too
-pub held_too : {K : Type 0} (bytes : K → List ℕ) (names : List (List ℕ)) (i j : ℕ) (key : K) (old new : List K) → i + 1 ≡ j → i < length names → get_or names i [] ≡ bytes key → IsPermutation (key ∷ old) new
-    → ((q : List ℕ) → list_any (λ k. bytes_eq q (bytes k)) old ≡ list_any (bytes_eq q) (drop j names)) → (q : List ℕ) → list_any (λ k. bytes_eq q (bytes k)) new ≡ list_any (bytes_eq q) (drop i names)
-held_too {K} bytes names i j key old new next h e same held q =
-    let at : drop i names ≡ bytes key ∷ drop j names = one_more names i (bytes key) h e ∙ ap (λ (k : ℕ). bytes key ∷ drop k names) next in
-    sym (list_any-IsPermutation (λ (k : K). bytes_eq q (bytes k)) (key ∷ old) new same)
-    ∙ ap (λ (b : Bool). bytes_eq q (bytes key) || b) (held q)
-    ∙ sym (ap (list_any (bytes_eq q)) at)
-
--- the word at a place
+-- the name at a place
 pub name_at : {S : Type 0} (bytes : S → List ℕ) (words : List S) (i : ℕ) (x : S) (name : List ℕ) → i < length words → x ≡ get_or words i x → name ≡ bytes x → get_or (map bytes words) i [] ≡ name
 name_at bytes [] i x name h is e = absurd (omega arith)
 name_at bytes (w ∷ ws) zero x name h is e = sym (e ∙ ap bytes is)
 name_at bytes (w ∷ ws) (suc i) x name h is e = name_at bytes ws i x name (omega arith) is e
+
+-- a mark that is set stays set
+set_more : (seen : List Bool) (i k : ℕ) → get_or seen k false ≡ true → get_or (set seen i true) k false ≡ true
+set_more [] i k h = h
+set_more (b ∷ bs) zero zero h = refl
+set_more (b ∷ bs) zero (suc k) h = h
+set_more (b ∷ bs) (suc i) zero h = h
+set_more (b ∷ bs) (suc i) (suc k) h = set_more bs i k h
+
+-- a name whose mark isn't set is not in the list
+pub unlisted : (b s : Bool) → (b ≡ true → s ≡ true) → s ≡ false → b ≡ false
+unlisted true s h e = sym (h refl) ∙ e
+unlisted false s h e = refl
+
+-- the strings from a place on
+pub strings_from : {S : Type 0} (bytes : S → List ℕ) (words : List S) (j n : ℕ) → n ≡ length words - j → map bytes (take n (drop j words)) ≡ drop j (map bytes words)
+strings_from {S} bytes words j n e = ap (map bytes) (take_all n (drop j words) (let l = length-drop j words in omega (arith, l))) ∙ sym (drop-map bytes j words)
+
+module _ (names : List (List ℕ)) (i j : ℕ) (name : List ℕ) (next : i + 1 ≡ j) (inside : i < length names) (at : get_or names i [] ≡ name) where
+  -- the names from place i on: one, and those after it
+  names_from : drop i names ≡ name ∷ drop j names
+  names_from = drop_more names i [] inside ∙ ap (λ (n : List ℕ). n ∷ drop (i + 1) names) at ∙ ap (λ (k : ℕ). name ∷ drop k names) next
+
+  -- a name that is one of those after it
+  pub found_again : list_any (bytes_eq name) (drop j names) ≡ true → are_different names ≡ false
+  found_again h = not_different names i (ap are_different names_from ∙ ap (λ (b : Bool). not b && are_different (drop j names)) h)
+
+  -- a name that isn't one of those after it
+  pub still_different : list_any (bytes_eq name) (drop j names) ≡ false → are_different (drop j names) ≡ true → are_different (drop i names) ≡ true
+  still_different h rest = ap are_different names_from ∙ ap (λ (b : Bool). not b && are_different (drop j names)) h ∙ rest
+
+  -- the marks of all names from place i on are set
+  pub marked : (seen : List Bool) → mark_of 0 name < length seen
+      → ((q : List ℕ) → list_any (bytes_eq q) (drop j names) ≡ true → get_or seen (mark_of 0 q) false ≡ true)
+      → (q : List ℕ) → list_any (bytes_eq q) (drop i names) ≡ true → get_or (set seen (mark_of 0 name) true) (mark_of 0 q) false ≡ true
+  marked seen few held q h =
+      match_or (or_cases (bytes_eq q name) (list_any (bytes_eq q) (drop j names)) (sym (ap (list_any (bytes_eq q)) names_from) ∙ h)) where
+        match_or : ((bytes_eq q name ≡ true) ⊎ (list_any (bytes_eq q) (drop j names) ≡ true)) → get_or (set seen (mark_of 0 name) true) (mark_of 0 q) false ≡ true
+        match_or (inl same) = get_or-set_at seen (mark_of 0 name) (mark_of 0 q) true false (ap (mark_of 0) ((bytes_eq-Decides q name).0 same)) few
+        match_or (inr later) = set_more seen (mark_of 0 name) (mark_of 0 q) (held q later)

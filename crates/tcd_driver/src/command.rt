@@ -109,8 +109,8 @@ pub(crate) enum Command<'a> {
     },
 }
 
-/// The command that words ask for.
-pub(crate) fn asked_command(alloc: Global, words: &[String]) -> Option<Command<'_>>
+/// The command that words ask for. No memory is allocated.
+pub(crate) fn asked_command(words: &[String]) -> Option<Command<'_>>
     ensures is { option_map asked result ≡ command (map string_bytes words.now) }
     ensures limits { IfSome result KeepsLimits }
 {
@@ -118,7 +118,7 @@ pub(crate) fn asked_command(alloc: Global, words: &[String]) -> Option<Command<'
         Some(command) => Some(command),
         None => match ship_command(words) {
             Some(command) => Some(command),
-            None => match tasks_command(alloc, words) {
+            None => match tasks_command(words) {
                 Some(command) => Some(command),
                 None => fixed_command(words),
             },
@@ -171,7 +171,7 @@ fn ship_command(words: &[String]) -> Option<Command<'_>>
 }
 
 // The commands `tasks` and `taskcert` with their certificates.
-fn tasks_command(alloc: Global, words: &[String]) -> Option<Command<'_>>
+fn tasks_command(words: &[String]) -> Option<Command<'_>>
     ensures is { option_map asked result ≡ tasks_words (map string_bytes words.now) }
     ensures limits { IfSome result KeepsLimits }
 {
@@ -184,7 +184,7 @@ fn tasks_command(alloc: Global, words: &[String]) -> Option<Command<'_>>
                 certs,
             })
         }
-        [verb, elf, plan, tasks, certs @ ..] if is_taskcert(alloc, verb.as_str(), certs) => {
+        [verb, elf, plan, tasks, certs @ ..] if is_taskcert(verb.as_str(), certs) => {
             Some(Command::Taskcert {
                 elf: elf.as_str(),
                 plan: plan.as_str(),
@@ -211,10 +211,10 @@ fn is_tasks(verb: &str, certs: &[String]) -> bool
 }
 
 // Whether the words behind the first three ask to make these certificates of tasks.
-fn is_taskcert(alloc: Global, verb: &str, certs: &[String]) -> bool
+fn is_taskcert(verb: &str, certs: &[String]) -> bool
     ensures { result ≡ is_taskcert verb.now (map string_bytes certs.now) }
 {
-    verb == "taskcert" && !certs.is_empty() && certs.len() <= 65_531 && are_different(alloc, certs)
+    verb == "taskcert" && !certs.is_empty() && certs.len() <= 65_531 && are_different(certs)
 }
 
 // A command with a number of words that is fixed.

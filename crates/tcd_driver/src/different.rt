@@ -1,34 +1,34 @@
-// Words that are different.
-ghost use Rattle.std.specs.Prelude.{◌≡◌, map, string_bytes, IfOk};
+// Names that are all different. No function here allocates memory.
+ghost use Rattle.std.specs.Prelude.{◌≡◌, ◌<◌, map, string_bytes};
 ghost use Rattle.std.specs.List.{list_any};
 ghost use Rattle.std.specs.Str.{bytes_eq};
 ghost use Rattle.tcd_driver.specs.Commands.{are_different};
+ghost use Rattle.tcd_driver.specs.Marks.{mark_of};
 
-use std::alloc::Global;
-use std::collections::HashSet;
-use tcd_base::NoMemory;
+// The most names that are compared in pairs. More names are told apart by their marks first.
+const FEW_NAMES: usize = 64;
 
-// Whether a word stands among others.
-fn stands_in(word: &str, others: &[String]) -> bool
-    ensures { result ≡ list_any (bytes_eq word.now) (map string_bytes others.now) }
+// The number of marks. Of 65,531 names, about one in eight has the mark of another one.
+const MARK_COUNT: usize = 262_144;
+
+/// Whether no name is there twice. No memory is allocated.
+pub(crate) fn are_different(names: &[String]) -> bool
+    ensures { result ≡ are_different (map string_bytes names.now) }
 {
-    let mut rest = others;
-    while let [other, more @ ..] = rest {
-        if word == other.as_str() {
-            return true;
-        }
-        rest = more;
+    if names.len() <= FEW_NAMES {
+        are_different_in_pairs(names)
+    } else {
+        are_different_by_marks(names)
     }
-    false
 }
 
-// Whether no word stands twice, each looked for among those behind it.
-fn are_scanned(words: &[String]) -> bool
-    ensures { result ≡ are_different (map string_bytes words.now) }
+// Whether no name is there twice, by comparing each pair.
+fn are_different_in_pairs(names: &[String]) -> bool
+    ensures { result ≡ are_different (map string_bytes names.now) }
 {
-    let mut rest = words;
-    while let [first, others @ ..] = rest {
-        if stands_in(first.as_str(), others) {
+    let mut rest = names;
+    while let [name, others @ ..] = rest {
+        if is_one_of(name.as_str(), others) {
             return false;
         }
         rest = others;
@@ -36,27 +36,51 @@ fn are_scanned(words: &[String]) -> bool
     true
 }
 
-// Whether no word stands twice, by a set of the words from the last one on.
-fn are_apart(alloc: Global, words: &[String]) -> Result<bool, NoMemory>
-    ensures { IfOk result (λ known. known ≡ are_different (map string_bytes words.now)) }
+// Whether no name is there twice. Names are taken from the last one on. A name is compared with
+// those after it only if one of them has the same mark. A function of its own, as the marks take
+// 262,144 bytes of stack.
+#[inline(never)]
+fn are_different_by_marks(names: &[String]) -> bool
+    ensures { result ≡ are_different (map string_bytes names.now) }
 {
-    let mut later = HashSet::new(alloc);
-    let mut i = words.len();
+    let mut seen = [false; MARK_COUNT];
+    let mut i = names.len();
     while i > 0 {
         i -= 1;
-        if !later.insert(words[i].as_str())? {
-            return Ok(false);
+        let name = names[i].as_str();
+        let mark = mark_of(name.as_bytes());
+        if seen[mark] && is_one_of(name, &names[i + 1..]) {
+            return false;
         }
+        seen[mark] = true;
     }
-    Ok(true)
+    true
 }
 
-/// Whether no word stands twice; where memory for a set of them is wanting, each is looked for among those behind it.
-pub(crate) fn are_different(alloc: Global, words: &[String]) -> bool
-    ensures { result ≡ are_different (map string_bytes words.now) }
+// The mark of a name.
+fn mark_of(name: &[u8]) -> usize
+    ensures is { result ≡ mark_of 0 name.now }
+    ensures few { result < 262144 }
 {
-    match are_apart(alloc, words) {
-        Ok(known) => known,
-        Err(_) => are_scanned(words),
+    let mut mark = 0;
+    let mut rest = name;
+    while let [byte, more @ ..] = rest {
+        mark = (31 * mark + usize::from(*byte)) % MARK_COUNT;
+        rest = more;
     }
+    mark
+}
+
+// Whether a name is one of the others.
+fn is_one_of(name: &str, others: &[String]) -> bool
+    ensures { result ≡ list_any (bytes_eq name.now) (map string_bytes others.now) }
+{
+    let mut rest = others;
+    while let [other, more @ ..] = rest {
+        if name == other.as_str() {
+            return true;
+        }
+        rest = more;
+    }
+    false
 }

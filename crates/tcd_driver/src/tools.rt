@@ -45,7 +45,7 @@ pub fn tool<F: Files, S: Sink>(
       status = result;
     }) }
 {
-    match asked_command(alloc, words) {
+    match asked_command(words) {
         Some(command) => {
             let outcome = command.outcome(alloc, files);
             finish(alloc, outcome, files, out)
