@@ -1,4 +1,4 @@
--- What `boot` reports.
+-- The reports of `boot`.
 use Rattle.std.proofs.Common.{◌≡◌, ◌≢◌, ◌-◌, ℕ, [], sym, ap, subst, ◌∙◌, inl, inr}
 use Rattle.elf_image.specs.Images.{ImageData, IsImage}
 use Rattle.tcd_plan.specs.PlanData.{PlanData, IsPlan}
@@ -41,7 +41,7 @@ module _ (i : ImageData) (p : PlanData) (c : CertData) (at : ℕ) where
   pub boot_alike : AreAlike (IsBootVerdict i p c at)
   boot_alike = record { told = told; done = done; one = one }
 
--- both tests are good
+-- the certificate is accepted and the boot sequence may run
 pub boots_report : (parts i : ImageData) (fields p : PlanData) (c : CertData) (at events need : ℕ) (r : Report) → parts ≡ i → IsImage parts → fields ≡ p → IsPlan fields → Accepts i p c → need ≡ certified_need i p c → Safe i p need
     → HasBoot i p at → events ≡ boot_events p → r ≡ says Done (boots_line events need (fields.areas - fields.reserve)) → IsBootVerdict i p c at r
 boots_report parts i fields p c at events need r image is_image same is_plan accepted is safe has count e =

@@ -1,4 +1,4 @@
--- What each command reports, once its inputs are read.
+-- The reports of the commands after their inputs were read.
 use Rattle.std.proofs.Common.{◌≡◌, ◌≢◌, ◌-◌, ℕ, List, [], length, Option, Some, None, Result, Ok, Err, refl, sym, ap, subst, ◌∙◌, inl, inr}
 use Rattle.std.specs.Prelude.{IfOk, IfSome, IsOkAnd}
 use Rattle.elf_image.specs.Images.{ImageData}
@@ -40,7 +40,7 @@ use Rattle.tcd_driver.proofs.GenReports.{summary_alike}
 use Rattle.tcd_driver.proofs.TaskcertReports.{taskcert_decided}
 use Rattle.tcd_reading.proofs.Decided.{AreAlike, IsDecided, decided_input, decided_answer, decided_each, status_is, writes_are}
 
--- one report that is done
+-- a single report, which is done
 only_one : (q : Report) → q.status ≡ Done → AreAlike (λ r. r ≡ q)
 only_one q done = record {
   told = λ r e. inl (status_is r q e ∙ done);
@@ -86,7 +86,7 @@ run_alike i p s = record {
   one = λ r q h k. run_status i p s r h ∙ sym (run_status i p s q k);
 }
 
--- the line of a run, by what the run came to
+-- the line on a run is that of the script's events
 pub told_is : (plan : PlanData) (script : ScriptData) (old new : Machine) (done : Peak) → IsScriptRun plan script old new done → run_line done.events done.peak new ≡ told_run plan script old
 told_is plan script old new done h =
     ap (λ (n : ℕ). run_line n done.peak new) h.count ∙ ap (λ (n : ℕ). run_line (length (script_events plan script old)) n new) h.peak
@@ -122,7 +122,7 @@ pub refused_report : {V E : Type 0} (items : V → List ℕ) (name : List ℕ) (
     IfOk line (λ x. IfSome (refusal_of e) (λ q. items x ≡ link_line q)) → (e ≡ error.NoMemory → ⊥) → IsOkAnd line (λ x. r ≡ says BadInput (items x)) → IsLinked name l objects r
 refused_report items name l objects e line r is made some said = refused_by name l objects (refusal_of e) r (λ n. some (none_memory e n)) is (line_told items line r (refusal_of e) made said)
 
--- a file of so many bytes, by other names
+-- the report on a file of this length, in other terms
 pub file_report : {V E : Type 0} (items : V → List ℕ) (line : Result V E) (text : ℕ → List ℕ) (name : List ℕ) (bytes lent is : List ℕ) (r : Report) → lent ≡ bytes → bytes ≡ is → IfOk line (λ l. items l ≡ text (length lent)) →
     IsOkAnd line (λ l. r ≡ writes_file name bytes (items l)) → r ≡ writes_file name is (text (length is))
 file_report items (Ok l) text name bytes lent is r e f made said =

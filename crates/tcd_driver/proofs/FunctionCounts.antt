@@ -1,4 +1,4 @@
--- How many functions a word asks for, by std's reading of numbers.
+-- The number of functions that a word asks for, by std's parser of numbers.
 use Rattle.std.proofs.Common.{◌≡◌, ◌≢◌, ◌<◌, ◌⊎◌, ◌&&◌, ◌||◌, ◌^◌, ◌==◌, ℕ, zero, suc, Bool, true, false, not, nat_lt, nat_le, if◌then◌else◌, List, [], ◌∷◌, length, get_or, Option, Some, None, option_and_then, Result, Ok, Err, refl, sym, ap, subst, ◌∙◌, arith, inl, inr, ⊎_elim, slice_index, leb-true, le-leb, lt-ltb, ltb-true, ne_eqb, eqb-true, true≢false}
 use Rattle.std.specs.Bool.{then_some}
 use Rattle.std.specs.Char.{is_ascii_digit}
@@ -9,7 +9,7 @@ use Rattle.std.proofs.lemmas.Str.Parse.{IsDigitsTest, IsNumeralModel, numerals_b
 use Rattle.tc_script.specs.Numbers.{is_decimal, number_of}
 use Rattle.tcd_driver.specs.Gen.{functions_in}
 
--- a number, where so many functions can be generated
+-- the number of functions, if it is in the range of `gen`
 abbrev counted : ℕ → Option ℕ
 counted n = then_some (nat_le 1 n && nat_le n 500) n
 
@@ -25,7 +25,7 @@ tells_digits = record {
 numerals : IsNumeralModel (λ ds. list_all is_ascii_digit ds ≡ true) (digits_value 10)
 numerals = numerals_by_value _ tells_digits
 
--- what `is_decimal` asks, test after test
+-- the tests of `is_decimal`, one after another
 decimal_if : (empty digits first : Bool) → empty ≡ false → digits ≡ true → first ≡ true → (if empty then false else if digits then first else false) ≡ true
 decimal_if true digits first a b c = sym a
 decimal_if false true first a b c = c
@@ -60,7 +60,7 @@ none_unless true true v h = absurd (h refl refl)
 none_unless true false v h = refl
 none_unless false f v h = refl
 
--- ---- what is read where neither 0 nor a sign stands first
+-- ---- words without 0 or a plus sign at the front
 number_read : {E : Type 0} (word : List ℕ) (n : ℕ) (r : Result ℕ E) → r ≡ Ok n → ParsesUnsigned 32 10 word r → get_or word 0 0 ≢ 43 → get_or word 0 0 ≢ 48 → number_of word ≡ Some n
 unfolding number_of
 number_read {E} word n r is h sign other =
@@ -76,7 +76,7 @@ none_read word e r is h sign =
     none_unless (is_decimal word) (nat_lt (digits_value 10 word) (2 ^ 32)) (digits_value 10 word)
     (λ d f. let ds = decimal_digits word d in k (ds.1, ds.0, ltb-true _ _ f))
 
--- ---- and where one does
+-- ---- words with 0 or a plus sign at the front
 never : (b : Bool) → (if b then false else false) ≡ false
 never true = refl
 never false = refl
@@ -98,7 +98,7 @@ unfolding number_of
 zero_first [] = refl
 zero_first (d ∷ ds) = ap (option_and_then counted) (zero_more d ds)
 
--- 0 or a sign stands first
+-- the front is 0 or a plus sign
 pub marked : (word : List ℕ) (b : Bool) → b ≡ (slice_index word 0 == 48 || slice_index word 0 == 43) → b ≡ true → None ≡ functions_in word
 marked [] b is e = let f : false ≡ true = sym is ∙ e in cc
 marked (d ∷ ds) b is e =
@@ -107,7 +107,7 @@ marked (d ∷ ds) b is e =
     (λ (h : (d == 43) ≡ true). sym (subst (λ (x : ℕ). functions_in (x ∷ ds) ≡ None) (sym (eqb-true d 43 h)) (ap (option_and_then counted) (sign_first ds))))
     (or_cases (d == 48) (d == 43) (sym is ∙ e))
 
--- neither does
+-- the front is neither 0 nor a plus sign
 pub read_count : {E : Type 0} (word : List ℕ) (b : Bool) (n : ℕ) (r : Result ℕ E) (o : Option ℕ) → b ≡ (slice_index word 0 == 48 || slice_index word 0 == 43) → b ≡ false → r ≡ Ok n → ParsesUnsigned 32 10 word r → o ≡ counted n → o ≡ functions_in word
 read_count word b n r o is e ok h made =
     let apart = or_parts (slice_index word 0 == 48) (slice_index word 0 == 43) (sym is ∙ e) in

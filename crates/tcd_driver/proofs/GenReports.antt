@@ -1,4 +1,4 @@
--- What `gen` reports.
+-- The reports of `gen`.
 use Rattle.std.proofs.Common.{◌≡◌, ◌≢◌, ◌≤◌, ◌-◌, ◌^◌, ℕ, List, [], length, Result, Ok, sym, ap, subst, ◌∙◌, arith, inl, inr}
 use Rattle.elf_image.specs.Images.{ImageData}
 use Rattle.elf_image.specs.Elf.{image_of}
@@ -52,18 +52,18 @@ module _ (n : ℕ) (i : ImageData) (p : PlanData) where
   pub summary_alike : AreAlike (IsSummary n i p)
   summary_alike = record { told = summary_told; done = summary_done; one = summary_one }
 
--- no certificate is accepted, and why
+-- the report that no certificate is accepted
 pub refused_report : (n : ℕ) (i : ImageData) (p : PlanData) (rule : ℕ) (key : Key) (addr : ℕ) (e : MakeErr) (r : Report) → e ≡ make.Refused rule key addr → IsRefused i p 1 e → r ≡ says Refused (refused_line rule key addr) → IsSummary n i p r
 refused_report n i p rule key addr e r is why said = let k = subst (IsRefused i p 1) is why in refused rule key addr k.1 k.0 said
 
--- the bytes are few enough to be read
+-- the bytes of the certificate are at most as many as may be read
 pub made_most : (i : ImageData) (p : PlanData) (bytes : List ℕ) → AreMade i p 1 bytes → length bytes ≤ 2 ^ 30
 made_most i p bytes m = subst (λ (b : List ℕ). length b ≤ 2 ^ 30) (sym m.spell) (cert_most m.cert m.is_cert)
 
 same_cert : (r : Result CertData FormErr) (x y : CertData) → r ≡ Ok x → r ≡ Ok y → x ≡ y
 same_cert r x y e f = cc
 
--- the certificate that was read is the one that was made
+-- the certificate that is read is the one that was made
 pub counted_report : (n : ℕ) (i : ImageData) (fields p : PlanData) (bytes : List ℕ) (c : CertData) (need : ℕ) (r : Report) → fields ≡ p → AreMade i p 1 bytes → certificate_of bytes ≡ Ok c → need ≡ certified_need i p c → Safe i p need →
     r ≡ says Done (generated_line n (length c.nodes) (count_points c.nodes) need (fields.areas - fields.reserve)) → IsSummary n i p r
 counted_report n i fields p bytes c need r same m read is safe e =
@@ -72,7 +72,7 @@ counted_report n i fields p bytes c need r same m read is safe e =
     (e ∙ ap (λ (k : ℕ). says Done (generated_line n (length c.nodes) (count_points c.nodes) k (fields.areas - fields.reserve))) is
     ∙ ap (λ (q : PlanData). says Done (generated_line n (length c.nodes) (count_points c.nodes) (certified_need i p c) (q.areas - q.reserve))) same)
 
--- ---- what was generated, read again
+-- ---- reading what was generated
 pub read_image : (i j : ImageData) (lent bytes : List ℕ) → lent ≡ bytes → image_of bytes ≡ Ok i → image_of lent ≡ Ok j → j ≡ i
 read_image i j lent bytes same e f = same_image (image_of bytes) i j e (ap image_of (sym same) ∙ f)
   where
@@ -85,6 +85,6 @@ read_plan p q lent bytes same e f = plan_lawful.one bytes q p (subst (λ (b : Li
 pub text_most : (lent bytes : List ℕ) → lent ≡ bytes → bytes ≡ generated_text → length lent ≤ 2 ^ 30
 text_most lent bytes same e = subst (λ (b : List ℕ). length b ≤ 2 ^ 30) (sym (same ∙ e)) (omega arith)
 
--- ---- the command as the program holds it
+-- ---- the command as a value of the program
 pub comes_generated : (command words : Words) (n : ℕ) (files : FilesSeen) (o : Outcome) → words ≡ held.Gen n → command ≡ words → IsTold (IsSummary n (generated_image n) generated_plan) ⊥ o → Comes (reading_of (asked command)) files files o
 comes_generated command words n files o is same h = subst (λ (w : Words). Comes (reading_of (asked w)) files files o) (sym (same ∙ is)) (comes_told (IsSummary n (generated_image n) generated_plan) files o h)

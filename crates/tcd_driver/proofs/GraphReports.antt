@@ -1,4 +1,4 @@
--- What `cfg` and `report` tell.
+-- The reports of `cfg` and `report`.
 use Rattle.std.proofs.Common.{◌≡◌, ◌≢◌, ◌≤◌, ◌<◌, ◌^◌, ℕ, List, [], length, Result, Ok, Err, sym, subst, ◌∙◌, inl, inr}
 use Rattle.std.specs.Prelude.{IfOk, IsOkAnd}
 use Rattle.tcd_base.specs.declared.errors.FormErr.{FormErr}
@@ -20,30 +20,30 @@ use Rattle.tcd_reading.specs.declared.status.Status.TheVariants.{Done, Refused}
 use Rattle.tcd_reading.proofs.Decided.{AreAlike, status_is, writes_are}
 use Rattle.tcd_driver.proofs.MakingLaws.{none_best, best_most, best_read, spelled_is_read}
 
--- a text that was made, told as it is
+-- a report whose text was made without an error
 pub told_text : {V E : Type 0} (items : V → List ℕ) (Is : List ℕ → Type 0) (Q : Type 0) (text : Result V E) (r : Report) → IfOk text (λ l. Is (items l)) → IsOkAnd text (λ l. r ≡ says Done (items l))
     → ((t : List ℕ) → Is t → r ≡ says Done t → Q) → Q
 told_text items Is Q (Ok l) r made said next = next (items l) made said
 told_text items Is Q (Err e) r made said next = absurd said
 
 -- ---- cfg
--- bytes that spell a certified certificate spell the best one
+-- bytes that spell the best certificate with some need
 best_of : (i : ImageData) (p : PlanData) (bytes : List ℕ) → SpellOne i p bytes → SpellBest i p bytes
 best_of i p bytes s = record { cert = (s.1).cert; spell = (s.1).spell; is_cert = ((s.1).certified).is_cert; best = ((s.1).certified).best }
 
 pub one_most : (i : ImageData) (p : PlanData) (lent bytes : List ℕ) → lent ≡ bytes → SpellOne i p bytes → length lent ≤ 2 ^ 30
 one_most i p lent bytes e s = subst (λ (b : List ℕ). length b ≤ 2 ^ 30) (sym e) (best_most i p bytes (best_of i p bytes s))
 
--- they are read
+-- reading these bytes gives a certificate
 pub one_is_read : (i : ImageData) (p : PlanData) (bytes : List ℕ) (f : FormErr) → SpellOne i p bytes → certificate_of bytes ≡ Err f → ⊥
 one_is_read i p bytes f s bad = spelled_is_read (s.1).cert bytes f ((s.1).certified).is_cert (s.1).spell bad
 
--- the certificate that was read from them is certified
+-- the certificate that is read from these bytes is the best one
 pub read_certified : (i : ImageData) (p : PlanData) (lent bytes : List ℕ) (c : CertData) → lent ≡ bytes → SpellOne i p bytes → certificate_of lent ≡ Ok c → IsCertified i p c
 unfolding best_of
 read_certified i p lent bytes c e s read = subst (IsCertified i p) (best_read i p lent bytes c e (best_of i p bytes s) read) (s.1).certified
 
--- its graph is what is drawn
+-- the report with its graph
 pub graph_drawn : (i : ImageData) (p : PlanData) (c : CertData) (text : List ℕ) → i.entry < 2 ^ 32 → IsPlan p → IsCertified i p c → IsGraph i p c text → IsDrawn i p text
 graph_drawn i p c text entry plan is g = record {
   cert = c;

@@ -53,18 +53,18 @@ use Rattle.tcd_driver.specs.Run as runs
 use Rattle.tcd_driver.specs.Run.{RunNames, IsRun, run_reading}
 use Rattle.tcd_driver.specs.Headlines.{HoldsFile, IsBadFile, too_long, faulty, HoldsImage, HoldsPlan, HoldsCert, HoldsLayout, HoldEach, AreFirmwareFiles, AreCheckFiles, IsWritten, IsAcceptedWith, IsLeastOfItsVersion, IsBestWith, NoneIsAccepted, certified_words, frame_words, refused_words, HeadlineOfCheck, RefusalByCheck, HeadlineOfCert, RefusalByCert, IsSourceText, IsImageOfFiles, HeadlineOfShip, RefusalByShip, HeadlineOfRun}
 
--- ---- what a report leaves
--- what is held once the files of a report are written, and this of it and of the report's text
+-- ---- the files after a report
+-- after the files of a report were written, this holds for the files and the report's text
 pub record Leaves (before : Map) (report : Report) (Holds : Map → Map → List ℕ → Type 0) : Type 0 where
   pub after : Map
   pub held : with_written (Some before) report.writes ≡ Some after
   pub holds : Holds before after report.text
 
--- each report of this status does, of a command that reads so
+-- this holds for each report with this status of a command with this reading
 abbrev pub Reports : Reading → Status → (Map → Map → List ℕ → Type 0) → Type 0
 Reports reading status Holds = (before : Map) (r : Report) → Says reading (Some before) r → r.status ≡ status → Leaves before r Holds
 
--- a report of one status isn't of another
+-- a report with one status doesn't have another status
 pub bad_undone : (r : Report) → r.status ≡ BadInput → r.status ≡ Done → ⊥
 bad_undone r e f = let g : BadInput ≡ Done = sym e ∙ f in cc
 
@@ -74,12 +74,12 @@ bad_unrefused r e f = let g : BadInput ≡ Refused = sym e ∙ f in cc
 pub refused_undone : (r : Report) → r.status ≡ Refused → r.status ≡ Done → ⊥
 refused_undone r e f = let g : Refused ≡ Done = sym e ∙ f in cc
 
--- what is said of a file that is read, and isn't bad
+-- the report on a file that is in its form
 pub read : {X Y : Type 0} → X ⊎ Y → (X → ⊥) → Y
 read (inl x) none = absurd (none x)
 read (inr y) none = y
 
--- ---- a file is written
+-- ---- one file that is written
 get_written : (m : Map) (name bytes q : List ℕ) → get (insert m name bytes) q ≡ cond (bytes_eq q name) (Some bytes) (get m q)
 get_written m name bytes q = get-insert nat_list_cmp_total m name bytes q ∙ ap (λ b. cond b (Some bytes) (get m q)) (is_eq-slice_cmp q name)
 
@@ -99,7 +99,7 @@ get_other m name bytes q other = get_written m name bytes q ∙ ap (λ b. cond b
 pub is_written : (m : Map) (name bytes : List ℕ) → IsWritten m (insert m name bytes) name bytes
 is_written m name bytes = record { written = get_same m name bytes; others = λ other apart. get_other m name bytes other apart }
 
--- ---- files are read
+-- ---- files that are read
 pub image_held : (m : Map) (name : List ℕ) (i : ImageData) → HoldsInput elf_form (Some m) name i → HoldsImage m name i
 image_held m name i h = record { bytes = h.0; held = h.1; short = h.2; form = h.3 }
 
@@ -119,7 +119,7 @@ pub check_files : (m : Map) (elf plan cert : List ℕ) (i : ImageData) (p : Plan
     → AreCheckFiles m elf plan cert i p c
 check_files m elf plan cert i p c elf_is plan_is cert_is = record { elf_file = image_held m elf i elf_is; plan_file = plan_held m plan p plan_is; cert_file = cert_held m cert c cert_is }
 
--- what the forms of the files of a list say, at whatever place
+-- files of a list, whose form doesn't depend on the place
 abbrev pub Tells : {A : Type 0} → (ℕ → FormSeen A) → ℕ → (List ℕ → A → Type 0) → Type 0
 Tells {A} form most Is = (place : ℕ) (m : Map) (name : List ℕ) (x : A) → HoldsInput (form place) (Some m) name x → HoldsFile m name most (λ bytes. Is bytes x)
 
@@ -131,7 +131,7 @@ each_said form most Is tells place m (name ∷ names) next r good (inr s) =
     let rest = each_said form most Is tells (place + 1) m names (λ ys. next (s.0 ∷ ys)) r good s.2 in
     (s.0 ∷ rest.0, (tells place m name s.0 s.1, rest.1), rest.2)
 
--- a file that isn't in its form, by the line of one that is too long
+-- a file that isn't in its form: it is too long, or it has a fault
 too_long_of : {A : Type 0} (form : FormSeen A) (m : Map) (name line plain : List ℕ) → form.long_line ≡ plain → (o : Option (List ℕ)) → get m name ≡ o → IsSomeAnd o (λ bytes. form.limit < length bytes) → line ≡ form.long_line →
     IsBadFile m name form.limit plain form.IsBad line
 too_long_of form m name line plain is None held long e = absurd long
@@ -141,7 +141,7 @@ pub bad_file : {A : Type 0} (form : FormSeen A) (m : Map) (name line plain : Lis
 bad_file form m name line plain is (inputs.long long e) = too_long_of form m name line plain is (get m name) refl long e
 bad_file form m name line plain is (inputs.bad bytes held short why) = faulty (record { bytes = bytes; held = held; short = short; form = why })
 
--- with its fault in other words
+-- a bad file, with an equivalent fault
 pub bad_by : (m : Map) (name : List ℕ) (most : ℕ) (long : List ℕ) (Has Says : List ℕ → List ℕ → Type 0) (line : List ℕ) → ((bytes : List ℕ) → Has bytes line → Says bytes line) → IsBadFile m name most long Has line → IsBadFile m name most long Says line
 bad_by m name most long Has Says line says (too_long bytes held above e) = too_long bytes held above e
 bad_by m name most long Has Says line says (faulty h) = faulty (record { bytes = h.bytes; held = h.held; short = h.short; form = says h.bytes h.form })
@@ -156,7 +156,7 @@ accepted_of i p c accepted =
     let n = a_node (find_node (start_key i p) c.nodes) (λ n. HasPoint n i.entry (start_state p)) accepted.start in
     record { accepted = accepted; start = n.0; start_is = n.1; need_is = ap need_of n.1 }
 
--- what is made for a version is the least of it
+-- the certificate that is made for a version is the least of this version
 pub least_of : (i : ImageData) (p : PlanData) (version : ℕ) (c : CertData) → IsCert c → IsMade i p version c → IsLeastOfItsVersion i p c
 least_of i p version c is_cert h = record {
   is_cert = is_cert;
@@ -198,7 +198,7 @@ refused_is : (rule : ℕ) (key : Key) (addr : ℕ) → refused_line rule key add
 unfolding refused_line key_line kind_text
 refused_is rule key addr = refl
 
--- the text of a report that is this one
+-- the text of a report
 pub text_of : (r q : Report) (line : List ℕ) → r ≡ q → q.text ≡ line → r.text ≡ line
 text_of r q line e f = ap (λ (x : Report). x.text) e ∙ f
 
@@ -208,11 +208,11 @@ says_certified r q need areas e f = text_of r q _ e (f ∙ certified_is need are
 pub says_refused : (r : Report) (rule : ℕ) (key : Key) (addr : ℕ) → r ≡ says Refused (refused_line rule key addr) → r.text ≡ refused_words rule key addr
 says_refused r rule key addr e = text_of r _ _ e (refused_is rule key addr)
 
--- what is held once this report's files are written
+-- the files after a report's files were written
 pub held_of : (m : Map) (r q : Report) → r ≡ q → with_written (Some m) r.writes ≡ with_written (Some m) q.writes
 held_of m r q e = ap (λ (x : Report). with_written (Some m) x.writes) e
 
--- nothing is written
+-- the files after a report without files
 pub held_nothing : (m : Map) (r : Report) → r.writes ≡ [] → with_written (Some m) r.writes ≡ Some m
 held_nothing m r e = ap (λ (ws : List Written). with_written (Some m) ws) e
 

@@ -1,4 +1,4 @@
--- Refusals of the linker, as they are told.
+-- The reports on refusals of the linker.
 use Rattle.std.proofs.Common.{◌≡◌, ℕ, List, Option, Some, None, Result, Ok, Err, refl, ap, ◌∙◌}
 use Rattle.std.specs.Prelude.{IfOk, IfSome, IsOkAnd}
 use Rattle.tc_link.specs.Linked.{Refusal}

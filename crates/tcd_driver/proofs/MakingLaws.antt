@@ -1,4 +1,4 @@
--- What the commands that make a certificate report.
+-- The reports of commands that make a certificate.
 use Rattle.std.proofs.Common.{◌≡◌, ◌≢◌, ◌≤◌, ◌-◌, ◌^◌, ℕ, List, [], length, Result, Ok, Err, sym, ap, subst, ◌∙◌, inl, inr}
 use Rattle.elf_image.specs.Images.{ImageData}
 use Rattle.tcd_plan.specs.PlanData.{PlanData}
@@ -22,31 +22,31 @@ use Rattle.tcd_driver.specs.Cert.{IsCertifying}
 use Rattle.tcd_reading.specs.declared.status.Status.TheVariants.{Done, Refused}
 use Rattle.tcd_reading.proofs.Decided.{AreAlike, status_is, writes_are}
 
--- a certificate is of one of the versions of which none is accepted, or none is made
+-- if no certificate of version 1 and none of version 2 is accepted, no certificate is the best
 pub none_best : (i : ImageData) (p : PlanData) (c : CertData) → NoneAccepted i p 1 → NoneAccepted i p 2 → IsCert c → IsBest i p c → ⊥
 none_best i p c one two is (first m) = one c is m.of_version m.accepted
 none_best i p c one two is (second none m) = two c is m.of_version m.accepted
 
--- the bytes of the best certificate are few enough to be read
+-- the bytes of the best certificate are at most as many as may be read
 pub best_most : (i : ImageData) (p : PlanData) (bytes : List ℕ) → SpellBest i p bytes → length bytes ≤ 2 ^ 30
 best_most i p bytes s = subst (λ (b : List ℕ). length b ≤ 2 ^ 30) (sym s.spell) (cert_most s.cert s.is_cert)
 
 pub same_cert : (r : Result CertData FormErr) (x y : CertData) → r ≡ Ok x → r ≡ Ok y → x ≡ y
 same_cert r x y e f = cc
 
--- reading them gives that certificate
+-- reading the bytes gives that certificate
 pub best_read : (i : ImageData) (p : PlanData) (lent bytes : List ℕ) (c : CertData) → lent ≡ bytes → (s : SpellBest i p bytes) → certificate_of lent ≡ Ok c → s.cert ≡ c
 best_read i p lent bytes c e s read =
     same_cert (certificate_of lent) s.cert c (ap certificate_of (e ∙ s.spell) ∙ written_is_read s.cert s.is_cert) read
 
--- the bytes that were made spell the best certificate
+-- bytes that were made spell the best certificate
 pub first_spells : (i : ImageData) (p : PlanData) (bytes : List ℕ) → AreMade i p 1 bytes → SpellBest i p bytes
 first_spells i p bytes m = record { cert = m.cert; spell = m.spell; is_cert = m.is_cert; best = first m.made }
 
 pub second_spells : (i : ImageData) (p : PlanData) (bytes : List ℕ) → NoneAccepted i p 1 → AreMade i p 2 bytes → SpellBest i p bytes
 second_spells i p bytes none m = record { cert = m.cert; spell = m.spell; is_cert = m.is_cert; best = second none m.made }
 
--- the certificate that was read is accepted, so the one that the bytes spell is certified
+-- the certificate that is read is accepted, so the bytes spell the best certificate with its need
 pub spells_certified : (i : ImageData) (p : PlanData) (lent bytes : List ℕ) (c : CertData) (need : ℕ) → lent ≡ bytes → SpellBest i p bytes → certificate_of lent ≡ Ok c → Accepts i p c → need ≡ certified_need i p c → Safe i p need → SpellCertified i p bytes need
 spells_certified i p lent bytes c need e s read accepted is safe =
     let same = sym (best_read i p lent bytes c e s read) in
@@ -62,7 +62,7 @@ spells_certified i p lent bytes c need e s read accepted is safe =
       need_is = is ∙ ap (certified_need i p) same;
     }
 
--- what is told of it
+-- the report on it
 pub certifying_report : (name : List ℕ) (i : ImageData) (fields p : PlanData) (bytes : List ℕ) (need : ℕ) (r : Report) → fields ≡ p → SpellCertified i p bytes need → r ≡ writes_file name bytes (certified_line need (fields.areas - fields.reserve)) → IsCertifying name i p r
 certifying_report name i fields p bytes need r same s e =
     made.certified s.cert s.certified
@@ -78,17 +78,17 @@ ok_or_err : (r : Result CertData FormErr) (x : CertData) (f : FormErr) → r ≡
 ok_or_err r x f e g = cc
 
 -- ---- bytes that spell a certificate
--- they are read
+-- reading these bytes gives a certificate
 pub spelled_is_read : (c : CertData) (bytes : List ℕ) (f : FormErr) → IsCert c → bytes ≡ bytes_of c → certificate_of bytes ≡ Err f → ⊥
 spelled_is_read c bytes f is spell bad = ok_or_err (certificate_of bytes) c f (ap certificate_of spell ∙ written_is_read c is) bad
 
--- and if it is accepted, what is read has no fault
+-- if the certificate is accepted, the one that is read has no fault
 pub spelled_has_no_fault : (i : ImageData) (p : PlanData) (c read : CertData) (bytes : List ℕ) (rule : ℕ) (key : Key) (addr : ℕ)
     → IsCert c → bytes ≡ bytes_of c → Accepts i p c → certificate_of bytes ≡ Ok read → IsFirstFault i p read rule key addr → ⊥
 spelled_has_no_fault i p c read bytes rule key addr is spell accepted is_read told =
     fails_refutes i p read rule key addr told.fails (subst (Accepts i p) (same_cert (certificate_of bytes) c read (ap certificate_of spell ∙ written_is_read c is) is_read) accepted)
 
--- the same for those that were made
+-- the same for bytes that were made
 pub made_is_read : (i : ImageData) (p : PlanData) (version : ℕ) (bytes : List ℕ) (f : FormErr) → AreMade i p version bytes → certificate_of bytes ≡ Err f → ⊥
 made_is_read i p version bytes f m bad = spelled_is_read m.cert bytes f m.is_cert m.spell bad
 

@@ -1,4 +1,4 @@
--- What `ship` reports, and the sources that it reads.
+-- The reports of `ship`, and the sources that it reads.
 use Rattle.std.proofs.Common.{◌≡◌, ◌≢◌, ◌≤◌, ◌+◌, ◌-◌, ℕ, List, [], ◌∷◌, ◌++◌, length, Option, Some, None, Result, Ok, Err, refl, sym, ap, subst, ◌∙◌, inl, inr}
 use Rattle.std.specs.Prelude.{IfOk, IfSome, IsOkAnd, slice_get}
 use Rattle.std.proofs.lemmas.List.{length-append}
@@ -70,7 +70,7 @@ module _ (elf cert : List ℕ) (p : PlanData) (l : LayoutData) (ss : List Source
   pub shipped_alike : AreAlike (IsShipped elf cert p l ss)
   shipped_alike = record { told = shipped_told; done = shipped_done; one = shipped_one }
 
--- the image and its certificate are written
+-- the report with the image and its certificate
 pub shipping_report : (elf cert bytes made : List ℕ) (i : ImageData) (fields p : PlanData) (need : ℕ) (first second : Written) (r : Report) → fields ≡ p → bytes ≡ file_of i → image_of (file_of i) ≡ Ok i → SpellCertified i p made need →
     first ≡ record { name = elf; bytes = bytes } → second ≡ record { name = cert; bytes = made } → r ≡ writes_two first second (certified_line need (fields.areas - fields.reserve)) → IsShipping elf cert p i r
 shipping_report elf cert bytes made i fields p need first second r same spell reads s one two e =
@@ -85,7 +85,7 @@ shipping_report elf cert bytes made i fields p need first second r same spell re
 same_read : (o : Result ImageData ImageErr) (i j : ImageData) → o ≡ Ok i → o ≡ Ok j → j ≡ i
 same_read o i j e f = cc
 
--- the image that is read from the bytes is the one that they were written for
+-- reading the bytes of an image gives this image
 pub read_again : (i j : ImageData) (lent bytes : List ℕ) → lent ≡ bytes → image_of bytes ≡ Ok i → image_of lent ≡ Ok j → j ≡ i
 read_again i j lent bytes same e f = same_read (image_of bytes) i j e (ap image_of (sym same) ∙ f)
 
@@ -94,7 +94,7 @@ spelled_again i j lent bytes same is e f =
     subst (λ (x : ImageData). SpellImage x bytes) (sym (read_again i j lent bytes same e f)) (record { spell = is; read = ap image_of (sym is) ∙ e })
 
 -- ---- linking
--- the image of the sources
+-- the objects can be linked
 pub image_report : (elf cert : List ℕ) (p : PlanData) (l : LayoutData) (ss : List SourceData) (os : List ObjectData) (i : ImageData) (r : Report) → IsLayout l → AreSourcesOf ss os → image_of_objects os l ≡ Ok i → IsShipping elf cert p i r → IsShipped elf cert p l ss r
 image_report elf cert p l ss os i r keeps are is h =
     let is' : image_of_objects (objects_of ss) l ≡ Ok i = subst (λ (x : List ObjectData). image_of_objects x l ≡ Ok i) are.objects_are is in
@@ -104,7 +104,7 @@ unlinked_by : (elf cert : List ℕ) (p : PlanData) (l : LayoutData) (ss : List S
 unlinked_by elf cert p l ss None r some is text = absurd (some refl)
 unlinked_by elf cert p l ss (Some q) r some is text = unlinked q is text
 
--- the objects aren't linked
+-- the objects can't be linked
 pub unlinked_report : {V E : Type 0} (items : V → List ℕ) (elf cert : List ℕ) (p : PlanData) (l : LayoutData) (ss : List SourceData) (os : List ObjectData) (e : LinkErr) (line : Result V E) (r : Report) → AreSourcesOf ss os →
     IfSome (refusal_of e) (λ q. image_of_objects os l ≡ Err q) → IfOk line (λ x. IfSome (refusal_of e) (λ q. items x ≡ link_line q)) → (e ≡ error.NoMemory → ⊥) → IsOkAnd line (λ x. r ≡ says BadInput (items x)) → IsShipped elf cert p l ss r
 unlinked_report items elf cert p l ss os e line r are is made some said =
@@ -120,7 +120,7 @@ objects_more : (ss : List SourceData) (s : SourceData) → objects_of (ss ++ s �
 objects_more [] s = refl
 objects_more (x ∷ ss) s = ap (λ (os : List ObjectData). x.object ∷ os) (objects_more ss s)
 
--- so many sources are read, of which the objects are kept
+-- this number of sources was read, and their objects are kept
 pub record HasReadSources (names : List (List ℕ)) (P : List SourceData → Report → Type 0) (old mid : FilesSeen) (objects : List ObjectData) (i : ℕ) : Type 0 where
   pub sources : List SourceData
   pub are : AreSourcesOf sources objects
@@ -128,7 +128,7 @@ pub record HasReadSources (names : List (List ℕ)) (P : List SourceData → Rep
   pub count : length objects ≡ i
 
 module _ (names : List (List ℕ)) (P : List SourceData → Report → Type 0) where
-  -- none is read
+  -- no source was read
   pub no_sources : (files : FilesSeen) (objects : List ObjectData) → objects ≡ [] → HasReadSources names P files files objects 0
   no_sources files objects e = record {
     sources = [];
@@ -137,7 +137,7 @@ module _ (names : List (List ℕ)) (P : List SourceData → Report → Type 0) w
     count = ap (λ (os : List ObjectData). length os) e;
   }
 
-  -- one more is read
+  -- one more source is read
   pub more_sources : (i : ℕ) (name : List ℕ) (s : SourceData) (old mid new : FilesSeen) (objects objects' : List ObjectData) → slice_get names i ≡ Some name → HasReadSources names P old mid objects i → LeavesFiles name mid new → mid.faults ≤ new.faults →
       HoldsInput (placed_source_form i) mid.held name s → objects' ≡ objects ++ s.object ∷ [] → HasReadSources names P old new objects' (i + 1)
   more_sources i name s old mid new objects objects' at so_far leaves later holds e = record {

@@ -1,4 +1,4 @@
--- What the words of each command ask for, and how a call of the tool ends by them.
+-- The commands that words ask for, and how a call of the tool with these words ends.
 use Rattle.std.proofs.Common.{◌≡◌, ◌≢◌, ◌≤◌, ◌+◌, ◌^◌, ◌&&◌, ℕ, Bool, true, false, not, nat_le, if◌then◌else◌, List, [], ◌∷◌, ◌++◌, length, Option, Some, None, refl, sym, ap, subst, ◌∙◌, arith}
 use Rattle.std.specs.Prelude.{codes, IfSome, IfNone}
 use Rattle.std.specs.Bool.{then_some}
@@ -29,8 +29,8 @@ use Rattle.tcd_driver.proofs.Headlines.Cells.{cells_are_done, cells_refuse, cell
 use Rattle.tcd_driver.proofs.Headlines.Tasks.{tasks_are_done, tasks_refuse, taskcert_is_done, taskcert_refuses}
 use Rattle.tcd_driver.proofs.Headlines.Texts.{cfg_is_done, cfg_refuses, report_is_done, report_refuses, dis_is_done, dis_refuses, gen_is_done, gen_refuses}
 
--- ---- a call that ended with a status that a report has
--- a report ends a call with this status, neither by a failure nor for want of memory
+-- ---- a call that ends with the status of a report
+-- with this status a call ends by a report, and not by a failure or by running out of memory
 record IsTold (status : Status) : Type 0 where
   no_fault : status ≢ Fault
   some_memory : status ≢ NoMemory
@@ -45,7 +45,7 @@ refused_told = record { no_fault = λ e. cc; some_memory = λ e. cc; good_words 
 bad_told : IsTold BadInput
 bad_told = record { no_fault = λ e. cc; some_memory = λ e. cc; good_words = λ e. cc }
 
--- what ended so was said, written and printed
+-- a call that ends with this status has a report, which is written and printed
 record Told (reading : Reading) (files files' : FilesSeen) (sink sink' : SinkSeen) (status : Status) : Type 0 where
   report : Report
   said : Says reading files.held report
@@ -68,7 +68,7 @@ module _ (reading : Reading) (files files' : FilesSeen) (sink sink' : SinkSeen) 
   told (ending.unread e held quiet counted unsure) = absurd (is_told.no_fault e)
   told (ending.no_memory e held quiet) = absurd (is_told.some_memory e)
 
--- what it left, where the files tell
+-- the files after it, if they reveal their contents
 left : (reading : Reading) (files files' : FilesSeen) (sink sink' : SinkSeen) (status : Status) (Holds : Map → Map → List ℕ → Type 0) (m : Map) → IsTold status → files.held ≡ Some m →
     Reports reading status Holds → Ends reading files files' sink sink' status →
     (after : Map) × (printed : List ℕ) × (files'.held ≡ Some after) × ((text : List ℕ) → sink.written ≡ Some text → sink'.written ≡ Some (text ++ printed)) × Holds m after printed
@@ -78,7 +78,7 @@ left reading files files' sink sink' status Holds m is_told held reports ends =
     let l = reports m r (subst (λ (o : Option Map). Says reading o r) held t.said) t.is in
     (l.after, r.text, t.held ∙ ap (λ (o : Option Map). with_written o r.writes) held ∙ l.held, (λ text written. t.printed ∙ ap (λ (o : Option (List ℕ)). with_appended o r.text) written), l.holds)
 
--- words of no form end with no such status
+-- words that are no command don't end with such a status
 by_prints : (text : List ℕ) (sink sink' : SinkSeen) (status : Status) → IsTold status → Prints BadWords text sink sink' status → ⊥
 by_prints text sink sink' status is_told (whole e p) = is_told.good_words e
 by_prints text sink sink' status is_told (cut e front counted full) = is_told.no_fault e
@@ -87,7 +87,7 @@ pub bad_end : (files files' : FilesSeen) (sink sink' : SinkSeen) (status : Statu
 bad_end files files' sink sink' status line same is prints = record { files_stay = same; prints = subst (λ (t : List ℕ). Prints BadWords t sink sink' status) is prints }
 
 -- ---- words
--- a command that is asked for where a test holds
+-- a command that words ask for if a test holds
 or_none : (b : Bool) (c : Command) → option_or (if b then Some c else None) None ≡ (if b then Some c else None)
 or_none true c = refl
 or_none false c = refl
@@ -129,23 +129,23 @@ names_differ elf cert sources e same =
     let f : true ≡ false = sym ((bytes_eq-Decides elf cert).1 same) ∙ not-true (bytes_eq elf cert) apart.1 in
     cc
 
--- so do those that `taskcert` writes
+-- the names that `taskcert` writes differ
 all_differ : (certs : List (List ℕ)) → is_taskcert (codes "taskcert") certs ≡ true → are_different certs ≡ true
 all_differ certs e = (and_parts (bytes_eq (codes "taskcert") (codes "taskcert") && nat_le 1 (length certs) && nat_le (length certs) 65531) (are_different certs) e).1
 
 module _ (P : Command → Type 0) (Q : Type 0) (never : Q → ⊥) where
-  -- a word that is to be an address
+  -- a word for an address
   boot_asked : (elf plan cert : List ℕ) (o : Option ℕ) → IfSome (option_map (λ x. asked.boot (record { elf = elf; plan = plan; cert = cert; at = x })) o) P →
       IfNone (option_map (λ x. asked.boot (record { elf = elf; plan = plan; cert = cert; at = x })) o) Q → (at : ℕ) × (o ≡ Some at) × P (asked.boot (record { elf = elf; plan = plan; cert = cert; at = at }))
   boot_asked elf plan cert None some none = absurd (never none)
   boot_asked elf plan cert (Some at) some none = (at, refl, some)
 
-  -- a test and its command
+  -- a test, and the command if it holds
   then_asked : (b : Bool) (c : Command) → IfSome (then_some b c) P → IfNone (then_some b c) Q → (b ≡ true) × P c
   then_asked true c some none = (refl, some)
   then_asked false c some none = absurd (never none)
 
-  -- two such words
+  -- two words for addresses
   bootgen_of : List ℕ → List ℕ → ℕ → ℕ → Command
   bootgen_of plan source entry at = asked.bootgen (record { plan = plan; entry = entry; at = at; source = source })
 
@@ -167,7 +167,7 @@ module _ (P : Command → Type 0) (Q : Type 0) (never : Q → ⊥) where
       let a = at_asked plan source entry at_word some none in
       (entry, a.0, refl, a.1, a.2, a.3)
 
-  -- a word that is to be a number of functions
+  -- a word for a number of functions
   some_asked : (b : Bool) (n : ℕ) → IfSome (option_map asked.generate (then_some b n)) P → IfNone (option_map asked.generate (then_some b n)) Q → (b ≡ true) × P (asked.generate n)
   some_asked true n some none = (refl, some)
   some_asked false n some none = absurd (never none)
@@ -182,7 +182,7 @@ module _ (P : Command → Type 0) (Q : Type 0) (never : Q → ⊥) where
 
 -- ---- a call
 module _ (call : Call) where
-  -- a command ended it so
+  -- the call ends as this command says
   abbrev Ended : Command → Type 0
   Ended c = Ends (reading_of c) call.files call.files_after call.sink call.sink_after call.status
 
@@ -202,13 +202,13 @@ module _ (call : Call) where
     ends_with : (reading : Reading) (status : Status) → call.status ≡ status → Ends reading call.files call.files_after call.sink call.sink_after call.status → Ends reading call.files call.files_after call.sink call.sink_after status
     ends_with reading status is ends = subst (λ (s : Status). Ends reading call.files call.files_after call.sink call.sink_after s) is ends
 
-    -- words that are this command, whatever its names
+    -- words that are this command for all names
     fixed : (words : List (List ℕ)) (status : Status) (reading : Reading) (Holds : Map → Map → List ℕ → Type 0) → IsTold status → Reports reading status Holds →
         (IfSome (command words) Ended → Ends reading call.files call.files_after call.sink call.sink_after call.status) → Means call words status Holds
     fixed words status reading Holds is_told reports asks m are is held =
         left reading call.files call.files_after call.sink call.sink_after status Holds m is_told held reports (ends_with reading status is (asks (some_by words are)))
 
-    -- words that are one where a test holds
+    -- words that are a command if a test holds
     tested : (words : List (List ℕ)) (status : Status) (c : Command) (b : Bool) (Holds : Map → Map → List ℕ → Type 0) → IsTold status → command words ≡ (if b then Some c else None) →
         (b ≡ true → Reports (reading_of c) status Holds) → Means call words status Holds
     tested words status c b Holds is_told asks reports m are is held =

@@ -1,4 +1,4 @@
--- What words ask for.
+-- The commands that words ask for.
 use Rattle.std.proofs.Common.{◌≡◌, Option, sym, subst}
 use Rattle.std.specs.Prelude.{IfSome, IfNone}
 

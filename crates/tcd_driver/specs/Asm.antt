@@ -1,4 +1,4 @@
--- What `asm` reads, says and writes.
+-- What `asm` reads, reports and writes.
 use Rattle.std.specs.Prelude.{◌≡◌, ℕ, List, length}
 use Rattle.tc_object.specs.Objects.{ObjectData}
 use Rattle.tc_object.specs.Spelling.{bytes_of}
@@ -7,12 +7,12 @@ use Rattle.tcd_reading.specs.Inputs.{Reading, input, answer}
 use Rattle.tcd_forms.specs.Forms.{source_form}
 use Rattle.tcd_forms.specs.Lines.{assembled_line}
 
--- the names of the file that `asm` reads and of the one that it writes
+-- the names of the source that `asm` reads, and of the object that it writes
 pub record AsmNames : Type 0 where
   pub source : List ℕ
   pub object : List ℕ
 
--- an object is written under this name
+-- the report with an object that is written under this name
 abbrev pub WritesObject : List ℕ → ObjectData → Report → Type 0
 WritesObject name object report = report ≡ writes_file name (bytes_of object) (assembled_line (length (bytes_of object)))
 

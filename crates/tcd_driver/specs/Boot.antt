@@ -1,4 +1,4 @@
--- What `boot` and `bootgen` read and say.
+-- What `boot` and `bootgen` read and report.
 use Rattle.std.specs.Prelude.{◌≡◌, ◌-◌, ℕ, List, Err}
 use Rattle.elf_image.specs.Images.{ImageData}
 use Rattle.tcd_plan.specs.PlanData.{PlanData}
@@ -26,9 +26,9 @@ pub record BootNames : Type 0 where
   pub cert : List ℕ
   pub at : ℕ
 
--- the verdict on an image, a plan, a certificate and a boot sequence: the certificate isn't accepted, and its first fault is
--- told; or it is, and what is against the sequence is told; or the sequence stands and may run, and every run from reset on is
--- safe
+-- The verdict on an image, a plan, a certificate and a boot sequence. The certificate isn't
+-- accepted, and the line has its first fault. Or it is accepted, and the sequence is refused. Or
+-- the sequence is at the address and may run, and every run from reset on is safe.
 pub data IsBootVerdict (image : ImageData) (plan : PlanData) (cert : CertData) (at : ℕ) (report : Report) : Type 0 where
   refused :
       (rule : ℕ) (key : Key) (addr : ℕ) → IsFirstFault image plan cert rule key addr → report ≡ says Refused (refused_line rule key addr)
@@ -41,21 +41,22 @@ pub data IsBootVerdict (image : ImageData) (plan : PlanData) (cert : CertData) (
       → report ≡ says Done (boots_line (boot_events plan) (certified_need image plan cert) (plan.areas - plan.reserve))
       → IsBootVerdict image plan cert at report
 
--- an executable, a plan and a certificate are read; then the verdict is told
+-- an executable, a plan and a certificate are read; then the verdict is reported
 abbrev pub boot_reading : BootNames → Reading
 boot_reading names =
     input ImageData elf_form names.elf
     (λ image. input PlanData plan_form names.plan (λ plan. input CertData cert_form names.cert (λ cert. answer (IsBootVerdict image plan cert names.at))))
 
 -- ---- bootgen
--- the name of the plan that `bootgen` reads, the entry and the address of the sequence, and the name of the source
+-- the name of the plan that `bootgen` reads, the entry and the address of the boot sequence, and
+-- the name of the source that it writes
 pub record BootgenNames : Type 0 where
   pub plan : List ℕ
   pub entry : ℕ
   pub at : ℕ
   pub source : List ℕ
 
--- the boot sequence is written as a source: the listing of the image whose one segment it is
+-- the boot sequence is written as a source: the listing of the image whose only segment it is
 abbrev pub WritesBoot : ℕ → ℕ → List ℕ → PlanData → Report → Type 0
 WritesBoot entry at source plan report = report ≡ writes_file source (listing_of (boot_image_of plan entry at)) generated_boot_line
 

@@ -1,4 +1,4 @@
--- What `cert` reads, says and writes.
+-- What `cert` reads, reports and writes.
 use Rattle.std.specs.Prelude.{◌≡◌, ◌-◌, ℕ, List}
 use Rattle.elf_image.specs.Images.{ImageData}
 use Rattle.tcd_plan.specs.PlanData.{PlanData}
@@ -13,14 +13,14 @@ use Rattle.tcd_forms.specs.Lines.{refused_line, certified_line}
 use Rattle.tcd_driver.specs.Made.{IsCertified, AreNone}
 use Rattle.tcd_reading.specs.declared.status.Status.TheVariants.{Refused}
 
--- the names of the files that `cert` reads and of the one that it writes
+-- the names of the files that `cert` reads, and of the certificate that it writes
 pub record CertNames : Type 0 where
   pub elf : List ℕ
   pub plan : List ℕ
   pub cert : List ℕ
 
--- what is said of an image and a plan: no certificate is accepted, and why is told; or the best one is written under this name,
--- and the headline holds with its need
+-- The report on an image and a plan. Either no certificate is accepted, and the line says why. Or
+-- the best one is written under this name, and every run is safe with its need.
 pub data IsCertifying (name : List ℕ) (image : ImageData) (plan : PlanData) (report : Report) : Type 0 where
   refused :
       (rule : ℕ) (key : Key) (addr : ℕ) → AreNone image plan rule key addr → report ≡ says Refused (refused_line rule key addr)

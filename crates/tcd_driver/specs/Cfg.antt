@@ -1,4 +1,4 @@
--- What `cfg` reads and says.
+-- What `cfg` reads and reports.
 use Rattle.std.specs.Prelude.{◌≡◌, ℕ, List}
 use Rattle.elf_image.specs.Images.{ImageData}
 use Rattle.tcd_plan.specs.PlanData.{PlanData}
@@ -18,24 +18,25 @@ pub record CfgNames : Type 0 where
   pub elf : List ℕ
   pub plan : List ℕ
 
--- the text is the graph of the best certificate, for which the headline holds, and the edge of each step of each run stands on
--- one of its lines, with its address and the key of its frame
+-- The text is the graph of the best certificate, so every run is safe. The edge of each step of
+-- each run is on one of its lines, with its address and the key of its frame.
 pub record IsDrawn (image : ImageData) (plan : PlanData) (text : List ℕ) : Type 0 where
   pub cert : CertData
   pub certified : IsCertified image plan cert
   pub graph : IsGraph image plan cert text
   pub edges : EdgesStand image plan cert graph.lines
 
--- what is said of an image and a plan: no certificate is accepted, and why is told; or the graph of the best one is
+-- the report on an image and a plan: no certificate is accepted, and the line says why; or the text
+-- is the graph of the best one
 pub data IsDrawing (image : ImageData) (plan : PlanData) (told : Report) : Type 0 where
   refused : (rule : ℕ) (key : Key) (addr : ℕ) → AreNone image plan rule key addr → told ≡ says Refused (refused_line rule key addr) → IsDrawing image plan told
   drawn : (text : List ℕ) → IsDrawn image plan text → told ≡ says Done text → IsDrawing image plan told
 
--- an executable and a plan are read; then the graph is drawn
+-- an executable and a plan are read; then the graph is reported
 abbrev pub cfg_reading : CfgNames → Reading
 cfg_reading names = input ImageData elf_form names.elf (λ image. input PlanData plan_form names.plan (λ plan. answer (IsDrawing image plan)))
 
--- ---- by what the code has
--- the bytes spell a certificate that is certified, with some need
+-- ---- the same, by the values in the code
+-- the bytes spell the best certificate, which has some need
 abbrev pub SpellOne : ImageData → PlanData → List ℕ → Type 0
 SpellOne image plan bytes = (need : ℕ) × SpellCertified image plan bytes need

@@ -1,4 +1,4 @@
--- What `check` reads and says.
+-- What `check` reads and reports.
 use Rattle.std.specs.Prelude.{◌≡◌, ◌-◌, ℕ, List}
 use Rattle.elf_image.specs.Images.{ImageData}
 use Rattle.tcd_plan.specs.PlanData.{PlanData}
@@ -18,8 +18,8 @@ pub record CheckNames : Type 0 where
   pub plan : List ℕ
   pub cert : List ℕ
 
--- the verdict on an image, a plan and a certificate: it is accepted, and then the headline holds; or it isn't, and the first
--- fault is told
+-- The verdict on an image, a plan and a certificate. Either the certificate isn't accepted, and the
+-- line has its first fault. Or it is accepted, and every run is safe with its need.
 pub data IsVerdict (image : ImageData) (plan : PlanData) (cert : CertData) (report : Report) : Type 0 where
   refused :
       (rule : ℕ) (key : Key) (addr : ℕ) → IsFirstFault image plan cert rule key addr → report ≡ says Refused (refused_line rule key addr)
@@ -28,7 +28,7 @@ pub data IsVerdict (image : ImageData) (plan : PlanData) (cert : CertData) (repo
       Accepts image plan cert → Safe image plan (certified_need image plan cert)
       → report ≡ says Done (certified_line (certified_need image plan cert) (plan.areas - plan.reserve)) → IsVerdict image plan cert report
 
--- an executable, a plan and a certificate are read; then the verdict is told
+-- an executable, a plan and a certificate are read; then the verdict is reported
 abbrev pub check_reading : CheckNames → Reading
 check_reading names =
     input ImageData elf_form names.elf

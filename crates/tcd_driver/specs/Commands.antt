@@ -24,7 +24,8 @@ use Rattle.tcd_driver.specs.Taskcert.{TaskcertNames, taskcert_reading}
 use Rattle.tcd_driver.specs.declared.command.Command.{Command as Words}
 use Rattle.tcd_driver.specs.declared.command.Command.TheVariants as words
 
--- a command with its files: `dis` reads an executable, and what is generated has so many functions
+-- a command with the names of its files; for `dis` the executable, for `gen` the number of
+-- functions
 pub data Command : Type 0 where
   check : CheckNames → Command
   certify : CertNames → Command
@@ -43,39 +44,39 @@ pub data Command : Type 0 where
   generate : ℕ → Command
   taskcert : TaskcertNames → Command
 
--- `link` has one object at least; no more than 65,535 words are a command
+-- `link` has at least one object; a command has at most 65,535 words
 abbrev pub is_link : List ℕ → List (List ℕ) → Bool
 is_link verb objects = bytes_eq verb (codes "link") && nat_le 1 (length objects) && nat_le (length objects) 65532
 
--- a layout, the image, and objects
+-- the command `link`: a layout, the image, and objects
 abbrev pub link_form : List (List ℕ) → Option Command
 link_form (verb ∷ layout ∷ image ∷ objects) = if is_link verb objects then Some (link (record { layout = layout; image = image; objects = objects })) else None
 link_form words = None
 
--- `ship` writes two files of different names, and has one source at least
+-- `ship` writes two files with different names, and has at least one source
 abbrev pub is_ship : List ℕ → List ℕ → List ℕ → List (List ℕ) → Bool
 is_ship verb elf cert sources = bytes_eq verb (codes "ship") && not (bytes_eq elf cert) && nat_le 1 (length sources) && nat_le (length sources) 65530
 
--- a plan, a layout, the image, its certificate, and sources
+-- the command `ship`: a plan, a layout, the image, its certificate, and sources
 abbrev pub ship_form : List (List ℕ) → Option Command
 ship_form (verb ∷ plan ∷ layout ∷ elf ∷ cert ∷ sources) =
     if is_ship verb elf cert sources then Some (ship (record { plan = plan; layout = layout; elf = elf; cert = cert; sources = sources })) else None
 ship_form words = None
 
--- `tasks` has one certificate at least
+-- `tasks` has at least one certificate
 abbrev pub is_tasks : List ℕ → List (List ℕ) → Bool
 is_tasks verb certs = bytes_eq verb (codes "tasks") && nat_le 1 (length certs) && nat_le (length certs) 65531
 
--- no name stands twice
+-- no name is there twice
 abbrev pub are_different : List (List ℕ) → Bool
 are_different [] = true
 are_different (name ∷ names) = not (list_any (bytes_eq name) names) && are_different names
 
--- `taskcert` writes each certificate under a name of its own
+-- `taskcert` has at least one certificate, and writes each under a name of its own
 abbrev pub is_taskcert : List ℕ → List (List ℕ) → Bool
 is_taskcert verb certs = bytes_eq verb (codes "taskcert") && nat_le 1 (length certs) && nat_le (length certs) 65531 && are_different certs
 
--- an image, a plan, its tasks, and certificates
+-- the commands `tasks` and `taskcert`: an image, a plan, its tasks, and certificates
 abbrev pub tasks_words : List (List ℕ) → Option Command
 tasks_words (verb ∷ elf ∷ plan ∷ list ∷ certs) =
     if is_tasks verb certs then Some (tasks (record { elf = elf; plan = plan; tasks = list; certs = certs }))
@@ -83,30 +84,31 @@ tasks_words (verb ∷ elf ∷ plan ∷ list ∷ certs) =
     else None
 tasks_words words = None
 
--- a plan, the entry and the address of a boot sequence that doesn't pass 2^32, and a source
+-- the command `bootgen`: a plan, the entry and the address of a boot sequence that doesn't pass
+-- 2^32, and a source
 abbrev pub bootgen_form : List ℕ → List ℕ → List ℕ → List ℕ → Option Command
 bootgen_form plan entry at source =
     option_and_then (λ e. option_and_then (λ x. then_some (nat_le x 0xffffff20) (bootgen (record { plan = plan; entry = e; at = x; source = source }))) (hex_number_of at)) (hex_number_of entry)
 
--- an image, a plan, a certificate, and the address of a boot sequence
+-- the command `boot`: an image, a plan, a certificate, and the address of a boot sequence
 abbrev pub boot_form : List ℕ → List ℕ → List ℕ → List ℕ → Option Command
 boot_form elf plan cert at = option_map (λ x. boot (record { elf = elf; plan = plan; cert = cert; at = x })) (hex_number_of at)
 
--- the commands with one word behind their verb
+-- the commands with one word after their verb
 abbrev pub one_word : List ℕ → List ℕ → Option Command
 one_word verb word =
     if bytes_eq verb (codes "dis") then Some (dis word)
     else if bytes_eq verb (codes "gen") then option_map generate (functions_in word)
     else None
 
--- with two
+-- the commands with two words after their verb
 abbrev pub two_words : List ℕ → List ℕ → List ℕ → Option Command
 two_words verb first second =
     if bytes_eq verb (codes "asm") then Some (asm (record { source = first; object = second }))
     else if bytes_eq verb (codes "cfg") then Some (cfg (record { elf = first; plan = second }))
     else None
 
--- with three
+-- the commands with three words after their verb
 abbrev pub three_words : List ℕ → List ℕ → List ℕ → List ℕ → Option Command
 three_words verb elf plan third =
     if bytes_eq verb (codes "check") then Some (check (record { elf = elf; plan = plan; cert = third }))
@@ -115,7 +117,7 @@ three_words verb elf plan third =
     else if bytes_eq verb (codes "run") then Some (run (record { elf = elf; plan = plan; script = third }))
     else None
 
--- with four; addresses are eight upper-case hex digits
+-- the commands with four words after their verb; an address has eight upper-case hex digits
 abbrev pub four_words : List ℕ → List ℕ → List ℕ → List ℕ → List ℕ → Option Command
 four_words verb first second third fourth =
     if bytes_eq verb (codes "cells") then Some (cells (record { elf = first; plan = second; cells = third; cert = fourth }))
@@ -124,7 +126,7 @@ four_words verb first second third fourth =
     else if bytes_eq verb (codes "bootgen") then bootgen_form first second third fourth
     else None
 
--- the commands with a number of words that is fixed
+-- the commands with a fixed number of words
 abbrev pub fixed_form : List (List ℕ) → Option Command
 fixed_form (verb ∷ first ∷ []) = one_word verb first
 fixed_form (verb ∷ first ∷ second ∷ []) = two_words verb first second
@@ -132,11 +134,11 @@ fixed_form (verb ∷ first ∷ second ∷ third ∷ []) = three_words verb first
 fixed_form (verb ∷ first ∷ second ∷ third ∷ fourth ∷ []) = four_words verb first second third fourth
 fixed_form words = None
 
--- what the words ask for
+-- the command that words ask for
 abbrev pub command : List (List ℕ) → Option Command
 command words = option_or (link_form words) (option_or (ship_form words) (option_or (tasks_words words) (fixed_form words)))
 
--- what a command reads, in the order of its words, and what it reports then
+-- the files that a command reads, in the order of its words, and its report
 abbrev pub reading_of : Command → Reading
 reading_of (check names) = check_reading names
 reading_of (certify names) = cert_reading names
@@ -155,8 +157,8 @@ reading_of (tasks names) = tasks_reading names
 reading_of (generate functions) = gen_reading functions
 reading_of (taskcert names) = taskcert_reading names
 
--- ---- the command as the program holds it
--- the command that it is
+-- ---- the command as a value of the program
+-- the command that this value is
 abbrev pub asked : Words → Command
 asked (words.Check elf plan cert) = check (record { elf = elf.now; plan = plan.now; cert = cert.now })
 asked (words.Cert elf plan cert) = certify (record { elf = elf.now; plan = plan.now; cert = cert.now })
@@ -175,8 +177,8 @@ asked (words.Taskcert elf plan list certs) = taskcert (record { elf = elf.now; p
 asked (words.Tasks elf plan list certs) = tasks (record { elf = elf.now; plan = plan.now; tasks = list.now; certs = map string_bytes certs.now })
 asked (words.Gen functions) = generate functions
 
--- its objects or sources are few enough to be counted, its boot sequence doesn't pass 2^32, and what it generates has 1 to 500
--- functions
+-- There are at most 65,535 objects or sources. A boot sequence doesn't pass 2^32. A generated image
+-- has 1 to 500 functions.
 abbrev pub KeepsLimits : Words → Type 0
 KeepsLimits (words.Check elf plan cert) = Unit {0}
 KeepsLimits (words.Cert elf plan cert) = Unit {0}

@@ -1,4 +1,4 @@
--- What `dis` reads and says.
+-- What `dis` reads and reports.
 use Rattle.std.specs.Prelude.{◌≡◌, ℕ, List}
 use Rattle.elf_image.specs.Images.{ImageData}
 use Rattle.tc_disasm.specs.Listing.{listing_of}
@@ -11,6 +11,6 @@ use Rattle.tcd_reading.specs.declared.status.Status.TheVariants.{Done}
 abbrev pub IsListing : ImageData → Report → Type 0
 IsListing image report = report ≡ says Done (listing_of image)
 
--- an executable is read; then its listing is told
+-- an executable is read; then its listing is reported
 abbrev pub dis_reading : List ℕ → Reading
 dis_reading elf = input ImageData elf_form elf (λ image. answer (IsListing image))

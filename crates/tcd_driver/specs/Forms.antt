@@ -1,4 +1,4 @@
--- The forms of inputs that stand above the others.
+-- The forms of files of cells and of tasks.
 use Rattle.std.specs.Prelude.{◌≡◌, ◌^◌, List, Ok, Err}
 use Rattle.tcd_plan.specs.PlanData.{PlanData}
 use Rattle.value_cells.specs.Reading.{Reads}
@@ -12,7 +12,7 @@ use Rattle.task_chains.specs.declared.task_lists.TasksErr.{TasksErr}
 use Rattle.tcd_forms.specs.Lines.{long_cells_line, long_tasks_line}
 use Rattle.tcd_driver.specs.Lines.{cells_line, tasks_line}
 
--- the cells of a plan
+-- a file of cells for a plan
 abbrev pub cells_form : PlanData → FormSeen (List Cell)
 cells_form p = record {
   limit = 2 ^ 24;
@@ -21,7 +21,7 @@ cells_form p = record {
   IsBad = λ bytes text. (e : CellsErr) × Reads p bytes (Err e) × (text ≡ cells_line e);
 }
 
--- the tasks of a plan
+-- a file of tasks for a plan
 abbrev pub tasks_form : PlanData → FormSeen TasksData
 tasks_form p = record {
   limit = 2 ^ 24;

@@ -1,4 +1,4 @@
--- What `gen` says.
+-- What `gen` reports.
 use Rattle.std.specs.Prelude.{◌≡◌, ◌-◌, ◌&&◌, nat_le, ℕ, List, length, Option}
 use Rattle.std.specs.Bool.{then_some}
 use Rattle.std.specs.Option.{option_and_then}
@@ -19,12 +19,13 @@ use Rattle.tcd_forms.specs.Lines.{refused_line}
 use Rattle.tcd_forms.specs.Results.{generated_line}
 use Rattle.tcd_reading.specs.declared.status.Status.TheVariants.{Done, Refused}
 
--- how many functions a word asks for: 1 to 500, in decimal without leading zeros
+-- the number of functions that a word asks for: 1 to 500, in decimal without leading zeros
 abbrev pub functions_in : List ℕ → Option ℕ
 functions_in word = option_and_then (λ n. then_some (nat_le 1 n && nat_le n 500) n) (number_of word)
 
--- what is said of an image of so many functions and its plan: no certificate of version 1 is accepted, and why is told; or the
--- least one is made, the headline holds with its need, and its nodes and points are counted
+-- The report on an image of this number of functions and its plan. Either no certificate of version
+-- 1 is accepted, and the line says why. Or the least one is made, every run is safe with its need,
+-- and the line has the numbers of its nodes and points.
 pub data IsSummary (functions : ℕ) (image : ImageData) (plan : PlanData) (report : Report) : Type 0 where
   refused :
       (rule : ℕ) (key : Key) (addr : ℕ) → NoneAccepted image plan 1 → IsRefusal image plan 1 rule key addr → report ≡ says Refused (refused_line rule key addr)
@@ -36,6 +37,7 @@ pub data IsSummary (functions : ℕ) (image : ImageData) (plan : PlanData) (repo
       (generated_line functions (length cert.nodes) (count_points cert.nodes) (certified_need image plan cert) (plan.areas - plan.reserve))
       → IsSummary functions image plan report
 
--- nothing is read: the image of so many functions and its plan are generated, and a certificate is made
+-- nothing is read: the image of this number of functions and its plan are generated, and a
+-- certificate is made
 abbrev pub gen_reading : ℕ → Reading
 gen_reading functions = answer (IsSummary functions (generated_image functions) generated_plan)

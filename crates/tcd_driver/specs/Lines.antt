@@ -1,4 +1,5 @@
--- The printed lines of words that are no command, and of what is against boot sequences, cells and tasks.
+-- The printed lines for words that are no command, and on faults of boot sequences, of files of
+-- cells, and of files of tasks.
 use Rattle.std.specs.Prelude.{ℕ, List, [], ◌∷◌, ◌++◌, codes}
 use Rattle.tc_boot.specs.declared.judging.BootErr.{BootErr}
 use Rattle.tc_boot.specs.declared.judging.BootErr.TheVariants as boot
@@ -9,25 +10,26 @@ use Rattle.task_chains.specs.declared.task_lists.TasksErr.TheVariants as tasks
 use Rattle.tcd_text.specs.Digits.{hex_word}
 use Rattle.tcd_forms.specs.Lines.{at_one}
 
--- the words of no form
+-- the line for words that are no command
 unfoldable pub bad_words_line : List ℕ
 bad_words_line = codes "bad words" ++ 10 ∷ []
 
--- what is against a boot sequence, by its number; the last with the address of the first byte that differs
+-- why a boot sequence is refused: the number of the reason, and for a difference the address of the
+-- first byte that differs
 unfoldable pub unbooted_line : BootErr → List ℕ
 unbooted_line boot.Enabled = codes "refused boot 1" ++ 10 ∷ []
 unbooted_line boot.Odd = codes "refused boot 2" ++ 10 ∷ []
 unbooted_line boot.Outside = codes "refused boot 3" ++ 10 ∷ []
 unbooted_line (boot.Differs p) = codes "refused boot 4 at " ++ (hex_word p ++ 10 ∷ [])
 
--- why a file is no cells: the fault and its line
+-- why a file isn't in the form of cells: the number of the fault, and its line
 unfoldable pub cells_line : CellsErr → List ℕ
 cells_line (cells.BadLine n) = codes "bad cells 1" ++ at_one n
 cells_line (cells.NotRam n) = codes "bad cells 2" ++ at_one n
 cells_line (cells.Twice n) = codes "bad cells 3" ++ at_one n
 cells_line (cells.TooMany n) = codes "bad cells 4" ++ at_one n
 
--- why a file is no tasks: the fault, the first two with the line
+-- why a file isn't in the form of tasks: the number of the fault, and for the first two its line
 unfoldable pub tasks_line : TasksErr → List ℕ
 tasks_line (tasks.BadLine n) = codes "bad tasks 1" ++ at_one n
 tasks_line (tasks.TooMany n) = codes "bad tasks 2" ++ at_one n

@@ -1,4 +1,4 @@
--- What `link` reads, says and writes.
+-- What `link` reads, reports and writes.
 use Rattle.std.specs.Prelude.{◌≡◌, ℕ, List, length, Ok, Err}
 use Rattle.elf_image.specs.Images.{ImageData}
 use Rattle.elf_image.specs.Written.{file_of}
@@ -11,17 +11,17 @@ use Rattle.tcd_forms.specs.Forms.{layout_form, object_form}
 use Rattle.tcd_forms.specs.Lines.{link_line, linked_line}
 use Rattle.tcd_reading.specs.declared.status.Status.TheVariants.{BadInput}
 
--- the names of the layout and the objects that `link` reads, and of the image that it writes
+-- the names of the layout and of the objects that `link` reads, and of the image that it writes
 pub record LinkNames : Type 0 where
   pub layout : List ℕ
   pub image : List ℕ
   pub objects : List (List ℕ)
 
--- an image is written under this name
+-- the report with an image that is written under this name
 abbrev pub WritesImage : List ℕ → ImageData → Report → Type 0
 WritesImage name image report = report ≡ writes_file name (file_of image) (linked_line (length (file_of image)))
 
--- what linking the objects by the layout comes to: the image, or the first refusal
+-- the report on objects that are linked by a layout: the image, or the first refusal
 pub data IsLinked (name : List ℕ) (layout : LayoutData) (objects : List ObjectData) (report : Report) : Type 0 where
   refused : (r : Refusal) → image_of_objects objects layout ≡ Err r → report ≡ says BadInput (link_line r) → IsLinked name layout objects report
   image : (i : ImageData) → image_of_objects objects layout ≡ Ok i → WritesImage name i report → IsLinked name layout objects report

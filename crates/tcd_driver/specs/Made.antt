@@ -12,12 +12,13 @@ use Rattle.depth_maker.specs.Making.{IsMade, NoneAccepted}
 use Rattle.tcd_driver.specs.declared.making.Making.{Making}
 use Rattle.tcd_driver.specs.declared.making.Making.TheVariants as making
 
--- the least certificate of version 1; or of version 2, where none of version 1 is accepted
+-- the best certificate: the least of version 1, or the least of version 2 if none of version 1 is
+-- accepted
 pub data IsBest (image : ImageData) (plan : PlanData) (cert : CertData) : Type 0 where
   first : IsMade image plan 1 cert → IsBest image plan cert
   second : NoneAccepted image plan 1 → IsMade image plan 2 cert → IsBest image plan cert
 
--- such a certificate, which is accepted, so that the headline holds with its need
+-- the best certificate, which is accepted, so that every run is safe with its need
 pub record IsCertified (image : ImageData) (plan : PlanData) (cert : CertData) : Type 0 where
   pub is_cert : IsCert cert
   pub best : IsBest image plan cert
@@ -30,7 +31,7 @@ pub record AreNone (image : ImageData) (plan : PlanData) (rule : ℕ) (key : Key
   pub second : NoneAccepted image plan 2
   pub why : IsRefusal image plan 2 rule key addr
 
--- ---- by what the code has
+-- ---- the same, by the values in the code
 -- the bytes spell the best certificate
 pub record SpellBest (image : ImageData) (plan : PlanData) (bytes : List ℕ) : Type 0 where
   pub cert : CertData
@@ -38,14 +39,14 @@ pub record SpellBest (image : ImageData) (plan : PlanData) (bytes : List ℕ) : 
   pub is_cert : IsCert cert
   pub best : IsBest image plan cert
 
--- the bytes spell a certificate that is certified, with this need
+-- the bytes spell the best certificate, which has this need
 pub record SpellCertified (image : ImageData) (plan : PlanData) (bytes : List ℕ) (need : ℕ) : Type 0 where
   pub cert : CertData
   pub spell : bytes ≡ bytes_of cert
   pub certified : IsCertified image plan cert
   pub need_is : need ≡ certified_need image plan cert
 
--- what making a certificate comes to
+-- the result of making a certificate
 abbrev pub Makes : ImageData → PlanData → Making → Type 0
 Makes image plan (making.Certified bytes need) = SpellCertified image plan bytes.items need
 Makes image plan (making.Refused rule key addr) = AreNone image plan rule key addr

@@ -1,4 +1,4 @@
--- What `report` reads and says.
+-- What `report` reads and reports.
 use Rattle.std.specs.Prelude.{◌≡◌, ℕ, List}
 use Rattle.elf_image.specs.Images.{ImageData}
 use Rattle.tcd_plan.specs.PlanData.{PlanData}
@@ -19,8 +19,9 @@ pub record ReportNames : Type 0 where
   pub plan : List ℕ
   pub cert : List ℕ
 
--- what is said of an image, a plan and a certificate: it isn't accepted, and the first fault is told; or it is, and then the
--- headline holds with its need, and its report is told
+-- The report on an image, a plan and a certificate. Either the certificate isn't accepted, and the
+-- line has its first fault. Or it is accepted, every run is safe with its need, and the text is its
+-- report.
 pub data IsReporting (image : ImageData) (plan : PlanData) (cert : CertData) (told : Report) : Type 0 where
   refused :
       (rule : ℕ) (key : Key) (addr : ℕ) → IsFirstFault image plan cert rule key addr → told ≡ says Refused (refused_line rule key addr)
@@ -29,7 +30,7 @@ pub data IsReporting (image : ImageData) (plan : PlanData) (cert : CertData) (to
       (text : List ℕ) → Accepts image plan cert → Safe image plan (certified_need image plan cert) → IsReport image plan cert text → told ≡ says Done text
       → IsReporting image plan cert told
 
--- an executable, a plan and a certificate are read; then the certificate is reported
+-- an executable, a plan and a certificate are read; then the certificate's report is printed
 abbrev pub report_reading : ReportNames → Reading
 report_reading names =
     input ImageData elf_form names.elf

@@ -1,4 +1,4 @@
--- What `run` reads and says.
+-- What `run` reads and reports.
 use Rattle.std.specs.Prelude.{◌≡◌, ℕ, List, length}
 use Rattle.elf_image.specs.Images.{ImageData}
 use Rattle.tcd_plan.specs.PlanData.{PlanData}
@@ -20,16 +20,17 @@ pub record RunNames : Type 0 where
   pub plan : List ℕ
   pub script : List ℕ
 
--- what the script's only list of events comes to from a machine
+-- the line on the run of the script's events from a start state
 abbrev pub told_run : PlanData → ScriptData → Machine → List ℕ
 told_run plan script m =
     run_line (length (script_events plan script m)) (peak_of m (script_events plan script m)) (stepping.run m (script_events plan script m))
 
--- the machine is started, with all that the plan leaves open 0, and driven by the script
+-- the machine is started, with 0 for everything that the plan leaves open, and runs the script's
+-- events
 pub data IsRun (image : ImageData) (plan : PlanData) (script : ScriptData) (report : Report) : Type 0 where
   ran : (m : Machine) → StartsInZeros image plan m → report ≡ says Done (told_run plan script m) → IsRun image plan script report
 
--- an executable, a plan and a script for it are read; then the run is told
+-- an executable, a plan and a script for the plan are read; then the run is reported
 abbrev pub run_reading : RunNames → Reading
 run_reading names =
     input ImageData elf_form names.elf

@@ -1,4 +1,4 @@
--- What `ship` reads, says and writes.
+-- What `ship` reads, reports and writes.
 use Rattle.std.specs.Prelude.{◌≡◌, ◌-◌, ℕ, List, map, string_bytes, Ok, Err}
 use Rattle.elf_image.specs.Images.{ImageData}
 use Rattle.elf_image.specs.Elf.{image_of}
@@ -21,7 +21,7 @@ use Rattle.tcd_driver.specs.Made.{IsCertified, AreNone}
 use Rattle.tcd_driver.specs.declared.commands.ship.Shipment.{Shipment}
 use Rattle.tcd_reading.specs.declared.status.Status.TheVariants.{Refused, BadInput}
 
--- the names of the files that `ship` reads, and of the two that it writes
+-- the names of the files that `ship` reads, and of the two files that it writes
 pub record ShipNames : Type 0 where
   pub plan : List ℕ
   pub layout : List ℕ
@@ -33,17 +33,19 @@ pub record ShipNames : Type 0 where
 abbrev pub objects_of : List SourceData → List ObjectData
 objects_of sources = map (λ s. s.object) sources
 
--- their texts
+-- the texts of sources
 abbrev pub texts_of : List SourceData → List (List ℕ)
 texts_of sources = map (λ s. s.text) sources
 
--- the image of the sources by the layout: it is linked from their objects, and their statements stand in it
+-- the image of the sources by the layout: it is linked from their objects, and has the bytes of
+-- each statement
 pub record IsImageOf (layout : LayoutData) (sources : List SourceData) (image : ImageData) : Type 0 where
   pub linked_is : image_of_objects (objects_of sources) layout ≡ Ok image
   pub placed : Placed (texts_of sources) layout image
 
--- what is said of an image and a plan: no certificate is accepted, and why is told; or the image is written under a name, so that
--- its bytes read as it, and then the best certificate under another, and the headline holds with its need
+-- The report on an image and a plan. Either no certificate is accepted, and the line says why. Or
+-- two files are written: the image, whose bytes read back as it, and the best certificate; and
+-- every run is safe with its need.
 pub data IsShipping (elf cert : List ℕ) (plan : PlanData) (image : ImageData) (report : Report) : Type 0 where
   refused :
       (rule : ℕ) (key : Key) (addr : ℕ) → AreNone image plan rule key addr → report ≡ says Refused (refused_line rule key addr)
@@ -55,7 +57,8 @@ pub data IsShipping (elf cert : List ℕ) (plan : PlanData) (image : ImageData) 
       (certified_line (certified_need image plan c) (plan.areas - plan.reserve))
       → IsShipping elf cert plan image report
 
--- what is said of a plan, a layout and sources: linking refuses them; or their image is shipped, or refused
+-- the report on a plan, a layout and sources: the objects can't be linked, or it is the report on
+-- their image
 pub data IsShipped (elf cert : List ℕ) (plan : PlanData) (layout : LayoutData) (sources : List SourceData) (report : Report) : Type 0 where
   unlinked :
       (r : Refusal) → image_of_objects (objects_of sources) layout ≡ Err r → report ≡ says BadInput (link_line r)
@@ -70,21 +73,21 @@ ship_reading names =
     (λ plan. input LayoutData layout_form names.layout
     (λ layout. each SourceData placed_source_form 0 names.sources (λ sources. answer (IsShipped names.elf names.cert plan layout sources))))
 
--- ---- by what the code has
--- the names as the program holds them
+-- ---- the same, by the values in the code
+-- the names of the files
 abbrev pub ship_names : Shipment → ShipNames
 ship_names s = record { plan = s.plan.now; layout = s.layout.now; elf = s.elf.now; cert = s.cert.now; sources = map string_bytes s.sources.now }
 
--- sources that break no rule, and their objects
+-- sources that break no rule, with these objects
 pub record AreSourcesOf (sources : List SourceData) (objects : List ObjectData) : Type 0 where
   pub objects_are : objects ≡ objects_of sources
   pub assembled : AreAssembled (texts_of sources) (objects_of sources)
 
--- what is said of sources, by the names of the two files
+-- the report on sources, with the names of the two files to write
 abbrev pub shipped_by : Shipment → PlanData → LayoutData → List SourceData → Report → Type 0
 shipped_by s plan layout sources = IsShipped s.elf.now s.cert.now plan layout sources
 
--- these bytes are written for the image, and read as it
+-- these bytes are the file of the image, and read back as it
 pub record SpellImage (image : ImageData) (bytes : List ℕ) : Type 0 where
   pub spell : bytes ≡ file_of image
   pub read : image_of (file_of image) ≡ Ok image

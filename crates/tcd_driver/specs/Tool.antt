@@ -1,4 +1,4 @@
--- How a call of the tool ends: for words of no form, and for each command.
+-- How a call of the tool ends: for words that are no command, and for each command.
 use Rattle.std.specs.Prelude.{◌≡◌, ℕ, List, [], ◌∷◌, ◌++◌, codes, Some}
 use Rattle.tcd_base.specs.Files.{Map, FilesSeen}
 use Rattle.tcd_base.specs.Sink.{SinkSeen}
@@ -13,14 +13,13 @@ use Rattle.tcd_driver.specs.Headlines.Cells.{HeadlineOfCells, RefusalByCells, He
 use Rattle.tcd_driver.specs.Headlines.Tasks.{HeadlineOfTasks, RefusalByTasks, HeadlineOfTaskcert, RefusalByTaskcert}
 use Rattle.tcd_driver.specs.Headlines.Texts.{HeadlineOfCfg, HeadlineOfReport, HeadlineOfDis, RefusalByDis, HeadlineOfGen, RefusalByGen}
 
--- How words of no form end: the files stay, and `bad words` is printed, or the sink failed in it;
--- with room it doesn't.
+-- How words that are no command end: the files stay, and `bad words` is printed, or the sink failed
+-- within this text. A sink with room doesn't fail.
 pub record EndsWithBadWords (files files' : FilesSeen) (sink sink' : SinkSeen) (result : Status) : Type 0 where
   pub files_stay : files' ≡ files
   pub prints : Prints BadWords bad_words_line sink sink' result
 
--- one call: its words, what is seen of the files and of the sink before and after it, and its
--- status
+-- one call: its words, the views of the files and of the sink before and after it, and its status
 pub record Call : Type 0 where
   pub words : List (List ℕ)
   pub files : FilesSeen
@@ -29,9 +28,9 @@ pub record Call : Type 0 where
   pub sink_after : SinkSeen
   pub status : Status
 
--- If the words were these and the call ended with this status, `Holds` is true of what was held
--- before and after the call, and of what it printed. The files have to tell what they hold; where the
--- sink tells what was written, that grew by what was printed.
+-- If the words were these and the call ended with this status, `Holds` is true of the files before
+-- and after the call and of the printed text. The files must reveal their contents. If the sink
+-- reveals its contents, they grew by the printed text.
 abbrev pub Means : Call → List (List ℕ) → Status → (Map → Map → List ℕ → Type 0) → Type 0
 Means call words status Holds =
     (before : Map) → call.words ≡ words → call.status ≡ status → (call.files).held ≡ Some before
@@ -39,8 +38,8 @@ Means call words status Holds =
     × ((text : List ℕ) → (call.sink).written ≡ Some text → (call.sink_after).written ≡ Some (text ++ printed)) × Holds before after printed
 
 -- What the tool promises of each command, by the words that were typed: for status 0, for status 1,
--- and for status 2 of `dis`, `asm` and `link`. All other endings are in `bad_words`, `no_form` and
--- `command`, the clauses of `tool` beside this one.
+-- and for status 2 of `dis`, `asm` and `link`. All other endings are in the clauses `bad_words`,
+-- `no_form` and `command` of `tool`.
 pub record ToolSays (call : Call) : Type 0 where
   pub check : (elf plan cert : List ℕ) → Means call (codes "check" ∷ elf ∷ plan ∷ cert ∷ []) Done (HeadlineOfCheck elf plan cert)
   pub check_refuses : (elf plan cert : List ℕ) → Means call (codes "check" ∷ elf ∷ plan ∷ cert ∷ []) Refused (RefusalByCheck elf plan cert)

@@ -1,4 +1,4 @@
-// What the program wrote or generated itself is read again: only memory that runs out keeps it from that.
+// Errors when the program reads its own output: the only cause is that memory ran out.
 ghost use Rattle.std.specs.Prelude.{◌≡◌};
 ghost use Rattle.elf_image.specs.declared.errors.ImageErr.TheVariants as image;
 ghost use Rattle.tcd_plan.specs.declared.plans.PlanErr.TheVariants as plan;
@@ -6,7 +6,7 @@ ghost use Rattle.tcd_plan.specs.declared.plans.PlanErr.TheVariants as plan;
 use elf_image::ImageErr;
 use tcd_plan::PlanErr;
 
-/// That an executable isn't read is nothing but memory that ran out.
+/// The cause of an error in reading an executable that the program wrote: memory ran out.
 pub(crate) fn only_image_memory(e: ImageErr)
     requires { e ≡ image.NoMemory }
 {
@@ -16,7 +16,7 @@ pub(crate) fn only_image_memory(e: ImageErr)
     }
 }
 
-/// That a plan isn't read is nothing but memory that ran out.
+/// The cause of an error in reading a plan that the program generated: memory ran out.
 pub(crate) fn only_plan_memory(e: PlanErr)
     requires { e ≡ plan.NoMemory }
 {

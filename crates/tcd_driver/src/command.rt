@@ -1,4 +1,4 @@
-// What words ask for.
+// The command that the words of the command line ask for.
 ghost use Rattle.std.specs.Prelude.{◌≡◌, ◌≤◌, ◌==◌, ◌&&◌, ◌||◌, nat_le, map, slice_index, string_bytes, IfSome};
 ghost use Rattle.std.specs.Bool.{then_some};
 ghost use Rattle.std.specs.Option.{option_map};
@@ -27,6 +27,20 @@ use std::alloc::Global;
 use tcd_base::Files;
 use tcd_reading::Outcome;
 use tcd_text::hex_number;
+
+// A command has at most 65,535 words. So these are the most objects of `link`, sources of `ship`,
+// and certificates of `tasks` and `taskcert`.
+const MOST_OBJECTS: usize = 65_532;
+
+const MOST_SOURCES: usize = 65_530;
+
+const MOST_CERTS: usize = 65_531;
+
+// The most functions of a generated image.
+const MOST_FUNCTIONS: u32 = 500;
+
+// The last address of a boot sequence, which has 224 bytes.
+const LAST_BOOT_ADDRESS: u32 = 0xffff_ff20;
 
 /// A command with the names of its files.
 #[derive(Clone, Copy)]
@@ -143,11 +157,11 @@ fn link_command(words: &[String]) -> Option<Command<'_>>
     }
 }
 
-// Whether the words behind the first ask to link these objects.
+// Whether the verb and the number of objects are those of `link`.
 fn is_link(verb: &str, objects: &[String]) -> bool
     ensures { result ≡ is_link verb.now (map string_bytes objects.now) }
 {
-    verb == "link" && !objects.is_empty() && objects.len() <= 65_532
+    verb == "link" && !objects.is_empty() && objects.len() <= MOST_OBJECTS
 }
 
 // The command `ship` with its sources.
@@ -196,28 +210,30 @@ fn tasks_command(words: &[String]) -> Option<Command<'_>>
     }
 }
 
-// Whether the words behind the first ask to ship these sources, to two files of different names.
+// Whether the verb and the number of sources are those of `ship`, with different names for the two
+// files to write.
 fn is_ship(verb: &str, elf: &str, cert: &str, sources: &[String]) -> bool
     ensures { result ≡ is_ship verb.now elf.now cert.now (map string_bytes sources.now) }
 {
-    verb == "ship" && elf != cert && !sources.is_empty() && sources.len() <= 65_530
+    verb == "ship" && elf != cert && !sources.is_empty() && sources.len() <= MOST_SOURCES
 }
 
-// Whether the words behind the first three ask to check these certificates of tasks.
+// Whether the verb and the number of certificates are those of `tasks`.
 fn is_tasks(verb: &str, certs: &[String]) -> bool
     ensures { result ≡ is_tasks verb.now (map string_bytes certs.now) }
 {
-    verb == "tasks" && !certs.is_empty() && certs.len() <= 65_531
+    verb == "tasks" && !certs.is_empty() && certs.len() <= MOST_CERTS
 }
 
-// Whether the words behind the first three ask to make these certificates of tasks.
+// Whether the verb and the number of certificates are those of `taskcert`, with different names for
+// all certificates.
 fn is_taskcert(verb: &str, certs: &[String]) -> bool
     ensures { result ≡ is_taskcert verb.now (map string_bytes certs.now) }
 {
-    verb == "taskcert" && !certs.is_empty() && certs.len() <= 65_531 && are_different(certs)
+    verb == "taskcert" && !certs.is_empty() && certs.len() <= MOST_CERTS && are_different(certs)
 }
 
-// A command with a number of words that is fixed.
+// A command with a fixed number of words.
 fn fixed_command(words: &[String]) -> Option<Command<'_>>
     ensures is { option_map asked result ≡ fixed_form (map string_bytes words.now) }
     ensures limits { IfSome result KeepsLimits }
@@ -244,7 +260,7 @@ fn fixed_command(words: &[String]) -> Option<Command<'_>>
     }
 }
 
-// A command with one word behind its verb.
+// A command with one word after its verb.
 fn one_word<'a>(verb: &str, word: &'a str) -> Option<Command<'a>>
     ensures is { option_map asked result ≡ one_word verb.now word.now }
     ensures limits { IfSome result KeepsLimits }
@@ -258,7 +274,7 @@ fn one_word<'a>(verb: &str, word: &'a str) -> Option<Command<'a>>
     }
 }
 
-// The command `gen` with this word behind the first.
+// The command `gen` with this word after its verb.
 fn gen_command<'a>(word: &str) -> Option<Command<'a>>
     ensures is { option_map asked result ≡ option_map generate (functions_in word.now) }
     ensures limits { IfSome result KeepsLimits }
@@ -267,7 +283,7 @@ fn gen_command<'a>(word: &str) -> Option<Command<'a>>
     Some(Command::Gen { functions })
 }
 
-// How many functions a word asks for.
+// The number of functions that a word asks for.
 fn functions_in(word: &str) -> Option<u32>
     ensures is { result ≡ functions_in word.now }
     ensures limits { IfSome result (λ n. (1 ≤ n) × (n ≤ 500)) }
@@ -281,7 +297,7 @@ fn functions_in(word: &str) -> Option<u32>
     }
 }
 
-// Whether 0 or a sign stands first in a word.
+// Whether the first character of a word is 0 or a plus sign.
 fn is_marked(word: &str) -> bool
     ensures { result ≡ (slice_index word.now 0 == 48 || slice_index word.now 0 == 43) }
 {
@@ -291,15 +307,19 @@ fn is_marked(word: &str) -> bool
     }
 }
 
-// A number, where so many functions can be generated.
+// The number of functions, if it is in the range of `gen`.
 fn few_functions(n: u32) -> Option<u32>
     ensures is { result ≡ then_some (nat_le 1 n && nat_le n 500) n }
     ensures limits { IfSome result (λ n. (1 ≤ n) × (n ≤ 500)) }
 {
-    if 1 <= n && n <= 500 { Some(n) } else { None }
+    if 1 <= n && n <= MOST_FUNCTIONS {
+        Some(n)
+    } else {
+        None
+    }
 }
 
-// A command with two words behind its verb.
+// A command with two words after its verb.
 fn two_words<'a>(verb: &str, first: &'a str, second: &'a str) -> Option<Command<'a>>
     ensures is { option_map asked result ≡ two_words verb.now first.now second.now }
     ensures limits { IfSome result KeepsLimits }
@@ -319,7 +339,7 @@ fn two_words<'a>(verb: &str, first: &'a str, second: &'a str) -> Option<Command<
     }
 }
 
-// A command with three words behind its verb.
+// A command with three words after its verb.
 fn three_words<'a>(verb: &str, elf: &'a str, plan: &'a str, third: &'a str) -> Option<Command<'a>>
     ensures is { option_map asked result ≡ three_words verb.now elf.now plan.now third.now }
     ensures limits { IfSome result KeepsLimits }
@@ -353,7 +373,7 @@ fn three_words<'a>(verb: &str, elf: &'a str, plan: &'a str, third: &'a str) -> O
     }
 }
 
-// A command with four words behind its verb.
+// A command with four words after its verb.
 fn four_words<'a>(
     verb: &str,
     first: &'a str,
@@ -388,7 +408,7 @@ fn four_words<'a>(
     }
 }
 
-// The command `boot` with these words behind the first.
+// The command `boot` with these words after its verb.
 fn boot_command<'a>(elf: &'a str, plan: &'a str, cert: &'a str, at: &str) -> Option<Command<'a>>
     ensures is { option_map asked result ≡ boot_form elf.now plan.now cert.now at.now }
     ensures limits { IfSome result KeepsLimits }
@@ -402,14 +422,14 @@ fn boot_command<'a>(elf: &'a str, plan: &'a str, cert: &'a str, at: &str) -> Opt
     })
 }
 
-// The command `bootgen` with these words behind the first.
+// The command `bootgen` with these words after its verb.
 fn bootgen_command<'a>(plan: &'a str, entry: &str, at: &str, source: &'a str) -> Option<Command<'a>>
     ensures is { option_map asked result ≡ bootgen_form plan.now entry.now at.now source.now }
     ensures limits { IfSome result KeepsLimits }
 {
     let entry = hex_number(entry.as_bytes())?;
     let at = hex_number(at.as_bytes())?;
-    if at <= 0xffff_ff20 {
+    if at <= LAST_BOOT_ADDRESS {
         Some(Command::Bootgen {
             plan,
             entry,
@@ -422,8 +442,8 @@ fn bootgen_command<'a>(plan: &'a str, entry: &str, at: &str, source: &'a str) ->
 }
 
 impl<'a> Command<'a> {
-    /// Reads the inputs of the command, and comes to its outcome.
-    // None of the commands is put into this function, so that the stack holds the room of one of them.
+    /// Reads the inputs of the command, and returns its outcome.
+    // No command is inlined here, so that the stack has the locals of one command only.
     pub(crate) fn outcome<F: Files>(self, alloc: Global, files: &mut F) -> Outcome
         requires { KeepsLimits self }
         ensures { Comes (reading_of (asked self.entry)) (F.seen files.old) (F.seen files.new)

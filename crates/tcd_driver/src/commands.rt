@@ -1,4 +1,4 @@
-// The commands: each reads its inputs, and comes to an outcome.
+// The commands: each reads its inputs, and returns its outcome.
 pub(crate) mod asm;
 pub(crate) mod boot;
 pub(crate) mod bootgen;

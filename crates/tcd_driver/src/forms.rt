@@ -1,4 +1,4 @@
-// The forms of inputs that stand above the others.
+// The forms of files of cells and of tasks.
 use crate::lines::{cells_line, tasks_line};
 use std::alloc::Global;
 use task_chains::Tasks;
@@ -8,9 +8,10 @@ use tcd_plan::Plan;
 use tcd_reading::{Form, Outcome, bad_input};
 use value_cells::Cells;
 
-/// The cells of a plan.
+/// A file of cells for a plan.
 #[derive(Clone, Copy)]
 pub(crate) struct CellsFile<'a> {
+    /// The plan that the cells belong to.
     pub plan: &'a Plan,
 }
 
@@ -40,9 +41,10 @@ impl<'a> Form for CellsFile<'a> {
     }
 }
 
-/// The tasks of a plan.
+/// A file of tasks for a plan.
 #[derive(Clone, Copy)]
 pub(crate) struct TasksFile<'a> {
+    /// The plan that the tasks belong to.
     pub plan: &'a Plan,
 }
 

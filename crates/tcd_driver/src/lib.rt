@@ -1,4 +1,4 @@
-//! The tool: all that the program does.
+//! The tool: the commands of the program.
 #![tactic(auto)]
 
 mod again;

@@ -1,4 +1,5 @@
-// The printed lines of words that are no command, and of what is against boot sequences, cells and tasks.
+// The printed lines for words that are no command, and on faults of boot sequences, of files of
+// cells, and of files of tasks.
 ghost use Rattle.std.specs.Prelude.{◌≡◌, ◌++◌, ◌∷◌, [], codes, IfOk};
 ghost use Rattle.tcd_text.specs.Digits.{hex_word};
 ghost use Rattle.tcd_driver.specs.Lines.{bad_words_line, unbooted_line, cells_line, tasks_line};
@@ -11,7 +12,7 @@ use tcd_forms::{append, line_of};
 use tcd_text::hex_word;
 use value_cells::CellsErr;
 
-// The words of no form.
+// The line for words that are no command.
 #[tactic(auto, unfolding(crate::specs::Lines::bad_words_line))]
 pub(crate) fn bad_words_line() -> &'static [u8]
     ensures { result.now ≡ bad_words_line }
@@ -19,7 +20,7 @@ pub(crate) fn bad_words_line() -> &'static [u8]
     b"bad words\n"
 }
 
-// The boot sequence's byte at an address differs.
+// The line on a byte that differs from the boot sequence, with its address.
 fn differing_line(alloc: Global, addr: u32) -> Result<Vec<u8>, NoMemory>
     ensures { IfOk result
         (λ line. line.items ≡ codes "refused boot 4 at " ++ (hex_word addr ++ 10 ∷ [])) }
@@ -30,7 +31,7 @@ fn differing_line(alloc: Global, addr: u32) -> Result<Vec<u8>, NoMemory>
     Ok(line)
 }
 
-// What is against a boot sequence.
+// The line on a boot sequence that is refused.
 #[tactic(auto, unfolding(crate::specs::Lines::unbooted_line))]
 pub(crate) fn unbooted_line(alloc: Global, e: BootErr) -> Result<Vec<u8>, NoMemory>
     ensures { IfOk result (λ line. line.items ≡ unbooted_line e) }
@@ -43,7 +44,7 @@ pub(crate) fn unbooted_line(alloc: Global, e: BootErr) -> Result<Vec<u8>, NoMemo
     }
 }
 
-// Why a file is no cells.
+// The line that says why a file isn't in the form of cells.
 #[tactic(auto, unfolding(crate::specs::Lines::cells_line, tcd_forms::specs::Lines::at_one))]
 pub(crate) fn cells_line(alloc: Global, e: CellsErr) -> Result<Vec<u8>, NoMemory>
     ensures { IfOk result (λ line. line.items ≡ cells_line e) }
@@ -56,7 +57,7 @@ pub(crate) fn cells_line(alloc: Global, e: CellsErr) -> Result<Vec<u8>, NoMemory
     }
 }
 
-// Why a file is no tasks.
+// The line that says why a file isn't in the form of tasks.
 #[tactic(auto, unfolding(crate::specs::Lines::tasks_line, tcd_forms::specs::Lines::at_one))]
 pub(crate) fn tasks_line(alloc: Global, e: TasksErr) -> Result<Vec<u8>, NoMemory>
     ensures { IfOk result (λ line. line.items ≡ tasks_line e) }

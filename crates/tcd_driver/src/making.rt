@@ -1,4 +1,4 @@
-// The certificate that is made for an image and a plan, and checked.
+// Makes the best certificate for an image and a plan, and checks it.
 ghost use Rattle.depth_maker.specs.Making.{NoneAccepted};
 ghost use Rattle.tcd_driver.specs.Made.{Makes, SpellBest};
 
@@ -10,18 +10,18 @@ use packed_cert::PackedCert;
 use std::alloc::Global;
 use tcd_plan::Plan;
 
-/// What making a certificate comes to.
+/// The result of making a certificate.
 #[derive(Drop)]
 pub(crate) enum Making {
     /// The bytes of a certificate that was checked, and its need.
     Certified { bytes: Vec<u8>, need: u32 },
-    /// The rule that no certificate keeps, with its place.
+    /// The rule that no certificate keeps, with its frame and address.
     Refused { rule: u8, key: Key, addr: u32 },
     NoMemory,
 }
 
-/// Checks the best certificate, which these bytes spell.
-fn checked(alloc: Global, image: &Image, plan: &Plan, bytes: Vec<u8>) -> Making
+// Checks the best certificate, which these bytes spell.
+fn check_made(alloc: Global, image: &Image, plan: &Plan, bytes: Vec<u8>) -> Making
     requires { SpellBest image.now plan.now bytes.items }
     ensures { Makes image.now plan.now result }
 {
@@ -39,25 +39,26 @@ fn checked(alloc: Global, image: &Image, plan: &Plan, bytes: Vec<u8>) -> Making
     }
 }
 
-/// Makes and checks a certificate of version 2, where none of version 1 is accepted.
-fn second(alloc: Global, image: &Image, plan: &Plan) -> Making
+// Makes the least certificate of version 2, and checks it. None of version 1 is accepted.
+fn make_second(alloc: Global, image: &Image, plan: &Plan) -> Making
     requires { NoneAccepted image.now plan.now 1 }
     ensures { Makes image.now plan.now result }
 {
     match make_bytes(alloc, image, plan, 2) {
-        Ok(bytes) => checked(alloc, image, plan, bytes),
+        Ok(bytes) => check_made(alloc, image, plan, bytes),
         Err(MakeErr::Refused { rule, key, addr }) => Making::Refused { rule, key, addr },
         Err(MakeErr::NoMemory) => Making::NoMemory,
     }
 }
 
-/// Makes the least certificate of version 1, or of version 2 where none of version 1 is accepted, and checks it.
+/// Makes the least certificate of version 1, or of version 2 if none of version 1 is accepted, and
+/// checks it.
 pub(crate) fn make_best(alloc: Global, image: &Image, plan: &Plan) -> Making
     ensures { Makes image.now plan.now result }
 {
     match make_bytes(alloc, image, plan, 1) {
-        Ok(bytes) => checked(alloc, image, plan, bytes),
-        Err(MakeErr::Refused { .. }) => second(alloc, image, plan),
+        Ok(bytes) => check_made(alloc, image, plan, bytes),
+        Err(MakeErr::Refused { .. }) => make_second(alloc, image, plan),
         Err(MakeErr::NoMemory) => Making::NoMemory,
     }
 }

@@ -1,4 +1,4 @@
-// The tool.
+// The tool: words to status.
 ghost use Rattle.std.specs.Prelude.{map, string_bytes, IsNone, IfSome, IfNone, ◌≡◌};
 ghost use Rattle.tcd_driver.specs.Commands.{command, reading_of};
 ghost use Rattle.tcd_driver.specs.Tool.{EndsWithBadWords, ToolSays};
@@ -10,19 +10,30 @@ use std::alloc::Global;
 use tcd_base::{Files, Sink};
 use tcd_reading::{Status, finish, print};
 
-/// All that the program does, on the words after its name. `check ELF PLAN CERT` reads an executable, a plan and a certificate,
-/// and prints whether the certificate shows that every run of the executable is safe; `report ELF PLAN CERT` prints what it says
-/// instead. `cert ELF PLAN CERT` makes the certificate with the least needs, and writes it. `cfg ELF PLAN` makes a certificate,
-/// and prints its graph. `run ELF PLAN SCRIPT` reads an executable, a plan and a script, drives the machine by the script, and
-/// prints what it came to. `dis ELF` prints the listing of an executable. `asm SRC OBJ` assembles a source, and writes its
-/// object. `link LAYOUT ELF OBJ..` links objects by a layout, and writes the executable. `ship PLAN LAYOUT ELF CERT SRC..`
-/// assembles and links, and writes the executable and the certificate that was made and checked for it. `boot ELF PLAN CERT AT`
-/// is `check`, and then tells whether the boot sequence stands at an address of the executable; `bootgen PLAN ENTRY AT SRC`
-/// writes the boot sequence of an entry at an address as a source. `cells ELF PLAN CELLS CERT` checks a certificate under the
-/// plan in which words of ram are devices, and that they keep their bounds; `cellcert ELF PLAN CELLS CERT` makes such a
-/// certificate, and writes it. `tasks ELF PLAN TASKS CERT..` checks a certificate for each task, and tells whether the areas are
-/// enough for all of them; `taskcert` with the same words, the certificates' names all different, makes them and writes them.
-/// `gen N` generates the image of N functions and its plan, makes their certificate, and prints how many nodes and points it has.
+/// Runs the program on the words after its name: reads input files, writes output files, prints one
+/// text, and returns the status. Words that are no command are refused before any memory is
+/// allocated.
+///
+/// - `check ELF PLAN CERT` prints whether the certificate shows that every run is safe.
+/// - `cert ELF PLAN CERT` makes the best certificate and writes it.
+/// - `cfg ELF PLAN` prints the control flow graph of the best certificate.
+/// - `report ELF PLAN CERT` prints the needs and the longest call chains of a certificate.
+/// - `run ELF PLAN SCRIPT` runs the machine by a script, and prints how it ended.
+/// - `dis ELF` prints the listing of an executable.
+/// - `asm SRC OBJ` assembles a source and writes its object.
+/// - `link LAYOUT ELF OBJ..` links objects by a layout and writes the executable.
+/// - `ship PLAN LAYOUT ELF CERT SRC..` assembles, links and certifies. It writes the executable and
+///   its certificate.
+/// - `boot ELF PLAN CERT AT` checks the certificate, and then the boot sequence at an address.
+/// - `bootgen PLAN ENTRY AT SRC` writes the boot sequence as a source.
+/// - `cells ELF PLAN CELLS CERT` checks a certificate that also keeps words of RAM, the cells, in
+///   bounds.
+/// - `cellcert ELF PLAN CELLS CERT` makes such a certificate and writes it.
+/// - `tasks ELF PLAN TASKS CERT..` checks one certificate for each task, and whether the CSAs are
+///   enough for all tasks together.
+/// - `taskcert ELF PLAN TASKS CERT..` makes these certificates and writes them.
+/// - `gen N` generates an image of N functions and certifies it. It prints the numbers of nodes and
+///   points.
 pub fn tool<F: Files, S: Sink>(
     alloc: Global,
     words: &[String],

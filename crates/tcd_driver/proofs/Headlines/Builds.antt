@@ -106,7 +106,7 @@ object_is : (place : ℕ) (e : FormErr) → object_line place e ≡ codes "bad o
 unfolding object_line at_two
 object_is place e = refl
 
--- of objects that are read from a place on, one is bad after some that aren't
+-- among objects that are read from a place on, one is bad, and those before it aren't
 record IsFirstBad (m : Map) (place : ℕ) (names : List (List ℕ)) (r : Report) : Type 0 where
   good_names : List (List ℕ)
   name : List ℕ
@@ -118,7 +118,7 @@ record IsFirstBad (m : Map) (place : ℕ) (names : List (List ℕ)) (r : Report)
   at_is : at ≡ place + length good_names
   bad : Refuses (IsRefusal (object_form at) (Some m) name) r
 
--- one more before them
+-- the same with one more object before them
 one_more : (m : Map) (place : ℕ) (name : List ℕ) (names : List (List ℕ)) (r : Report) (o : ObjectData) → HoldsFile m name (2 ^ 24) (λ bytes. IsObjectText bytes o) → IsFirstBad m (place + 1) names r → IsFirstBad m place (name ∷ names) r
 one_more m place name names r o h b = record {
   good_names = name ∷ b.good_names;
@@ -132,7 +132,7 @@ one_more m place name names r o h b = record {
   bad = b.bad;
 }
 
--- the objects are read, or one is bad
+-- either all objects are in their form, or one is bad
 objects_said : (m : Map) (place : ℕ) (names : List (List ℕ)) (next : List ObjectData → Reading) (r : Report) → Says (each ObjectData object_form place names next) (Some m) r →
     IsFirstBad m place names r ⊎ ((os : List ObjectData) × HoldEach m (2 ^ 24) IsObjectText names os × Says (next os) (Some m) r)
 objects_said m place [] next r said = inr ([], tt, said)
@@ -144,7 +144,7 @@ objects_said m place (name ∷ names) next r (inr s) =
       | inr rest ↦ inr (s.0 ∷ rest.0, (object_told place m name s.0 s.1, rest.1), rest.2)
     ]
 
--- the first that is bad, counted from the first
+-- the first bad object, counted from the first object
 bad_object_of : (m : Map) (names : List (List ℕ)) (r : Report) → IsFirstBad m 0 names r → IsFirstBadObject m names r.text
 bad_object_of m names r b =
     let at_is : b.at ≡ length b.good_names = let e = b.at_is in omega (arith, e) in
@@ -162,7 +162,7 @@ bad_object_of m names r b =
     }
 
 module _ (names : LinkNames) (m : Map) (r : Report) (bad : r.status ≡ BadInput) where
-  -- such a fault, where nothing is written
+  -- such a fault, without files to write
   link_refused : r.writes ≡ [] → IsLinkFault m names.layout names.objects r.text → Leaves m r (RefusalByLink names.layout names.objects)
   link_refused nothing fault = record { after = m; held = held_nothing m r nothing; holds = record { fault = fault; stays = refl } }
 

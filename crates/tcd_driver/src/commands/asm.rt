@@ -8,7 +8,7 @@ use tcd_base::Files;
 use tcd_forms::{SourceFile, assembled_line};
 use tcd_reading::{Outcome, read_input, report_file};
 
-/// Reads a source, and makes its object.
+/// Reads a source and assembles it.
 #[inline(never)]
 pub(crate) fn assemble_file<F: Files>(
     alloc: Global,
@@ -20,13 +20,13 @@ pub(crate) fn assemble_file<F: Files>(
         (F.seen files.old) (F.seen files.new) result }
 {
     match read_input(&SourceFile, alloc, source, files) {
-        Ok(made) => written(alloc, object, &made),
+        Ok(made) => object_report(alloc, object, &made),
         Err(outcome) => outcome,
     }
 }
 
-// An object to write under a name, and the line on it.
-fn written(alloc: Global, name: &str, object: &Object) -> Outcome
+// The report with an object to write under this name.
+fn object_report(alloc: Global, name: &str, object: &Object) -> Outcome
     ensures { IsTold (WritesObject name.now object.now) ⊥ result }
 {
     match object.write(alloc) {

@@ -13,7 +13,8 @@ use tcd_forms::{CertFile, ElfFile, PlanFile, boots_line, refused_line};
 use tcd_plan::Plan;
 use tcd_reading::{Outcome, Status, read_input, report};
 
-/// Reads the three files, and tells whether the certificate is accepted and the boot sequence stands at an address.
+/// Reads the three files, and reports whether the certificate is accepted and the boot sequence is
+/// at this address.
 #[inline(never)]
 pub(crate) fn boot_files<F: Files>(
     alloc: Global,
@@ -42,11 +43,11 @@ pub(crate) fn boot_files<F: Files>(
     boot_verdict(alloc, &image, &board, &proof, at)
 }
 
-// Checks a certificate and the boot sequence at an address, and makes the line of the verdict.
+// Checks the certificate and the boot sequence at an address, and reports the verdict.
 fn boot_verdict(alloc: Global, image: &Image, plan: &Plan, cert: &PackedCert, at: u32) -> Outcome
     ensures { IsTold (IsBootVerdict image.now plan.now cert.now at) ⊥ result }
 {
-    // What every image keeps is known once it is read.
+    // Reading a field gives the facts that hold for every image.
     let _entry = image.entry;
     match check_packed(image, plan, cert) {
         Verdict::Yes(need) => match boot_ok(image, plan, at) {

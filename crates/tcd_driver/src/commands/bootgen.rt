@@ -10,7 +10,7 @@ use tcd_forms::{PlanFile, generated_boot_line, line_of};
 use tcd_plan::Plan;
 use tcd_reading::{Outcome, read_input, report_file};
 
-/// Reads a plan, and makes the source of the boot sequence of an entry at an address.
+/// Reads a plan, and makes the source of the boot sequence at this address for this entry.
 #[inline(never)]
 pub(crate) fn generate_boot<F: Files>(
     alloc: Global,
@@ -31,13 +31,13 @@ pub(crate) fn generate_boot<F: Files>(
         (F.seen files.old) (F.seen files.new) result }
 {
     match read_input(&PlanFile, alloc, plan, files) {
-        Ok(board) => written_boot(alloc, &board, entry, at, source),
+        Ok(board) => boot_report(alloc, &board, entry, at, source),
         Err(outcome) => outcome,
     }
 }
 
-// The source of the boot sequence to write under a name, and the line on it.
-fn written_boot(alloc: Global, plan: &Plan, entry: u32, at: u32, source: &str) -> Outcome
+// The report with the source of a boot sequence to write under this name.
+fn boot_report(alloc: Global, plan: &Plan, entry: u32, at: u32, source: &str) -> Outcome
     requires { at + 224 ≤ 2 ^ 32 }
     ensures { IsTold (WritesBoot entry at source.now plan.now) ⊥ result }
 {

@@ -30,11 +30,11 @@ pub(crate) fn certify_files<F: Files>(
         Ok(board) => board,
         Err(outcome) => return outcome,
     };
-    certified(alloc, cert, &image, &board)
+    certify(alloc, cert, &image, &board)
 }
 
-// Makes a certificate to write under a name, and the line on it.
-fn certified(alloc: Global, name: &str, image: &Image, plan: &Plan) -> Outcome
+// Makes the certificate, and reports it with its file to write.
+fn certify(alloc: Global, name: &str, image: &Image, plan: &Plan) -> Outcome
     ensures { IsTold (IsCertifying name.now image.now plan.now) ⊥ result }
 {
     match make_best(alloc, image, plan) {

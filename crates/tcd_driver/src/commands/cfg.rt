@@ -14,7 +14,7 @@ use tcd_plan::Plan;
 use tcd_reading::{Outcome, Status, read_input, report};
 use tcd_report::graph_packed;
 
-/// Reads an executable and a plan, and draws the graph of their certificate.
+/// Reads an executable and a plan, and reports the graph of their certificate.
 #[inline(never)]
 pub(crate) fn draw_files<F: Files>(alloc: Global, elf: &str, plan: &str, files: &mut F) -> Outcome
     ensures { Comes (cfg_reading (record { elf = elf.now; plan = plan.now }))
@@ -28,11 +28,11 @@ pub(crate) fn draw_files<F: Files>(alloc: Global, elf: &str, plan: &str, files: 
         Ok(board) => board,
         Err(outcome) => return outcome,
     };
-    drawn(alloc, &image, &board)
+    draw_graph(alloc, &image, &board)
 }
 
-// Makes a certificate, and tells its graph.
-fn drawn(alloc: Global, image: &Image, plan: &Plan) -> Outcome
+// Makes the certificate, and reports its graph.
+fn draw_graph(alloc: Global, image: &Image, plan: &Plan) -> Outcome
     ensures { IsTold (IsDrawing image.now plan.now) ⊥ result }
 {
     match make_best(alloc, image, plan) {
@@ -58,7 +58,7 @@ fn graph_text(
     requires { SpellOne image.now plan.now bytes.items }
     ensures { IfOk result (λ text. IsDrawn image.now plan.now text.items) }
 {
-    // What every image and every plan keep is known once they are read.
+    // Reading a field gives the facts that hold for every image and for every plan.
     let _entry = image.entry;
     let _areas = plan.areas;
     match PackedCert::read(alloc, bytes) {

@@ -11,7 +11,7 @@ use tcd_forms::{CertFile, ElfFile, PlanFile, certified_line, refused_line};
 use tcd_plan::Plan;
 use tcd_reading::{Outcome, Status, read_input, report};
 
-/// Reads the three files, and tells whether the certificate is accepted.
+/// Reads the three files, and reports whether the certificate is accepted.
 #[inline(never)]
 pub(crate) fn check_files<F: Files>(
     alloc: Global,
@@ -38,7 +38,7 @@ pub(crate) fn check_files<F: Files>(
     verdict(alloc, &image, &board, &proof)
 }
 
-// Checks a certificate, and makes the line of the verdict.
+// Checks the certificate, and reports the verdict.
 fn verdict(alloc: Global, image: &Image, plan: &Plan, cert: &PackedCert) -> Outcome
     ensures { IsTold (IsVerdict image.now plan.now cert.now) ⊥ result }
 {

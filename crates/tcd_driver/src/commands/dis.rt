@@ -9,19 +9,19 @@ use tcd_base::Files;
 use tcd_forms::ElfFile;
 use tcd_reading::{Outcome, Status, read_input};
 
-/// Reads an executable, and tells its listing.
+/// Reads an executable, and reports its listing.
 #[inline(never)]
 pub(crate) fn list_file<F: Files>(alloc: Global, elf: &str, files: &mut F) -> Outcome
     ensures { Comes (dis_reading elf.now) (F.seen files.old) (F.seen files.new) result }
 {
     match read_input(&ElfFile, alloc, elf, files) {
-        Ok(image) => listed(alloc, &image),
+        Ok(image) => listing_report(alloc, &image),
         Err(outcome) => outcome,
     }
 }
 
-// Makes the listing of an image.
-fn listed(alloc: Global, image: &Image) -> Outcome
+// The report with the listing of an image.
+fn listing_report(alloc: Global, image: &Image) -> Outcome
     ensures { IsTold (IsListing image.now) ⊥ result }
 {
     match listing(alloc, image) {

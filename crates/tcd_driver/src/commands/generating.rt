@@ -18,7 +18,7 @@ use tcd_plan::Plan;
 use tcd_reading::{Outcome, Status, report};
 use tcd_report::generate;
 
-/// Generates the image of so many functions and its plan, and makes their certificate.
+/// Generates the image with this number of functions and its plan, and certifies them.
 #[inline(never)]
 pub(crate) fn generate_image(alloc: Global, functions: u32) -> Outcome
     requires { (1 ≤ functions) × (functions ≤ 500) }
@@ -36,7 +36,7 @@ pub(crate) fn generate_image(alloc: Global, functions: u32) -> Outcome
         }
     };
     match Plan::read(alloc, &files.plan) {
-        Ok(plan) => summary(alloc, functions, &image, &plan),
+        Ok(plan) => summarize(alloc, functions, &image, &plan),
         Err(e) => {
             only_plan_memory(e);
             Outcome::NoMemory
@@ -44,12 +44,12 @@ pub(crate) fn generate_image(alloc: Global, functions: u32) -> Outcome
     }
 }
 
-// Makes a certificate of version 1.
-fn summary(alloc: Global, functions: u32, image: &Image, plan: &Plan) -> Outcome
+// Makes the least certificate of version 1, and reports it.
+fn summarize(alloc: Global, functions: u32, image: &Image, plan: &Plan) -> Outcome
     ensures { IsTold (IsSummary functions image.now plan.now) ⊥ result }
 {
     match make_bytes(alloc, image, plan, 1) {
-        Ok(bytes) => counted(alloc, functions, image, plan, bytes),
+        Ok(bytes) => check_and_count(alloc, functions, image, plan, bytes),
         Err(MakeErr::Refused { rule, key, addr }) => {
             report(alloc, Status::Refused, refused_line(alloc, rule, key, addr))
         }
@@ -57,8 +57,14 @@ fn summary(alloc: Global, functions: u32, image: &Image, plan: &Plan) -> Outcome
     }
 }
 
-// Checks the certificate that was made, and makes the line on it.
-fn counted(alloc: Global, functions: u32, image: &Image, plan: &Plan, bytes: Vec<u8>) -> Outcome
+// Checks the certificate that was made, and reports the numbers of its nodes and points.
+fn check_and_count(
+    alloc: Global,
+    functions: u32,
+    image: &Image,
+    plan: &Plan,
+    bytes: Vec<u8>,
+) -> Outcome
     requires { AreMade image.now plan.now 1 bytes.items }
     ensures { IsTold (IsSummary functions image.now plan.now) ⊥ result }
 {

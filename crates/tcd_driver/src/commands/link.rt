@@ -15,7 +15,7 @@ use tcd_base::Files;
 use tcd_forms::{LayoutFile, ObjectFile, link_line, linked_line};
 use tcd_reading::{Outcome, Status, read_input, report, report_file};
 
-/// Reads a layout and objects, and makes the image of the objects that are laid out this way.
+/// Reads a layout and objects, and links the objects by the layout.
 #[inline(never)]
 pub(crate) fn link_files<F: Files>(
     alloc: Global,
@@ -39,7 +39,7 @@ pub(crate) fn link_files<F: Files>(
     }
 }
 
-// Reads the objects, and makes the image of them that is laid out this way.
+// Reads the objects, and links them by this layout.
 fn link_by<F: Files>(
     alloc: Global,
     name: &str,
@@ -69,22 +69,22 @@ fn link_by<F: Files>(
             Err(_) => return Outcome::NoMemory,
         }
     }
-    linked(alloc, name, layout, &parts)
+    link_objects(alloc, name, layout, &parts)
 }
 
-// Links objects, and makes the line.
-fn linked(alloc: Global, name: &str, layout: &Layout, objects: &[ObjectRef<'_>]) -> Outcome
+// Links the objects, and reports the image or the refusal.
+fn link_objects(alloc: Global, name: &str, layout: &Layout, objects: &[ObjectRef<'_>]) -> Outcome
     requires { length objects.now ≤ 65535 }
     ensures { IsTold (IsLinked name.now layout.now objects.now) ⊥ result }
 {
     match link_borrowed(alloc, objects, layout) {
-        Ok(image) => written(alloc, name, &image),
+        Ok(image) => image_report(alloc, name, &image),
         Err(e) => report(alloc, Status::BadInput, link_line(alloc, e)),
     }
 }
 
-// An image to write under a name, and the line on it.
-fn written(alloc: Global, name: &str, image: &Image) -> Outcome
+// The report with an image to write under this name.
+fn image_report(alloc: Global, name: &str, image: &Image) -> Outcome
     ensures { IsTold (WritesImage name.now image.now) ⊥ result }
 {
     match image.write(alloc) {

@@ -15,7 +15,7 @@ use tcd_plan::Plan;
 use tcd_reading::{Outcome, Status, read_input, report};
 use tcd_report::report_packed;
 
-/// Reads the three files, and tells the certificate's report, where it is accepted.
+/// Reads the three files, and prints the report of the certificate if it is accepted.
 #[inline(never)]
 pub(crate) fn report_files<F: Files>(
     alloc: Global,
@@ -39,11 +39,11 @@ pub(crate) fn report_files<F: Files>(
         Ok(proof) => proof,
         Err(outcome) => return outcome,
     };
-    reported(alloc, &image, &board, &proof)
+    check_and_report(alloc, &image, &board, &proof)
 }
 
-// Checks a certificate, and tells its report.
-fn reported(alloc: Global, image: &Image, plan: &Plan, cert: &PackedCert) -> Outcome
+// Checks the certificate, and makes its report.
+fn check_and_report(alloc: Global, image: &Image, plan: &Plan, cert: &PackedCert) -> Outcome
     ensures { IsTold (IsReporting image.now plan.now cert.now) ⊥ result }
 {
     match check_packed(image, plan, cert) {
@@ -54,7 +54,7 @@ fn reported(alloc: Global, image: &Image, plan: &Plan, cert: &PackedCert) -> Out
     }
 }
 
-// The report of an accepted certificate, as bytes.
+// The report of an accepted certificate as bytes.
 #[inline(never)]
 fn report_text(
     alloc: Global,

@@ -12,7 +12,7 @@ use tcd_forms::{ElfFile, PlanFile, ScriptFile, run_line};
 use tcd_plan::Plan;
 use tcd_reading::{Outcome, Status, read_input, report};
 
-/// Reads the three files, drives the machine by the script, and tells what it came to.
+/// Reads the three files, runs the machine by the script, and reports how the run ended.
 #[inline(never)]
 pub(crate) fn run_files<F: Files>(
     alloc: Global,
@@ -37,11 +37,11 @@ pub(crate) fn run_files<F: Files>(
         Ok(turns) => turns,
         Err(outcome) => return outcome,
     };
-    driven(alloc, &image, &board, &turns)
+    run_script(alloc, &image, &board, &turns)
 }
 
-// Starts the machine, drives it, and makes the line.
-fn driven(alloc: Global, image: &Image, plan: &Plan, script: &Script) -> Outcome
+// Starts the machine, runs it by the script, and reports how the run ended.
+fn run_script(alloc: Global, image: &Image, plan: &Plan, script: &Script) -> Outcome
     requires { FitsPlan plan.now script.now }
     ensures { IsTold (IsRun image.now plan.now script.now) ⊥ result }
 {

@@ -16,7 +16,7 @@ use tcd_forms::{LayoutFile, PlacedSourceFile, PlanFile, certified_line, link_lin
 use tcd_plan::Plan;
 use tcd_reading::{Outcome, Status, Write, read_input, report, report_two};
 
-/// The names of the files that `ship` reads, and of the two that it writes.
+/// The names of the files that `ship` reads, and of the two files that it writes.
 #[derive(Clone, Copy)]
 pub(crate) struct Shipment<'a> {
     pub(crate) plan: &'a str,
@@ -26,7 +26,7 @@ pub(crate) struct Shipment<'a> {
     pub(crate) sources: &'a [String],
 }
 
-/// Reads a plan, a layout and sources, and makes their image and its certificate.
+/// Reads a plan, a layout and sources, and makes the image of the sources and its certificate.
 #[inline(never)]
 pub(crate) fn ship_files<F: Files>(alloc: Global, names: &Shipment<'_>, files: &mut F) -> Outcome
     requires { length names.now.sources.now ≤ 65535 }
@@ -44,7 +44,7 @@ pub(crate) fn ship_files<F: Files>(alloc: Global, names: &Shipment<'_>, files: &
     ship_sources(alloc, names, &plan, &layout, files)
 }
 
-// Reads the sources, of which only the objects are kept.
+// Reads the sources, and keeps only their objects.
 fn ship_sources<F: Files>(
     alloc: Global,
     names: &Shipment<'_>,
@@ -71,11 +71,11 @@ fn ship_sources<F: Files>(
             Err(_) => return Outcome::NoMemory,
         }
     }
-    linked(alloc, names, plan, layout, &objects)
+    ship_objects(alloc, names, plan, layout, &objects)
 }
 
-// Links the objects of sources.
-fn linked(
+// Links the objects of the sources, and certifies the image.
+fn ship_objects(
     alloc: Global,
     names: &Shipment<'_>,
     plan: &Plan,
@@ -88,13 +88,13 @@ fn linked(
 {
     let _entry = &layout.entry;
     match link(alloc, objects, layout) {
-        Ok(image) => spelled(alloc, names, plan, &image),
+        Ok(image) => ship_image(alloc, names, plan, &image),
         Err(e) => report(alloc, Status::BadInput, link_line(alloc, e)),
     }
 }
 
-// Certifies an image as it is read from the bytes that are written for it.
-fn spelled(alloc: Global, names: &Shipment<'_>, plan: &Plan, image: &Image) -> Outcome
+// Certifies the image that reading the bytes of the output file gives.
+fn ship_image(alloc: Global, names: &Shipment<'_>, plan: &Plan, image: &Image) -> Outcome
     ensures { IsTold (IsShipping names.now.elf.now names.now.cert.now plan.now image.now) ⊥
         result }
 {
@@ -103,7 +103,7 @@ fn spelled(alloc: Global, names: &Shipment<'_>, plan: &Plan, image: &Image) -> O
         Err(_) => return Outcome::NoMemory,
     };
     match Image::read(alloc, &bytes) {
-        Ok(read) => shipped(alloc, names, plan, &read, bytes),
+        Ok(read) => ship_bytes(alloc, names, plan, &read, bytes),
         Err(e) => {
             only_image_memory(e);
             Outcome::NoMemory
@@ -111,7 +111,7 @@ fn spelled(alloc: Global, names: &Shipment<'_>, plan: &Plan, image: &Image) -> O
     }
 }
 
-// The two files to write, one after the other.
+// The two files to write, in this order.
 fn two_files(
     alloc: Global,
     names: &Shipment<'_>,
@@ -126,8 +126,8 @@ fn two_files(
     Ok((first, second))
 }
 
-// Certifies the image that these bytes spell, and makes the two files to write and the line on them.
-fn shipped(
+// Certifies the image that these bytes spell, and reports both files to write.
+fn ship_bytes(
     alloc: Global,
     names: &Shipment<'_>,
     plan: &Plan,

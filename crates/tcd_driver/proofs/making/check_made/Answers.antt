@@ -3,7 +3,7 @@ use Rattle.depth_cert.specs.Answers.{IsFaultOf}
 use Rattle.depth_cert.specs.Grammar.{certificate_of}
 use Rattle.tcd_driver.specs.Made.{SpellBest}
 use Rattle.tcd_driver.proofs.MakingLaws.{best_most, best_accepted, spelled_is_read, spelled_has_no_fault, spells_certified}
-use Rattle.tcd_driver.proofs.making.checked.Goals as goal
+use Rattle.tcd_driver.proofs.making.check_made.Goals as goal
 
 pub read-requires : goal.read-requires
 read-requires c = best_most c.args.image.now c.args.plan.now c.args.bytes.items c.requires

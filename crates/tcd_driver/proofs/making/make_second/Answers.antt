@@ -1,5 +1,5 @@
 use Rattle.tcd_driver.proofs.MakingLaws.{second_spells}
-use Rattle.tcd_driver.proofs.making.second.Goals as goal
+use Rattle.tcd_driver.proofs.making.make_second.Goals as goal
 
-pub checked-requires : goal.checked-requires
-checked-requires c = second_spells c.args.image.now c.args.plan.now _ c.requires c.in-Ok.ensures.made
+pub check_made-requires : goal.check_made-requires
+check_made-requires c = second_spells c.args.image.now c.args.plan.now _ c.requires c.in-Ok.ensures.made

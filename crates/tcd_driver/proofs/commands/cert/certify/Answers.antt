@@ -5,7 +5,7 @@ use Rattle.tcd_reading.specs.declared.status.Status.TheVariants.{Refused}
 use Rattle.tcd_reading.proofs.Told.{told_more}
 use Rattle.tcd_reading.proofs.ReportLaws.{report_is}
 use Rattle.tcd_driver.proofs.MakingLaws.{certifying_report}
-use Rattle.tcd_driver.proofs.commands.cert.certified.Goals as goal
+use Rattle.tcd_driver.proofs.commands.cert.certify.Goals as goal
 
 pub returns-in-Certified : goal.returns-in-Certified
 returns-in-Certified c =

@@ -4,7 +4,7 @@ use Rattle.tcd_reading.specs.declared.status.Status.TheVariants.{Refused}
 use Rattle.tcd_reading.proofs.Told.{told_more}
 use Rattle.tcd_reading.proofs.ReportLaws.{report_is}
 use Rattle.tcd_driver.proofs.GraphReports.{told_text}
-use Rattle.tcd_driver.proofs.commands.cfg.drawn.Goals as goal
+use Rattle.tcd_driver.proofs.commands.cfg.draw_graph.Goals as goal
 
 pub graph_text-text-requires : goal.graph_text-text-requires
 graph_text-text-requires c = (_, c.in-Certified.ensures)

@@ -9,7 +9,7 @@ use Rattle.tcd_reading.proofs.Told.{told_more}
 use Rattle.tcd_reading.proofs.ReportLaws.{report_is}
 use Rattle.tcd_driver.proofs.GenReports.{made_most, counted_report}
 use Rattle.tcd_driver.proofs.MakingLaws.{made_is_read, made_has_no_fault}
-use Rattle.tcd_driver.proofs.commands.generating.counted.Goals as goal
+use Rattle.tcd_driver.proofs.commands.generating.check_and_count.Goals as goal
 
 pub read-requires : goal.read-requires
 read-requires c = made_most c.args.image.now c.args.plan.now c.args.bytes.items c.requires

@@ -12,5 +12,5 @@ read-requires-2 c = text_most _ _ c.deref-2.ensures.value c.in-Ok.ensures.text
 
 pub returns-in-Ok-read-2 : goal.returns-in-Ok-read-2
 returns-in-Ok-read-2 c =
-    subst (λ (i : ImageData). IsTold (IsSummary c.args.functions i generated_plan) ⊥ c.summary.result) (read_image _ _ _ _ c.deref.ensures.value c.in-Ok.ensures.image c.in-Ok-read.ensures)
-    (subst (λ (p : PlanData). IsTold (IsSummary c.args.functions c.in-Ok-read.image p) ⊥ c.summary.result) (read_plan _ _ _ _ c.deref-2.ensures.value c.in-Ok.ensures.plan c.in-Ok-read-2.ensures.answer) c.summary.ensures)
+    subst (λ (i : ImageData). IsTold (IsSummary c.args.functions i generated_plan) ⊥ c.summarize.result) (read_image _ _ _ _ c.deref.ensures.value c.in-Ok.ensures.image c.in-Ok-read.ensures)
+    (subst (λ (p : PlanData). IsTold (IsSummary c.args.functions c.in-Ok-read.image p) ⊥ c.summarize.result) (read_plan _ _ _ _ c.deref-2.ensures.value c.in-Ok.ensures.plan c.in-Ok-read-2.ensures.answer) c.summarize.ensures)

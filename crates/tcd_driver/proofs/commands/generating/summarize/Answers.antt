@@ -4,7 +4,7 @@ use Rattle.tcd_reading.specs.declared.status.Status.TheVariants.{Refused}
 use Rattle.tcd_reading.proofs.Told.{told_more}
 use Rattle.tcd_reading.proofs.ReportLaws.{report_is}
 use Rattle.tcd_driver.proofs.GenReports.{refused_report}
-use Rattle.tcd_driver.proofs.commands.generating.summary.Goals as goal
+use Rattle.tcd_driver.proofs.commands.generating.summarize.Goals as goal
 
 pub returns-in-Err-Refused : goal.returns-in-Err-Refused
 returns-in-Err-Refused c =

@@ -28,5 +28,5 @@ loop-i-preserved g c =
 
 pub returns : goal.returns
 returns g c =
-    all_read ObjectData object_form (map string_bytes c.args.objects.now) (IsLinked c.args.name.now c.args.layout.now) _ c.loop-i.i c.loop-i.parts.items _ _ c.linked.result
-    (let e = length-map c.args.objects.now string_bytes in omega arith) c.loop-i.invariant.leads (subst (λ os. IsTold (IsLinked c.args.name.now c.args.layout.now os) ⊥ c.linked.result) c.deref.ensures.value c.linked.ensures)
+    all_read ObjectData object_form (map string_bytes c.args.objects.now) (IsLinked c.args.name.now c.args.layout.now) _ c.loop-i.i c.loop-i.parts.items _ _ c.link_objects.result
+    (let e = length-map c.args.objects.now string_bytes in omega arith) c.loop-i.invariant.leads (subst (λ os. IsTold (IsLinked c.args.name.now c.args.layout.now os) ⊥ c.link_objects.result) c.deref.ensures.value c.link_objects.ensures)

@@ -1,10 +1,10 @@
 use Rattle.tcd_reading.proofs.Told.{told_more}
 use Rattle.tcd_reading.proofs.ReportLaws.{was_made}
 use Rattle.tcd_driver.proofs.CommandLaws.{linked_image, refused_report}
-use Rattle.tcd_driver.proofs.commands.link.linked.Goals as goal
+use Rattle.tcd_driver.proofs.commands.link.link_objects.Goals as goal
 
 pub returns-in-Ok : goal.returns-in-Ok
-returns-in-Ok c = told_more _ _ c.written.result c.written.ensures (λ r p. linked_image c.args.name.now c.args.layout.now c.args.objects.now c.in-Ok.image r c.in-Ok.ensures.ok p)
+returns-in-Ok c = told_more _ _ c.image_report.result c.image_report.ensures (λ r p. linked_image c.args.name.now c.args.layout.now c.args.objects.now c.in-Ok.image r c.in-Ok.ensures.ok p)
 
 pub returns-in-Err : goal.returns-in-Err
 returns-in-Err c =

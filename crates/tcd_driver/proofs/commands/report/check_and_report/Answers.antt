@@ -7,7 +7,7 @@ use Rattle.tcd_reading.specs.declared.status.Status.TheVariants.{Refused}
 use Rattle.tcd_reading.proofs.Told.{told_more}
 use Rattle.tcd_reading.proofs.ReportLaws.{report_is}
 use Rattle.tcd_driver.proofs.GraphReports.{told_text}
-use Rattle.tcd_driver.proofs.commands.report.reported.Goals as goal
+use Rattle.tcd_driver.proofs.commands.report.check_and_report.Goals as goal
 
 pub report_text-requires : goal.report_text-requires
 report_text-requires c = c.in-Yes.ensures.judges.0

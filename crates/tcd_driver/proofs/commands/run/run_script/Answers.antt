@@ -5,7 +5,7 @@ use Rattle.tcd_reading.specs.declared.status.Status.TheVariants.{Done}
 use Rattle.tcd_reading.proofs.Told.{told_more}
 use Rattle.tcd_reading.proofs.ReportLaws.{report_is}
 use Rattle.tcd_driver.proofs.CommandLaws.{told_is}
-use Rattle.tcd_driver.proofs.commands.run.driven.Goals as goal
+use Rattle.tcd_driver.proofs.commands.run.run_script.Goals as goal
 
 pub returns-in-Ok : goal.returns-in-Ok
 returns-in-Ok c =

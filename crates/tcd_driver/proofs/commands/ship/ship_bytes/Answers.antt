@@ -5,7 +5,7 @@ use Rattle.tcd_reading.specs.declared.status.Status.TheVariants.{Refused}
 use Rattle.tcd_reading.proofs.Told.{told_more}
 use Rattle.tcd_reading.proofs.ReportLaws.{report_is}
 use Rattle.tcd_driver.proofs.ShipReports.{shipping_report}
-use Rattle.tcd_driver.proofs.commands.ship.shipped.Goals as goal
+use Rattle.tcd_driver.proofs.commands.ship.ship_bytes.Goals as goal
 
 pub returns-in-Ok : goal.returns-in-Ok
 returns-in-Ok c =

@@ -3,11 +3,11 @@ use Rattle.tc_link.specs.Layouts.{IsLayout}
 use Rattle.tcd_reading.proofs.Told.{told_more}
 use Rattle.tcd_reading.proofs.ReportLaws.{was_made}
 use Rattle.tcd_driver.proofs.ShipReports.{image_report, unlinked_report}
-use Rattle.tcd_driver.proofs.commands.ship.linked.Goals as goal
+use Rattle.tcd_driver.proofs.commands.ship.ship_objects.Goals as goal
 
 pub returns-in-Ok : goal.returns-in-Ok
 returns-in-Ok c =
-    λ ss are. told_more _ _ c.spelled.result c.spelled.ensures
+    λ ss are. told_more _ _ c.ship_image.result c.ship_image.ensures
     (λ r p. image_report c.args.names.now.elf.now c.args.names.now.cert.now c.args.plan.now c.args.layout.now ss c.args.objects.now c.in-Ok.image r (subst IsLayout c.layout.view_is c.layout.invariant) are c.in-Ok.ensures.ok p)
 
 pub returns-in-Err : goal.returns-in-Err

@@ -28,6 +28,6 @@ loop-i-preserved g c =
 
 pub returns : goal.returns
 returns g c =
-    all_read SourceData placed_source_form (map string_bytes c.args.names.now.sources.now) (shipped_by c.args.names.now c.args.plan.now c.args.layout.now) _ c.loop-i.i c.loop-i.invariant.sources _ _ c.linked.result
+    all_read SourceData placed_source_form (map string_bytes c.args.names.now.sources.now) (shipped_by c.args.names.now c.args.plan.now c.args.layout.now) _ c.loop-i.i c.loop-i.invariant.sources _ _ c.ship_objects.result
     (let e = length-map c.args.names.now.sources.now string_bytes in omega arith) c.loop-i.invariant.read.leads
-    (c.linked.ensures c.loop-i.invariant.sources (subst (λ os. AreSourcesOf c.loop-i.invariant.sources os) (sym c.deref.ensures.value) c.loop-i.invariant.are))
+    (c.ship_objects.ensures c.loop-i.invariant.sources (subst (λ os. AreSourcesOf c.loop-i.invariant.sources os) (sym c.deref.ensures.value) c.loop-i.invariant.are))
