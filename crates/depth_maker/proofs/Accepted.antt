@@ -1,4 +1,5 @@
--- An accepted certificate is a closed assignment without faults, within the limits, whose needs are met.
+-- An accepted certificate is a closed assignment without faults, within the limits, whose needs are
+-- met.
 use Rattle.std.proofs.Common.{◌≡◌, ℕ, suc, ◌+◌, ◌-◌, ◌*◌, ◌^◌, ◌<◌, ◌≤◌, ◌⊎◌, inl, inr, Bool, true, false, cond, List, [], ◌∷◌, length, refl, sym, ap, ◌∙◌, subst, arith, Option, Some, None, Contains, All, eqb}
 use Rattle.std.specs.Prelude.{find, option_map, option_and_then, IsSomeAnd, IfSome}
 use Rattle.std.proofs.lemmas.Bool.{cases_Bool, eqb-true, eq-eqb}
@@ -97,11 +98,11 @@ find_agrees version k (n ∷ ns) key all =
     ap (λ t. cond t (Some n) (find (λ n. same_key n.key k) ns)) (same_test n.key k here.key key)
     ∙ ap (λ (o : Option NodeData). cond (eqb (number_of_key n.key) (number_of_key k)) (Some n) o) (find_agrees version k ns key (λ i d lt. all (suc i) d (omega arith)))
 
--- what holds at a node's key and a point's address and state, holds at those that they are
+-- what holds at a key, an address and a state holds at equal ones
 carried : (P : Key → ℕ → State → Type 0) (j k : Key) (x p : ℕ) (t s : State) → j ≡ k → x ≡ p → t ≡ s → P j x t → P k p s
 carried P j k x p t s a b c h = subst (λ (z : State). P k p z) c (subst (λ (z : ℕ). P k z t) b (subst (λ (z : Key). P z x t) a h))
 
--- the node and the point of a place that is known
+-- the node and the point of a known place
 pub record AtPoint (cert : CertData) (k : Key) (p : ℕ) (s : State) : Type 0 where
   pub node : NodeData
   pub found : find (λ n. same_key n.key k) cert.nodes ≡ Some node
@@ -134,7 +135,7 @@ at_point cert k p v e =
       },
     )
 
--- the node of an exit that is known
+-- the node of a known exit
 pub record AtExit (cert : CertData) (k : Key) (x : Exit) : Type 0 where
   pub node : NodeData
   pub found : find (λ n. same_key n.key k) cert.nodes ≡ Some node
@@ -162,7 +163,7 @@ module _ (image : ImageData) (plan : PlanData) (cert : CertData) (ground : IsGro
   agrees : (k : Key) → IsKey k → find (λ n. same_key n.key k) cert.nodes ≡ find_node k cert.nodes
   agrees k key = find_agrees cert.version k cert.nodes key is_cert.nodes
 
-  -- what a place of a node says is known
+  -- what a node says of its places is known
   known_point : (k : Key) (n : NodeData) (q : ℕ) (p : Point) → find (λ n. same_key n.key k) cert.nodes ≡ Some n → find_point q n.points ≡ Some p → known_in cert (point k q) ≡ Some (state p.state)
   known_point k n q p found at = ap (option_and_then (known_at (point k q))) found ∙ ap (option_map (λ (q : Point). state q.state)) at
 
@@ -265,7 +266,7 @@ module _ (image : ImageData) (plan : PlanData) (cert : CertData) (ground : IsGro
       let same = one_state a.0 s (sym a.1) in
       subst (IsFaultless (limits_in plan cert) image plan k p) same (point_faultless k p a.0 a.2)
 
-  -- a point that is known, with its very state
+  -- a known point, with the same state
   point_of : (k : Key) (p : ℕ) (s : State) → known_in cert (point k p) ≡ Some (state s) → AtPoint cert k p s
   point_of k p s e = let a = at_point cert k p (state s) e in subst (AtPoint cert k p) (one_state a.0 s (sym a.1)) a.2
 

@@ -1,4 +1,4 @@
--- Every derived assignment lies below every closed one that has no fault of its own.
+-- Every derived assignment is below every closed one without faults of its own.
 use Rattle.std.proofs.Common.{◌≡◌, ℕ, Option, Some, None, IsSome, refl, sym, ap, ◌∙◌, subst, inl, inr}
 use Rattle.std.specs.Prelude.{if◌then◌else◌}
 use Rattle.elf_image.specs.Images.{ImageData}
@@ -18,7 +18,7 @@ use Rattle.depth_maker.specs.Proper.{AllProper, AllFaultless, AreLawful}
 use Rattle.depth_maker.proofs.PlaceLaws.{place_tells, over_state, over_exit, resumed_some, from_if}
 
 module _ (b : Limits) (image : ImageData) (plan : PlanData) (laws : AreLawful b image plan) where
-  -- ---- what is asked
+  -- ---- what flows in
   asked_proper : (a : Assignment) (key : Key) (s : State) (d : Duty) (y : Place) (v : Known) → AllProper b a → IsProper b s → IsProperDuty b d → asked a key s d ≡ Some (y, v) → IsProperKnown b v
   asked_proper a key s (jump q t) y v cells ps pd is =
       let f : (point key q, state t) ≡ (y, v) = cc in subst (IsProperKnown b) (ap (λ (p : Place × Known). p.1) f) pd
@@ -30,16 +30,16 @@ module _ (b : Limits) (image : ImageData) (plan : PlanData) (laws : AreLawful b 
   asked_proper a key s (leave x) y v cells ps pd is =
       let f : (exit key, leaving x) ≡ (y, v) = cc in subst (IsProperKnown b) (ap (λ (p : Place × Known). p.1) f) pd
 
-  -- two duties of which one asks no more
-  asked_rises : (a c : Assignment) → IsBelowAt a c → AllProper b a → AllProper b c → (key : Key) (s t : State) → IsProper b s → IsProper b t → Covers t s → (d e : Duty) → IsDutyBelow d e
+  -- two duties, of which one asks for no more
+  incoming_rises : (a c : Assignment) → IsBelowAt a c → AllProper b a → AllProper b c → (key : Key) (s t : State) → IsProper b s → IsProper b t → Covers t s → (d e : Duty) → IsDutyBelow d e
       → (y : Place) (v : Known) → asked a key s d ≡ Some (y, v) → (w : Known) × (asked c key t e ≡ Some (y, w)) × CoversKnown w v
-  asked_rises a c below pa pc key s t ps pt ts (jump q u) (jump r w) h y v is =
+  incoming_rises a c below pa pc key s t ps pt ts (jump q u) (jump r w) h y v is =
       let f : (point key q, state u) ≡ (y, v) = cc in
       (state w, ap (λ (n : ℕ). Some (point key n, state w)) (sym h.0) ∙ ap (λ (p : Place × Known). Some (p.0, state w)) f, subst (CoversKnown (state w)) (ap (λ (p : Place × Known). p.1) f) h.1)
-  asked_rises a c below pa pc key s t ps pt ts (enter k u) (enter j w) h y v is =
+  incoming_rises a c below pa pc key s t ps pt ts (enter k u) (enter j w) h y v is =
       let f : (point k k.entry, state u) ≡ (y, v) = cc in
       (state w, ap (λ (n : Key). Some (point n n.entry, state w)) (sym h.0) ∙ ap (λ (p : Place × Known). Some (p.0, state w)) f, subst (CoversKnown (state w)) (ap (λ (p : Place × Known). p.1) f) h.1)
-  asked_rises a c below pa pc key s t ps pt ts (resume k q) (resume j r) h y v is =
+  incoming_rises a c below pa pc key s t ps pt ts (resume k q) (resume j r) h y v is =
       let m = resumed_some key s k q (a (exit k)) y v is in
       let o = below (exit k) (leaving m.0) m.1 in
       let up = over_exit o.known m.0 o.covers in
@@ -50,21 +50,21 @@ module _ (b : Limits) (image : ImageData) (plan : PlanData) (laws : AreLawful b 
         ap (λ (n : Key). asked c key t (resume n r)) (sym h.0) ∙ ap (λ (n : ℕ). asked c key t (resume k n)) (sym h.1) ∙ ap (resumed key t k q) there ∙ ap (λ (p : Place). Some (p, state (after_of t up.0 k.kind))) m.2,
         subst (CoversKnown (state (after_of t up.0 k.kind))) m.3 (laws.after_grows s t m.0 up.0 k.kind ps pt px py ts up.2),
       )
-  asked_rises a c below pa pc key s t ps pt ts (leave x) (leave z) h y v is =
+  incoming_rises a c below pa pc key s t ps pt ts (leave x) (leave z) h y v is =
       let f : (exit key, leaving x) ≡ (y, v) = cc in
       (leaving z, ap (λ (p : Place × Known). Some (p.0, leaving z)) f, subst (CoversKnown (leaving z)) (ap (λ (p : Place × Known). p.1) f) h)
-  asked_rises a c below pa pc key s t ps pt ts (jump q u) (enter j w) h y v is = absurd h
-  asked_rises a c below pa pc key s t ps pt ts (jump q u) (resume j r) h y v is = absurd h
-  asked_rises a c below pa pc key s t ps pt ts (jump q u) (leave z) h y v is = absurd h
-  asked_rises a c below pa pc key s t ps pt ts (enter k u) (jump r w) h y v is = absurd h
-  asked_rises a c below pa pc key s t ps pt ts (enter k u) (resume j r) h y v is = absurd h
-  asked_rises a c below pa pc key s t ps pt ts (enter k u) (leave z) h y v is = absurd h
-  asked_rises a c below pa pc key s t ps pt ts (resume k q) (jump r w) h y v is = absurd h
-  asked_rises a c below pa pc key s t ps pt ts (resume k q) (enter j w) h y v is = absurd h
-  asked_rises a c below pa pc key s t ps pt ts (resume k q) (leave z) h y v is = absurd h
-  asked_rises a c below pa pc key s t ps pt ts (leave x) (jump r w) h y v is = absurd h
-  asked_rises a c below pa pc key s t ps pt ts (leave x) (enter j w) h y v is = absurd h
-  asked_rises a c below pa pc key s t ps pt ts (leave x) (resume j r) h y v is = absurd h
+  incoming_rises a c below pa pc key s t ps pt ts (jump q u) (enter j w) h y v is = absurd h
+  incoming_rises a c below pa pc key s t ps pt ts (jump q u) (resume j r) h y v is = absurd h
+  incoming_rises a c below pa pc key s t ps pt ts (jump q u) (leave z) h y v is = absurd h
+  incoming_rises a c below pa pc key s t ps pt ts (enter k u) (jump r w) h y v is = absurd h
+  incoming_rises a c below pa pc key s t ps pt ts (enter k u) (resume j r) h y v is = absurd h
+  incoming_rises a c below pa pc key s t ps pt ts (enter k u) (leave z) h y v is = absurd h
+  incoming_rises a c below pa pc key s t ps pt ts (resume k q) (jump r w) h y v is = absurd h
+  incoming_rises a c below pa pc key s t ps pt ts (resume k q) (enter j w) h y v is = absurd h
+  incoming_rises a c below pa pc key s t ps pt ts (resume k q) (leave z) h y v is = absurd h
+  incoming_rises a c below pa pc key s t ps pt ts (leave x) (jump r w) h y v is = absurd h
+  incoming_rises a c below pa pc key s t ps pt ts (leave x) (enter j w) h y v is = absurd h
+  incoming_rises a c below pa pc key s t ps pt ts (leave x) (resume j r) h y v is = absurd h
 
   pub duty_proper : (a : Assignment) (key : Key) (p : ℕ) (s : State) (d : Duty) → AllProper b a → HasDuty b image plan a key p s d → IsProperDuty b d
   duty_proper a key p s d cells h =
@@ -76,7 +76,7 @@ module _ (b : Limits) (image : ImageData) (plan : PlanData) (laws : AreLawful b 
 
   -- ---- below a closed one
   module _ (c : Assignment) (closed : Closed b image plan c) (faultless : AllFaultless b image plan c) (pc : AllProper b c) where
-    -- a duty of a smaller assignment's point, and the closed one's that asks no less
+    -- a duty of a smaller assignment's point, and the closed one's that asks for no less
     pub duty_above : (a : Assignment) → IsBelowAt a c → AllProper b a → (key : Key) (p : ℕ) (s : State) (d : Duty) → HasDuty b image plan a key p s d
         → (t : State) × (e : Duty) × HasDuty b image plan c key p t e × Covers t s × IsProper b t × IsDutyBelow d e
     duty_above a below pa key p s d h =
@@ -97,7 +97,7 @@ module _ (b : Limits) (image : ImageData) (plan : PlanData) (laws : AreLawful b 
     pub asks_covered : (a : Assignment) → IsBelowAt a c → AllProper b a → (y : Place) (v : Known) → Asks b image plan a y v → CoversAt c y v
     asks_covered a below pa y v k =
         let up = duty_above a below pa k.key k.addr k.before k.duty k.has in
-        let r = asked_rises a c below pa pc k.key k.before up.0 (pa (point k.key k.addr) (state k.before) (k.has).at) up.4 up.3 k.duty up.1 up.5 y v k.asks in
+        let r = incoming_rises a c below pa pc k.key k.before up.0 (pa (point k.key k.addr) (state k.before) (k.has).at) up.4 up.3 k.duty up.1 up.5 y v k.asks in
         let there : Asks b image plan c y r.0 = record { key = k.key; addr = k.addr; before = up.0; duty = up.1; has = up.2; asks = r.1 } in
         let o = closed.duties y r.0 there in
         record { known = o.known; at = o.at; covers = laws.covers_through v r.0 o.known (asks_proper a y v pa k) (asks_proper c y r.0 pc there) o.covers r.2 }
@@ -111,7 +111,7 @@ module _ (b : Limits) (image : ImageData) (plan : PlanData) (laws : AreLawful b 
         let e : l.0 ≡ known = (let q : Some l.0 ≡ Some known = sym l.1 ∙ is in cc) in
         (laws.joined_proper w v known g.0 pv is, subst (CoversKnown top) e l.2)
 
-    -- one joining stays below
+    -- one join stays below
     pub joined_below : (a after : Assignment) (y : Place) → IsBelowAt a c × AllProper b a → Joins b image plan a after y → IsBelowAt after c × AllProper b after
     joined_below a after y stays j =
         let top = asks_covered a stays.0 stays.1 y j.value j.asks in
@@ -142,7 +142,7 @@ module _ (b : Limits) (image : ImageData) (plan : PlanData) (laws : AreLawful b 
     derived_below _ (begins a is) = start_below a is
     derived_below _ (joins a after y d j) = joined_below a after y (derived_below a d) j
 
-    -- so no point of a derived one has a fault of its own, and no joining of one fails
+    -- so no point of a derived one has a fault of its own, and no join fails
     pub derived_faultless : (a : Assignment) → Derived b image plan a → AllFaultless b image plan a
     derived_faultless a d k p s at =
         let h = derived_below a d in
@@ -186,7 +186,7 @@ module _ (b : Limits) (image : ImageData) (plan : PlanData) (laws : AreLawful b 
     large_above : (a : Assignment) → IsBelowAt a c → IsTooLarge a → IsTooLarge c
     large_above a below h = elim h [ inl n ↦ inl (nodes_above a below n) | inr n ↦ inr (points_above a below n) ]
 
-    -- where a closed one stands without faults and not too large, no derived one has a fault
+    -- if there is a closed one without faults and within the limits, no derived one has a fault
     fault_of : (a : Assignment) (r : ℕ) (k : Key) (p : ℕ) → Derived b image plan a → HasFault b image plan a r k p → ⊥
     fault_of a _ _ _ d (own r k p s at is) = is.fails (derived_faultless a d k p s at r)
     fault_of a _ _ _ d (locals k p s t at asks none) = derived_joins a d (point k p) (state t) (state s) asks at (unjoined s t none) where

@@ -65,7 +65,7 @@ module _ (b : Limits) (image : ImageData) (plan : PlanData) (a after : Assignmen
         | inr f ↦ inr (subst (λ (o : Option Known). IsSome o) (j.is x ∙ ap (λ t. if t then Some j.known else a x) f) h)
       ]
 
-  -- something that was known rises
+  -- the state of a known place rises
   pub counted_rises : (ps : List Place) (ks : List Key) → AreCounted a ps ks → IsSome (a y) → AreCounted after ps ks
   counted_rises ps ks c old = record {
     points = λ k p h. elim (before (point k p) h) [ inl e ↦ c.points k p (subst (λ (z : Place). IsSome (a z)) (sym e) old) | inr g ↦ c.points k p g ];
@@ -76,7 +76,7 @@ module _ (b : Limits) (image : ImageData) (plan : PlanData) (a after : Assignmen
     once_each = c.once_each;
   }
 
-  -- the frame of what is asked stands, or its entry is asked
+  -- the frame of an asked place is there, or its entry is asked for
   pub frame_stands : (ps : List Place) (ks : List Key) → AreCounted a ps ks → Contains ks (frame_of y) ⊎ ((k : Key) × (y ≡ entry_of k))
   frame_stands ps ks c =
       let k = j.asks in
@@ -121,7 +121,7 @@ module _ (b : Limits) (image : ImageData) (plan : PlanData) (a after : Assignmen
           | inr e ↦ (subst (λ (z : Place). IsSome (after z)) e added, (l, q, sym e ∙ is))
         ]
 
-    -- a point of a frame that stands is added
+    -- a point of a known frame is added
     pub counted_point : Contains ks l → AreCounted after (ps ++ y ∷ []) ks
     counted_point has = record {
       points = more_points;

@@ -1,4 +1,4 @@
--- The counts of a table: one joining keeps them, or passes a limit.
+-- The counts of a table: a join keeps them, or passes a limit.
 use Rattle.std.proofs.Common.{◌≡◌, ◌⊎◌, inl, inr, ℕ, suc, ◌^◌, ◌≤◌, Bool, true, false, List, [], ◌∷◌, ◌++◌, length, Option, Some, None, IsSome, refl, sym, ap, ◌∙◌, subst, arith, Contains}
 use Rattle.std.specs.Prelude.{if◌then◌else◌, is_some, map, ◌==◌}
 use Rattle.std.specs.List.{IsDistinct}
@@ -40,7 +40,7 @@ are_few ps ks p k = record { points = omega (arith, places_length ps); frames = 
 pub few_spots : (ps : List Spot) (ks : List Key) → AreFew (map place_of ps) ks → (length ps ≤ 2 ^ 16) × (length ks ≤ 2048)
 few_spots ps ks few = (let h = few.points in omega (arith, h, places_length ps), few.frames)
 
--- the same table still
+-- the same table
 pub counted_again : {S T : Type 0} (cells : IndexMap Spot (Marked Known) S) (after : IndexMap Spot (Marked Known) T) (ps qs : List Spot) (ks js : List Key)
     → ((q : Place) → value_for after (spot_of q) ≡ value_for cells (spot_of q)) → qs ≡ ps → js ≡ ks → IsCountedIn cells ps ks → IsCountedIn after qs js
 counted_again cells after ps qs ks js same p k c = record {
@@ -81,7 +81,7 @@ none_of : (o : Option Known) → is_some o ≡ false → o ≡ None
 none_of None e = refl
 none_of (Some v) e = cc
 
--- ---- one joining
+-- ---- one join
 module _ {S T : Type 0} (b : Limits) (image : ImageData) (plan : PlanData) (cells : IndexMap Spot (Marked Known) S) (after : IndexMap Spot (Marked Known) T) where
   at_spot : (t : Bool) (y : Spot) (ps : List Spot) (ks : List Key) → Joins b image plan (λ q. value_for cells (spot_of q)) (λ q. value_for after (spot_of q)) (place_of y)
       → AreCounted (λ q. value_for cells (spot_of q)) (map place_of ps) ks → is_some (value_for cells y) ≡ t

@@ -141,7 +141,7 @@ module _ (b : Limits) (image : ImageData) (plan : PlanData) (key : Key) (p : ℕ
       rw (h refl) (contains_filter (λ q. ltb t.ccpn q) x plan.irqs k.0 (lt-ltb t.ccpn x (omega (arith, c.context.1))))
 
   module _ (faultless : IsFaultless b image plan key p t) (n : ℕ) where
-    -- what the greater state owes, in the same place
+    -- the duty of the greater state, in the same place
     abbrev Above : Shape → Owed → Type 0
     Above shape d = (e : Owed) × Contains (duties_of b image plan key p t shape n) e × IsOwedBelow d e
 

@@ -1,4 +1,4 @@
--- What instructions do to a state grows with it.
+-- The effects of instructions grow with the state.
 use Rattle.std.proofs.Common.{◌≡◌, ℕ, ◌+◌, ◌-◌, ◌^◌, ◌<◌, inl, inr, Bool, true, false, cond, IsTrue, List, [], ◌∷◌, length, refl, sym, ap, ◌∙◌, subst, arith, get_or, Option, Some, None}
 use Rattle.std.specs.List.{list_any}
 use Rattle.std.proofs.lemmas.Bool.{cases_Bool}
@@ -130,7 +130,7 @@ address_value b p (Store src base offset size after) s h is = access_value b p s
 address_value b p _ s h is = any_value b h.limits
 
 -- ---- refinement
--- what is kept of a larger set has a larger cover
+-- the members that are kept of a larger set have a larger cover
 kept_more : (b : Limits) (xs ys : List ℕ) (v : Val) → Within xs ys → cover_some b xs ≡ Some v → (w : Val) × (cover_some b ys ≡ Some w) × IsBelow v w
 kept_more b [] ys v there e = absurd (let f : None ≡ Some v = e in cc)
 kept_more b (x ∷ xs) [] v there e = absurd (there x (inl refl))
@@ -267,7 +267,7 @@ lowered_grows b p x true (Some s) o2 small h u e =
       ),
     )
 
--- a side of a branch that is possible is possible for a larger state, with a larger state there
+-- a side of a branch that is possible is possible with a larger state, and leads to a larger state
 pub branch_grows : (b : Limits) (p : PlanData) (s t : State) (test : Cond) (x : ℕ) (y : Arg) (by : ℕ) (lowers side : Bool) → IsSetting b p s → IsSetting b p t → Covers t s → IsShape (Branch test x y by lowers)
     → GrowsTo b p (refine_of b p (Branch test x y by lowers) s side) (refine_of b p (Branch test x y by lowers) t side)
 unfolding refine_of

@@ -49,7 +49,7 @@ entered_successors b image plan p s (Branch cond x y by lowers) n =
 entered_successors b image plan p s (Jump to) n = entered_jumps s (unwrap_or (targets_of plan s p to) [])
 entered_successors b image plan p s _ n = refl
 
--- nor do leavings
+-- nor do exits
 entered_left : (t : Bool) (d : Owed) → entered_by d.duty ≡ [] → entered_in (if t then d ∷ [] else []) ≡ []
 entered_left true d e = ap (λ (l : List Key). l ++ []) e
 entered_left false d e = refl
@@ -92,13 +92,13 @@ entered_owed (d ∷ ds) k c =
 pub owed_entered : (ds : List Owed) (d : Owed) (k : Key) (t : State) → Contains ds d → d.duty ≡ enter k t → Contains (entered_in ds) k
 owed_entered ds d k t c e = contains_flat (λ (o : Owed). entered_by o.duty) k d ds c (subst (λ (y : Duty). Contains (entered_by y) k) (sym e) (0, omega arith, refl))
 
--- other instructions than calls and system calls enter no frame themselves
+-- only calls and system calls enter frames by themselves
 pub entries_none : (plan : PlanData) (key : Key) (p : ℕ) (s : State) (shape : Shape) (n : ℕ) → ((to : Target) → shape ≡ Call to → ⊥) → ((tin : ℕ) → shape ≡ Syscall tin → ⊥) → entered_in (entries_of plan key p s shape n) ≡ []
 entries_none plan key p s (Call to) n call sys = absurd (call to refl)
 entries_none plan key p s (Syscall tin) n call sys = absurd (sys tin refl)
 entries_none plan key p s _ n call sys = refl
 
--- other instructions than loads and stores have no access
+-- only loads and stores access memory
 pub owes_no_access : (b : Limits) (plan : PlanData) (key : Key) (s : State) (shape : Shape) → ((dst : ℕ) (base : Arg) (offset size : ℕ) (signed after : Bool) → shape ≡ Load dst base offset size signed after → ⊥)
     → ((src : ℕ) (base : Arg) (offset size : ℕ) (after : Bool) → shape ≡ Store src base offset size after → ⊥) → misaligned_of b plan key s shape ≡ []
 owes_no_access b plan key s (Load dst base offset size signed after) load store = absurd (load dst base offset size signed after refl)
@@ -109,7 +109,7 @@ pub access_none : (b : Limits) (plan : PlanData) (key : Key) (s : State) (shape 
     → ((src : ℕ) (base : Arg) (offset size : ℕ) (after : Bool) → shape ≡ Store src base offset size after → ⊥) → entered_in (misaligned_of b plan key s shape) ≡ []
 access_none b plan key s shape load store = ap entered_in (owes_no_access b plan key s shape load store)
 
--- where each address is aligned nothing is owed, else the entry of the handler
+-- if each address is aligned nothing is owed, otherwise the entry of the handler
 misaligned_turned : (plan : PlanData) (key : Key) (s : State) (at : Val) (size : ℕ) (r : Bool) → r ≡ not (are_aligned at size)
     → misaligned_at plan key s at size ≡ (if r then owed 10 (enter (aln_key plan key) (aln_entry plan key s)) ∷ [] else [])
 misaligned_turned plan key s at size r e = turned (are_aligned at size) ∙ sym (ap (λ (t : Bool). if t then entry ∷ [] else []) e) where
@@ -141,13 +141,13 @@ either a b (inr e) off = absurd (let no : true ≡ false = sym e ∙ off in cc)
 aligned_none : (plan : PlanData) (key : Key) (s : State) (at : Val) (size : ℕ) → are_aligned at size ≡ true → misaligned_at plan key s at size ≡ []
 aligned_none plan key s at size e = rw e refl
 
--- where no trap of misaligned accesses is stated, rule 10 leaves none
+-- without traps of misaligned accesses, rule 10 leaves none
 pub aligned_owes_none : (b : Limits) (plan : PlanData) (key : Key) (s : State) (shape : Shape) → MayAccess b plan s shape → plan.aln ≡ false → misaligned_of b plan key s shape ≡ []
 aligned_owes_none b plan key s (Load dst base offset size signed after) may off = aligned_none plan key s (address_of b plan (Load dst base offset size signed after) s) size (either _ _ may off)
 aligned_owes_none b plan key s (Store src base offset size after) may off = aligned_none plan key s (address_of b plan (Store src base offset size after) s) size (either _ _ may off)
 aligned_owes_none b plan key s _ may off = refl
 
--- ---- a list that grows by one more
+-- ---- a list with one more element
 pub map_step : (g : ℕ → Key) (from ks new : List Key) (ts : List ℕ) (i : ℕ) (x : Key) → i < length ts → ks ≡ from ++ map g (take i ts) → new ≡ ks ++ x ∷ [] → x ≡ g (get_or ts i 0) → new ≡ from ++ map g (take (i + 1) ts)
 map_step g from ks new ts i x lt so one is =
     one ∙ ap (λ (l : List Key). l ++ x ∷ []) so ∙ append_assoc from (map g (take i ts)) (x ∷ []) ∙ ap (λ (l : List Key). from ++ l)

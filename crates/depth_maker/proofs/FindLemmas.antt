@@ -1,4 +1,4 @@
--- What is found in lists that were mapped or filtered, and how much a filter by frames keeps.
+-- Searches in lists that were mapped or filtered, and the length of filters by frames.
 use Rattle.std.proofs.Common.{◌≡◌, ◌⊎◌, inl, inr, ℕ, zero, suc, ◌+◌, ◌<◌, ◌≤◌, Bool, true, false, cond, List, [], ◌∷◌, ◌++◌, length, map, get_or, refl, sym, ap, ◌∙◌, subst, arith, Some, None, Contains}
 use Rattle.std.specs.Prelude.{filter, find, sum_by}
 use Rattle.std.specs.List.{IsDistinct, AllByRecursion, list_any, flat_map}
@@ -40,7 +40,7 @@ rest_of {X} y ys x c = at c.0 c.1 c.2 where
 pub tail_has : {X : Type 0} (y : X) (ys : List X) (x : X) → Contains ys x → Contains (y ∷ ys) x
 tail_has y ys x c = Contains-append_right (y ∷ []) ys x c
 
--- an element that passes is found, where what passes is one
+-- an element that passes is found if only one passes
 pub find_mapped : {X Y : Type 0} (test : Y → Bool) (f : X → Y) (x : X) → test (f x) ≡ true → ((z : X) → test (f z) ≡ true → f z ≡ f x) → (xs : List X) → Contains xs x → find test (map f xs) ≡ Some (f x)
 find_mapped test f x passes one [] c = absurd (omega (arith, c.1))
 find_mapped {X} {Y} test f x passes one (y ∷ ys) c =
@@ -106,7 +106,7 @@ sum_none : {X : Type 0} (f : X → ℕ) (xs : List X) → AllByRecursion (λ x. 
 sum_none f [] all = refl
 sum_none f (x ∷ xs) all = omega (arith, sum_by-cons f x xs, all.0, sum_none f xs all.1)
 
--- one where a test passes
+-- one if a test passes
 abbrev pub one_if : Bool → ℕ
 one_if true = 1
 one_if false = 0
@@ -124,7 +124,7 @@ length_kept test (x ∷ xs) = omega (arith, length_more test x xs, at (test x), 
   at true = omega arith
   at false = omega arith
 
--- where each element passes at most one of the tests, the filters keep no more than there is
+-- if each element passes at most one of the tests, the filters keep no more than the whole list
 pub sum_of_filters : {K X : Type 0} (test : K → X → Bool) (ks : List K) → ((x : X) → sum_by (λ k. one_if (test k x)) ks ≤ 1) → (xs : List X) → sum_by (λ k. length (filter (test k) xs)) ks ≤ length xs
 sum_of_filters {K} {X} test ks one [] = omega (arith, sum_nothing ks) where
   sum_nothing : (ks : List K) → sum_by (λ k. length (filter (test k) [])) ks ≡ 0

@@ -15,7 +15,7 @@ use Rattle.depth_maker.specs.Entered.{entered_in}
 use Rattle.depth_maker.specs.Handlers.{AreHandlers, nodes_above, nodes_taken}
 use Rattle.depth_maker.specs.declared.handlers.Handler.{Handler}
 use Rattle.depth_maker.proofs.EnteredLemmas.{entered_irqs}
-use Rattle.depth_maker.proofs.HearingLaws.{takes}
+use Rattle.depth_maker.proofs.InterruptLaws.{takes}
 
 -- ---- the list
 pub handlers_none : (plan : PlanData) (frames : List Key) (hs : List Handler) → hs ≡ [] → AreHandlers plan frames [] hs

@@ -1,4 +1,5 @@
--- Entries that are covered stay so as the table rises; and what asks for no more is covered.
+-- Covered entries of handlers stay covered as the table rises, and cover the entries of points
+-- within the context.
 use Rattle.std.proofs.Common.{◌≡◌, ℕ, ◌<◌, Bool, true, false, IsTrue, List, [], length, Option, Some, None, refl, sym, ap, ◌∙◌, subst, arith, Contains}
 use Rattle.std.specs.Prelude.{◌==◌, filter, nat_lt, if◌then◌else◌, slice_index_or}
 use Rattle.std.proofs.lemmas.Bool.{eq-eqb, ltb-true, lt-ltb}
@@ -18,19 +19,19 @@ use Rattle.cfg_recover.specs.Entries.{entry_with, irq_entry, irq_key, stack_of}
 use Rattle.cfg_recover.proofs.EntryLaws.{entry_length}
 use Rattle.cfg_recover.proofs.Members.{contains_filter, contains_map}
 use Rattle.depth_maker.specs.Growth.{IsProperDuty}
-use Rattle.depth_maker.specs.Hearing.{AreEntered, AsksNoMore, HeardEntered, IsHeardAt, IsHeardEntered, heard_stack}
+use Rattle.depth_maker.specs.Interrupts.{AreEntered, IsWithinContext, ContextsEntered, IsContextOf, IsContextEntered, context_stack}
 use Rattle.depth_maker.specs.Proper.{AllProper, AreLawful}
-use Rattle.depth_maker.specs.Tables.{Settled, Table}
-use Rattle.depth_maker.specs.declared.heard.Heard.{Heard}
-use Rattle.depth_maker.specs.declared.heard.Hearings.{Hearings}
+use Rattle.depth_maker.specs.Tables.{Settled, TableView}
+use Rattle.depth_maker.specs.declared.interrupts.InterruptContext.{InterruptContext}
+use Rattle.depth_maker.specs.declared.interrupts.LastInterrupts.{LastInterrupts}
 use Rattle.depth_maker.proofs.DutyGrowth.{contained_filter, contained_map, entry_covers}
 use Rattle.depth_maker.proofs.StateGrowth.{covers_through}
 use Rattle.depth_maker.proofs.TableLaws.{covers_stays}
 
 -- ---- as the table rises
--- cells only grow
-one_stays : (b : Limits) (image : ImageData) (plan : PlanData) (laws : AreLawful b image plan) (a after : Assignment) (y : Place) (proper : AllProper b a) (j : Joins b image plan a after y) (heard : Option Heard)
-    → IsHeardEntered b plan a heard → IsHeardEntered b plan after heard
+-- values only grow
+one_stays : (b : Limits) (image : ImageData) (plan : PlanData) (laws : AreLawful b image plan) (a after : Assignment) (y : Place) (proper : AllProper b a) (j : Joins b image plan a after y) (interrupts : Option InterruptContext)
+    → IsContextEntered b plan a interrupts → IsContextEntered b plan after interrupts
 one_stays b image plan laws a after y proper j None h = tt
 one_stays b image plan laws a after y proper j (Some x) h = record {
   stack = h.stack;
@@ -38,16 +39,16 @@ one_stays b image plan laws a after y proper j (Some x) h = record {
       let e = h.each p c lt in
       record {
         proper = e.proper;
-        covers = covers_stays b image plan laws a after y proper j (point (irq_key plan p) (irq_key plan p).entry) (state (entry_with (heard_stack plan x) false p true)) e.proper e.covers;
+        covers = covers_stays b image plan laws a after y proper j (point (irq_key plan p) (irq_key plan p).entry) (state (entry_with (context_stack plan x) false p true)) e.proper e.covers;
       };
 }
 
-pub heard_stays : (b : Limits) (image : ImageData) (plan : PlanData) (laws : AreLawful b image plan) (a after : Assignment) (y : Place) (proper : AllProper b a) (j : Joins b image plan a after y) (heard : Hearings)
-    → HeardEntered b plan a heard → HeardEntered b plan after heard
-heard_stays b image plan laws a after y proper j heard h = (one_stays b image plan laws a after y proper j heard.last h.0, one_stays b image plan laws a after y proper j heard.before h.1)
+pub interrupts_stay : (b : Limits) (image : ImageData) (plan : PlanData) (laws : AreLawful b image plan) (a after : Assignment) (y : Place) (proper : AllProper b a) (j : Joins b image plan a after y) (interrupts : LastInterrupts)
+    → ContextsEntered b plan a interrupts → ContextsEntered b plan after interrupts
+interrupts_stay b image plan laws a after y proper j interrupts h = (one_stays b image plan laws a after y proper j interrupts.last h.0, one_stays b image plan laws a after y proper j interrupts.before h.1)
 
--- the same cells
-one_again : (b : Limits) (plan : PlanData) (a after : Assignment) → ((q : Place) → after q ≡ a q) → (heard : Option Heard) → IsHeardEntered b plan a heard → IsHeardEntered b plan after heard
+-- the same values
+one_again : (b : Limits) (plan : PlanData) (a after : Assignment) → ((q : Place) → after q ≡ a q) → (interrupts : Option InterruptContext) → IsContextEntered b plan a interrupts → IsContextEntered b plan after interrupts
 one_again b plan a after same None h = tt
 one_again b plan a after same (Some x) h = record {
   stack = h.stack;
@@ -59,10 +60,10 @@ one_again b plan a after same (Some x) h = record {
       };
 }
 
-pub heard_again : (b : Limits) (plan : PlanData) (a after : Assignment) → ((q : Place) → after q ≡ a q) → (heard : Hearings) → HeardEntered b plan a heard → HeardEntered b plan after heard
-heard_again b plan a after same heard h = (one_again b plan a after same heard.last h.0, one_again b plan a after same heard.before h.1)
+pub interrupts_again : (b : Limits) (plan : PlanData) (a after : Assignment) → ((q : Place) → after q ≡ a q) → (interrupts : LastInterrupts) → ContextsEntered b plan a interrupts → ContextsEntered b plan after interrupts
+interrupts_again b plan a after same interrupts h = (one_again b plan a after same interrupts.last h.0, one_again b plan a after same interrupts.before h.1)
 
--- ---- what asks for no more
+-- ---- points within a context
 -- the interrupts that may be taken
 taken : (on : Bool) (m : ℕ) (irqs : List ℕ) (q : ℕ) → Contains (if on then filter (λ p. nat_lt m p) irqs else []) q → Contains irqs q × (m < q)
 taken false m irqs q c = absurd (omega (arith, c.1))
@@ -73,35 +74,35 @@ takes true m irqs q t c lt = contains_filter (λ p. nat_lt m p) q irqs c (lt-ltb
 takes false m irqs q t c lt = absurd (let no : false ≡ true = t in cc)
 
 -- the stack pointers at the handlers' entries
-stacks_below : (inner heard : Bool) (v w x : Val) → heard ≡ inner → (IsTrue heard → IsBelow v w) → IsBelow (if inner then v else x) (if heard then w else x)
+stacks_below : (inner known : Bool) (v w x : Val) → known ≡ inner → (IsTrue known → IsBelow v w) → IsBelow (if inner then v else x) (if known then w else x)
 stacks_below true true v w x e h = h refl
 stacks_below true false v w x e h = absurd (let no : false ≡ true = e in cc)
 stacks_below false true v w x e h = absurd (let no : true ≡ false = e in cc)
 stacks_below false false v w x e h = λ z m. m
 
-stack_below : (plan : PlanData) (k : Key) (s : State) (h : Heard) → AsksNoMore h k.is s → IsBelow (stack_of plan k s) (heard_stack plan h)
+stack_below : (plan : PlanData) (k : Key) (s : State) (h : InterruptContext) → IsWithinContext h k.is s → IsBelow (stack_of plan k s) (context_stack plan h)
 unfolding slot
 stack_below plan k s h asks = stacks_below k.is h.is (slice_index_or s.regs 22 any_val) h.sp (word_val plan.isp) asks.same asks.below
 
-stack_same : (plan : PlanData) (k : Key) (s : State) (h : Heard) → IsHeardAt h k.is s → heard_stack plan h ≡ stack_of plan k s
+stack_same : (plan : PlanData) (k : Key) (s : State) (h : InterruptContext) → IsContextOf h k.is s → context_stack plan h ≡ stack_of plan k s
 unfolding slot
 stack_same plan k s h from =
     ap (λ (t : Bool). if t then h.sp else word_val plan.isp) from.same ∙ ap (λ (v : Val). if k.is then v else word_val plan.isp) from.sp
 
--- what covers a state covers what that one covers
+-- what covers a state covers all that the state covers
 covers_less : (w : Known) (v u : State) → length u.regs ≡ length v.regs → CoversKnown w (state v) → Covers v u → CoversKnown w (state u)
 covers_less (state x) v u same h c = covers_through x v u same h c
 covers_less (leaving x) v u same h c = absurd h
 
 -- the entries that a point asks for are covered
-pub heard_settles : (b : Limits) (plan : PlanData) (t : Table) (k : Key) (p : ℕ) (s : State) (h : Heard) → AreEntered b plan t.cells h → AsksNoMore h k.is s → (d : Owed) → Contains (interrupts_of plan k s) d
+pub interrupts_settle : (b : Limits) (plan : PlanData) (t : TableView) (k : Key) (p : ℕ) (s : State) (h : InterruptContext) → AreEntered b plan t.cells h → IsWithinContext h k.is s → (d : Owed) → Contains (interrupts_of plan k s) d
     → Settled t k p s d.duty
-heard_settles b plan t k p s h entered asks d c =
+interrupts_settle b plan t k p s h entered asks d c =
     let r = contained_map (λ (q : ℕ). owed 11 (enter (irq_key plan q) (irq_entry plan k s q))) (irqs_of plan s) d c in
     let q = r.0 in
     let i = taken s.ie s.ccpn plan.irqs q r.1 in
     let e = entered.each q i.0 (omega (arith, i.1, asks.above)) in
-    let v = heard_stack plan h in
+    let v = context_stack plan h in
     let w = stack_of plan k s in
     let less : Covers (entry_with v false q true) (entry_with w false q true) = entry_covers w v false q q true (stack_below plan k s h asks) (omega arith) in
     let covered : CoversAt t.cells (point (irq_key plan q) (irq_key plan q).entry) (state (irq_entry plan k s q)) =
@@ -112,10 +113,10 @@ heard_settles b plan t k p s h entered asks d c =
     } in
     subst (λ (o : Owed). Settled t k p s o.duty) r.2 covered
 
--- what a point asked for is heard, where it was covered
-pub heard_new : (b : Limits) (plan : PlanData) (t : Table) (k : Key) (p : ℕ) (s : State) (h : Heard) → IsHeardAt h k.is s → IsProper b s → IsTrue s.ie
+-- the context of a point whose entries are covered
+pub interrupts_new : (b : Limits) (plan : PlanData) (t : TableView) (k : Key) (p : ℕ) (s : State) (h : InterruptContext) → IsContextOf h k.is s → IsProper b s → IsTrue s.ie
     → ((d : Owed) → Contains (interrupts_of plan k s) d → IsProperDuty b d.duty) → ((d : Owed) → Contains (interrupts_of plan k s) d → Settled t k p s d.duty) → AreEntered b plan t.cells h
-heard_new b plan t k p s h from ps on proper settled = record {
+interrupts_new b plan t k p s h from ps on proper settled = record {
   stack = subst IsWell (sym from.sp) (ps.values 22 (omega (arith, ps.regs))).well;
   each = λ q c lt.
       let f : ℕ → Owed = λ (q : ℕ). owed 11 (enter (irq_key plan q) (irq_entry plan k s q)) in
@@ -127,7 +128,7 @@ heard_new b plan t k p s h from ps on proper settled = record {
       };
 }
 
--- where some may be taken, interrupts may be on
+-- if some interrupt may be taken, IE may be on
 pub taken_on : (on : Bool) (ps irqs : List ℕ) → irqs ≡ (if on then ps else []) → (length irqs == 0) ≡ false → IsTrue on
 taken_on true ps irqs e some = refl
 taken_on false ps irqs e some = absurd (let no : true ≡ false = sym (eq-eqb (length irqs) 0 (ap (λ (l : List ℕ). length l) e)) ∙ some in cc)

@@ -1,4 +1,4 @@
--- A rise, over plain tables.
+-- A join, over plain tables.
 use Rattle.std.proofs.Common.{◌≡◌, ◌<◌, ◌⊎◌, Bool, true, false, inl, inr, List, Option, Some, None, IsSome, refl, sym, ap, subst, ◌∙◌}
 use Rattle.std.specs.Prelude.{if◌then◌else◌, is_some, map}
 use Rattle.indexmap.specs.IndexMap.{IndexMap, get}
@@ -27,14 +27,14 @@ use Rattle.depth_maker.proofs.Below.{asks_proper}
 use Rattle.depth_maker.proofs.CountedLemmas.{counted_after}
 use Rattle.depth_maker.proofs.LevelLaws.{rank_rises}
 use Rattle.depth_maker.proofs.LevelSteps.{level_rises}
-use Rattle.depth_maker.specs.Hearing.{HeardEntered}
+use Rattle.depth_maker.specs.Interrupts.{ContextsEntered}
 use Rattle.depth_maker.specs.Levels.{rank_at}
-use Rattle.depth_maker.proofs.HearingLaws.{heard_stays}
+use Rattle.depth_maker.proofs.InterruptLaws.{interrupts_stay}
 use Rattle.frame_places.proofs.SpotLemmas.{spot_tells}
 use Rattle.depth_maker.proofs.SpotLemmas.{forth, agrees}
-use Rattle.frame_places.specs.Marks.{AllListed, is_idle, is_queued, mark_for, value_for, AreKnown, Reads, Tells}
+use Rattle.frame_places.specs.Marks.{AllListed, is_idle, is_queued, mark_for, value_for, AreKnown, Reads, Requeues}
 use Rattle.depth_maker.specs.Counts.{AreFew}
-use Rattle.depth_maker.specs.View.{IsCountedIn, seen, IsFine, Keeps, Joined, Raised, Answered, AreExitsRead, CellsProper}
+use Rattle.depth_maker.specs.View.{IsCountedIn, seen, IsFine, Keeps, Joined, JoinedAlone, Answered, AreExitsRead, CellsProper}
 use Rattle.frame_places.proofs.MarkLemmas.{sides}
 use Rattle.frame_places.specs.Work.{all_work}
 
@@ -42,16 +42,16 @@ pub idle_not_queued : (o : Option Mark) → is_idle o ≡ true → is_queued o �
 idle_not_queued (Some Queued) e = cc
 idle_not_queued _ e = refl
 
--- ---- the cells of a table
+-- ---- the values of a table
 pub cells_proper : (b : Limits) (image : ImageData) (plan : PlanData) (laws : AreLawful b image plan) (t : made.Table) → IsFine b image plan t → CellsProper b t.places
 unfolding seen
 cells_proper b image plan laws t fine q v at =
     derived_proper b image plan laws (seen t).cells (fine.table).derived (place_of q) v (ap (value_for t.places) (forth q) ∙ at)
 
--- v was joined at y alone, and then those that read y were told
+-- v was joined at y alone, and then the readers of y were queued
 module _ (b : Limits) (image : ImageData) (plan : PlanData) (laws : AreLawful b image plan) (s m t : made.Table) (y : Spot) (v : Known)
-    (asks : Asks b image plan (seen s).cells (place_of y) v) (rose : Raised b s m y v) (tells : Tells m.places t.places (Reads (get spot_eq s.readers y)))
-    (listed : AllListed t.places (all_work t.work)) (near : t.near ≡ m.near) (readers : t.readers ≡ m.readers) (heard : t.heard ≡ m.heard) (points : t.points.items ≡ m.points.items)
+    (asks : Asks b image plan (seen s).cells (place_of y) v) (rose : JoinedAlone b s m y v) (tells : Requeues m.places t.places (Reads (get spot_eq s.readers y)))
+    (listed : AllListed t.places (all_work t.work)) (near : t.near ≡ m.near) (readers : t.readers ≡ m.readers) (interrupts : t.interrupts ≡ m.interrupts) (points : t.points.items ≡ m.points.items)
     (frames : t.frames.items ≡ m.frames.items) (fine : IsFine b image plan s) (small : priority_of v < 256) where
   abbrev u : Known
   u = rose.known
@@ -149,10 +149,10 @@ module _ (b : Limits) (image : ImageData) (plan : PlanData) (laws : AreLawful b 
     numbers = λ n q h. tells.numbers n q ((rose.puts).numbers n q h);
   }
 
-  the_heard : HeardEntered b plan (seen t).cells t.heard
-  the_heard =
-      heard_stays b image plan laws (seen s).cells (seen t).cells (place_of y) (derived_proper b image plan laws (seen s).cells (fine.table).derived) the_joining t.heard
-      (subst (HeardEntered b plan (seen s).cells) (sym (heard ∙ rose.heard)) fine.heard)
+  the_interrupts : ContextsEntered b plan (seen t).cells t.interrupts
+  the_interrupts =
+      interrupts_stay b image plan laws (seen s).cells (seen t).cells (place_of y) (derived_proper b image plan laws (seen s).cells (fine.table).derived) the_joining t.interrupts
+      (subst (ContextsEntered b plan (seen s).cells) (sym (interrupts ∙ rose.interrupts)) fine.interrupts)
 
   pub the_joined : Joined b image plan s t y v
   unfolding seen the_joining
@@ -161,7 +161,7 @@ module _ (b : Limits) (image : ImageData) (plan : PlanData) (laws : AreLawful b 
       table = the_table;
       listed = listed;
       counted = the_counted;
-      heard = the_heard;
+      interrupts = the_interrupts;
       exits = λ k p q h. fine.exits k p q (subst (λ m. Reads (get spot_eq m (Point k p)) q) readers_stay h);
       readers = λ z q h. known_stays q (fine.readers z q (subst (λ (r : IndexMap Spot (Vec Spot Global) _). Reads (get spot_eq r z) q) readers_stay h));
       plain = λ q at.
@@ -174,8 +174,8 @@ module _ (b : Limits) (image : ImageData) (plan : PlanData) (laws : AreLawful b 
     keeps = the_keeping;
   }
 
--- who reads y is known still, and only exits are read
-pub told_known : (b : Limits) (image : ImageData) (plan : PlanData) (s m : made.Table) (y : Spot) (v : Known) → IsFine b image plan s → Raised b s m y v → AreKnown m.places (Reads (get spot_eq m.readers y))
+-- the readers of y are known still, and only exits are read
+pub told_known : (b : Limits) (image : ImageData) (plan : PlanData) (s m : made.Table) (y : Spot) (v : Known) → IsFine b image plan s → JoinedAlone b s m y v → AreKnown m.places (Reads (get spot_eq m.readers y))
 told_known b image plan s m y v fine rose q h =
     let before : IsSome (value_for s.places q) = fine.readers y q (subst (λ r. Reads (get spot_eq r y) q) rose.readers h) in
     elim (sides (spot_eq y q) (Some rose.known) (value_for s.places q) (value_for m.places q) ((rose.puts).values q)) [
@@ -183,10 +183,10 @@ told_known b image plan s m y v fine rose q h =
       | inr r ↦ subst (λ (o : Option Known). IsSome o) (sym r.1) before
     ]
 
-pub exits_after : (b : Limits) (image : ImageData) (plan : PlanData) (s m : made.Table) (y : Spot) (v : Known) → IsFine b image plan s → Raised b s m y v → AreExitsRead m.readers
+pub exits_after : (b : Limits) (image : ImageData) (plan : PlanData) (s m : made.Table) (y : Spot) (v : Known) → IsFine b image plan s → JoinedAlone b s m y v → AreExitsRead m.readers
 exits_after b image plan s m y v fine rose k p q h = fine.exits k p q (subst (λ r. Reads (get spot_eq r (Point k p)) q) rose.readers h)
 
--- nothing was to be done
+-- nothing had to be done
 pub stays_joined : (b : Limits) (image : ImageData) (plan : PlanData) (s : made.Table) (y : Spot) (v : Known) → IsFine b image plan s → CoversAt (λ q. value_for s.places (spot_of q)) (place_of y) v → Joined b image plan s s y v
 unfolding seen
 stays_joined b image plan s y v fine covers = record {
@@ -195,7 +195,7 @@ stays_joined b image plan s y v fine covers = record {
   keeps = record { each = λ x free. (refl, refl); readers = λ z x h. h; read = λ z x h free. refl; settled = λ k p w d free ps pd h. h; rises = inr (refl, refl); near = refl; numbers = λ n q h. h };
 }
 
--- what can't be joined is a fault
+-- a join that fails is a fault
 pub the_answer : (b : Limits) (image : ImageData) (plan : PlanData) (s : made.Table) (y : Spot) (w v : Known) → IsFine b image plan s → Asks b image plan (seen s).cells (place_of y) v → value_for s.places y ≡ Some w
     → joined_known b w v ≡ None → Answered b image plan (Fault 8 y)
 unfolding seen

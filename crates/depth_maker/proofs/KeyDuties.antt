@@ -35,7 +35,7 @@ use Rattle.cfg_recover.proofs.DutyView.{DutyAt, called, called_back, system, sys
 use Rattle.depth_maker.proofs.OwnGrowth.{among_contained}
 use Rattle.depth_maker.proofs.DutyGrowth.{contained_map, contained_flat, contained_filter}
 
--- a frame that is entered, or comes back, has a key
+-- a frame that is entered, or returns, has a key
 abbrev pub HasKey : Duty → Type 0
 HasKey (enter k t) = IsKey k
 HasKey (resume k q) = IsKey k

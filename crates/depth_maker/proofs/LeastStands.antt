@@ -1,4 +1,4 @@
--- A derived closed assignment without faults that isn't too large is the least one.
+-- A derived closed assignment without faults, within the limits, is the least one.
 use Rattle.elf_image.specs.Images.{ImageData}
 use Rattle.tcd_plan.specs.PlanData.{PlanData}
 use Rattle.value_domain.specs.Limits.{Limits}

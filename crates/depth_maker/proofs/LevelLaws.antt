@@ -1,4 +1,4 @@
--- What covers something and isn't covered by it has a higher rank; ranks and levels have a bound.
+-- What covers something and isn't covered by it has a higher rank. Ranks and levels have a bound.
 use Rattle.std.proofs.Common.{◌≡◌, inl, inr, ℕ, zero, suc, ◌+◌, ◌*◌, ◌^◌, ◌<◌, ◌≤◌, Bool, true, false, cond, not, IsTrue, List, [], ◌∷◌, length, get_or, Option, Some, None, refl, sym, ◌∙◌, subst, arith}
 use Rattle.std.specs.List.{count_by}
 use Rattle.std.proofs.lemmas.Bool.{cases_lt}
@@ -197,7 +197,7 @@ priority_falls (leaving y) (leaving x) c = c.priority
 priority_falls (state u) (leaving x) c = absurd c
 priority_falls (leaving y) (state s) c = absurd c
 
--- what is joined where it isn't covered takes the rank higher
+-- the join of something that isn't covered has a higher rank
 pub rank_rises : (b : Limits) (image : ImageData) (plan : PlanData) → AreLawful b image plan → (o : Option Known) (v u : Known) → ((w : Known) → o ≡ Some w → IsProperKnown b w) → IsProperKnown b v → raised b o v ≡ Some u
     → ((w : Known) → o ≡ Some w → CoversKnown w v → ⊥) → priority_of v < 256 → rank_at o < rank_at (Some u)
 rank_rises b image plan laws None v u po pv is new small = omega arith

@@ -1,4 +1,4 @@
--- A joining that changes a table takes its level higher, and the level has a bound.
+-- A join that changes a table raises its level, and the level has a bound.
 use Rattle.std.proofs.Common.{◌≡◌, ◌⊎◌, inl, inr, ℕ, ◌+◌, ◌-◌, ◌^◌, ◌<◌, ◌≤◌, Bool, true, false, not, List, [], ◌∷◌, ◌++◌, length, Option, Some, IsSome, refl, sym, ap, ◌∙◌, subst, arith, Contains}
 use Rattle.std.specs.Prelude.{if◌then◌else◌, ◌==◌}
 use Rattle.std.specs.List.{sum_by}
@@ -29,7 +29,7 @@ use Rattle.frame_places.proofs.SpotLemmas.{spot_refl, spot_tells}
 use Rattle.frame_places.specs.Work.{Lists, Takes, all_work}
 
 -- ---- sums
--- where no term is lower, and one is higher
+-- no term is lower, and one is higher
 sum_higher : {X : Type 0} (f g : X → ℕ) (xs : List X) (y : X) → ((x : X) → f x ≤ g x) → Contains xs y → f y < g y → sum_by f xs < sum_by g xs
 sum_higher f g [] y le c lt = absurd (omega (arith, c.1))
 sum_higher {X} f g (x ∷ xs) y le c lt =
@@ -51,7 +51,7 @@ frames_more f false ks (Point k p) = at (p == k.entry) where
   at true = omega (arith, sum_by_push f ks k)
   at false = omega arith
 
--- ---- a joining
+-- ---- a join
 module _ (s t : made.Table) (y : Spot) (u : Known) (known : Bool) (after : (q : Spot) → value_for t.places q ≡ (if spot_eq y q then Some u else value_for s.places q))
     (points : t.points.items ≡ points_after known s.points.items y) (frames : t.frames.items ≡ frames_after known s.frames.items y) (counted : IsCountedIn t.places t.points.items t.frames.items)
     (higher : rank_at (value_for s.places y) < rank_at (Some u)) where
@@ -103,7 +103,7 @@ module _ (s t : made.Table) (y : Spot) (u : Known) (known : Bool) (after : (q : 
   unfolding level
   level_rises = omega (arith, no_point_lost, no_frame_lost, higher_at y refl)
 
--- the same cells
+-- the same values
 pub same_level : (s t : made.Table) → ((q : Spot) → value_for t.places q ≡ value_for s.places q) → t.points.items ≡ s.points.items → t.frames.items ≡ s.frames.items → level t ≡ level s
 unfolding level
 same_level s t cells points frames =
@@ -153,10 +153,10 @@ left_over s t i n true le so is = ((λ e. absurd (let no : false ≡ true = e in
 left_over s t i n false le (inl lt) is = ((λ e. lt), (λ e. absurd (let no : true ≡ false = e in cc)))
 left_over s t i n false le (inr a) is = absurd (let no : false ≡ true = is ∙ eq-eqb (length (all_work t.work)) 0 (omega (arith, a.1)) in cc)
 
--- what is left of the bound falls
+-- what is left up to the bound falls
 pub level_falls : (l m : ℕ) → l < m → m ≤ most_level → most_level - m < most_level - l
 level_falls l m lt most = omega (arith, lt, most)
 
--- no work is on an empty list
+-- nothing is queued if the list is empty
 pub none_queued : {V S : Type 0} (places : IndexMap Spot (Marked V) S) (work : List ℕ) → AllListed places work → work ≡ [] → (q : Spot) → mark_for places q ≡ Some Queued → ⊥
 none_queued places work listed e q at = let i = listed.listed q at in let z = ap (λ (w : List ℕ). length w) e in omega (arith, i.1.1, z)

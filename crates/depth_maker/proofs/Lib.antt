@@ -22,7 +22,7 @@ pub mod PlaceLaws
 pub mod PlaceRanges
 pub mod ProperDuties
 pub mod Reached
-pub mod RiseLemmas
+pub mod JoinLemmas
 pub mod RecursLaws
 pub mod RecursSteps
 pub mod RowLaws
@@ -39,6 +39,6 @@ pub mod SpelledLaws
 pub mod MakeLemmas
 pub mod PlainRows
 pub mod PointEntries
-pub mod HearingLaws
-pub mod PaidHeard
+pub mod InterruptLaws
+pub mod NotedInterrupts
 pub mod HandlerLaws

@@ -1,5 +1,5 @@
--- The certificate that is written out is the one to be made.
-use Rattle.std.proofs.Common.{◌≡◌, ℕ, ◌<◌, ◌^◌, refl, sym, ap, subst, arith, Some}
+-- The certificate that is written is the one to make.
+use Rattle.std.proofs.Common.{◌≡◌, ℕ, ◌<◌, ◌^◌, refl, sym, ap, ◌∙◌, ◌≤◌, subst, arith, Some}
 use Rattle.elf_image.specs.Images.{ImageData}
 use Rattle.tcd_plan.specs.PlanData.{PlanData}
 use Rattle.value_domain.specs.Thresholds.{limits_for}
@@ -11,12 +11,13 @@ use Rattle.depth_cert.specs.Certs.{CertData, IsCert, find_node}
 use Rattle.cfg_recover.specs.Duties.{enter}
 use Rattle.cfg_recover.specs.Entries.{start_key}
 use Rattle.cfg_recover.specs.Accepting.{Accepts, limits_in, need_of}
-use Rattle.cfg_recover.specs.Assignments.{Place, point, exit, Assignment, frame_of, Derived, Closed, known_in}
-use Rattle.depth_cert.specs.Known.{Known, state}
+use Rattle.cfg_recover.specs.Assignments.{Place, point, exit, Assignment, frame_of, Derived, Closed, IsBelowAt, known_in}
+use Rattle.depth_cert.specs.Known.{Known, state, leaving, CoversKnown}
 use Rattle.cfg_recover.specs.Refusals.{MeetsNeeds, IsRefusal}
 use Rattle.depth_maker.specs.Growth.{IsGround}
 use Rattle.depth_maker.specs.Laws.{IsSolution}
-use Rattle.depth_maker.specs.Making.{needs_in, IsNoWorse, IsMade, IsWritten, WrittenIsMade, RefusedIsNone}
+use Rattle.depth_maker.specs.Making.{needs_in, IsNoWorse, IsMade, IsWritten, MadeIsLeast, WrittenIsMade, RefusedIsNone}
+use Rattle.depth_maker.specs.Made.{RefusalsHold}
 use Rattle.depth_maker.proofs.Lawful.{lawful}
 use Rattle.depth_maker.proofs.Below.{derived_below}
 use Rattle.depth_maker.proofs.TableLaws.{derived_proper}
@@ -26,12 +27,12 @@ use Rattle.depth_maker.proofs.NeedLaws.{derived_needs, refusal_refuted}
 use Rattle.depth_maker.proofs.Solved.{solution_accepted}
 use Rattle.depth_maker.proofs.LeastStands.{least_stands}
 
--- a place that a certificate tells of has a key
+-- a known place of a certificate has a key
 known_key : (cert : CertData) → IsCert cert → (y : Place) (v : Known) → known_in cert y ≡ Some v → IsKey (frame_of y)
 known_key cert is_cert (point k p) v e = let a = (at_point cert k p v e).2 in subst IsKey a.key (All-at (IsNode cert.version) cert.nodes a.node is_cert.nodes a.member).key
 known_key cert is_cert (exit k) v e = let a = (at_exit cert k v e).2 in subst IsKey a.key (All-at (IsNode cert.version) cert.nodes a.node is_cert.nodes a.member).key
 
--- numbers that agree at the frames that are known meet the needs alike
+-- numbers that agree at the known frames meet the same needs
 pub meets_alike : (b : Limits) (image : ImageData) (plan : PlanData) (a : Assignment) (f g : Key → ℕ) → Closed b image plan a → ((y : Place) (v : Known) → a y ≡ Some v → f (frame_of y) ≡ g (frame_of y))
     → MeetsNeeds b image plan a f → MeetsNeeds b image plan a g
 meets_alike b image plan a f g closed same m = record {
@@ -67,18 +68,26 @@ module _ (image : ImageData) (plan : PlanData) (cert : CertData) (ground : IsGro
     start = let le = w.start in omega (arith, le, numbers_agree cert w.is_cert (start_key image plan) start_is);
   }
 
+  least_below : (other : CertData) → IsGround (limits_in plan other) image plan → Derived (limits_in plan other) image plan (known_in cert) → IsCert other → Accepts image plan other
+      → IsBelowAt (known_in cert) (known_in other)
+  least_below other above d is_cert accepted =
+      (derived_below (limits_in plan other) image plan (lawful (limits_in plan other) image plan above) (known_in other) (accepted_closed image plan other above entry is_cert accepted)
+      (accepted_faultless image plan other above entry is_cert accepted) (accepted_proper image plan other above entry is_cert accepted) (known_in cert) d).0
+
+  least_needs : (other : CertData) → other.version ≡ cert.version → IsGround (limits_in plan other) image plan → Derived (limits_in plan other) image plan (known_in cert) → IsCert other → Accepts image plan other
+      → (k : Key) → needs_in cert k ≤ needs_in other k
+  least_needs other same above d is_cert accepted k =
+      (w.needs).least (needs_in other)
+      (by_keys other is_cert
+      (subst (λ n. MeetsNeeds (limits_for plan n) image plan (known_in cert) (λ k. need_of (find_node k other.nodes))) same
+      (derived_needs image plan other above entry is_cert accepted (known_in cert) d)))
+      k
+
   no_worse : (other : CertData) → other.version ≡ cert.version → IsGround (limits_in plan other) image plan → Derived (limits_in plan other) image plan (known_in cert) → IsCert other → Accepts image plan other
       → IsNoWorse image plan cert other
   no_worse other same above d is_cert accepted = record {
-    below =
-        (derived_below (limits_in plan other) image plan (lawful (limits_in plan other) image plan above) (known_in other) (accepted_closed image plan other above entry is_cert accepted)
-        (accepted_faultless image plan other above entry is_cert accepted) (accepted_proper image plan other above entry is_cert accepted) (known_in cert) d).0;
-    needs = λ k.
-        (w.needs).least (needs_in other)
-        (by_keys other is_cert
-        (subst (λ n. MeetsNeeds (limits_for plan n) image plan (known_in cert) (λ k. need_of (find_node k other.nodes))) same
-        (derived_needs image plan other above entry is_cert accepted (known_in cert) d)))
-        k;
+    below = least_below other above d is_cert accepted;
+    needs = least_needs other same above d is_cert accepted;
   }
 
   written_made : IsMade image plan cert.version cert
@@ -93,6 +102,26 @@ module _ (image : ImageData) (plan : PlanData) (cert : CertData) (ground : IsGro
         (subst (λ n. Derived (limits_for plan n) image plan (known_in cert)) (sym same) w.derived)
         is_cert accepted;
   }
+
+-- a made certificate in plain words
+pub made_is_least : MadeIsLeast
+made_is_least image plan version cert m = record {
+  its_version = m.of_version;
+  accepts = m.accepted;
+  frames = λ other k is v a. (m.best other is v a).needs k;
+  points = λ other k p s is v a e.
+      let c = (m.best other is v a).below (point k p) (state s) e in
+      let at = at_point other k p c.known c.at in
+      (at.0, c.at ∙ ap Some at.1, subst (λ (w : Known). CoversKnown w (state s)) at.1 c.covers);
+  exits = λ other k x is v a e.
+      let c = (m.best other is v a).below (exit k) (leaving x) e in
+      let at = at_exit other k c.known c.at in
+      (at.0, c.at ∙ ap Some at.1, subst (λ (w : Known). CoversKnown w (leaving x)) at.1 c.covers);
+}
+
+-- a refusal in plain words
+pub none_accepted : RefusalsHold
+none_accepted image plan version rule key addr cert r is v a = r.1 cert is v a
 
 pub made : WrittenIsMade
 made image plan version cert ground entry w =

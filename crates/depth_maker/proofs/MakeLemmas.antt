@@ -1,4 +1,4 @@
--- From the bytes that are written and the faults that are met to what the maker answers.
+-- From the written bytes and the faults to the maker's result.
 use Rattle.std.proofs.Common.{◌≡◌, ℕ, ◌≤◌, ◌^◌, List, length, Some, None, sym, ap, ◌∙◌, subst}
 use Rattle.std.specs.Prelude.{map, Result, Ok, Err}
 use Rattle.std.specs.declared.alloc.Global.{Global}
@@ -57,7 +57,7 @@ least_of s source =
 pub recursion_refuses : (s : Source) (k : Key) (p : ℕ) → IsSource s → IsRecursion s (Some (k, p)) → Refuses s.ground.now (Refused 14 k p)
 recursion_refuses s k p source first = recursion (seen s.table.now).cells k p (least_of s source) first
 
-pub need_refuses : (s : Source) (k : Key) → k ≡ start_key (s.ground.now).image.now (s.ground.now).plan.now → IsSource s → IsRecursion s None → NeedsOn s (Ok None) → Refuses s.ground.now (Refused 14 k k.entry)
+pub need_refuses : (s : Source) (k : Key) → k ≡ start_key (s.ground.now).image.now (s.ground.now).plan.now → IsSource s → IsRecursion s None → NeedsOn s None → Refuses s.ground.now (Refused 14 k k.entry)
 need_refuses s k is source ends above =
     subst (λ (z : Key). Refuses s.ground.now (Refused 14 z z.entry)) (sym is) (need (seen s.table.now).cells (least_of s source) (record { ends = ends; above = above }))
 
@@ -83,11 +83,11 @@ made_small image plan version bytes m = subst (λ (l : List ℕ). length l ≤ 2
 ok_or_err : (r : Result CertData FormErr) (c : CertData) (f : FormErr) → r ≡ Ok c → r ≡ Err f → ⊥
 ok_or_err r c f e g = cc
 
--- and they are read
+-- the bytes are read
 pub made_is_read : (image : ImageData) (plan : PlanData) (version : ℕ) (bytes : List ℕ) (f : FormErr) → AreMade image plan version bytes → certificate_of bytes ≡ Err f → ⊥
 made_is_read image plan version bytes f m bad = ok_or_err (certificate_of bytes) m.cert f (ap certificate_of m.spell ∙ written_is_read m.cert m.is_cert) bad
 
--- what was read
+-- the certificate that is read
 abbrev value_or : CertData → Result CertData FormErr → CertData
 value_or c (Ok x) = x
 value_or c (Err e) = c
@@ -98,5 +98,5 @@ made_read image plan version bytes c m read =
     subst (IsMade image plan version) same m.made
 
 -- ---- parts of the code
-pub needs_are : (s : Source) (v : Vec ℕ Global) → NeedsOn s (Ok (Some v)) → NeedsAre s v.items
+pub needs_are : (s : Source) (v : Vec ℕ Global) → NeedsOn s (Some v) → NeedsAre s v.items
 needs_are s v h = record { least = h.0; few = h.1 }

@@ -1,4 +1,5 @@
--- Needs of a closed assignment meet those of each one below it; where some do, no frame is reached from itself.
+-- Needs of a closed assignment meet those of each one below it. If some needs are met, no frame is
+-- reached from itself.
 use Rattle.std.proofs.Common.{◌≡◌, ℕ, ◌^◌, ◌<◌, ◌≤◌, length, sym, ap, ◌∙◌, subst, arith, Some}
 use Rattle.elf_image.specs.Images.{ImageData}
 use Rattle.tcd_plan.specs.PlanData.{PlanData}
@@ -20,7 +21,7 @@ use Rattle.depth_maker.proofs.Lawful.{lawful}
 use Rattle.depth_maker.proofs.Accepted.{accepted_proper, accepted_faultless, accepted_closed, accepted_needs, accepted_start_need, need_in}
 use Rattle.depth_maker.proofs.Sizes.{accepted_within}
 
--- what asks no less than an entry is an entry of the same frame
+-- a duty that asks for no less than an entry is an entry of the same frame
 enters_above : (t : Key) (u : State) (e : Duty) → IsDutyBelow (enter t u) e → (w : State) × (e ≡ enter t w)
 enters_above t u (enter j w) h = (w, ap (λ (k : Key). enter k w) (sym h.0))
 enters_above t u _ h = absurd h
@@ -47,12 +48,12 @@ module _ (b : Limits) (image : ImageData) (plan : PlanData) (laws : AreLawful b 
         omega (arith, up.2);
   }
 
--- what is reached by entries needs no more
+-- a frame that is reached by entries needs no more
 pub reached_less : (b : Limits) (image : ImageData) (plan : PlanData) (a : Assignment) (needs : Key → ℕ) → MeetsNeeds b image plan a needs → (j k : Key) → Reaches b image plan a j k → needs j ≤ needs k
 reached_less b image plan a needs m j _ here = omega arith
 reached_less b image plan a needs m j _ (by_entry k p s t e r) = omega (arith, m.entered k p s t e, reached_less b image plan a needs m j t r)
 
--- where some needs are met no frame is reached from itself
+-- if some needs are met, no frame is reached from itself
 pub no_recursion : (b : Limits) (image : ImageData) (plan : PlanData) (a : Assignment) (needs : Key → ℕ) → MeetsNeeds b image plan a needs → (k : Key) (p : ℕ) → Recurs b image plan a k p → ⊥
 no_recursion b image plan a needs m k p r =
     absurd (omega (arith, m.entered k p r.before r.into r.enters, reached_less b image plan a needs m k r.into r.back))
@@ -75,7 +76,7 @@ module _ (image : ImageData) (plan : PlanData) (cert : CertData) (ground : IsGro
       let h = derived_below (limits_in plan cert) image plan laws (known_in cert) closed faultless proper a d in
       needs_below (limits_in plan cert) image plan laws (known_in cert) closed faultless proper a h.0 h.1 (need_in image plan cert ground entry is_cert accepted) (accepted_needs image plan cert ground entry is_cert accepted)
 
-  -- no refusal stands
+  -- no refusal holds
   pub refusal_refuted : (r : ℕ) (k : Key) (p : ℕ) → IsRefusalWith (limits_in plan cert) image plan r k p → ⊥
   refusal_refuted _ _ _ (fault r k p f) = accepted_refutes r k p f
   refusal_refuted _ _ _ (recursion a k p least first) =

@@ -18,23 +18,23 @@ use Rattle.depth_maker.proofs.Lawful.{lawful}
 use Rattle.depth_maker.proofs.NeedLaws.{no_recursion}
 use Rattle.depth_maker.proofs.TableLaws.{derived_proper}
 use Rattle.depth_maker.proofs.RowLaws.{above_by, least_by, rows_within}
-use Rattle.frame_places.specs.declared.needs.row.Row.{Row}
+use Rattle.frame_places.specs.declared.needs.row.NeedRow.{NeedRow}
 use Rattle.depth_maker.specs.declared.rows.Source.{Source}
 use Rattle.std.specs.declared.alloc.AllocError.{AllocError}
 
 all_proper : (s : Source) → IsSource s → AllProper (s.ground.now).bounds.now (seen s.table.now).cells
 all_proper s source = derived_proper _ _ _ (lawful _ _ _ (s.ground.now).sound) (seen s.table.now).cells (source.done).derived
 
-pub source_within : (s : Source) (rows : List Row) → IsSource s → RowsOn s.ground.now s.table.now rows → IsWithin rows (length (s.table.now).frames.items)
+pub source_within : (s : Source) (rows : List NeedRow) → IsSource s → RowsOn s.ground.now s.table.now rows → IsWithin rows (length (s.table.now).frames.items)
 unfolding seen
 source_within s rows source are =
     rows_within _ _ _ (seen s.table.now).cells (source.done).closed (map place_of (s.table.now).points.items) (s.table.now).frames.items ((source.done).counted).each rows are (all_proper s source) ((s.ground.now).sound).limits
 
-pub source_needs : (s : Source) (rows : List Row) (cap : ℕ) → IsSource s → RowsOn s.ground.now s.table.now rows → cap ≡ ((s.ground.now).plan.now).areas - ((s.ground.now).plan.now).reserve
-    → (r : Result (Option (Vec ℕ Global)) AllocError) (o : Option (Vec ℕ Global)) → r ≡ Ok o → LeastNeeds (length (s.table.now).frames.items) rows cap r → NeedsOn s (Ok o)
+pub source_needs : (s : Source) (rows : List NeedRow) (cap : ℕ) → IsSource s → RowsOn s.ground.now s.table.now rows → cap ≡ ((s.ground.now).plan.now).areas - ((s.ground.now).plan.now).reserve
+    → (r : Result (Option (Vec ℕ Global)) AllocError) (o : Option (Vec ℕ Global)) → r ≡ Ok o → LeastNeeds (length (s.table.now).frames.items) rows cap r → NeedsOn s o
 unfolding seen
 source_needs s rows cap source are is r o e h = at o (subst (LeastNeeds (length (s.table.now).frames.items) rows cap) e h) where
-  at : (p : Option (Vec ℕ Global)) → LeastNeeds (length (s.table.now).frames.items) rows cap (Ok p) → NeedsOn s (Ok p)
+  at : (p : Option (Vec ℕ Global)) → LeastNeeds (length (s.table.now).frames.items) rows cap (Ok p) → NeedsOn s p
   at None none =
       subst (λ (n : ℕ). (need : Key → ℕ) → MeetsNeeds (s.ground.now).bounds.now (s.ground.now).image.now (s.ground.now).plan.now (seen s.table.now).cells need → n < need (start_key (s.ground.now).image.now (s.ground.now).plan.now)) is
       (above_by _ _ _ (seen s.table.now).cells (source.done).closed (map place_of (s.table.now).points.items) (s.table.now).frames.items ((source.done).counted).each rows are (lawful _ _ _ (s.ground.now).sound)
@@ -44,7 +44,7 @@ source_needs s rows cap source are is r o e h = at o (subst (LeastNeeds (length 
     (λ k. subst (λ (n : ℕ). slice_index needs.items (number_in (s.table.now).frames.items k) ≤ n) is (some.3 (number_in (s.table.now).frames.items k))),
   )
 
--- where a frame recurs no needs are met
-pub recursion_above : (s : Source) (x : Key × ℕ) → IsRecursion s (Some x) → NeedsOn s (Ok None)
+-- if a frame is recursive, no needs are met
+pub recursion_above : (s : Source) (x : Key × ℕ) → IsRecursion s (Some x) → NeedsOn s None
 recursion_above s x first need m =
     absurd (no_recursion (s.ground.now).bounds.now (s.ground.now).image.now (s.ground.now).plan.now (seen s.table.now).cells need m x.0 x.1 first.recurs)

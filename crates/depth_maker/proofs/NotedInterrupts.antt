@@ -1,4 +1,5 @@
--- Entries of interrupts that are paid for by what was heard, and what is heard of those that were paid for.
+-- Entries of handlers that the last contexts of interrupts show as covered, and the context that a
+-- point notes.
 use Rattle.std.proofs.Common.{◌≡◌, ℕ, false, IsTrue, Some, Contains}
 use Rattle.elf_image.specs.Images.{ImageData}
 use Rattle.tcd_plan.specs.PlanData.{PlanData}
@@ -9,36 +10,36 @@ use Rattle.depth_cert.specs.Known.{IsProper}
 use Rattle.cfg_recover.specs.Assignments.{point}
 use Rattle.cfg_recover.specs.Duties.{Owed, interrupts_of}
 use Rattle.frame_places.specs.Marks.{is_queued, mark_for}
-use Rattle.depth_maker.specs.Hearing.{AreEntered, AsksNoMore, IsHeardAt}
+use Rattle.depth_maker.specs.Interrupts.{AreEntered, IsWithinContext, IsContextOf}
 use Rattle.depth_maker.specs.Levels.{level}
 use Rattle.depth_maker.specs.Proper.{AreLawful}
 use Rattle.depth_maker.specs.Spots.{spot_of}
-use Rattle.depth_maker.specs.View.{IsFine, Owes, PaidFor, seen}
-use Rattle.depth_maker.specs.declared.heard.Heard.{Heard}
+use Rattle.depth_maker.specs.View.{IsFine, Owes, DutiesJoined, seen}
+use Rattle.depth_maker.specs.declared.interrupts.InterruptContext.{InterruptContext}
 use Rattle.depth_maker.specs.declared.table.Table as made
-use Rattle.depth_maker.proofs.HearingLaws.{heard_new, heard_settles}
+use Rattle.depth_maker.proofs.InterruptLaws.{interrupts_new, interrupts_settle}
 use Rattle.depth_maker.proofs.PartLemmas.{keeps_all, owed_proper}
 
 module _ (b : Limits) (image : ImageData) (plan : PlanData) (k : Key) (p : ℕ) (u : State) where
-  -- nothing is to be joined
-  pub paid_already : (s : made.Table) (h : Heard) → IsFine b image plan s → AreEntered b plan (seen s).cells h → AsksNoMore h k.is u → PaidFor b image plan s s k p u (interrupts_of plan k u)
-  paid_already s h fine entered asks = record {
+  -- nothing has to be joined
+  pub duties_already : (s : made.Table) (h : InterruptContext) → IsFine b image plan s → AreEntered b plan (seen s).cells h → IsWithinContext h k.is u → DutiesJoined b image plan s s k p u (interrupts_of plan k u)
+  duties_already s h fine entered asks = record {
     fine = fine;
     keeps = keeps_all b image plan s;
-    settled = λ free d c. heard_settles b plan (seen s) k p u h entered asks d c;
+    settled = λ free d c. interrupts_settle b plan (seen s) k p u h entered asks d c;
   }
 
-  -- what the point asked for is heard
-  pub paid_and_heard : (laws : AreLawful b image plan) (s m : made.Table) (h : Heard) → IsHeardAt h k.is u → IsProper b u → IsTrue u.ie
+  -- the context of the point is noted
+  pub joined_and_noted : (laws : AreLawful b image plan) (s m : made.Table) (h : InterruptContext) → IsContextOf h k.is u → IsProper b u → IsTrue u.ie
       → ((d : Owed) → Contains (interrupts_of plan k u) d → Owes b image plan k p u d.duty) → is_queued (mark_for m.places (spot_of (point k p))) ≡ false
-      → PaidFor b image plan s m k p u (interrupts_of plan k u) → PaidFor b image plan s (record m { heard = record { last = Some h; before = m.heard.last } }) k p u (interrupts_of plan k u)
+      → DutiesJoined b image plan s m k p u (interrupts_of plan k u) → DutiesJoined b image plan s (record m { interrupts = record { last = Some h; before = m.interrupts.last } }) k p u (interrupts_of plan k u)
   unfolding seen level
-  paid_and_heard laws s m h from pu on owes free paid = record {
+  joined_and_noted laws s m h from pu on owes free paid = record {
     fine = record {
       table = (paid.fine).table;
       listed = (paid.fine).listed;
       counted = (paid.fine).counted;
-      heard = (heard_new b plan (seen m) k p u h from pu on (λ d c. owed_proper b image plan k p u laws d.duty pu (owes d c)) (λ d c. paid.settled free d c), (paid.fine).heard.0);
+      interrupts = (interrupts_new b plan (seen m) k p u h from pu on (λ d c. owed_proper b image plan k p u laws d.duty pu (owes d c)) (λ d c. paid.settled free d c), (paid.fine).interrupts.0);
       exits = (paid.fine).exits;
       readers = (paid.fine).readers;
       plain = (paid.fine).plain;

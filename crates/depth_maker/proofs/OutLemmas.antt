@@ -1,4 +1,4 @@
--- The parts of a certificate, as they are added.
+-- The parts of a certificate, as they are appended.
 use Rattle.std.proofs.Common.{◌≡◌, true, ℕ, ◌+◌, ◌^◌, ◌<◌, ◌≤◌, List, [], ◌++◌, length, map, get_or, take, sym, ap, ◌∙◌, subst, arith, append-nil, append_assoc, Option, Some, None, All, ◌⊎◌}
 use Rattle.std.specs.Prelude.{filter, IfSome}
 use Rattle.std.specs.List.{flat_map}
@@ -20,7 +20,7 @@ use Rattle.depth_cert.specs.Spelling.{bytes_of, bytes_of_exit, bytes_of_key, byt
 use Rattle.cfg_recover.proofs.Members.{contains_map}
 use Rattle.cfg_recover.specs.Assignments.{point, exit}
 use Rattle.depth_cert.specs.Known.{Known, state, leaving, IsProperExit}
-use Rattle.small_states.specs.Kept.{IsNoExit}
+use Rattle.small_states.specs.Incoming.{IsNoExit}
 use Rattle.depth_maker.specs.RowsAt.{need_by}
 use Rattle.depth_maker.specs.RowsBy.{IsSource}
 use Rattle.depth_maker.specs.Spelled.{AreFrames, ArePointsOf, IsFrameOf, WritesCert, HasBytes, IsOfVersion, IsOrdered, IsSpelledOn, WritesPoint, WritesPoints, WritesExit, WritesNode, WritesNodes, cert_on, exit_at, exit_on, known_on, node_on, point_on, spots_of, spots_on, state_at}
@@ -44,7 +44,7 @@ use Rattle.depth_maker.proofs.PlaceRanges.{derived_in_range}
 use Rattle.depth_maker.proofs.RowSteps.{done_proper}
 use Rattle.depth_maker.proofs.SpelledLaws.{are_ranged, is_written, point_here, value_in}
 
--- values of the plan are well-formed
+-- values at the limits are well-formed
 well_values : (b : Limits) (vs : List Val) → AreValues b vs → All IsWell vs
 well_values b vs are k d lt = subst IsWell (sym (get_or_default vs k d any_val lt)) (are k lt).well
 

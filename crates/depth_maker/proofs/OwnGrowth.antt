@@ -1,4 +1,4 @@
--- The own parts of the rules fall with the state.
+-- The faults of a point of its own get fewer with a smaller state.
 use Rattle.std.proofs.Common.{◌≡◌, ℕ, zero, suc, ◌*◌, ◌/◌, ◌<◌, ◌⊎◌, inl, inr, Bool, true, false, List, [], ◌∷◌, length, map, get_or, refl, sym, ◌∙◌, subst, arith, IsSome, Contains}
 use Rattle.std.specs.Prelude.{unwrap_or}
 use Rattle.elf_image.specs.Images.{ImageData}
@@ -45,7 +45,7 @@ evens_within vs ws there z i =
     let m = among_map (λ w. w / 2 * 2) z vs (among_distinct z (map (λ w. w / 2 * 2) vs) i) in
     distinct_has z (map (λ w. w / 2 * 2) ws) (subst (λ (n : ℕ). Among n (map (λ w. w / 2 * 2) ws)) (sym m.2) (map_has (λ w. w / 2 * 2) m.0 ws (there m.0 m.1)))
 
--- a smaller value names fewer addresses, and names them where the larger does
+-- a smaller value names fewer addresses, if the larger one names any
 named_falls : (b : Limits) (v w : Val) → IsValue b v → IsValue b w → IsBelow v w → IsSome (named_by w) → IsSome (named_by v)
 named_falls b (Set vs) w vv vw below h = refl
 named_falls b (Span lo last step) (Set ws) vv vw below h = absurd (span_not_below b lo last step ws vv vw below)

@@ -1,4 +1,5 @@
--- A visit, part by part: what a point owes is joined in the order in which it is listed, and never built as a list.
+-- A visit, part by part: duties are joined in the order in which they are listed, and the list is
+-- never built.
 use Rattle.std.proofs.Common.{◌+◌, take, drop, get_or, map, ◌≡◌, ℕ, ◌<◌, Bool, true, false, inl, inr, List, [], ◌∷◌, ◌++◌, Option, Some, None, IsSome, refl, sym, ap, subst, ◌∙◌, arith, length, Contains}
 use Rattle.std.specs.Prelude.{Result, Ok, Err, OnOk, is_some, if◌then◌else◌}
 use Rattle.frame_places.specs.declared.refusals.Refusal.{Refusal}
@@ -25,7 +26,7 @@ use Rattle.cfg_recover.specs.Assignments.{Assignment, point, exit, HasDuty, Asks
 use Rattle.depth_cert.specs.Known.{Known, state, leaving, IsProper}
 use Rattle.cfg_recover.proofs.CodeLaws.{IsCode-one}
 use Rattle.depth_maker.specs.Growth.{IsProperDuty}
-use Rattle.depth_maker.specs.Hearing.{HeardEntered}
+use Rattle.depth_maker.specs.Interrupts.{ContextsEntered}
 use Rattle.depth_maker.specs.Proper.{AreLawful}
 use Rattle.depth_maker.specs.Tables.{Settled, IsResumed}
 use Rattle.depth_maker.proofs.PlaceLaws.{one_state}
@@ -47,9 +48,9 @@ use Rattle.frame_places.specs.Spots.{spot_eq}
 use Rattle.depth_maker.specs.Spots.{spot_of, place_of}
 use Rattle.depth_maker.proofs.SpotLemmas.{back}
 use Rattle.depth_maker.proofs.CountedLemmas.{counted_again}
-use Rattle.depth_maker.proofs.HearingLaws.{heard_again}
+use Rattle.depth_maker.proofs.InterruptLaws.{interrupts_again}
 use Rattle.depth_maker.proofs.LevelSteps.{rises_then, same_level}
-use Rattle.depth_maker.specs.View.{AreExitsRead, seen, IsFine, Keeps, Joined, Paid, PaidFor, AllSettled, Owes, IsVisited, Raised, RaisesOn}
+use Rattle.depth_maker.specs.View.{AreExitsRead, seen, IsFine, Keeps, Joined, PointJoined, DutiesJoined, AllSettled, Owes, IsVisited, JoinedAlone, JoinsOn}
 use Rattle.frame_places.specs.Marks.{is_idle, is_queued, Reads, Registered, mark_for, value_for, AreKnown}
 use Rattle.frame_places.specs.Work.{all_work}
 
@@ -71,12 +72,12 @@ Keeps-trans b image plan s m t k l =
 
 module _ (b : Limits) (image : ImageData) (plan : PlanData) (k : Key) (p : ℕ) (u : State) where
   -- ---- parts
-  pub paid_none : (s : made.Table) → IsFine b image plan s → PaidFor b image plan s s k p u []
-  paid_none s fine = record { fine = fine; keeps = keeps_all b image plan s; settled = λ free d c. absurd (omega (arith, c.1)) }
+  pub duties_none : (s : made.Table) → IsFine b image plan s → DutiesJoined b image plan s s k p u []
+  duties_none s fine = record { fine = fine; keeps = keeps_all b image plan s; settled = λ free d c. absurd (omega (arith, c.1)) }
 
-  pub paid_then : (s m t : made.Table) (ds es : List Owed) → IsProper b u → ((d : Owed) → Contains ds d → IsProperDuty b d.duty) → PaidFor b image plan s m k p u ds → PaidFor b image plan m t k p u es
-      → PaidFor b image plan s t k p u (ds ++ es)
-  paid_then s m t ds es pu pd first then_ = record {
+  pub duties_then : (s m t : made.Table) (ds es : List Owed) → IsProper b u → ((d : Owed) → Contains ds d → IsProperDuty b d.duty) → DutiesJoined b image plan s m k p u ds → DutiesJoined b image plan m t k p u es
+      → DutiesJoined b image plan s t k p u (ds ++ es)
+  duties_then s m t ds es pu pd first then_ = record {
     fine = then_.fine;
     keeps = Keeps-trans b image plan s m t first.keeps then_.keeps;
     settled = λ free d c.
@@ -88,9 +89,9 @@ module _ (b : Limits) (image : ImageData) (plan : PlanData) (k : Key) (p : ℕ) 
         ];
   }
 
-  -- the point has work again: nothing more is owed now
-  pub paid_again : (s t : made.Table) (ds es : List Owed) → PaidFor b image plan s t k p u ds → is_queued (mark_for t.places (spot_of (point k p))) ≡ true → PaidFor b image plan s t k p u (ds ++ es)
-  paid_again s t ds es first queued = record {
+  -- the point has new work: nothing more is owed now
+  pub duties_again : (s t : made.Table) (ds es : List Owed) → DutiesJoined b image plan s t k p u ds → is_queued (mark_for t.places (spot_of (point k p))) ≡ true → DutiesJoined b image plan s t k p u (ds ++ es)
+  duties_again s t ds es first queued = record {
     fine = first.fine;
     keeps = first.keeps;
     settled = λ free d c. absurd (let no : true ≡ false = sym queued ∙ free in cc);
@@ -100,33 +101,33 @@ module _ (b : Limits) (image : ImageData) (plan : PlanData) (k : Key) (p : ℕ) 
   only_one : (d e : Owed) → Contains (d ∷ []) e → d ≡ e
   only_one d e c = elim (Contains-push_cases [] d e c) [ inl n ↦ absurd (omega (arith, n.1)) | inr same ↦ same ]
 
-  -- a jump, an entry or a leaving is joined at its place
-  pub paid_jump : (s t : made.Table) (rule q : ℕ) (v : State) → Joined b image plan s t (spot_of (point k q)) (state v) → PaidFor b image plan s t k p u (owed rule (jump q v) ∷ [])
-  paid_jump s t rule q v j = record {
+  -- a jump, an entry or an exit is joined at its place
+  pub duties_jump : (s t : made.Table) (rule q : ℕ) (v : State) → Joined b image plan s t (spot_of (point k q)) (state v) → DutiesJoined b image plan s t k p u (owed rule (jump q v) ∷ [])
+  duties_jump s t rule q v j = record {
     fine = j.fine;
     keeps = j.keeps;
     settled = λ free d c. subst (λ (e : Owed). Settled (seen t) k p u e.duty) (only_one (owed rule (jump q v)) d c) j.covers;
   }
 
-  pub paid_enter : (s t : made.Table) (rule : ℕ) (l : Key) (v : State) → Joined b image plan s t (spot_of (point l l.entry)) (state v) → PaidFor b image plan s t k p u (owed rule (enter l v) ∷ [])
-  paid_enter s t rule l v j = record {
+  pub duties_enter : (s t : made.Table) (rule : ℕ) (l : Key) (v : State) → Joined b image plan s t (spot_of (point l l.entry)) (state v) → DutiesJoined b image plan s t k p u (owed rule (enter l v) ∷ [])
+  duties_enter s t rule l v j = record {
     fine = j.fine;
     keeps = j.keeps;
     settled = λ free d c. subst (λ (e : Owed). Settled (seen t) k p u e.duty) (only_one (owed rule (enter l v)) d c) j.covers;
   }
 
-  pub paid_leave : (s t : made.Table) (rule : ℕ) (x : Exit) → Joined b image plan s t (spot_of (exit k)) (leaving x) → PaidFor b image plan s t k p u (owed rule (leave x) ∷ [])
-  paid_leave s t rule x j = record {
+  pub duties_leave : (s t : made.Table) (rule : ℕ) (x : Exit) → Joined b image plan s t (spot_of (exit k)) (leaving x) → DutiesJoined b image plan s t k p u (owed rule (leave x) ∷ [])
+  duties_leave s t rule x j = record {
     fine = j.fine;
     keeps = j.keeps;
     settled = λ free d c. subst (λ (e : Owed). Settled (seen t) k p u e.duty) (only_one (owed rule (leave x)) d c) j.covers;
   }
 
-  -- a coming back: the point is told of the exit, and where there is one, what comes after it is joined
-  pub paid_resume_none : (s : made.Table) (rule : ℕ) (l : Key) (q : ℕ) → IsFine b image plan s → value_for s.places (spot_of (exit l)) ≡ None → Reads (get spot_eq s.readers (spot_of (exit l))) (spot_of (point k p))
-      → PaidFor b image plan s s k p u (owed rule (resume l q) ∷ [])
+  -- a return: the point reads the exit, and if the exit is known, the state after it is joined
+  pub duties_resume_none : (s : made.Table) (rule : ℕ) (l : Key) (q : ℕ) → IsFine b image plan s → value_for s.places (spot_of (exit l)) ≡ None → Reads (get spot_eq s.readers (spot_of (exit l))) (spot_of (point k p))
+      → DutiesJoined b image plan s s k p u (owed rule (resume l q) ∷ [])
   unfolding seen
-  paid_resume_none s rule l q fine none told = record {
+  duties_resume_none s rule l q fine none told = record {
     fine = fine;
     keeps = keeps_all b image plan s;
     settled = λ free d c.
@@ -134,10 +135,10 @@ module _ (b : Limits) (image : ImageData) (plan : PlanData) (k : Key) (p : ℕ) 
         ((λ x at. absurd (let no : None ≡ Some x = sym none ∙ at in cc)), told);
   }
 
-  pub paid_resume : (s t : made.Table) (rule : ℕ) (l : Key) (q : ℕ) (x : Exit) → value_for s.places (spot_of (exit l)) ≡ Some (leaving x) → Reads (get spot_eq s.readers (spot_of (exit l))) (spot_of (point k p))
-      → Joined b image plan s t (spot_of (point k q)) (state (after_of u x l.kind)) → PaidFor b image plan s t k p u (owed rule (resume l q) ∷ [])
+  pub duties_resume : (s t : made.Table) (rule : ℕ) (l : Key) (q : ℕ) (x : Exit) → value_for s.places (spot_of (exit l)) ≡ Some (leaving x) → Reads (get spot_eq s.readers (spot_of (exit l))) (spot_of (point k p))
+      → Joined b image plan s t (spot_of (point k q)) (state (after_of u x l.kind)) → DutiesJoined b image plan s t k p u (owed rule (resume l q) ∷ [])
   unfolding seen
-  paid_resume s t rule l q x there told j = record {
+  duties_resume s t rule l q x there told j = record {
     fine = j.fine;
     keeps = j.keeps;
     settled = λ free d c.
@@ -149,7 +150,7 @@ module _ (b : Limits) (image : ImageData) (plan : PlanData) (k : Key) (p : ℕ) 
         );
   }
 
-  -- ---- what is asked
+  -- ---- what flows out
   pub jump_asks : (t : made.Table) (q : ℕ) (v : State) → HasDuty b image plan (seen t).cells k p u (jump q v) → Asks b image plan (seen t).cells (place_of (spot_of (point k q))) (state v)
   jump_asks t q v h = record { key = k; addr = p; before = u; duty = jump q v; has = h; asks = refl }
 
@@ -164,7 +165,7 @@ module _ (b : Limits) (image : ImageData) (plan : PlanData) (k : Key) (p : ℕ) 
   unfolding seen
   resume_asks t l q x at h = record { key = k; addr = p; before = u; duty = resume l q; has = h; asks = ap (resumed k u l q) at }
 
-  -- a duty of the point is one still, while the point has no new work
+  -- a duty of the point stays one, unless the point has new work
   pub duty_stays : (s t : made.Table) (d : Duty) → Keeps b image plan s t → is_queued (mark_for t.places (spot_of (point k p))) ≡ false → HasDuty b image plan (seen s).cells k p u d → HasDuty b image plan (seen t).cells k p u d
   unfolding seen
   duty_stays s t d keeps free h = record {
@@ -178,16 +179,16 @@ module _ (b : Limits) (image : ImageData) (plan : PlanData) (k : Key) (p : ℕ) 
     is = h.is;
   }
 
-  -- ---- between joinings
+  -- ---- between joins
   pub has_duty_at : (t : made.Table) (d : Duty) → (seen t).cells (point k p) ≡ Some (state u) → Owes b image plan k p u d → HasDuty b image plan (seen t).cells k p u d
   has_duty_at t d at o = record { at = at; faultless = o.faultless; shape = o.shape; size = o.size; code = o.code; owed = o.owed; listed = o.listed; is = o.is }
 
   pub has_duty : (t : made.Table) (d : Duty) → IsVisited b image plan t k p u → is_queued (mark_for t.places (spot_of (point k p))) ≡ false → Owes b image plan k p u d → HasDuty b image plan (seen t).cells k p u d
   has_duty t d v free o = has_duty_at t d (v.at free) o
 
-  -- the point has work already
-  pub paid_queued : (s : made.Table) (ds : List Owed) → IsVisited b image plan s k p u → is_queued (mark_for s.places (spot_of (point k p))) ≡ true → PaidFor b image plan s s k p u ds
-  paid_queued s ds v queued = record {
+  -- the point has new work already
+  pub duties_queued : (s : made.Table) (ds : List Owed) → IsVisited b image plan s k p u → is_queued (mark_for s.places (spot_of (point k p))) ≡ true → DutiesJoined b image plan s s k p u ds
+  duties_queued s ds v queued = record {
     fine = v.fine;
     keeps = keeps_all b image plan s;
     settled = λ free d c. absurd (let no : true ≡ false = sym queued ∙ free in cc);
@@ -205,19 +206,19 @@ module _ (b : Limits) (image : ImageData) (plan : PlanData) (k : Key) (p : ℕ) 
     stands = stands_kept s t keeps v.stands;
   }
 
-  pub visited_after : (s t : made.Table) (ds : List Owed) → IsVisited b image plan s k p u → PaidFor b image plan s t k p u ds → IsVisited b image plan t k p u
+  pub visited_after : (s t : made.Table) (ds : List Owed) → IsVisited b image plan s k p u → DutiesJoined b image plan s t k p u ds → IsVisited b image plan t k p u
   visited_after s t ds v paid = visited_kept s t v paid.fine paid.keeps
 
-  -- what is owed is of the plan and the version
+  -- duties are at the limits
   pub owed_proper : (laws : AreLawful b image plan) (d : Duty) → IsProper b u → Owes b image plan k p u d → IsProperDuty b d
   owed_proper laws d proper o = subst (IsProperDuty b) o.is (laws.duties_proper k p u o.shape o.size o.owed proper o.faultless o.code o.listed)
 
-  pub paid_both : (laws : AreLawful b image plan) (s m t : made.Table) (ds es : List Owed) → IsVisited b image plan s k p u → ((d : Owed) → Contains ds d → Owes b image plan k p u d.duty)
-      → PaidFor b image plan s m k p u ds → PaidFor b image plan m t k p u es → PaidFor b image plan s t k p u (ds ++ es)
-  paid_both laws s m t ds es v owes first then_ = paid_then s m t ds es v.proper (λ d c. owed_proper laws d.duty v.proper (owes d c)) first then_
+  pub duties_both : (laws : AreLawful b image plan) (s m t : made.Table) (ds es : List Owed) → IsVisited b image plan s k p u → ((d : Owed) → Contains ds d → Owes b image plan k p u d.duty)
+      → DutiesJoined b image plan s m k p u ds → DutiesJoined b image plan m t k p u es → DutiesJoined b image plan s t k p u (ds ++ es)
+  duties_both laws s m t ds es v owes first then_ = duties_then s m t ds es v.proper (λ d c. owed_proper laws d.duty v.proper (owes d c)) first then_
 
-  pub paid_from : (s m t : made.Table) (ds : List Owed) → Keeps b image plan s m → PaidFor b image plan m t k p u ds → PaidFor b image plan s t k p u ds
-  paid_from s m t ds keeps paid = record { fine = paid.fine; keeps = Keeps-trans b image plan s m t keeps paid.keeps; settled = paid.settled }
+  pub duties_from : (s m t : made.Table) (ds : List Owed) → Keeps b image plan s m → DutiesJoined b image plan m t k p u ds → DutiesJoined b image plan s t k p u ds
+  duties_from s m t ds keeps paid = record { fine = paid.fine; keeps = Keeps-trans b image plan s m t keeps paid.keeps; settled = paid.settled }
 
   pub owes_front : (ds es : List Owed) → ((d : Owed) → Contains (ds ++ es) d → Owes b image plan k p u d.duty) → (d : Owed) → Contains ds d → Owes b image plan k p u d.duty
   owes_front ds es h d c = h d (Contains-append_left ds es d c)
@@ -231,7 +232,7 @@ module _ (b : Limits) (image : ImageData) (plan : PlanData) (k : Key) (p : ℕ) 
   pub owes_alone : (o : Owed) → Owes b image plan k p u o.duty → (d : Owed) → Contains (o ∷ []) d → Owes b image plan k p u d.duty
   owes_alone o h d c = subst (λ (e : Owed). Owes b image plan k p u e.duty) (only_one o d c) h
 
-  -- ---- one duty, and its coming back, for each of a list
+  -- ---- one duty, and its return, for each of a list
   pub owes_both : (rule back : ℕ) (l : Key) (v : State) → ((d : Owed) → Contains (entered_and_back rule l v back) d → Owes b image plan k p u d.duty) → Owes b image plan k p u (enter l v) × Owes b image plan k p u (resume l back)
   owes_both rule back l v h = (
     owes_one (owed rule (enter l v)) (owes_front (owed rule (enter l v) ∷ []) (owed 4 (resume l back) ∷ []) h),
@@ -244,33 +245,33 @@ module _ (b : Limits) (image : ImageData) (plan : PlanData) (k : Key) (p : ℕ) 
   pub owes_at_flat : (f : ℕ → List Owed) (ts : List ℕ) (i : ℕ) → i < length ts → ((d : Owed) → Contains (flat_map f ts) d → Owes b image plan k p u d.duty) → (d : Owed) → Contains (f (get_or ts i 0)) d → Owes b image plan k p u d.duty
   owes_at_flat f ts i lt h d c = h d (contains_flat f d (get_or ts i 0) ts (Contains-get_or ts i 0 lt) c)
 
-  pub paid_more_map : (laws : AreLawful b image plan) (s m t : made.Table) (g : ℕ → Owed) (ts : List ℕ) (i : ℕ) → i < length ts → IsVisited b image plan s k p u
-      → ((d : Owed) → Contains (map g ts) d → Owes b image plan k p u d.duty) → PaidFor b image plan s m k p u (map g (take i ts)) → PaidFor b image plan m t k p u (g (get_or ts i 0) ∷ [])
-      → PaidFor b image plan s t k p u (map g (take (i + 1) ts))
-  paid_more_map laws s m t g ts i lt v owes first then_ =
-      subst (PaidFor b image plan s t k p u) (sym (ap (map g) (take_more ts i 0 lt) ∙ map-append g (take i ts) (get_or ts i 0 ∷ [])))
-      (paid_both laws s m t (map g (take i ts)) (g (get_or ts i 0) ∷ []) v
+  pub duties_more_map : (laws : AreLawful b image plan) (s m t : made.Table) (g : ℕ → Owed) (ts : List ℕ) (i : ℕ) → i < length ts → IsVisited b image plan s k p u
+      → ((d : Owed) → Contains (map g ts) d → Owes b image plan k p u d.duty) → DutiesJoined b image plan s m k p u (map g (take i ts)) → DutiesJoined b image plan m t k p u (g (get_or ts i 0) ∷ [])
+      → DutiesJoined b image plan s t k p u (map g (take (i + 1) ts))
+  duties_more_map laws s m t g ts i lt v owes first then_ =
+      subst (DutiesJoined b image plan s t k p u) (sym (ap (map g) (take_more ts i 0 lt) ∙ map-append g (take i ts) (get_or ts i 0 ∷ [])))
+      (duties_both laws s m t (map g (take i ts)) (g (get_or ts i 0) ∷ []) v
       (λ d c. owes d (subst (λ (l : List ℕ). Contains (map g l) d) (take-append-drop i ts) (subst (λ (l : List Owed). Contains l d) (sym (map-append g (take i ts) (drop i ts))) (Contains-append_left (map g (take i ts)) (map g (drop i ts)) d c))))
       first then_)
 
-  pub paid_more_flat : (laws : AreLawful b image plan) (s m t : made.Table) (f : ℕ → List Owed) (ts : List ℕ) (i : ℕ) → i < length ts → IsVisited b image plan s k p u
-      → ((d : Owed) → Contains (flat_map f ts) d → Owes b image plan k p u d.duty) → PaidFor b image plan s m k p u (flat_map f (take i ts)) → PaidFor b image plan m t k p u (f (get_or ts i 0))
-      → PaidFor b image plan s t k p u (flat_map f (take (i + 1) ts))
-  paid_more_flat laws s m t f ts i lt v owes first then_ =
-      subst (PaidFor b image plan s t k p u)
+  pub duties_more_flat : (laws : AreLawful b image plan) (s m t : made.Table) (f : ℕ → List Owed) (ts : List ℕ) (i : ℕ) → i < length ts → IsVisited b image plan s k p u
+      → ((d : Owed) → Contains (flat_map f ts) d → Owes b image plan k p u d.duty) → DutiesJoined b image plan s m k p u (flat_map f (take i ts)) → DutiesJoined b image plan m t k p u (f (get_or ts i 0))
+      → DutiesJoined b image plan s t k p u (flat_map f (take (i + 1) ts))
+  duties_more_flat laws s m t f ts i lt v owes first then_ =
+      subst (DutiesJoined b image plan s t k p u)
       (sym (ap (flat_map f) (take_more ts i 0 lt) ∙ flat_map-append f (take i ts) (get_or ts i 0 ∷ []) ∙ ap (λ (l : List Owed). flat_map f (take i ts) ++ l) (append-nil (f (get_or ts i 0)))))
-      (paid_both laws s m t (flat_map f (take i ts)) (f (get_or ts i 0)) v
+      (duties_both laws s m t (flat_map f (take i ts)) (f (get_or ts i 0)) v
       (λ d c. owes d (subst (λ (l : List ℕ). Contains (flat_map f l) d) (take-append-drop i ts) (subst (λ (l : List Owed). Contains l d) (sym (flat_map-append f (take i ts) (drop i ts))) (Contains-append_left (flat_map f (take i ts)) (flat_map f (drop i ts)) d c))))
       first then_)
 
-  -- all that is owed, by what stands at the point
+  -- all that is owed, from the instruction at the point
   pub owes_duties : (found : Located) → StandsFaultless b image plan k p u found → (d : Owed) → Contains (duties_of b image plan k p u found.shape found.size) d → Owes b image plan k p u d.duty
   owes_duties found f d c = record { faultless = f.faultless; shape = found.shape; size = found.size; code = f.code; owed = d; listed = c; is = refl }
 
   -- ---- the whole
-  pub paid_all : (s t : made.Table) (shape : Shape) (n : ℕ) → (seen s).cells (point k p) ≡ Some (state u) → IsFaultless b image plan k p u → IsCode image plan p shape n
-      → PaidFor b image plan s t k p u (duties_of b image plan k p u shape n) → Paid b image plan s t (spot_of (point k p))
-  paid_all s t shape n at fine code paid = record {
+  pub duties_all : (s t : made.Table) (shape : Shape) (n : ℕ) → (seen s).cells (point k p) ≡ Some (state u) → IsFaultless b image plan k p u → IsCode image plan p shape n
+      → DutiesJoined b image plan s t k p u (duties_of b image plan k p u shape n) → PointJoined b image plan s t (spot_of (point k p))
+  duties_all s t shape n at fine code paid = record {
     fine = paid.fine;
     keeps = paid.keeps;
     faultless = λ l q w e here. carried l q w e here (λ l q w. IsFaultless b image plan l q w) fine;
@@ -291,49 +292,49 @@ module _ (b : Limits) (image : ImageData) (plan : PlanData) (k : Key) (p : ℕ) 
         one_state u w (let f : Some (state u) ≡ Some (state w) = sym at ∙ ap (seen s).cells e ∙ here in cc) in
         subst (λ (z : State). P l q z) same (subst (λ (z : ℕ). P l z u) addr (subst (λ (z : Key). P z p u) key h))
 
-  -- ---- as calls answer
-  pub on_jump : (s t : made.Table) (rule q : ℕ) (v : State) (r : Result (Unit {0}) Refusal) → OnOk r (Joined b image plan s t (spot_of (point k q)) (state v)) → OnOk r (PaidFor b image plan s t k p u (owed rule (jump q v) ∷ []))
-  on_jump s t rule q v (Ok x) h = paid_jump s t rule q v h
+  -- ---- for the results of calls
+  pub on_jump : (s t : made.Table) (rule q : ℕ) (v : State) (r : Result (Unit {0}) Refusal) → OnOk r (Joined b image plan s t (spot_of (point k q)) (state v)) → OnOk r (DutiesJoined b image plan s t k p u (owed rule (jump q v) ∷ []))
+  on_jump s t rule q v (Ok x) h = duties_jump s t rule q v h
   on_jump s t rule q v (Err e) h = tt
 
   pub on_enter : (s t : made.Table) (rule : ℕ) (l : Key) (v : State) (r : Result (Unit {0}) Refusal) → OnOk r (Joined b image plan s t (spot_of (point l l.entry)) (state v))
-      → OnOk r (PaidFor b image plan s t k p u (owed rule (enter l v) ∷ []))
-  on_enter s t rule l v (Ok x) h = paid_enter s t rule l v h
+      → OnOk r (DutiesJoined b image plan s t k p u (owed rule (enter l v) ∷ []))
+  on_enter s t rule l v (Ok x) h = duties_enter s t rule l v h
   on_enter s t rule l v (Err e) h = tt
 
-  pub on_leave : (s t : made.Table) (rule : ℕ) (x : Exit) (r : Result (Unit {0}) Refusal) → OnOk r (Joined b image plan s t (spot_of (exit k)) (leaving x)) → OnOk r (PaidFor b image plan s t k p u (owed rule (leave x) ∷ []))
-  on_leave s t rule x (Ok _) h = paid_leave s t rule x h
+  pub on_leave : (s t : made.Table) (rule : ℕ) (x : Exit) (r : Result (Unit {0}) Refusal) → OnOk r (Joined b image plan s t (spot_of (exit k)) (leaving x)) → OnOk r (DutiesJoined b image plan s t k p u (owed rule (leave x) ∷ []))
+  on_leave s t rule x (Ok _) h = duties_leave s t rule x h
   on_leave s t rule x (Err e) h = tt
 
   pub on_resume : (s t : made.Table) (rule : ℕ) (l : Key) (q : ℕ) (x : Exit) (r : Result (Unit {0}) Refusal) → value_for s.places (spot_of (exit l)) ≡ Some (leaving x)
-      → Reads (get spot_eq s.readers (spot_of (exit l))) (spot_of (point k p)) → OnOk r (Joined b image plan s t (spot_of (point k q)) (state (after_of u x l.kind))) → OnOk r (PaidFor b image plan s t k p u (owed rule (resume l q) ∷ []))
-  on_resume s t rule l q x (Ok _) there told h = paid_resume s t rule l q x there told h
+      → Reads (get spot_eq s.readers (spot_of (exit l))) (spot_of (point k p)) → OnOk r (Joined b image plan s t (spot_of (point k q)) (state (after_of u x l.kind))) → OnOk r (DutiesJoined b image plan s t k p u (owed rule (resume l q) ∷ []))
+  on_resume s t rule l q x (Ok _) there told h = duties_resume s t rule l q x there told h
   on_resume s t rule l q x (Err e) there told h = tt
 
   pub on_both : (laws : AreLawful b image plan) (s m t : made.Table) (ds es : List Owed) (r : Result (Unit {0}) Refusal) → IsVisited b image plan s k p u → ((d : Owed) → Contains ds d → Owes b image plan k p u d.duty)
-      → PaidFor b image plan s m k p u ds → OnOk r (PaidFor b image plan m t k p u es) → OnOk r (PaidFor b image plan s t k p u (ds ++ es))
-  on_both laws s m t ds es (Ok _) v owes first h = paid_both laws s m t ds es v owes first h
+      → DutiesJoined b image plan s m k p u ds → OnOk r (DutiesJoined b image plan m t k p u es) → OnOk r (DutiesJoined b image plan s t k p u (ds ++ es))
+  on_both laws s m t ds es (Ok _) v owes first h = duties_both laws s m t ds es v owes first h
   on_both laws s m t ds es (Err e) v owes first h = tt
 
   -- five parts
   pub on_five : (laws : AreLawful b image plan) (s m n o q t : made.Table) (ds es fs gs hs : List Owed) (r : Result (Unit {0}) Refusal) → IsVisited b image plan s k p u
-      → ((d : Owed) → Contains (ds ++ es ++ fs ++ gs ++ hs) d → Owes b image plan k p u d.duty) → PaidFor b image plan s m k p u ds → PaidFor b image plan m n k p u es → PaidFor b image plan n o k p u fs
-      → PaidFor b image plan o q k p u gs → OnOk r (PaidFor b image plan q t k p u hs) → OnOk r (PaidFor b image plan s t k p u (ds ++ es ++ fs ++ gs ++ hs))
+      → ((d : Owed) → Contains (ds ++ es ++ fs ++ gs ++ hs) d → Owes b image plan k p u d.duty) → DutiesJoined b image plan s m k p u ds → DutiesJoined b image plan m n k p u es → DutiesJoined b image plan n o k p u fs
+      → DutiesJoined b image plan o q k p u gs → OnOk r (DutiesJoined b image plan q t k p u hs) → OnOk r (DutiesJoined b image plan s t k p u (ds ++ es ++ fs ++ gs ++ hs))
   on_five laws s m n o q t ds es fs gs hs r v owes one two three four five =
       let four_owe = owes_front (ds ++ es ++ fs ++ gs) hs owes in
       let three_owe = owes_front (ds ++ es ++ fs) gs four_owe in
       let two_owe = owes_front (ds ++ es) fs three_owe in
-      let first = paid_both laws s m n ds es v (owes_front ds es two_owe) one two in
-      let second = paid_both laws s n o (ds ++ es) fs v two_owe first three in
-      let third = paid_both laws s o q (ds ++ es ++ fs) gs v three_owe second four in
+      let first = duties_both laws s m n ds es v (owes_front ds es two_owe) one two in
+      let second = duties_both laws s n o (ds ++ es) fs v two_owe first three in
+      let third = duties_both laws s o q (ds ++ es ++ fs) gs v three_owe second four in
       on_both laws s q t (ds ++ es ++ fs ++ gs) hs r v four_owe third five
 
-  pub on_from : (s m t : made.Table) (ds : List Owed) (r : Result (Unit {0}) Refusal) → Keeps b image plan s m → OnOk r (PaidFor b image plan m t k p u ds) → OnOk r (PaidFor b image plan s t k p u ds)
-  on_from s m t ds (Ok _) keeps h = paid_from s m t ds keeps h
+  pub on_from : (s m t : made.Table) (ds : List Owed) (r : Result (Unit {0}) Refusal) → Keeps b image plan s m → OnOk r (DutiesJoined b image plan m t k p u ds) → OnOk r (DutiesJoined b image plan s t k p u ds)
+  on_from s m t ds (Ok _) keeps h = duties_from s m t ds keeps h
   on_from s m t ds (Err e) keeps h = tt
 
--- ---- a registration
--- only exits are read still, where one more place reads one
+-- ---- one more reader
+-- only exits are read still
 pub exits_registered : {S : Type 0} (a b : IndexMap Spot (Vec Spot Global) S) (k : Key) (x : Spot) → Registered a b (spots.Exit k) x → AreExitsRead a → AreExitsRead b
 exits_registered a b k x more exits j p q h =
     elim (more.alone (spots.Point j p) q h) [
@@ -341,7 +342,7 @@ exits_registered a b k x more exits j p q h =
       | inr e ↦ (let no : false ≡ true = e.0 in cc)
     ]
 
--- those that read are known still, where one more does that is known
+-- readers are known still
 pub readers_registered : {V S R : Type 0} (places : IndexMap Spot (Marked V) S) (a b : IndexMap Spot (Vec Spot Global) R) (z x : Spot) → Registered a b z x → IsSome (value_for places x)
     → ((y : Spot) → AreKnown places (Reads (get spot_eq a y))) → (y : Spot) → AreKnown places (Reads (get spot_eq b y))
 readers_registered {V} places a b z x more known before y q h =
@@ -350,7 +351,7 @@ readers_registered {V} places a b z x more known before y q h =
       | inr e ↦ subst (λ (k : Spot). IsSome (value_for places k)) (sym e.1) known
     ]
 
--- a place that is marked is known
+-- a marked place is known
 known_marked : {V : Type 0} (o : Option (Marked V)) → is_queued (option_map (λ m. m.mark) o) ≡ true → IsSome (option_map (λ m. m.value) o)
 known_marked None e = cc
 known_marked (Some m) e = refl
@@ -358,7 +359,7 @@ known_marked (Some m) e = refl
 some_known : {V : Type 0} (o : Option V) (v : V) → o ≡ Some v → IsSome o
 some_known {V} o v e = subst (λ (x : Option V). IsSome x) (sym e) refl
 
--- a point that is visited is known
+-- the visited point is known
 pub visited_known : (b : Limits) (image : ImageData) (plan : PlanData) (t : made.Table) (k : Key) (p : ℕ) (u : State) → IsVisited b image plan t k p u → IsSome (value_for t.places (spot_of (point k p)))
 unfolding seen
 visited_known b image plan t k p u v = by (is_queued (mark_for t.places (spot_of (point k p)))) refl where
@@ -366,12 +367,12 @@ visited_known b image plan t k p u v = by (is_queued (mark_for t.places (spot_of
   by true e = known_marked (get spot_eq t.places (spot_of (point k p))) e
   by false e = some_known (value_for t.places (spot_of (point k p))) (state u) (v.at e)
 
--- the same places, with what is known there and their marks: what an exit's readers are told may be more
+-- the same places, values and marks; an exit may have more readers
 pub registered_fine : (b : Limits) (image : ImageData) (plan : PlanData) (laws : AreLawful b image plan) (s t : made.Table) → t.places.entries ≡ s.places.entries → t.near ≡ s.near → all_work t.work ≡ all_work s.work
-    → t.points.items ≡ s.points.items → t.frames.items ≡ s.frames.items → t.heard ≡ s.heard → ((z q : Spot) → Reads (get spot_eq s.readers z) q → Reads (get spot_eq t.readers z) q) → AreExitsRead t.readers
+    → t.points.items ≡ s.points.items → t.frames.items ≡ s.frames.items → t.interrupts ≡ s.interrupts → ((z q : Spot) → Reads (get spot_eq s.readers z) q → Reads (get spot_eq t.readers z) q) → AreExitsRead t.readers
     → ((y : Spot) → AreKnown s.places (Reads (get spot_eq t.readers y))) → IsFine b image plan s → IsFine b image plan t × Keeps b image plan s t
 unfolding seen
-registered_fine b image plan laws s t places near work points frames heard readers exits told fine =
+registered_fine b image plan laws s t places near work points frames interrupts readers exits told fine =
     let same : (q : Spot) → value_for t.places q ≡ value_for s.places q = λ q. same_value s.places t.places places q in
     let marked : (q : Spot) → mark_for t.places q ≡ mark_for s.places q = λ q. same_mark s.places t.places places q in (
       record {
@@ -386,7 +387,7 @@ registered_fine b image plan laws s t places near work points frames heard reade
               (f.0, same_number s.places t.places places n f.0 f.1);
         };
         counted = counted_again s.places t.places s.points.items t.points.items s.frames.items t.frames.items (λ q. same (spot_of q)) points frames fine.counted;
-        heard = heard_again b plan (seen s).cells (seen t).cells (λ q. same (spot_of q)) t.heard (subst (HeardEntered b plan (seen s).cells) (sym heard) fine.heard);
+        interrupts = interrupts_again b plan (seen s).cells (seen t).cells (λ q. same (spot_of q)) t.interrupts (subst (ContextsEntered b plan (seen s).cells) (sym interrupts) fine.interrupts);
         exits = exits;
         readers = λ y q h. subst (λ (o : Option Known). IsSome o) (sym (same q)) (told y q h);
         plain = λ q at. fine.plain q (sym (marked q) ∙ at);
@@ -403,16 +404,16 @@ registered_fine b image plan laws s t places near work points frames heard reade
     )
 
 -- ---- a place that was found
--- what is asked is asked still
+-- a flow stays one
 pub asks_again : (b : Limits) (image : ImageData) (plan : PlanData) (s m : made.Table) (y : Spot) (v : Known) → m.places.entries ≡ s.places.entries → Asks b image plan (seen s).cells (place_of y) v
     → Asks b image plan (seen m).cells (place_of y) v
 unfolding seen
 asks_again b image plan s m y v places asks = subst (λ (a : Assignment). Asks b image plan a (place_of y) v) (λ i q. sym (same_value s.places m.places places (spot_of q)) i) asks
 
--- a rise from the same places, with what is known there
-raised_again : (b : Limits) (s m t : made.Table) (y : Spot) (v : Known) → m.places.entries ≡ s.places.entries → m.near ≡ s.near → m.readers ≡ s.readers → m.heard ≡ s.heard → m.points.items ≡ s.points.items
-    → m.frames.items ≡ s.frames.items → Raised b m t y v → Raised b s t y v
-raised_again b s m t y v places near readers heard points frames rose =
+-- a join in the same places and values
+raised_again : (b : Limits) (s m t : made.Table) (y : Spot) (v : Known) → m.places.entries ≡ s.places.entries → m.near ≡ s.near → m.readers ≡ s.readers → m.interrupts ≡ s.interrupts → m.points.items ≡ s.points.items
+    → m.frames.items ≡ s.frames.items → JoinedAlone b m t y v → JoinedAlone b s t y v
+raised_again b s m t y v places near readers interrupts points frames rose =
     let same : (q : Spot) → value_for m.places q ≡ value_for s.places q = λ q. same_value s.places m.places places q in
     let known = is_some (value_for s.places y) in
     record {
@@ -427,18 +428,18 @@ raised_again b s m t y v places near readers heard points frames rose =
       listed = rose.listed;
       near = rose.near ∙ near;
       readers = rose.readers ∙ readers;
-      heard = rose.heard ∙ heard;
+      interrupts = rose.interrupts ∙ interrupts;
       points = rose.points ∙ ap (λ (o : Option Known). points_after (is_some o) m.points.items y) (same y) ∙ ap (λ (ps : List Spot). points_after known ps y) points;
       frames = rose.frames ∙ ap (λ (o : Option Known). frames_after (is_some o) m.frames.items y) (same y) ∙ ap (λ (ks : List Key). frames_after known ks y) frames;
       few = rose.few;
     }
 
-pub raises_again : (g : Ground) (s m t : made.Table) (y : Spot) (v : Known) (r : Result Bool Refusal) → m.places.entries ≡ s.places.entries → m.near ≡ s.near → m.readers ≡ s.readers → m.heard ≡ s.heard
-    → m.points.items ≡ s.points.items → m.frames.items ≡ s.frames.items → Keeps g.bounds.now g.image.now g.plan.now s m → RaisesOn g m t y v r → RaisesOn g s t y v r
-raises_again g s m t y v (Ok true) places near readers heard points frames keeps h = raised_again g.bounds.now s m t y v places near readers heard points frames h
-raises_again g s m t y v (Ok false) places near readers heard points frames keeps h = record {
+pub raises_again : (g : Ground) (s m t : made.Table) (y : Spot) (v : Known) (r : Result Bool Refusal) → m.places.entries ≡ s.places.entries → m.near ≡ s.near → m.readers ≡ s.readers → m.interrupts ≡ s.interrupts
+    → m.points.items ≡ s.points.items → m.frames.items ≡ s.frames.items → Keeps g.bounds.now g.image.now g.plan.now s m → JoinsOn g m t y v r → JoinsOn g s t y v r
+raises_again g s m t y v (Ok true) places near readers interrupts points frames keeps h = raised_again g.bounds.now s m t y v places near readers interrupts points frames h
+raises_again g s m t y v (Ok false) places near readers interrupts points frames keeps h = record {
   fine = h.fine;
   covers = h.covers;
   keeps = Keeps-trans g.bounds.now g.image.now g.plan.now s m t keeps h.keeps;
 }
-raises_again g s m t y v (Err e) places near readers heard points frames keeps h = h
+raises_again g s m t y v (Err e) places near readers interrupts points frames keeps h = h

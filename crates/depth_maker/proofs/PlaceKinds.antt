@@ -62,7 +62,7 @@ derived_kinds b image plan _ (joins a after z d j) y v at =
       | inr h ↦ derived_kinds b image plan a d y v h.1
     ]
 
--- where two of a place can't be joined they are states of a point, with unequal numbers of locals
+-- what can't be joined are states of a point with different numbers of locals
 pub record Unjoined (b : Limits) (y : Place) (w v : Known) : Type 0 where
   pub key : Key
   pub addr : ℕ

@@ -1,5 +1,5 @@
--- The places of a derived assignment are places that a certificate may have: keys are keys, addresses are words, and only
--- called functions and handlers of system calls have exits.
+-- The places of a derived assignment may be in a certificate: keys are keys, addresses are words,
+-- and only called functions and handlers of system calls have exits.
 use Rattle.std.proofs.Common.{◌≡◌, ℕ, zero, suc, ◌^◌, ◌<◌, ◌⊎◌, inl, inr, true, false, List, [], ◌∷◌, ◌++◌, map, get_or, refl, sym, subst, arith, Option, Some, None, Contains, eqb}
 use Rattle.std.specs.Prelude.{unwrap_or}
 use Rattle.std.specs.List.{flat_map}
@@ -37,12 +37,12 @@ use Rattle.depth_maker.proofs.TableLaws.{derived_proper}
 abbrev pub MayLeave : Key → Type 0
 MayLeave k = (k.kind ≡ 1) ⊎ (k.kind ≡ 3)
 
--- a place that a certificate may have
+-- a place that may be in a certificate
 abbrev pub IsInRange : Place → Type 0
 IsInRange (point k p) = IsKey k × (p < 2 ^ 32)
 IsInRange (exit k) = IsKey k × MayLeave k
 
--- where a duty asks in the frame itself, the place is in range
+-- if a duty asks for a place of the frame itself, the place is in range
 abbrev StaysInRange : Key → Duty → Type 0
 StaysInRange key (jump q t) = q < 2 ^ 32
 StaysInRange key (enter k t) = Unit {0}
@@ -53,7 +53,8 @@ moved_small : (p n : ℕ) → moved p n < 2 ^ 32
 moved_small p n = omega arith
 
 module _ (b : Limits) (image : ImageData) (plan : PlanData) (key : Key) (p : ℕ) (s : State) (ground : IsGround b image plan) (proper : IsProper b s) (is_key : IsKey key) where
-  -- only a called function returns; of the handlers only that of system calls comes back to its caller
+  -- only a called function returns; of the handlers, only that of system calls returns to its
+  -- caller
   stays_by : (shape : Shape) (n : ℕ) (d : Owed) → IsShape shape → LocalRule b plan key p s shape 6 → DutyAt b image plan key p s n shape d → StaysInRange key d.duty
   stays_by _ n _ is own (next shape e) = moved_small p n
   stays_by _ n _ is own (straight test x y by lowers t e) = moved_small p n
@@ -68,7 +69,7 @@ module _ (b : Limits) (image : ImageData) (plan : PlanData) (key : Key) (p : ℕ
   duties_stay : (shape : Shape) (n : ℕ) → IsShape shape → LocalRule b plan key p s shape 6 → (d : Owed) → Contains (duties_of b image plan key p s shape n) d → StaysInRange key d.duty
   duties_stay shape n is own d c = stays_by shape n d is own (duty_at b image plan key p s n shape d c)
 
--- a place that a duty asks for, where the frame's own are in range and what is entered has a key
+-- a place that a duty asks for is in range, if the frame's own are and the entered frame has a key
 asked_in_range : (a : Assignment) (key : Key) (s : State) (d : Duty) (y : Place) (v : Known) → IsKey key → HasKey d → StaysInRange key d → asked a key s d ≡ Some (y, v) → IsInRange y
 asked_in_range a key s (jump q t) y v is has stays e = let f : (point key q, state t) ≡ (y, v) = cc in subst (λ (w : Place × Known). IsInRange w.0) f (is, stays)
 asked_in_range a key s (enter k t) y v is has stays e = let f : (point k k.entry, state t) ≡ (y, v) = cc in subst (λ (w : Place × Known). IsInRange w.0) f (has, has.entry)

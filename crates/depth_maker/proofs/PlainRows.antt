@@ -25,9 +25,9 @@ use Rattle.frame_places.specs.declared.places.Mark.{Mark}
 use Rattle.frame_places.specs.declared.places.Mark.TheVariants.{Plain}
 use Rattle.frame_places.specs.declared.places.Marked.{Marked}
 use Rattle.frame_places.specs.declared.places.Spot.TheVariants.{Point}
-use Rattle.small_states.specs.Kept.{IsOutline}
-use Rattle.small_states.specs.declared.cells.Outline.{Outline}
-use Rattle.frame_places.specs.declared.needs.row.Row.{Row}
+use Rattle.small_states.specs.Incoming.{IsOutline}
+use Rattle.small_states.specs.declared.known.Outline.{Outline}
+use Rattle.frame_places.specs.declared.needs.row.NeedRow.{NeedRow}
 use Rattle.depth_maker.specs.Entered.{EntersNone, IsPlainAt, entered_in}
 use Rattle.depth_maker.specs.Handlers.{nodes_taken}
 use Rattle.depth_maker.proofs.HandlerLaws.{nodes_taken-is}
@@ -54,7 +54,7 @@ store_enters_none plan shape off src base offset size after is = subst (EntersNo
   at : EntersNone plan (Store src base offset size after)
   at b k p u n rule = (refl, ap entered_in (aligned_owes_none b plan k u (Store src base offset size after) (rule.accesses refl) off))
 
--- where no instruction enters a frame only interrupts do
+-- only interrupts enter a frame if the instruction enters none
 pub entered_plain : (b : Limits) (image : ImageData) (plan : PlanData) (k : Key) (p : ℕ) (u : State) → IsFaultless b image plan k p u → (at : IsPlainAt image plan p)
     → entered_in (duties_of b image plan k p u at.shape at.size) ≡ entered_in (interrupts_of plan k u)
 unfolding duties_of
@@ -69,7 +69,7 @@ entered_plain b image plan k p u faultless at =
     ∙ ap (λ (l : List Key). (l ++ ds) ++ es) entered.0
     ∙ ap (λ (l : List Key). l ++ es) entered.1
 
--- what stands there
+-- the instruction of a plain place
 pub plain_found : (image : ImageData) (plan : PlanData) (p : ℕ) → IsPlainAt image plan p → Located
 plain_found image plan p at = record { shape = at.shape; size = at.size }
 
@@ -79,7 +79,7 @@ unfolding plain_found
 plain_stands g k p u faultless at = record { faultless = faultless; code = at.code; shape = at.shaped }
 
 -- the row of a plain point has the handlers of the interrupts that may be taken
-pub plain_point : (s : Source) → IsSource s → (k : Key) (p : ℕ) (m : Marked Known) (o : Outline) (row : Row) → get spot_eq (s.table.now).places (Point k p) ≡ Some m → m.mark ≡ Plain → IsOutline m.value o
+pub plain_point : (s : Source) → IsSource s → (k : Key) (p : ℕ) (m : Marked Known) (o : Outline) (row : NeedRow) → get spot_eq (s.table.now).places (Point k p) ≡ Some m → m.mark ≡ Plain → IsOutline m.value o
     → IsPlainRow s (number_in (s.table.now).frames.items k) o row → IsPointRow s k p row
 unfolding seen plain_found
 plain_point s source k p m o row at mark is plain =
@@ -115,7 +115,7 @@ plain_point s source k p m o row at mark is plain =
       },
     )
 
--- outlines that are told to be one are one
+-- outlines that compare as equal are equal
 flags : (a b : Bool) → beq a b ≡ true → a ≡ b
 flags true true e = refl
 flags false false e = refl

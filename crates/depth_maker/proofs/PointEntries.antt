@@ -33,7 +33,7 @@ use Rattle.depth_maker.proofs.FindLemmas.{filter_has, has_filter}
 use Rattle.depth_maker.proofs.SpotLemmas.{agrees, forth}
 
 -- ---- lists
--- a point that is counted is in the list
+-- a counted point is in the list
 pub placed : (ps : List Spot) (k : Key) (p : ℕ) → Contains (map place_of ps) (point k p) → Contains ps (Point k p)
 placed [] k p c = absurd (omega (arith, c.1))
 placed (x ∷ xs) k p c = at (λ h. placed xs k p h) c.0 c.1 c.2 where
@@ -56,7 +56,7 @@ spot_equiv = record {
   congr = λ x y z e. ap (λ (k : Spot). spot_eq k z) (spot_tells x y e);
 }
 
--- what is known has an entry, and what has an entry is known
+-- known places have entries, and places with entries are known
 some_mapped : {V : Type 0} (o : Option (Marked V)) → IsSome (option_map (λ (m : Marked V). m.value) o) → IsSome o
 some_mapped None h = h
 some_mapped (Some m) h = refl
@@ -75,7 +75,7 @@ entry_known m q c = mapped_some (get spot_eq m q) (IsSome-lookup_from_Contains s
 pub entry_place : {X S : Type 0} (m : IndexMap Spot X S) (x : PointEntry) (q : Spot) (v : X) → Some (q, v) ≡ slice_get m.entries x.entry → place_at m x ≡ q
 entry_place {X} m x q v at = get_or_from_slice_get (keys m) x.entry q nowhere (slice_get-map (λ (e : Spot × X). e.0) m.entries x.entry ∙ ap (option_map (λ (e : Spot × X). e.0)) (sym at))
 
--- the places of entries rise as their orders do
+-- the order of entries is that of their places
 pub rising_spots : {X S : Type 0} (m : IndexMap Spot X S) (xs : List PointEntry) → AreEntries m xs → IsNonDecreasingBy (λ (x : PointEntry). x.order) xs → IsNonDecreasingBy spot_number (places_at m xs)
 rising_spots m xs are rising i j d le lt =
     let x0 : PointEntry = record { order = 0; entry = 0 } in

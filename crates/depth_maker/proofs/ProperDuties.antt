@@ -1,4 +1,4 @@
--- What a point owes is of the plan and the version.
+-- A point's duties are at the limits.
 use Rattle.std.proofs.Common.{◌≡◌, ℕ, zero, suc, ◌-◌, ◌<◌, ◌≤◌, inl, inr, Bool, true, false, List, [], ◌∷◌, ◌++◌, length, map, get_or, replicate, refl, sym, ap, ◌∙◌, subst, arith, Option, Some, None, Contains, eqb, length-append, length-take-le}
 use Rattle.std.specs.Prelude.{unwrap_or, IfSome}
 use Rattle.std.specs.List.{flat_map}
@@ -113,7 +113,7 @@ kept_locals : (s t : State) (o : Option State) → KeepsLocals s o → o ≡ Som
 kept_locals s t None h e = absurd (let f : None ≡ Some t = e in cc)
 kept_locals s t (Some u) h e = let f : u ≡ t = (let g : Some u ≡ Some t = e in cc) in subst (λ (k : State). k.locals.items ≡ s.locals.items) f h
 
--- ---- exits and what comes after them
+-- ---- exits, and the states after them
 lower_values_are : (b : Limits) (vs : List Val) → length vs ≡ 27 → AreValues b vs → AreValues b (lower_values vs)
 lower_values_are b vs len values r lt =
     let within : r < 14 = omega (arith, lower_length vs len) in

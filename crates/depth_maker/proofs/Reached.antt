@@ -20,7 +20,7 @@ use Rattle.depth_maker.proofs.NeedLaws.{entered_above, reached_less}
 abbrev pub entry_of : Key → Place
 entry_of k = point k k.entry
 
--- ---- where a duty asks
+-- ---- the place that a duty asks for
 -- in its own frame, or at the entry of one that it enters
 pub asked_where : (a : Assignment) (key : Key) (s : State) (d : Duty) (y : Place) (v : Known) → asked a key s d ≡ Some (y, v)
     → (frame_of y ≡ key) ⊎ ((k : Key) × (u : State) × (d ≡ enter k u) × (y ≡ entry_of k))
@@ -51,7 +51,7 @@ module _ (b : Limits) (image : ImageData) (plan : PlanData) where
           | inr e ↦ subst (λ (z : Place). IsSome (after (entry_of (frame_of z)))) (sym e.3) (subst (λ (z : Place). IsSome (after z)) e.3 some_joined)
         ]
 
-  -- a frame that stands has its entry point
+  -- a known frame has its entry point
   pub entry_stands : (a : Assignment) → Derived b image plan a → (y : Place) (v : Known) → a y ≡ Some v → IsSome (a (entry_of (frame_of y)))
   entry_stands _ (begins a is) y v at =
       elim (from_if (same_place y (first_place image plan)) (state (start_state plan)) None (a y) v (is y) at) [
@@ -66,7 +66,7 @@ module _ (b : Limits) (image : ImageData) (plan : PlanData) where
       ]
 
   -- ---- from the start
-  -- what is entered from what is reached is reached
+  -- a frame that a reached one enters is reached
   pub reaches_then : (c : Assignment) (j t : Key) (p : ℕ) (s : State) → Enters b image plan c j p s t → (k : Key) → Reaches b image plan c j k → Reaches b image plan c t k
   reaches_then c j t p s e _ here = by_entry j p s t e here
   reaches_then c j t p s e _ (by_entry k q u l f r) = by_entry k q u l f (reaches_then c j t p s e l r)

@@ -1,4 +1,4 @@
--- Entries of frames and the edges of their numbers: which points recur.
+-- Entries of frames and the edges of their numbers: which points are recursive.
 use Rattle.std.proofs.Common.{◌≡◌, inl, inr, ℕ, ◌+◌, ◌*◌, ◌^◌, ◌<◌, ◌≤◌, Bool, List, length, get_or, Some, refl, sym, ap, ◌∙◌, subst, arith, Contains}
 use Rattle.std.specs.Prelude.{map, slice_index}
 use Rattle.std.proofs.lemmas.Bool.{cases_lt}
@@ -24,8 +24,8 @@ use Rattle.frame_places.specs.Numbers.{number_in}
 use Rattle.frame_places.specs.Reaching as graph
 use Rattle.frame_places.specs.Reaching.{edge_to, AreEdges, Leads, along, IsRecurring, IsMarked, AreReaching, AreBetween}
 use Rattle.depth_maker.specs.RowsAt.{IsRowAt, AreRows}
-use Rattle.frame_places.specs.declared.needs.reach.Edge.{Edge}
-use Rattle.frame_places.specs.declared.needs.row.Row.{Row}
+use Rattle.frame_places.specs.declared.needs.reach.FrameEdge.{FrameEdge}
+use Rattle.frame_places.specs.declared.needs.row.NeedRow.{NeedRow}
 use Rattle.depth_maker.proofs.DutyGrowth.{contained_map}
 use Rattle.depth_maker.proofs.EnteredLemmas.{owed_entered}
 use Rattle.frame_places.proofs.NumberLemmas.{numbered_at}
@@ -44,7 +44,7 @@ module _ (b : Limits) (image : ImageData) (plan : PlanData) (a : Assignment) (cl
   any = start_key image plan
 
   -- a row has the frames that its point enters, and no others
-  pub row_enters : (k : Key) (p : ℕ) (u : State) (row : Row) → a (point k p) ≡ Some (state u) → IsRowAt b image plan ks k p u row → (s : State) (t : Key) → Enters b image plan a k p s t
+  pub row_enters : (k : Key) (p : ℕ) (u : State) (row : NeedRow) → a (point k p) ≡ Some (state u) → IsRowAt b image plan ks k p u row → (s : State) (t : Key) → Enters b image plan a k p s t
       → Contains row.into.items (number_in ks t)
   row_enters k p u row at r s t e =
       let same : s ≡ u = one_state s u (let f : Some (state s) ≡ Some (state u) = sym (e.has).at ∙ at in cc) in
@@ -54,13 +54,13 @@ module _ (b : Limits) (image : ImageData) (plan : PlanData) (a : Assignment) (cl
       let there = owed_entered (duties_of b image plan k p u (r.found).shape (r.found).size) (e.has).owed t e.entered listed (e.has).is in
       subst (λ (z : List ℕ). Contains z (number_in ks t)) (sym r.into) (contains_map (number_in ks) (entered_in (duties_of b image plan k p u (r.found).shape (r.found).size)) t there)
 
-  pub row_entered : (k : Key) (p : ℕ) (u : State) (row : Row) → a (point k p) ≡ Some (state u) → IsRowAt b image plan ks k p u row → (j : ℕ) → Contains row.into.items j
+  pub row_entered : (k : Key) (p : ℕ) (u : State) (row : NeedRow) → a (point k p) ≡ Some (state u) → IsRowAt b image plan ks k p u row → (j : ℕ) → Contains row.into.items j
       → (t : Key) × Enters b image plan a k p u t × (number_in ks t ≡ j)
   row_entered k p u row at r j c =
       let x = contained_map (number_in ks) (entered_in (duties_of b image plan k p u (r.found).shape (r.found).size)) j (subst (λ (l : List ℕ). Contains l j) r.into c) in
       (x.0, enters_of b image plan a closed ps ks counted k p u r.found x.0 at r.stands x.1, x.2)
 
-  -- frames that are known have numbers of their own
+  -- known frames have different numbers
   pub one_frame : (k j : Key) → Contains ks k → Contains ks j → number_in ks k ≡ number_in ks j → k ≡ j
   one_frame k j hk hj e = sym (numbered_at ks k any hk).1 ∙ ap (λ n. get_or ks n any) e ∙ (numbered_at ks j any hj).1
 
@@ -70,7 +70,7 @@ module _ (b : Limits) (image : ImageData) (plan : PlanData) (a : Assignment) (cl
   pub entered : (k : Key) (p : ℕ) (s : State) (t : Key) → Enters b image plan a k p s t → Contains ks t
   entered k p s t e = entered_frame b image plan a closed ps ks counted k p s t e
 
-  module _ (rows : List Row) (are : AreRows b image plan a ks rows) (edges : List Edge) (es : AreEdges rows edges) where
+  module _ (rows : List NeedRow) (are : AreRows b image plan a ks rows) (edges : List FrameEdge) (es : AreEdges rows edges) where
     -- ---- an entry is an edge, and an edge an entry
     entry_edge : (k : Key) (p : ℕ) (s : State) (t : Key) → Enters b image plan a k p s t → Contains edges (edge_to (number_in ks k) (number_in ks t))
     entry_edge k p s t e =
@@ -90,7 +90,7 @@ module _ (b : Limits) (image : ImageData) (plan : PlanData) (a : Assignment) (cl
       into = λ e c. let x = edge_entry e.node e.into c in subst (λ (n : ℕ). n < length ks) x.6 (numbered_at ks x.3 any (entered x.0 x.1 x.2 x.3 x.4)).0;
     }
 
-    -- ---- what is reached along entries is reached along edges, and the other way round
+    -- ---- frames reached by entries are reached by edges, and the other way round
     reaches_leads : (j k : Key) → Reaches b image plan a j k → Leads edges (number_in ks j) (number_in ks k)
     reaches_leads j _ here = graph.here
     reaches_leads j _ (by_entry k p s t e r) = along (number_in ks k) (number_in ks t) (entry_edge k p s t e) (reaches_leads j t r)
@@ -102,7 +102,7 @@ module _ (b : Limits) (image : ImageData) (plan : PlanData) (a : Assignment) (cl
         let own : x.0 ≡ k = one_frame x.0 k (owner x.0 x.1 x.2 x.3 x.4) hk (x.5 ∙ sym ek) in
         by_entry k x.1 x.2 x.3 (subst (λ (z : Key). Enters b image plan a z x.1 x.2 x.3) own x.4) (leads_reaches i t l j x.3 hj (entered x.0 x.1 x.2 x.3 x.4) ej x.6)
 
-    -- ---- points that recur, and nodes that do
+    -- ---- recursive points and recursive nodes
     pub recurs_ring : (k : Key) (p : ℕ) → Recurs b image plan a k p → IsRecurring edges (number_in ks k)
     recurs_ring k p r = record { next = number_in ks r.into; enters = entry_edge k p r.before r.into r.enters; back = reaches_leads k r.into r.back }
 
@@ -135,7 +135,7 @@ module _ (b : Limits) (image : ImageData) (plan : PlanData) (a : Assignment) (cl
   order_at : (k : Key) → Contains ks k → slice_index (map number_of_key ks) (number_in ks k) ≡ number_of_key k
   order_at k hk = let n = numbered_at ks k any hk in get_or-map number_of_key ks (number_in ks k) any 0 n.0 ∙ ap number_of_key n.1
 
-  -- a point of a frame that isn't above another frame comes no later than that one's points, but for those of the frame itself
+  -- a point of the least frame comes before the points of all other frames
   pub point_first : (k j : Key) (p q : ℕ) → Contains ks k → Contains ks j → IsKey k → IsKey j → p < 2 ^ 32
       → slice_index (map number_of_key ks) (number_in ks k) ≤ slice_index (map number_of_key ks) (number_in ks j) → (k ≡ j → p ≤ q) → point_number k p ≤ point_number j q
   point_first k j p q hk hj key_k key_j small le own = at (number_of_key k) (number_of_key j) refl refl where

@@ -1,4 +1,4 @@
--- The first point that recurs, by the code's table.
+-- The first recursive point, by the types of the code.
 use Rattle.std.proofs.Common.{◌≡◌, inl, inr, ℕ, ◌<◌, ◌≤◌, Bool, List, [], ◌∷◌, ◌++◌, length, get_or, Option, Some, None, IsSome, refl, sym, ap, ◌∙◌, subst, arith, Contains}
 use Rattle.std.specs.Prelude.{map, IsTrue, slice_index}
 use Rattle.std.proofs.lemmas.List.{length-map, get_or_default}
@@ -17,8 +17,8 @@ use Rattle.depth_maker.specs.Spots.{place_of}
 use Rattle.depth_maker.specs.View.{seen}
 use Rattle.frame_places.specs.declared.places.Spot.{Spot}
 use Rattle.frame_places.specs.declared.places.Spot.TheVariants.{Point}
-use Rattle.frame_places.specs.declared.needs.reach.Edge.{Edge}
-use Rattle.frame_places.specs.declared.needs.row.Row.{Row}
+use Rattle.frame_places.specs.declared.needs.reach.FrameEdge.{FrameEdge}
+use Rattle.frame_places.specs.declared.needs.row.NeedRow.{NeedRow}
 use Rattle.depth_maker.specs.declared.rows.Source.{Source}
 use Rattle.frame_places.proofs.NumberLemmas.{number_at}
 use Rattle.depth_maker.proofs.PlaceRanges.{derived_in_range}
@@ -27,8 +27,8 @@ use Rattle.depth_maker.proofs.PointEntries.{placed}
 
 -- ---- one point
 module _ (s : Source) (source : IsSource s) (marks : List Bool) (k : Key) (p : ℕ) where
-  -- a point enters a marked frame where its row has a marked number
-  pub row_marked : (row : Row)
+  -- a point enters a marked frame if its row has a marked number
+  pub row_marked : (row : NeedRow)
       → ((u : State) × ((seen s.table.now).cells (point k p) ≡ Some (state u)) × IsRowAt (s.ground.now).bounds.now (s.ground.now).image.now (s.ground.now).plan.now (s.table.now).frames.items k p u row)
       → (r : Bool) → (IsTrue r → (t : ℕ) × Contains row.into.items t × IsMarked marks t) × (((t : ℕ) × Contains row.into.items t × IsMarked marks t) → IsTrue r)
       → (IsTrue r → EntersMarked s marks k p) × (EntersMarked s marks k p → IsTrue r)
@@ -48,7 +48,7 @@ module _ (s : Source) (source : IsSource s) (marks : List Bool) (k : Key) (p : �
   pub none_marked : (seen s.table.now).cells (point k p) ≡ None → EntersMarked s marks k p → ⊥
   none_marked none e = let f : None ≡ Some (state e.before) = sym none ∙ ((e.enters).has).at in cc
 
--- ---- one place more
+-- ---- one more place
 module _ (s : Source) (marks : List Bool) (k : Key) (ys : List Spot) where
   pub first_none : IsFirstMarked s marks k [] None
   first_none p c e = absurd (omega (arith, c.1))
@@ -89,19 +89,19 @@ module _ (s : Source) (marks : List Bool) (k : Key) (ys : List Spot) where
   )
 
 -- ---- the whole
-module _ (s : Source) (source : IsSource s) (edges : List Edge) (es : EdgesOn s edges) where
+module _ (s : Source) (source : IsSource s) (edges : List FrameEdge) (es : EdgesOn s edges) where
   pub edges_within : AreBetween edges (length (s.table.now).frames.items)
   unfolding seen
   edges_within = edges_between _ _ _ (seen s.table.now).cells (source.done).closed (map place_of (s.table.now).points.items) (s.table.now).frames.items ((source.done).counted).each es.0 es.1 edges es.2
 
-  -- where no frame recurs, no point does
+  -- if no frame is recursive, no point is
   pub none_recurs : ((i : ℕ) → IsRecurring edges i → ⊥) → IsRecursion s None
   unfolding seen
   none_recurs none k p r =
       none (number_in (s.table.now).frames.items k)
       (recurs_ring _ _ _ (seen s.table.now).cells (source.done).closed (map place_of (s.table.now).points.items) (s.table.now).frames.items ((source.done).counted).each es.0 es.1 edges es.2 k p r)
 
-  -- a point that recurs has a place in the table
+  -- a recursive point has a place in the table
   stands : (k : Key) (p : ℕ) → RecursBy s k p → Contains (s.table.now).points.items (Point k p)
   unfolding seen
   stands k p r = placed (s.table.now).points.items k p ((((source.done).counted).each).points k p (subst (λ (o : Option Known). IsSome o) (sym ((r.enters).has).at) refl))
@@ -141,7 +141,7 @@ module _ (s : Source) (source : IsSource s) (edges : List Edge) (es : EdgesOn s 
       marked = recurs_marked _ _ _ (seen s.table.now).cells (source.done).closed (map place_of (s.table.now).points.items) (s.table.now).frames.items ((source.done).counted).each es.0 es.1 edges es.2 k own nodes marks at_node p r;
     }
 
-    -- the frame has a point that recurs
+    -- the frame has a recursive point
     pub one_stands : IsFirstMarked s marks k (s.table.now).points.items None → ⊥
     unfolding seen
     one_stands none =
@@ -149,7 +149,7 @@ module _ (s : Source) (source : IsSource s) (edges : List Edge) (es : EdgesOn s 
         (subst (IsRecurring edges) (sym number) first.1) in
         none x.0 (stands k x.0 x.1) (marked x.0 x.1)
 
-    -- and the first of these is the first of all
+    -- the first of these is the first of all
     pub first_recurs : (p : ℕ) → IsFirstMarked s marks k (s.table.now).points.items (Some p) → RecursFirstBy s k p
     unfolding seen
     first_recurs p h = record {

@@ -1,4 +1,4 @@
--- Numbers that meet the rows of a closed assignment are needs of it, and needs of it meet the rows.
+-- Numbers that meet the rows of a closed assignment are its needs, and its needs meet the rows.
 use Rattle.std.proofs.Common.{◌≡◌, inl, inr, ℕ, zero, suc, ◌+◌, ◌<◌, ◌≤◌, true, false, List, [], ◌∷◌, length, get_or, Option, Some, None, IsSome, refl, sym, ap, ◌∙◌, subst, arith, Contains}
 use Rattle.std.specs.Prelude.{map, slice_index}
 use Rattle.std.proofs.lemmas.Bool.{cases_lt}
@@ -26,12 +26,12 @@ use Rattle.value_domain.specs.Limits.{AreLimits}
 use Rattle.depth_maker.specs.Proper.{AllFaultless, AllProper, AreLawful}
 use Rattle.frame_places.specs.Rows.{Meets, IsLow, IsWithin}
 use Rattle.depth_maker.specs.RowsAt.{AreRows, need_by}
-use Rattle.frame_places.specs.declared.needs.row.Row.{Row}
+use Rattle.frame_places.specs.declared.needs.row.NeedRow.{NeedRow}
 use Rattle.depth_maker.proofs.Reached.{needs_at_most}
 use Rattle.depth_maker.proofs.EnteredLemmas.{entered_owed, owed_entered}
 use Rattle.frame_places.proofs.NumberLemmas.{numbered_at, number_below}
 
--- what a mapped list has
+-- the elements of a mapped list
 mapped : {X : Type 0} (f : X → ℕ) (xs : List X) (y : ℕ) → Contains (map f xs) y → (x : X) × Contains xs x × (f x ≡ y)
 mapped f [] y c = absurd (omega (arith, c.1))
 mapped {X} f (x ∷ xs) y c = at (λ h. mapped f xs y h) c.0 c.1 c.2 where
@@ -40,11 +40,11 @@ mapped {X} f (x ∷ xs) y c = at (λ h. mapped f xs y h) c.0 c.1 c.2 where
   at more (suc i) lt e = let r = more (i, omega arith, e) in (r.0, (suc (r.1).0, omega (arith, (r.1).1), (r.1).2), r.2)
 
 module _ (b : Limits) (image : ImageData) (plan : PlanData) (a : Assignment) (closed : Closed b image plan a) (ps : List Place) (ks : List Key) (counted : AreCounted a ps ks) where
-  -- frames that are known have numbers
+  -- known frames have numbers
   pub known_frame : (y : Place) (v : Known) → a y ≡ Some v → Contains ks (frame_of y)
   known_frame y v at = counted.frames y (subst (λ (o : Option Known). IsSome o) (sym at) refl)
 
-  -- what a point enters, by the duties that its row was made of
+  -- the frames that a point enters, from the duties of its row
   pub enters_of : (k : Key) (p : ℕ) (u : State) (found : Located) (l : Key) → a (point k p) ≡ Some (state u) → StandsFaultless b image plan k p u found
       → Contains (entered_in (duties_of b image plan k p u found.shape found.size)) l → Enters b image plan a k p u l
   enters_of k p u found l at stands c =
@@ -60,7 +60,7 @@ module _ (b : Limits) (image : ImageData) (plan : PlanData) (a : Assignment) (cl
       let c = closed.duties (point l l.entry) (state e.entered) (record { key = k; addr = p; before = u; duty = enter l e.entered; has = e.has; asks = refl }) in
       known_frame (point l l.entry) c.known c.at
 
-module _ (b : Limits) (image : ImageData) (plan : PlanData) (a : Assignment) (closed : Closed b image plan a) (ps : List Place) (ks : List Key) (counted : AreCounted a ps ks) (rows : List Row)
+module _ (b : Limits) (image : ImageData) (plan : PlanData) (a : Assignment) (closed : Closed b image plan a) (ps : List Place) (ks : List Key) (counted : AreCounted a ps ks) (rows : List NeedRow)
     (are : AreRows b image plan a ks rows) where
   pub first : Key
   first = start_key image plan
@@ -107,7 +107,7 @@ module _ (b : Limits) (image : ImageData) (plan : PlanData) (a : Assignment) (cl
         subst (λ (n : ℕ). n + 1 + need_by ks needs l ≤ need_by ks needs k) r.held (subst (λ (j : ℕ). (c.0).held + 1 + need_by ks needs l ≤ slice_index needs j) r.node h);
   }
 
-  -- the least are the least
+  -- least numbers are least needs
   pub least_by : (needs : List ℕ) → length needs ≡ length ks → Meets (λ i. slice_index needs i) rows → IsLow needs rows → AreLeastNeeds b image plan a (need_by ks needs)
   least_by needs len m low = record {
     meets = meets_needs needs m;
@@ -118,7 +118,7 @@ module _ (b : Limits) (image : ImageData) (plan : PlanData) (a : Assignment) (cl
         ];
   }
 
-  -- the rows speak of the frames
+  -- the rows are about these frames
   pub rows_within : AllProper b a → AreLimits b → IsWithin rows (length ks)
   rows_within proper limits = record {
     node = λ row c. let s = are.sound row c in subst (λ (n : ℕ). n < length ks) (sym (s.4).node) (numbered_at ks s.0 first (known (point s.0 s.1) (state s.2) s.3)).0;
@@ -135,7 +135,7 @@ module _ (b : Limits) (image : ImageData) (plan : PlanData) (a : Assignment) (cl
   some_of None h = absurd (let f : false ≡ true = h in cc)
   some_of (Some v) h = (v, refl)
 
-  -- where some number of each choice is above the cap, the start's is
+  -- if some number of each choice is above the cap, the start's is
   pub above_by : (laws : AreLawful b image plan) (derived : Derived b image plan a) (faultless : AllFaultless b image plan a) (proper : AllProper b a) (cap : ℕ)
       → ((other : ℕ → ℕ) → Meets other rows → (i : ℕ) × (i < length ks) × (cap < other i)) → (need : Key → ℕ) → MeetsNeeds b image plan a need → cap < need (start_key image plan)
   above_by laws derived faultless proper cap none need m =

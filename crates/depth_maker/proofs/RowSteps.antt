@@ -10,8 +10,8 @@ use Rattle.std.proofs.lemmas.List.Elements.{Contains-append_left, Contains-push,
 use Rattle.std.proofs.lemmas.List.Sorted.{Contains-permutation, IsPermutation-sym}
 use Rattle.std.proofs.lemmas.Option.{get_or_from_slice_get, slice_get-get_or, slice_get-map, slice_get_within}
 use Rattle.indexmap.specs.IndexMap.{IndexMap, get, keys}
-use Rattle.small_states.specs.Kept.{IsStateAt}
-use Rattle.small_states.specs.declared.cells.Outline.{Outline}
+use Rattle.small_states.specs.Incoming.{IsStateAt}
+use Rattle.small_states.specs.declared.known.Outline.{Outline}
 use Rattle.frame_places.specs.Marks.{value_for}
 use Rattle.frame_places.specs.Numbers.{AreNumbers, number_in}
 use Rattle.frame_places.specs.declared.places.Marked.{Marked}
@@ -20,7 +20,7 @@ use Rattle.depth_cert.specs.declared.keys.Key.{Key}
 use Rattle.cfg_recover.specs.Assignments.{point, exit}
 use Rattle.depth_cert.specs.Known.{Known, state, leaving, IsProperKnown}
 use Rattle.depth_maker.specs.RowsAt.{IsRowAt}
-use Rattle.depth_maker.specs.RowsBy.{AddsPoint, AllKnownBy, AreSaid, IsDraft, IsKnownPoint, IsPlainRow, IsPointRow, IsSource, RowsOn}
+use Rattle.depth_maker.specs.RowsBy.{AddsPoint, AllKnownBy, HaveRows, IsDraft, IsKnownPoint, IsPlainRow, IsPointRow, IsSource, RowsOn}
 use Rattle.depth_maker.specs.View.{seen, IsDone}
 use Rattle.frame_places.specs.Spots.{spot_eq}
 use Rattle.depth_maker.specs.Spots.{place_of}
@@ -34,13 +34,13 @@ use Rattle.depth_maker.specs.declared.ground.Ground.{Ground}
 use Rattle.depth_maker.specs.declared.ground.Visit.{Visit}
 use Rattle.frame_places.specs.declared.places.Spot.{Spot}
 use Rattle.frame_places.specs.declared.places.Spot.TheVariants.{Point, Exit}
-use Rattle.frame_places.specs.declared.needs.row.Row.{Row}
+use Rattle.frame_places.specs.declared.needs.row.NeedRow.{NeedRow}
 use Rattle.depth_maker.specs.declared.rows.Draft.{Draft}
 use Rattle.depth_maker.specs.declared.rows.KnownPoint.{KnownPoint}
 use Rattle.depth_maker.specs.declared.rows.Source.{Source}
 use Rattle.depth_maker.specs.declared.table.Table as made
 
--- what is known in a table without work is of the plan and the version, and at a point it is a state
+-- what is known in a table without work is at the limits, and at a point it is a state
 pub done_proper : (g : Ground) (t : made.Table) → IsDone g t → (q : Spot) (v : Known) → value_for t.places q ≡ Some v → IsProperKnown g.bounds.now v
 unfolding seen
 done_proper g t done (Point k p) v at = derived_proper _ _ _ (lawful _ _ _ g.sound) (seen t).cells done.derived (point k p) v at
@@ -53,7 +53,7 @@ done_state g t done k p w at = of_kind w (derived_kinds _ _ _ (seen t).cells don
   of_kind (state s) h = (s, refl)
   of_kind (leaving x) h = absurd h
 
--- a state that was read is what is known at the point
+-- a state that was read is the known one
 pub read_there : (g : Ground) (t : made.Table) → IsDone g t → (k : Key) (p : ℕ) (w : Known) (u : State) → value_for t.places (Point k p) ≡ Some w → IsStateAt w u → value_for t.places (Point k p) ≡ Some (state u)
 read_there g t done k p w u at is =
     let e = done_state g t done k p w at in
@@ -73,18 +73,18 @@ all_known v t done at =
     }
 
 -- ---- one point
--- what is known at a point of the table
+-- the value of a point of the table
 pub known_there : (s : Source) (at : KnownPoint) → IsKnownPoint s at → value_for (s.table.now).places (Point at.key at.addr) ≡ Some (at.known.now).value
 known_there s at is = ap (option_map (λ (m : Marked Known). m.value)) is.known
 
--- one place has one state, so its row is one of that place by any of its names
-pub row_of_state : (s : Source) (row : Row) (k : Key) (p : ℕ) (w : State) → IsPointRow s k p row → (seen s.table.now).cells (point k p) ≡ Some (state w)
+-- equal places have the same state, so a row of one is a row of the other
+pub row_of_state : (s : Source) (row : NeedRow) (k : Key) (p : ℕ) (w : State) → IsPointRow s k p row → (seen s.table.now).cells (point k p) ≡ Some (state w)
     → IsRowAt (s.ground.now).bounds.now (s.ground.now).image.now (s.ground.now).plan.now (s.table.now).frames.items k p w row
 row_of_state s row k p w r there =
     let same : r.0 ≡ w = one_state r.0 w (let f : Some (state r.0) ≡ Some (state w) = sym r.1 ∙ there in cc) in
     subst (λ (z : State). IsRowAt (s.ground.now).bounds.now (s.ground.now).image.now (s.ground.now).plan.now (s.table.now).frames.items k p z row) same r.2
 
-pub row_moves : (s : Source) (row : Row) (k j : Key) (p q : ℕ) → Point k p ≡ Point j q → IsPointRow s k p row → IsPointRow s j q row
+pub row_moves : (s : Source) (row : NeedRow) (k j : Key) (p q : ℕ) → Point k p ≡ Point j q → IsPointRow s k p row → IsPointRow s j q row
 row_moves s row k j p q e r = let key : k ≡ j = cc in let addr : p ≡ q = cc in subst (λ (n : ℕ). IsPointRow s j n row) addr (subst (λ (z : Key). IsPointRow s z p row) key r)
 
 -- ---- one after another
@@ -107,18 +107,18 @@ no_outline zero i o e = let f : None ≡ Some (Some o) = e in cc
 no_outline (suc n) zero o e = let f : Some None ≡ Some (Some o) = e in cc
 no_outline (suc n) (suc i) o e = no_outline n i o e
 
-pub draft_none : (s : Source) (d : Draft) (n : ℕ) → d.rows.items ≡ [] → d.said.items ≡ replicate n None → IsDraft s 0 d
+pub draft_none : (s : Source) (d : Draft) (n : ℕ) → d.rows.items ≡ [] → d.outlines.items ≡ replicate n None → IsDraft s 0 d
 draft_none s d n empty none = record {
-  sound = λ row c. absurd (let n = ap (λ (l : List Row). length l) empty in omega (arith, c.1, n));
+  sound = λ row c. absurd (let n = ap (λ (l : List NeedRow). length l) empty in omega (arith, c.1, n));
   complete = λ k p c. absurd (omega (arith, c.1));
-  said = λ node o e. absurd (no_outline n node o (ap (λ (l : List (Option Outline)). slice_get l node) (sym none) ∙ e));
+  outlines = λ node o e. absurd (no_outline n node o (ap (λ (l : List (Option Outline)). slice_get l node) (sym none) ∙ e));
 }
 
--- one entry more
-pub draft_step : (s : Source) (i : ℕ) (q : Spot) (old new : Draft) → slice_get (keys (s.table.now).places) i ≡ Some q → IsDraft s i old → ((row : Row) → Contains old.rows.items row → Contains new.rows.items row)
-    → ((row : Row) → Contains new.rows.items row → Contains old.rows.items row ⊎ ((k : Key) × (p : ℕ) × IsPointRow s k p row))
-    → ((k : Key) (p : ℕ) → q ≡ Point k p → (row : Row) × Contains new.rows.items row × IsPointRow s k p row) → AreSaid s new.rows.items new.said.items → IsDraft s (i + 1) new
-draft_step s i q old new there so keeps only here said = record {
+-- one more entry
+pub draft_step : (s : Source) (i : ℕ) (q : Spot) (old new : Draft) → slice_get (keys (s.table.now).places) i ≡ Some q → IsDraft s i old → ((row : NeedRow) → Contains old.rows.items row → Contains new.rows.items row)
+    → ((row : NeedRow) → Contains new.rows.items row → Contains old.rows.items row ⊎ ((k : Key) × (p : ℕ) × IsPointRow s k p row))
+    → ((k : Key) (p : ℕ) → q ≡ Point k p → (row : NeedRow) × Contains new.rows.items row × IsPointRow s k p row) → HaveRows s new.rows.items new.outlines.items → IsDraft s (i + 1) new
+draft_step s i q old new there so keeps only here outlines = record {
   sound = λ row c. elim (only row c) [ inl before ↦ so.sound row before | inr now ↦ now ];
   complete = λ k p c.
       let ks = keys (s.table.now).places in
@@ -127,50 +127,50 @@ draft_step s i q old new there so keeps only here said = record {
         | inl before ↦ (let r = so.complete k p before in (r.0, keeps r.0 r.1, r.2))
         | inr e ↦ here k p e
       ];
-  said = said;
+  outlines = outlines;
 }
 
--- of an exit, or of a point whose row is said, nothing is added
-pub draft_same : (s : Source) (i : ℕ) (q : Spot) (old new : Draft) → slice_get (keys (s.table.now).places) i ≡ Some q → IsDraft s i old → new.rows ≡ old.rows → new.said ≡ old.said
-    → ((k : Key) (p : ℕ) → q ≡ Point k p → (row : Row) × Contains old.rows.items row × IsPointRow s k p row) → IsDraft s (i + 1) new
-draft_same s i q old new there so rows said here =
-    draft_step s i q old new there so (λ row c. subst (λ (v : Vec Row Global). Contains v.items row) (sym rows) c) (λ row c. inl (subst (λ (v : Vec Row Global). Contains v.items row) rows c))
-    (λ k p e. let r = here k p e in (r.0, subst (λ (v : Vec Row Global). Contains v.items r.0) (sym rows) r.1, r.2))
-    (subst (λ (v : Vec (Option Outline) Global). AreSaid s new.rows.items v.items) (sym said) (subst (λ (v : Vec Row Global). AreSaid s v.items old.said.items) (sym rows) so.said))
+-- for an exit, or a point with an equal row, nothing is added
+pub draft_same : (s : Source) (i : ℕ) (q : Spot) (old new : Draft) → slice_get (keys (s.table.now).places) i ≡ Some q → IsDraft s i old → new.rows ≡ old.rows → new.outlines ≡ old.outlines
+    → ((k : Key) (p : ℕ) → q ≡ Point k p → (row : NeedRow) × Contains old.rows.items row × IsPointRow s k p row) → IsDraft s (i + 1) new
+draft_same s i q old new there so rows outlines here =
+    draft_step s i q old new there so (λ row c. subst (λ (v : Vec NeedRow Global). Contains v.items row) (sym rows) c) (λ row c. inl (subst (λ (v : Vec NeedRow Global). Contains v.items row) rows c))
+    (λ k p e. let r = here k p e in (r.0, subst (λ (v : Vec NeedRow Global). Contains v.items r.0) (sym rows) r.1, r.2))
+    (subst (λ (v : Vec (Option Outline) Global). HaveRows s new.rows.items v.items) (sym outlines) (subst (λ (v : Vec NeedRow Global). HaveRows s v.items old.outlines.items) (sym rows) so.outlines))
 
 -- the row of a point is added
-pub draft_more : (s : Source) (i : ℕ) (q : Spot) (old mid new : Draft) (at : KnownPoint) → slice_get (keys (s.table.now).places) i ≡ Some q → IsDraft s i old → mid.rows ≡ old.rows → mid.said ≡ old.said
+pub draft_more : (s : Source) (i : ℕ) (q : Spot) (old mid new : Draft) (at : KnownPoint) → slice_get (keys (s.table.now).places) i ≡ Some q → IsDraft s i old → mid.rows ≡ old.rows → mid.outlines ≡ old.outlines
     → q ≡ Point at.key at.addr → AddsPoint s mid new at → IsDraft s (i + 1) new
-draft_more s i q old mid new at there so rows said is add =
+draft_more s i q old mid new at there so rows outlines is add =
     let row = add.0 in
     let r = add.1 in
-    let more : new.rows.items ≡ old.rows.items ++ row ∷ [] = (add.2).rows ∙ ap (λ (v : Vec Row Global). v.items ++ row ∷ []) rows in
-    draft_step s i q old new there so (λ x c. subst (λ (l : List Row). Contains l x) (sym more) (Contains-append_left old.rows.items (row ∷ []) x c))
-    (λ x c. elim (Contains-push_cases old.rows.items row x (subst (λ (l : List Row). Contains l x) more c)) [
+    let more : new.rows.items ≡ old.rows.items ++ row ∷ [] = (add.2).rows ∙ ap (λ (v : Vec NeedRow Global). v.items ++ row ∷ []) rows in
+    draft_step s i q old new there so (λ x c. subst (λ (l : List NeedRow). Contains l x) (sym more) (Contains-append_left old.rows.items (row ∷ []) x c))
+    (λ x c. elim (Contains-push_cases old.rows.items row x (subst (λ (l : List NeedRow). Contains l x) more c)) [
       | inl before ↦ inl before
       | inr e ↦ inr (at.key, at.addr, subst (IsPointRow s at.key at.addr) e r)
     ])
-    (λ k p e. (row, subst (λ (l : List Row). Contains l row) (sym more) (Contains-push old.rows.items row), row_moves s row at.key k at.addr p (sym is ∙ e) r))
-    ((add.2).said (subst (λ (v : Vec (Option Outline) Global). AreSaid s mid.rows.items v.items) (sym said) (subst (λ (v : Vec Row Global). AreSaid s v.items old.said.items) (sym rows) so.said)))
+    (λ k p e. (row, subst (λ (l : List NeedRow). Contains l row) (sym more) (Contains-push old.rows.items row), row_moves s row at.key k at.addr p (sym is ∙ e) r))
+    ((add.2).outlines (subst (λ (v : Vec (Option Outline) Global). HaveRows s mid.rows.items v.items) (sym outlines) (subst (λ (v : Vec NeedRow Global). HaveRows s v.items old.outlines.items) (sym rows) so.outlines)))
 
--- what was said is said still
-pub said_still : (s : Source) (rows : List Row) (row : Row) (said : List (Option Outline)) → AreSaid s rows said → AreSaid s (rows ++ row ∷ []) said
-said_still s rows row said so node o e = let r = so node o e in (r.0, Contains-append_left rows (row ∷ []) r.0 r.1, r.2)
+-- the outlines keep their rows
+pub have_rows_still : (s : Source) (rows : List NeedRow) (row : NeedRow) (outlines : List (Option Outline)) → HaveRows s rows outlines → HaveRows s (rows ++ row ∷ []) outlines
+have_rows_still s rows row outlines so node o e = let r = so node o e in (r.0, Contains-append_left rows (row ∷ []) r.0 r.1, r.2)
 
--- an outline more is said
-pub said_more : (s : Source) (rows : List Row) (row : Row) (said : List (Option Outline)) (node : ℕ) (o : Outline) → IsPlainRow s node o row → node < length said → AreSaid s rows said → AreSaid s (rows ++ row ∷ []) (set said node (Some o))
-said_more s rows row said node o plain lt so i x e =
+-- the outline of a new row
+pub have_rows_more : (s : Source) (rows : List NeedRow) (row : NeedRow) (outlines : List (Option Outline)) (node : ℕ) (o : Outline) → IsPlainRow s node o row → node < length outlines → HaveRows s rows outlines → HaveRows s (rows ++ row ∷ []) (set outlines node (Some o))
+have_rows_more s rows row outlines node o plain lt so i x e =
     elim (cases_eq i node) [
       | inl same ↦
-          let at : slice_get (set said node (Some o)) node ≡ Some (Some o) = slice_get-get_or (set said node (Some o)) node None (omega (arith, lt, length-set said node (Some o))) ∙ ap (λ (z : Option Outline). Some z) (get_or-set_same said node (Some o) None lt) in
-          let is : o ≡ x = let f : Some (Some o) ≡ Some (Some x) = sym at ∙ ap (slice_get (set said node (Some o))) (sym same) ∙ e in cc in
+          let at : slice_get (set outlines node (Some o)) node ≡ Some (Some o) = slice_get-get_or (set outlines node (Some o)) node None (omega (arith, lt, length-set outlines node (Some o))) ∙ ap (λ (z : Option Outline). Some z) (get_or-set_same outlines node (Some o) None lt) in
+          let is : o ≡ x = let f : Some (Some o) ≡ Some (Some x) = sym at ∙ ap (slice_get (set outlines node (Some o))) (sym same) ∙ e in cc in
           (row, Contains-push rows row, subst (λ (n : ℕ). IsPlainRow s n x row) (sym same) (subst (λ (z : Outline). IsPlainRow s node z row) is plain))
       | inr other ↦
-          let within : i < length said = omega (arith, slice_get_within (set said node (Some o)) i (Some x) e, length-set said node (Some o)) in
-          let before : slice_get said i ≡ Some (Some x) =
-          slice_get-get_or said i None within ∙ ap (λ (z : Option Outline). Some z) (sym (get_or-set_other said node i (Some o) None other))
-          ∙ sym (slice_get-get_or (set said node (Some o)) i None (omega (arith, within, length-set said node (Some o)))) ∙ e in
-          said_still s rows row said so i x before
+          let within : i < length outlines = omega (arith, slice_get_within (set outlines node (Some o)) i (Some x) e, length-set outlines node (Some o)) in
+          let before : slice_get outlines i ≡ Some (Some x) =
+          slice_get-get_or outlines i None within ∙ ap (λ (z : Option Outline). Some z) (sym (get_or-set_other outlines node i (Some o) None other))
+          ∙ sym (slice_get-get_or (set outlines node (Some o)) i None (omega (arith, within, length-set outlines node (Some o)))) ∙ e in
+          have_rows_still s rows row outlines so i x before
     ]
 
 -- all points have rows
@@ -185,8 +185,8 @@ rows_done s d i le so = record {
       (r.0, r.1, row_of_state s r.0 k p u r.2 at);
 }
 
--- the order of rows is of no account
-pub rows_again : (s : Source) (rows new : List Row) → IsPermutation rows new → RowsOn s.ground.now s.table.now rows → RowsOn s.ground.now s.table.now new
+-- rows in another order
+pub rows_again : (s : Source) (rows new : List NeedRow) → IsPermutation rows new → RowsOn s.ground.now s.table.now rows → RowsOn s.ground.now s.table.now new
 rows_again s rows new same are = record {
   sound = λ row c. are.sound row (Contains-permutation new rows row (IsPermutation-sym rows new same) c);
   complete = λ k p u at. let r = are.complete k p u at in (r.0, Contains-permutation rows new r.0 same r.1, r.2);

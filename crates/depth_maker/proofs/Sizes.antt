@@ -1,4 +1,4 @@
--- A certificate isn't too large as an assignment.
+-- A certificate is within the limits, as an assignment.
 use Rattle.std.proofs.Common.{◌≡◌, ℕ, zero, suc, ◌+◌, ◌^◌, ◌<◌, ◌≤◌, inl, inr, Bool, true, false, List, [], ◌∷◌, length, length-append, map, get_or, refl, sym, ap, ◌∙◌, subst, arith, Option, Some, None, IsSome, Contains}
 use Rattle.std.specs.List.{flat_map, list_any, IsDistinct}
 use Rattle.std.specs.Cmp.{IsEquivalence}
@@ -56,7 +56,7 @@ module _ {K : Type 0} (same : K → K → Bool) (tells : (x y : K) → same x y 
     at (x ∷ xs) zero lt e = or_left (same q x) (list_any (same q) xs) (subst (λ (u : K). same q u ≡ true) (sym e) (refl_ q))
     at (x ∷ xs) (suc k) lt e = or_right (same q x) (list_any (same q) xs) (at xs k (omega arith) e)
 
-  -- distinct elements that all stand in a list are no more than it has
+  -- distinct elements of a list are no more than its length
   pub no_more : (xs ys : List K) → IsDistinct same xs → ((q : K) → Contains xs q → Contains ys q) → length xs ≤ length ys
   no_more xs ys distinct there = length-le_from_is_member decides xs ys distinct (λ q m. contained_any ys q (there q (any_contained xs q m)))
 

@@ -1,4 +1,4 @@
--- A certificate that says a solution is accepted.
+-- The certificate of a solution is accepted.
 use Rattle.std.proofs.Common.{◌≡◌, ℕ, zero, suc, ◌+◌, ◌^◌, ◌<◌, ◌≤◌, inl, inr, cond, List, [], ◌∷◌, length, map, get_or, refl, sym, ap, ◌∙◌, subst, arith, Option, Some, None, IsSome, Contains, eqb}
 use Rattle.std.specs.Prelude.{find, option_map, option_and_then, IsSomeAnd, IfSome}
 use Rattle.std.proofs.lemmas.Bool.{eq-eqb, ne_eqb}
@@ -31,7 +31,7 @@ use Rattle.depth_maker.specs.Laws.{IsSolution}
 use Rattle.depth_maker.proofs.KeyDuties.{HasKey, duties_keys}
 use Rattle.depth_maker.proofs.Accepted.{at_point, at_exit, find_agrees}
 
--- ---- what is found
+-- ---- searches
 among_place : {A : Type 0} (f : A → ℕ) (x : A) (xs : List A) (k : ℕ) → k < length xs → get_or xs k x ≡ x → Among (f x) (map f xs)
 among_place f x [] k lt e = absurd (omega arith)
 among_place f x (y ∷ ys) zero lt e = inl (ap f (sym e))

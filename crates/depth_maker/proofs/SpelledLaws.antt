@@ -1,4 +1,4 @@
--- The certificate of a table is the one that is to be written.
+-- The certificate of a table is the one to write.
 use Rattle.std.proofs.Common.{◌≡◌, ◌⊎◌, inl, inr, ℕ, ◌+◌, ◌-◌, ◌*◌, ◌^◌, ◌<◌, ◌≤◌, true, false, List, [], ◌∷◌, length, map, get_or, refl, sym, ap, ◌∙◌, subst, arith, Option, Some, None, IsSome, Contains, All, eqb}
 use Rattle.std.specs.Prelude.{filter, find, sum_by, option_map, option_and_then, IfSome}
 use Rattle.std.specs.List.{IsDistinct, AllPairs}
@@ -54,7 +54,7 @@ use Rattle.depth_maker.proofs.Sizes.{decides}
 use Rattle.depth_maker.proofs.TableLaws.{derived_proper}
 
 -- ---- values
--- a value of the plan and the version is one that its certificates may have
+-- a value at the limits is one that certificates of the version may have
 pub well_of : (plan : PlanData) (version : ℕ) (v : Val) → IsValue (limits_for plan version) v → IsWellOf version v
 well_of plan version (Set ws) is = let well = is.well in (well, (set_value (limits_for plan version) ws well).1 is)
 well_of plan version (Span lo last step) is = let well = is.well in (well.0, span_count (limits_for plan version) lo last step is, well.2)
@@ -125,7 +125,7 @@ module _ (b : Limits) (image : ImageData) (plan : PlanData) (ground : IsGround b
       let f : true ≡ false = sym (key_same (get_or ks i no_key)) ∙ ap (same_key (get_or ks i no_key)) same ∙ apart in
       cc)
 
-  -- each point stands once
+  -- each point is there once
   apart_points : AllPairs (λ x y. same_place (place_of x) (place_of y) ≡ false) ps
   apart_points i j d lt l =
       let h = apart_from_distinct same_place (map place_of ps) i j (place_of d) distinct_points lt (omega (arith, l, length-map ps place_of)) in
@@ -159,7 +159,7 @@ module _ (b : Limits) (image : ImageData) (plan : PlanData) (ground : IsGround b
         let f : true ≡ false = sym (place_same (place_of x)) ∙ ap (λ (z : Spot). same_place (place_of x) (place_of z)) same ∙ apart in
         cc)
 
-    -- the addresses are those of the points that are known
+    -- the addresses are those of the known points
     has_address : (p : ℕ) → IsSome (a (point k p)) → Contains (addresses_in ps k) p
     has_address p h =
         let there = Contains-permutation qs ps (Point k p) points (placed qs k p (counted.points k p h)) in
@@ -173,7 +173,7 @@ module _ (b : Limits) (image : ImageData) (plan : PlanData) (ground : IsGround b
         let there = Contains-permutation ps qs (Point k p) (IsPermutation-sym qs ps points) (subst (Contains ps) is f.0) in
         (counted.known (point k p) (contains_map place_of qs (Point k p) there)).0
 
-  -- all that stands in the list may stand in a certificate
+  -- all points of the list may be in a certificate
   pub are_ranged : AreRanged ps
   are_ranged q c =
       let m = contains_map place_of qs q (Contains-permutation ps qs q (IsPermutation-sym qs ps points) c) in

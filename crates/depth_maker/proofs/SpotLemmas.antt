@@ -1,4 +1,4 @@
--- Places, as the code has them, and places.
+-- Places and the code's type of places.
 use Rattle.std.specs.Prelude.{◌≡◌, ◌⊎◌, refl, true, false, List, [], ◌∷◌}
 use Rattle.std.proofs.Common.{ap, sym, subst, ◌∙◌, inl, inr, arith, Contains}
 use Rattle.std.proofs.lemmas.List.Elements.{Contains-append_cases, Contains-push_cases}
@@ -11,7 +11,7 @@ use Rattle.frame_places.specs.declared.places.Spot.TheVariants.{Point, Exit}
 use Rattle.depth_maker.specs.Spots.{spot_of, place_of}
 use Rattle.frame_places.specs.Spots.{spot_eq}
 
--- a place and its spot
+-- back and forth
 pub back : (x : Place) → place_of (spot_of x) ≡ x
 back (point k p) = refl
 back (exit k) = refl
@@ -20,7 +20,7 @@ pub forth : (x : Spot) → spot_of (place_of x) ≡ x
 forth (Point f p) = refl
 forth (Exit f) = refl
 
--- the map's test and that of places agree
+-- both equality tests agree
 pub agrees : (x y : Place) → spot_eq (spot_of y) (spot_of x) ≡ same_place x y
 agrees x y =
     elim (cases_Bool (same_place x y)) [

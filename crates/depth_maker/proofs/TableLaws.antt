@@ -1,4 +1,5 @@
--- A table stays one under a rise, a registration and the end of a visit; one without work is closed.
+-- A table is one still after a join, a new reader and the end of a visit. One without work is
+-- closed.
 use Rattle.std.proofs.Common.{◌≡◌, ◌⊎◌, inl, inr, ℕ, Bool, true, false, Option, Some, None, refl, sym, ap, ◌∙◌, subst, Contains}
 use Rattle.std.specs.Prelude.{if◌then◌else◌}
 use Rattle.elf_image.specs.Images.{ImageData}
@@ -16,7 +17,7 @@ use Rattle.cfg_recover.specs.Assignments.{Place, point, exit, Assignment, same_p
 use Rattle.depth_cert.specs.Known.{Known, state, leaving, CoversKnown, IsProper, IsProperKnown}
 use Rattle.depth_maker.specs.Growth.{IsProperDuty}
 use Rattle.depth_maker.specs.Proper.{AllProper, AllFaultless, AreLawful}
-use Rattle.depth_maker.specs.Tables.{Table, Settled, IsResumed, IsTable, Marks}
+use Rattle.depth_maker.specs.Tables.{TableView, Settled, IsResumed, IsTable, Marks}
 use Rattle.depth_maker.proofs.PlaceLaws.{place_tells, place_same, from_if, one_state, resumed_some}
 use Rattle.depth_maker.proofs.Below.{asks_proper}
 
@@ -56,7 +57,7 @@ module _ (b : Limits) (image : ImageData) (plan : PlanData) (laws : AreLawful b 
   raised_covers None v u old pv is = let e : v ≡ u = (let f : Some v ≡ Some u = is in cc) in subst (λ (k : Known). CoversKnown k v) e (laws.covers_same v)
   raised_covers (Some w) v u old pv is = (laws.joined_above w v u (old w refl) pv is).1
 
-  -- ---- one joining
+  -- ---- one join
   module _ (a after : Assignment) (y : Place) (proper : AllProper b a) (j : Joins b image plan a after y) where
     value_proper : IsProperKnown b j.value
     value_proper = asks_proper b image plan laws a y j.value proper j.asks
@@ -81,7 +82,7 @@ module _ (b : Limits) (image : ImageData) (plan : PlanData) (laws : AreLawful b 
           covers = laws.covers_through v h.known j.known pv (proper z h.known h.at) (raised_above (a y) j.value j.known h.known (proper y) value_proper j.raises at) h.covers;
         }
 
-    -- what was covered stays covered
+    -- what was covered is covered still
     pub covers_stays : (z : Place) (v : Known) → IsProperKnown b v → CoversAt a z v → CoversAt after z v
     covers_stays z v pv h = covers_case (same_place z y) z v refl pv h
 
@@ -95,11 +96,11 @@ module _ (b : Limits) (image : ImageData) (plan : PlanData) (laws : AreLawful b 
   derived_start _ (joins a after y d j) = covers_stays a after y (derived_proper a d) j (first_place image plan) (state (start_state plan)) laws.start_proper (derived_start a d)
 
   -- ---- tables
-  module _ (t u : Table) (y : Place) (is : IsTable b image plan t) (j : Joins b image plan t.cells u.cells y) (m : Marks t u y) where
+  module _ (t u : TableView) (y : Place) (is : IsTable b image plan t) (j : Joins b image plan t.cells u.cells y) (m : Marks t u y) where
     proper : AllProper b t.cells
     proper = derived_proper t.cells is.derived
 
-    -- where a point has no new work, its duties stay settled
+    -- if a point has no new work, its duties are settled still
     pub settled_stays : (k : Key) (p : ℕ) (s : State) (d : Duty) → u.queued (point k p) ≡ false → IsProper b s → IsProperDuty b d → Settled t k p s d → Settled u k p s d
     settled_stays k p s (jump q v) free ps pd h = covers_stays t.cells u.cells y proper j (point k q) (state v) pd h
     settled_stays k p s (enter l v) free ps pd h = covers_stays t.cells u.cells y proper j (point l l.entry) (state v) pd h
@@ -117,7 +118,7 @@ module _ (b : Limits) (image : ImageData) (plan : PlanData) (laws : AreLawful b 
         back (state v) at h = tt
         back (leaving x) at h = covers_stays t.cells u.cells y proper j (point k q) (state (after_of s x l.kind)) (laws.after_proper s x l.kind ps (proper (exit l) (leaving x) at)) h
 
-    -- where a point has no new work, its state is the old one
+    -- if a point has no new work, its state is the old one
     pub idle_before : (x : Place) → u.idle x ≡ true → (t.idle x ≡ true) × (u.cells x ≡ t.cells x)
     idle_before x is =
         elim (m.each x) [
@@ -125,8 +126,8 @@ module _ (b : Limits) (image : ImageData) (plan : PlanData) (laws : AreLawful b 
           | inr n ↦ (sym n.0 ∙ is, joined_other t.cells u.cells y proper j x n.2)
         ]
 
-  -- a rise leaves a table
-  pub table_rises : (t u : Table) (y : Place) → IsTable b image plan t → Joins b image plan t.cells u.cells y → Marks t u y → ((x : Place) → u.idle x ≡ true → u.queued x ≡ false) → IsTable b image plan u
+  -- a join leaves a table
+  pub table_rises : (t u : TableView) (y : Place) → IsTable b image plan t → Joins b image plan t.cells u.cells y → Marks t u y → ((x : Place) → u.idle x ≡ true → u.queued x ≡ false) → IsTable b image plan u
   table_rises t u y is j m apart = record {
     derived = joins t.cells u.cells y is.derived j;
     own = λ k p s at idle. let o = idle_before t u y is j m (point k p) idle in is.own k p s (sym o.1 ∙ at) o.0;
@@ -138,8 +139,8 @@ module _ (b : Limits) (image : ImageData) (plan : PlanData) (laws : AreLawful b 
         settled_stays t u y is j m k p s d.duty (apart (point k p) idle) ps (laws.duties_proper k p s shape n d ps fine code c) (is.settled k p s shape n d before o.0 code c);
   }
 
-  -- ---- the same cells
-  module _ (t u : Table) (cells : (x : Place) → u.cells x ≡ t.cells x) (reads : (z x : Place) → t.reads z x → u.reads z x) where
+  -- ---- the same values
+  module _ (t u : TableView) (cells : (x : Place) → u.cells x ≡ t.cells x) (reads : (z x : Place) → t.reads z x → u.reads z x) where
     covers_again : (z : Place) (v : Known) → CoversAt t.cells z v → CoversAt u.cells z v
     covers_again z v h = record { known = h.known; at = cells z ∙ h.at; covers = h.covers }
 
@@ -152,7 +153,7 @@ module _ (b : Limits) (image : ImageData) (plan : PlanData) (laws : AreLawful b 
       back (state v) h = tt
       back (leaving x) h = covers_again (point k q) (state (after_of s x l.kind)) h
 
-    -- marks alone: what has more work, and tells more, is a table still
+    -- other marks: with more work and more readers, it is a table still
     pub table_marked : IsTable b image plan t → ((x : Place) → u.idle x ≡ true → t.idle x ≡ true) → Derived b image plan u.cells → IsTable b image plan u
     table_marked is idle derived = record {
       derived = derived;
@@ -198,8 +199,8 @@ module _ (b : Limits) (image : ImageData) (plan : PlanData) (laws : AreLawful b 
       now_settled l q r e here =
           moved (λ l q r. (shape : Shape) (n : ℕ) (d : Owed) → IsCode image plan q shape n → Contains (duties_of b image plan l q r shape n) d → Settled u l q r d.duty) l q r (parts l q r e here) all
 
-  -- one duty that is settled is covered
-  pub settled_covers : (t : Table) (k : Key) (p : ℕ) (s : State) (d : Duty) (y : Place) (v : Known) → Settled t k p s d → asked t.cells k s d ≡ Some (y, v) → CoversAt t.cells y v
+  -- a settled duty is covered
+  pub settled_covers : (t : TableView) (k : Key) (p : ℕ) (s : State) (d : Duty) (y : Place) (v : Known) → Settled t k p s d → asked t.cells k s d ≡ Some (y, v) → CoversAt t.cells y v
   settled_covers t k p s (jump q u) y v h is = let f : (point k q, state u) ≡ (y, v) = cc in subst (λ (w : Place × Known). CoversAt t.cells w.0 w.1) f h
   settled_covers t k p s (enter l u) y v h is = let f : (point l l.entry, state u) ≡ (y, v) = cc in subst (λ (w : Place × Known). CoversAt t.cells w.0 w.1) f h
   settled_covers t k p s (leave x) y v h is = let f : (exit k, leaving x) ≡ (y, v) = cc in subst (λ (w : Place × Known). CoversAt t.cells w.0 w.1) f h
@@ -209,7 +210,7 @@ module _ (b : Limits) (image : ImageData) (plan : PlanData) (laws : AreLawful b 
       subst (λ (w : Place × Known). CoversAt t.cells w.0 w.1) f (h.0 (leaving r.0) r.1)
 
   -- with no work left
-  pub table_closed : (t : Table) → IsTable b image plan t → ((k : Key) (p : ℕ) (s : State) → t.cells (point k p) ≡ Some (state s) → t.idle (point k p) ≡ true)
+  pub table_closed : (t : TableView) → IsTable b image plan t → ((k : Key) (p : ℕ) (s : State) → t.cells (point k p) ≡ Some (state s) → t.idle (point k p) ≡ true)
       → Closed b image plan t.cells × AllFaultless b image plan t.cells
   table_closed t is idle = (
     record {

@@ -13,11 +13,11 @@ use Rattle.cfg_recover.specs.Entries.{start_key, start_state}
 use Rattle.cfg_recover.specs.Local.{IsFaultless}
 use Rattle.cfg_recover.specs.Assignments.{Assignment, Place, point, exit, same_place, Derived, begins, Closed, first_place}
 use Rattle.depth_cert.specs.Known.{Known, state, leaving}
-use Rattle.depth_maker.specs.Hearing.{HeardEntered}
+use Rattle.depth_maker.specs.Interrupts.{ContextsEntered}
 use Rattle.depth_maker.specs.Proper.{AllFaultless, AreLawful}
 use Rattle.depth_maker.proofs.TableLaws.{derived_proper, table_closed, table_marked, settled_again}
 use Rattle.depth_maker.proofs.PlaceKinds.{IsOfKind, derived_kinds}
-use Rattle.depth_maker.proofs.HearingLaws.{heard_again}
+use Rattle.depth_maker.proofs.InterruptLaws.{interrupts_again}
 use Rattle.depth_maker.proofs.LevelSteps.{rises_then, same_level}
 use Rattle.depth_maker.proofs.PartLemmas.{keeps_all}
 use Rattle.depth_maker.specs.Levels.{Rises}
@@ -38,7 +38,7 @@ use Rattle.depth_maker.specs.Spots.{spot_of, place_of}
 use Rattle.depth_maker.proofs.SpotLemmas.{back, forth, agrees}
 use Rattle.frame_places.proofs.SpotLemmas.{spot_tells, spot_refl}
 use Rattle.frame_places.specs.Marks.{idle_mark, is_idle, is_queued, settled_mark, Reads, mark_for, value_for, AllListed, AreKnown, MarksAs}
-use Rattle.depth_maker.specs.View.{AreExitsRead, IsCountedIn, seen, IsFine, IsVisited, IsOpenAt, NoneOpen, AllSettled, Paid}
+use Rattle.depth_maker.specs.View.{AreExitsRead, IsCountedIn, seen, IsFine, IsVisited, IsOpenAt, NoneOpen, AllSettled, PointJoined}
 use Rattle.frame_places.proofs.MarkLemmas.{sides}
 use Rattle.frame_places.proofs.NearbyLemmas.{queued_mark}
 use Rattle.frame_places.specs.Work.{Takes, all_work}
@@ -47,7 +47,7 @@ use Rattle.depth_maker.proofs.CountedLemmas.{counted_again, counted_start}
 
 -- ---- one place gets a mark
 module _ (b : Limits) (image : ImageData) (plan : PlanData) (laws : AreLawful b image plan) (s t : made.Table) (x : Spot) (w : Mark) (marks_as : MarksAs s.places t.places x w) (readers : t.readers ≡ s.readers)
-    (points : t.points.items ≡ s.points.items) (frames : t.frames.items ≡ s.frames.items) (heard : t.heard ≡ s.heard) where
+    (points : t.points.items ≡ s.points.items) (frames : t.frames.items ≡ s.frames.items) (interrupts : t.interrupts ≡ s.interrupts) where
   the_cells : (q : Spot) → value_for t.places q ≡ value_for s.places q
   the_cells q = marks_as.values q
 
@@ -61,9 +61,9 @@ module _ (b : Limits) (image : ImageData) (plan : PlanData) (laws : AreLawful b 
   the_counts : IsCountedIn s.places s.points.items s.frames.items → IsCountedIn t.places t.points.items t.frames.items
   the_counts c = counted_again s.places t.places s.points.items t.points.items s.frames.items t.frames.items (λ q. the_cells (spot_of q)) points frames c
 
-  the_heard : HeardEntered b plan (seen s).cells s.heard → HeardEntered b plan (seen t).cells t.heard
+  the_interrupts : ContextsEntered b plan (seen s).cells s.interrupts → ContextsEntered b plan (seen t).cells t.interrupts
   unfolding seen
-  the_heard h = heard_again b plan (seen s).cells (seen t).cells (λ q. the_cells (spot_of q)) t.heard (subst (HeardEntered b plan (seen s).cells) (sym heard) h)
+  the_interrupts h = interrupts_again b plan (seen s).cells (seen t).cells (λ q. the_cells (spot_of q)) t.interrupts (subst (ContextsEntered b plan (seen s).cells) (sym interrupts) h)
 
   the_exits : AreExitsRead s.readers → AreExitsRead t.readers
   the_exits h k p q reads = h k p q (subst (λ m. Reads (get spot_eq m (Point k p)) q) readers reads)
@@ -103,7 +103,7 @@ module _ (b : Limits) (image : ImageData) (plan : PlanData) (laws : AreLawful b 
                 (let f = (fine.listed).known n (takes_left s.work t.work t.near n takes c) in (f.0, marks_as.numbers n f.0 f.1));
           };
           counted = the_counts fine.counted;
-          heard = the_heard fine.heard;
+          interrupts = the_interrupts fine.interrupts;
           exits = the_exits fine.exits;
           readers = the_known fine.readers;
           plain = λ q at.
@@ -132,7 +132,7 @@ module _ (b : Limits) (image : ImageData) (plan : PlanData) (laws : AreLawful b 
             (λ q h. sym (ap is_idle (marked (spot_of q))) ∙ h) (the_derived (fine.table).derived);
         listed = the_list marked work fine.listed;
         counted = the_counts fine.counted;
-        heard = the_heard fine.heard;
+        interrupts = the_interrupts fine.interrupts;
         exits = the_exits fine.exits;
         readers = the_known fine.readers;
         plain = λ q at. fine.plain q (sym (marked q) ∙ at);
@@ -144,7 +144,7 @@ module _ (b : Limits) (image : ImageData) (plan : PlanData) (laws : AreLawful b 
         known = λ n c. (let f = h.known n (subst (λ (l : List ℕ). Contains l n) work c) in (f.0, marks_as.numbers n f.0 f.1));
       }
 
-  -- the end of a visit: the point is idle now, where all that it owes is settled
+  -- the end of a visit: the point is idle now, and all that it owes is settled
   pub finished : is_idle (Some w) ≡ true → (Some w ≡ Some Plain → IsPlainIn image plan x) → IsFine b image plan s → IsOpenAt s x → all_work t.work ≡ all_work s.work
       → ((k : Key) (p : ℕ) (u : State) → place_of x ≡ point k p → (seen s).cells (point k p) ≡ Some (state u) → IsFaultless b image plan k p u × AllSettled b image plan s k p u) → IsFine b image plan t × NoneOpen t
   unfolding seen
@@ -178,7 +178,7 @@ module _ (b : Limits) (image : ImageData) (plan : PlanData) (laws : AreLawful b 
             known = λ n c. (let f = (fine.listed).known n (subst (λ (l : List ℕ). Contains l n) work c) in (f.0, marks_as.numbers n f.0 f.1));
           };
           counted = the_counts fine.counted;
-          heard = the_heard fine.heard;
+          interrupts = the_interrupts fine.interrupts;
           exits = the_exits fine.exits;
           readers = the_known fine.readers;
           plain = λ q at.
@@ -193,23 +193,23 @@ module _ (b : Limits) (image : ImageData) (plan : PlanData) (laws : AreLawful b 
         ]),
       )
 
--- ---- what was paid
--- the point has the state that it had, and is still the open one
-pub paid_open : (b : Limits) (image : ImageData) (plan : PlanData) (s t : made.Table) (x : Spot) → IsOpenAt s x → Paid b image plan s t x → mark_for t.places x ≡ Some Open → IsOpenAt t x
-paid_open b image plan s t x opening paid at = record {
+-- ---- what was joined
+-- the point has its state still, and is the visited one
+pub duties_open : (b : Limits) (image : ImageData) (plan : PlanData) (s t : made.Table) (x : Spot) → IsOpenAt s x → PointJoined b image plan s t x → mark_for t.places x ≡ Some Open → IsOpenAt t x
+duties_open b image plan s t x opening paid at = record {
   at = at;
   only = λ q here. opening.only q (sym ((paid.keeps).each q (ap is_queued here)).0 ∙ here);
   stands = subst (λ (n : ℕ). StandsAt t.places n x) (sym (paid.keeps).near) ((paid.keeps).numbers s.near x opening.stands);
 }
 
-pub paid_closed : (b : Limits) (image : ImageData) (plan : PlanData) (s t : made.Table) (x : Spot) → IsOpenAt s x → Paid b image plan s t x → (mark_for t.places x ≡ Some Open → ⊥) → NoneOpen t
-paid_closed b image plan s t x opening paid not q at =
+pub duties_closed : (b : Limits) (image : ImageData) (plan : PlanData) (s t : made.Table) (x : Spot) → IsOpenAt s x → PointJoined b image plan s t x → (mark_for t.places x ≡ Some Open → ⊥) → NoneOpen t
+duties_closed b image plan s t x opening paid not q at =
     not (subst (λ (k : Spot). mark_for t.places k ≡ Some Open) (opening.only q (sym ((paid.keeps).each q (ap is_queued at)).0 ∙ at)) at)
 
-pub paid_settled : (b : Limits) (image : ImageData) (plan : PlanData) (s t : made.Table) (x : Spot) → Paid b image plan s t x → mark_for t.places x ≡ Some Open
+pub duties_settled : (b : Limits) (image : ImageData) (plan : PlanData) (s t : made.Table) (x : Spot) → PointJoined b image plan s t x → mark_for t.places x ≡ Some Open
     → (k : Key) (p : ℕ) (u : State) → place_of x ≡ point k p → (seen t).cells (point k p) ≡ Some (state u) → IsFaultless b image plan k p u × AllSettled b image plan t k p u
 unfolding seen
-paid_settled b image plan s t x paid opening k p u e at =
+duties_settled b image plan s t x paid opening k p u e at =
     let is : spot_of (point k p) ≡ x = sym (ap spot_of e) ∙ forth x in
     let free : is_queued (mark_for t.places x) ≡ false = ap is_queued opening in
     let before : value_for s.places (spot_of (point k p)) ≡ Some (state u) =
@@ -219,7 +219,7 @@ paid_settled b image plan s t x paid opening k p u e at =
 -- ---- the start, and the end
 pub begun_table : (b : Limits) (image : ImageData) (plan : PlanData) (t : made.Table) (x : Spot) (v : Known) → x ≡ spot_of (first_place image plan) → v ≡ state (start_state plan)
     → ((q : Spot) → value_for t.places q ≡ (if spot_eq x q then Some v else None)) → ((q : Spot) → mark_for t.places q ≡ (if spot_eq x q then Some Queued else None)) → AllListed t.places (all_work t.work)
-    → t.points.items ≡ x ∷ [] → t.frames.items ≡ start_key image plan ∷ [] → t.heard ≡ record { last = None; before = None } → ((z : Spot) → get spot_eq t.readers z ≡ None) → IsFine b image plan t × NoneOpen t
+    → t.points.items ≡ x ∷ [] → t.frames.items ≡ start_key image plan ∷ [] → t.interrupts ≡ record { last = None; before = None } → ((z : Spot) → get spot_eq t.readers z ≡ None) → IsFine b image plan t × NoneOpen t
 unfolding seen
 begun_table b image plan t x v place known cells marks listed points frames none unread =
     let side : (q : Spot) → ((spot_eq x q ≡ true) × (mark_for t.places q ≡ Some Queued)) ⊎ ((spot_eq x q ≡ false) × (mark_for t.places q ≡ None)) =
@@ -241,7 +241,7 @@ begun_table b image plan t x v place known cells marks listed points frames none
         listed = listed;
         counted = counted_start t.places t.points.items t.frames.items (start_key image plan) v
             (λ q. cells (spot_of q) ∙ ap (λ e. if e then Some v else None) (test q)) (points ∙ ap (λ (z : Spot). z ∷ []) place) frames;
-        heard = subst (HeardEntered b plan (seen t).cells) (sym none) (tt, tt);
+        interrupts = subst (ContextsEntered b plan (seen t).cells) (sym none) (tt, tt);
         exits = λ k p q h. unread_by (Point k p) q h;
         readers = λ z q h. absurd (unread_by z q h);
         plain = λ q at.
@@ -263,7 +263,7 @@ all_idle (Some Queued) is a b = absurd (a refl)
 all_idle (Some Open) is a b = absurd (b refl)
 all_idle _ is a b = refl
 
--- what is known is marked
+-- a known place has a mark
 marked_known : (o : Option (Marked Known)) (v : Known) → option_map (λ m. m.value) o ≡ Some v → IsSome (option_map (λ m. m.mark) o)
 marked_known None v e = (let no : None ≡ Some v = e in cc)
 marked_known (Some m) v e = refl
@@ -276,8 +276,8 @@ closed_table b image plan laws t fine none left =
     (λ k p u at. all_idle (mark_for t.places (spot_of (point k p))) (marked_known (get spot_eq t.places (spot_of (point k p))) (state u) at) (left (spot_of (point k p))) (none (spot_of (point k p)))) in
     ((fine.table).derived, h.0, h.1)
 
--- ---- what is known at places
--- at a point it is a state, at an exit an exit
+-- ---- the values of places
+-- a state at a point, an exit at an exit
 pub point_state : (b : Limits) (image : ImageData) (plan : PlanData) (t : made.Table) (k : Key) (p : ℕ) (w : Known) → IsFine b image plan t → value_for t.places (Point k p) ≡ Some w → (u : State) × (w ≡ state u)
 unfolding seen
 point_state b image plan t k p w fine at = of_kind w (derived_kinds b image plan (seen t).cells (fine.table).derived (point k p) w at) where
@@ -292,29 +292,29 @@ exit_known b image plan t k w fine at = of_kind w (derived_kinds b image plan (s
   of_kind (state s) h = absurd h
   of_kind (leaving x) h = (x, refl)
 
--- the state at a point is visited
+-- the state of the visited point
 pub visited_at : (b : Limits) (image : ImageData) (plan : PlanData) (laws : AreLawful b image plan) (t : made.Table) (k : Key) (p : ℕ) (u : State) → IsFine b image plan t → StandsAt t.places t.near (Point k p)
     → value_for t.places (Point k p) ≡ Some (state u) → IsVisited b image plan t k p u
 unfolding seen
 visited_at b image plan laws t k p u fine stands at = record { fine = fine; proper = derived_proper b image plan laws (seen t).cells (fine.table).derived (point k p) (state u) at; at = λ free. at; stands = stands }
 
--- nothing is owed at an exit
-pub paid_exit : (b : Limits) (image : ImageData) (plan : PlanData) (s : made.Table) (k : Key) → IsFine b image plan s → Paid b image plan s s (Exit k)
-paid_exit b image plan s k fine = record {
+-- an exit owes nothing
+pub duties_exit : (b : Limits) (image : ImageData) (plan : PlanData) (s : made.Table) (k : Key) → IsFine b image plan s → PointJoined b image plan s s (Exit k)
+duties_exit b image plan s k fine = record {
   fine = fine;
   keeps = keeps_all b image plan s;
   faultless = λ l p u e at. absurd (let no : exit k ≡ point l p = e in cc);
   settled = λ l p u e at free. absurd (let no : exit k ≡ point l p = e in cc);
 }
 
--- no work is left: the list is as it was, whatever the table has for it
+-- no work is left: the list is as it was
 pub same_fine : (b : Limits) (image : ImageData) (plan : PlanData) (s t : made.Table) → t ≡ (record s { work = t.work }) → all_work t.work ≡ all_work s.work → IsFine b image plan s → IsFine b image plan t
 unfolding seen
 same_fine b image plan s t is work fine = subst (IsFine b image plan) (sym is) (record {
   table = fine.table;
   listed = subst (λ (l : List ℕ). AllListed s.places l) (sym work) fine.listed;
   counted = fine.counted;
-  heard = fine.heard;
+  interrupts = fine.interrupts;
   exits = fine.exits;
   readers = fine.readers;
   plain = fine.plain;
@@ -338,7 +338,7 @@ passed_over b image plan s t x number is takes stands idle fine = subst (IsFine 
     known = λ n c. (fine.listed).known n (takes_left s.work t.work number n takes c);
   };
   counted = fine.counted;
-  heard = fine.heard;
+  interrupts = fine.interrupts;
   exits = fine.exits;
   readers = fine.readers;
   plain = fine.plain;
@@ -355,9 +355,9 @@ plain_marked false told e = (let no : Some Idle ≡ Some Plain = e in cc)
 
 -- what the point owes was joined, and it is idle now, unless it has new work
 pub ended : (b : Limits) (image : ImageData) (plan : PlanData) (laws : AreLawful b image plan) (s m t : made.Table) (x : Spot) (plain : Bool) → (plain ≡ true → IsPlainIn image plan x) → t.readers ≡ m.readers
-    → t.points.items ≡ m.points.items → t.frames.items ≡ m.frames.items → t.heard ≡ m.heard → all_work t.work ≡ all_work m.work → MarksAs m.places t.places x (settled_mark plain (mark_for m.places x)) → IsOpenAt s x
-    → Paid b image plan s m x → IsFine b image plan t × NoneOpen t × Rises s t
-ended b image plan laws s m t x plain told readers points frames heard work marks opening paid = by_mark (is_queued (mark_for m.places x)) refl where
+    → t.points.items ≡ m.points.items → t.frames.items ≡ m.frames.items → t.interrupts ≡ m.interrupts → all_work t.work ≡ all_work m.work → MarksAs m.places t.places x (settled_mark plain (mark_for m.places x)) → IsOpenAt s x
+    → PointJoined b image plan s m x → IsFine b image plan t × NoneOpen t × Rises s t
+ended b image plan laws s m t x plain told readers points frames interrupts work marks opening paid = by_mark (is_queued (mark_for m.places x)) refl where
   higher : Rises s t
   higher = rises_then s m t (paid.keeps).rises (inr (same_level m t marks.values points frames, work))
 
@@ -369,16 +369,16 @@ ended b image plan laws s m t x plain told readers points frames heard work mark
         | inl l ↦ l.1 ∙ ap (λ (o : Option Mark). Some (settled_mark plain o)) at ∙ sym at ∙ ap (mark_for m.places) (spot_tells x q l.0)
         | inr r ↦ r.1
       ] in (
-        again_fine b image plan laws m t x (settled_mark plain (mark_for m.places x)) marks readers points frames heard same work paid.fine,
-        (λ q here. paid_closed b image plan s m x opening paid (λ open_. let no : Some Queued ≡ Some Open = sym at ∙ open_ in cc) q (sym (same q) ∙ here)),
+        again_fine b image plan laws m t x (settled_mark plain (mark_for m.places x)) marks readers points frames interrupts same work paid.fine,
+        (λ q here. duties_closed b image plan s m x opening paid (λ open_. let no : Some Queued ≡ Some Open = sym at ∙ open_ in cc) q (sym (same q) ∙ here)),
         higher,
       )
   by_mark false e =
       let at : mark_for m.places x ≡ Some Open = ((paid.keeps).each x e).0 ∙ opening.at in
       let idle_ : settled_mark plain (mark_for m.places x) ≡ idle_mark plain = ap (settled_mark plain) at in
       let h =
-      finished b image plan laws m t x (idle_mark plain) (subst (λ (k : Mark). MarksAs m.places t.places x k) idle_ marks) readers points frames heard (idle_marked plain) (plain_marked plain told) paid.fine
-      (paid_open b image plan s m x opening paid at) work (paid_settled b image plan s m x paid at) in
+      finished b image plan laws m t x (idle_mark plain) (subst (λ (k : Mark). MarksAs m.places t.places x k) idle_ marks) readers points frames interrupts (idle_marked plain) (plain_marked plain told) paid.fine
+      (duties_open b image plan s m x opening paid at) work (duties_settled b image plan s m x paid at) in
       (h.0, h.1, higher)
 
 -- a map without entries

@@ -14,23 +14,24 @@ use Rattle.frame_places.specs.declared.places.Spot.{Spot}
 use Rattle.frame_places.specs.declared.places.Spot.TheVariants.{Point, Exit}
 use Rattle.cfg_recover.specs.Duties.{Duty, jump, enter, resume, leave, Owed, entries_of, misaligned_of}
 
--- the frame that a duty enters, if it enters one
+-- the frame that a duty enters, if any
 abbrev pub entered_by : Duty → List Key
 entered_by (jump q t) = []
 entered_by (enter k t) = k ∷ []
 entered_by (resume k q) = []
 entered_by (leave x) = []
 
--- those that duties enter, in their order
+-- the frames that duties enter, in their order
 abbrev pub entered_in : List Owed → List Key
 entered_in ds = flat_map (λ d. entered_by d.duty) ds
 
--- an instruction of this shape enters no frame by itself, where none of its accesses breaks rule 10: only an interrupt may come there
+-- an instruction of this shape enters no frame by itself if none of its accesses breaks rule 10;
+-- interrupts may be taken
 abbrev pub EntersNone : PlanData → Shape → Type 0
 EntersNone plan shape =
     (b : Limits) (k : Key) (p : ℕ) (u : State) (n : ℕ) → LocalRule b plan k p u shape 10 → (entered_in (entries_of plan k p u shape n) ≡ []) × (entered_in (misaligned_of b plan k u shape) ≡ [])
 
--- an instruction stands there that enters no frame by itself
+-- the instruction there enters no frame by itself
 pub record IsPlainAt (image : ImageData) (plan : PlanData) (p : ℕ) : Type 0 where
   pub shape : Shape
   pub size : ℕ
@@ -38,7 +39,7 @@ pub record IsPlainAt (image : ImageData) (plan : PlanData) (p : ℕ) : Type 0 wh
   pub shaped : IsShape shape
   pub enters : EntersNone plan shape
 
--- the same of a place; an exit has no instruction
+-- the same for a place; an exit has no instruction
 abbrev pub IsPlainIn : ImageData → PlanData → Spot → Type 0
 IsPlainIn image plan (Point k p) = IsPlainAt image plan p
 IsPlainIn image plan (Exit k) = Unit {0}

@@ -1,4 +1,4 @@
--- What a point owes grows with its state, and its faults fall.
+-- The duties of a point grow with its state, and its faults get fewer with a smaller one.
 use Rattle.std.specs.Prelude.{◌≡◌, ℕ, Bool, Contains, Some}
 use Rattle.elf_image.specs.Images.{ImageData, IsImage}
 use Rattle.tcd_plan.specs.PlanData.{PlanData, IsPlan}
@@ -23,14 +23,14 @@ use Rattle.cfg_recover.specs.Local.{IsFaultless}
 use Rattle.cfg_recover.specs.Duties.{Duty, jump, enter, resume, leave, Owed, duties_of}
 use Rattle.depth_cert.specs.Known.{IsProper, IsProperExit}
 
--- what a duty asks is of the plan and the version
+-- a duty asks for a state or an exit at the limits
 abbrev pub IsProperDuty : Limits → Duty → Type 0
 IsProperDuty b (jump q t) = IsProper b t
 IsProperDuty b (enter k t) = IsProper b t
 IsProperDuty b (resume k q) = Unit {0}
 IsProperDuty b (leave x) = IsProperExit b x
 
--- a duty asks no more than another, at the same place
+-- a duty asks for no more than another, at the same place
 abbrev pub IsDutyBelow : Duty → Duty → Type 0
 IsDutyBelow (jump q t) (jump r u) = (q ≡ r) × Covers u t
 IsDutyBelow (jump q t) (enter j u) = ⊥
@@ -49,7 +49,7 @@ IsDutyBelow (leave x) (enter j u) = ⊥
 IsDutyBelow (leave x) (resume j r) = ⊥
 IsDutyBelow (leave x) (leave y) = ExitCovers y x
 
--- a duty of the list asks no more than this one, for the same rule
+-- a duty asks for no more than another, for the same rule
 pub record IsOwedBelow (d e : Owed) : Type 0 where
   pub rule : d.rule ≡ e.rule
   pub duty : IsDutyBelow d.duty e.duty
@@ -60,49 +60,49 @@ pub record IsGround (b : Limits) (image : ImageData) (plan : PlanData) : Type 0 
   pub is_plan : IsPlan plan
   pub is_image : IsImage image
 
--- a point without a fault of its own has none for a smaller state
+-- a point without a fault of its own has none with a smaller state
 abbrev pub FaultsFall : Type 0
 FaultsFall =
     (b : Limits) (image : ImageData) (plan : PlanData) (key : Key) (p : ℕ) (s t : State) → IsGround b image plan → IsProper b s → IsProper b t → Covers t s
     → IsFaultless b image plan key p t → IsFaultless b image plan key p s
 
--- each duty for a smaller state asks no more than one for the larger
+-- each duty with a smaller state asks for no more than one with the larger
 abbrev pub DutiesGrow : Type 0
 DutiesGrow =
     (b : Limits) (image : ImageData) (plan : PlanData) (key : Key) (p : ℕ) (s t : State) (shape : Shape) (n : ℕ) (d : Owed) → IsGround b image plan
     → IsProper b s → IsProper b t → Covers t s → IsFaultless b image plan key p t → IsCode image plan p shape n
     → Contains (duties_of b image plan key p s shape n) d → (e : Owed) × Contains (duties_of b image plan key p t shape n) e × IsOwedBelow d e
 
--- what a point owes is of the plan and the version
+-- the duties of a point are at the limits
 abbrev pub DutiesAreProper : Type 0
 DutiesAreProper =
     (b : Limits) (image : ImageData) (plan : PlanData) (key : Key) (p : ℕ) (s : State) (shape : Shape) (n : ℕ) (d : Owed) → IsGround b image plan
     → IsProper b s → IsFaultless b image plan key p s → IsCode image plan p shape n → Contains (duties_of b image plan key p s shape n) d → IsProperDuty b d.duty
 
--- so does the state after a call or a system call
+-- the state after a return grows with the caller's and the exit
 abbrev pub AfterGrows : Type 0
 AfterGrows =
     (b : Limits) (s t : State) (x y : Exit) (kind : ℕ) → IsProper b s → IsProper b t → IsProperExit b x → IsProperExit b y → Covers t s → ExitCovers y x
     → Covers (after_of t y kind) (after_of s x kind)
 
--- which is of the plan and the version
+-- the state after a return is at the limits
 abbrev pub AfterIsProper : Type 0
 AfterIsProper = (b : Limits) (s : State) (x : Exit) (kind : ℕ) → IsProper b s → IsProperExit b x → IsProper b (after_of s x kind)
 
 -- ---- effects
--- the state after an instruction grows with the one before it, and with what is loaded
+-- the state after an instruction grows with the one before it and with the loaded value
 abbrev pub TransfersGrow : Type 0
 TransfersGrow =
     (b : Limits) (plan : PlanData) (s t : State) (shape : Shape) (v w : Val) → IsSetting b plan s → IsSetting b plan t → Covers t s → IsShape shape → IsBelow v w
     → Covers (transfer_of b plan shape t w) (transfer_of b plan shape s v)
 
--- so do the addresses of an access
+-- the addresses of an access grow with the state
 abbrev pub AddressesGrow : Type 0
 AddressesGrow =
     (b : Limits) (plan : PlanData) (s t : State) (shape : Shape) → IsSetting b plan s → IsSetting b plan t → Covers t s → IsShape shape
     → IsBelow (address_of b plan shape s) (address_of b plan shape t)
 
--- a side of a branch that is possible is possible for a larger state, with a larger state there
+-- a side of a branch that is possible is possible with a larger state, and leads to a larger state
 abbrev pub SidesGrow : Type 0
 SidesGrow =
     (b : Limits) (plan : PlanData) (s t u : State) (test : Cond) (x : ℕ) (y : Arg) (by : ℕ) (lowers side : Bool) → IsSetting b plan s → IsSetting b plan t → Covers t s

@@ -7,7 +7,7 @@ use Rattle.cfg_recover.specs.Entries.{irq_key}
 use Rattle.frame_places.specs.Numbers.{AreNumbers, number_in}
 use Rattle.depth_maker.specs.declared.handlers.Handler.{Handler}
 
--- the handlers of these interrupts, each with the number of its frame where that is one of these frames
+-- the handlers of these interrupts, each with the number of its frame if it is one of these frames
 pub record AreHandlers (plan : PlanData) (frames : List Key) (irqs : List ℕ) (handlers : List Handler) : Type 0 where
   pub priorities : map (λ h. h.prio) handlers ≡ irqs
   pub each : (h : Handler) → Contains handlers h → Contains frames (irq_key plan h.prio) → h.node ≡ number_in frames (irq_key plan h.prio)
@@ -16,7 +16,7 @@ pub record AreHandlers (plan : PlanData) (frames : List Key) (irqs : List ℕ) (
 abbrev pub nodes_above : ℕ → List Handler → List ℕ
 nodes_above m handlers = map (λ h. h.node) (filter (λ h. nat_lt m h.prio) handlers)
 
--- those of the interrupts that may be taken, where they may come, above a priority
+-- the frames of the handlers that may be entered: those above a priority if IE is on
 abbrev pub nodes_taken : Bool → ℕ → List Handler → List ℕ
 nodes_taken ie m handlers = if ie then nodes_above m handlers else []
 

@@ -1,4 +1,4 @@
--- What the maker's laws say, and its table.
+-- The maker's laws, and its table.
 pub mod Growth
 pub mod Proper
 pub mod Recursing
@@ -12,7 +12,7 @@ pub mod RowsAt
 pub mod RowsBy
 pub mod NeedsBy
 pub mod Levels
-pub mod Hearing
+pub mod Interrupts
 pub mod Handlers
 pub mod View
 pub mod Spelled

@@ -1,10 +1,12 @@
--- What the maker's functions answer.
+-- What the maker's functions return.
 use Rattle.std.specs.Prelude.{◌≡◌, ℕ, List}
 use Rattle.elf_image.specs.Images.{ImageData}
 use Rattle.tcd_plan.specs.PlanData.{PlanData}
 use Rattle.value_domain.specs.Thresholds.{limits_for}
+use Rattle.depth_cert.specs.declared.keys.Key.{Key}
 use Rattle.depth_cert.specs.Certs.{CertData, IsCert}
 use Rattle.depth_cert.specs.Spelling.{bytes_of}
+use Rattle.cfg_recover.specs.Accepting.{Accepts}
 use Rattle.cfg_recover.specs.Refusals.{IsRefusal, IsRefusalWith}
 use Rattle.depth_maker.specs.Making.{IsMade, IsWritten, NoneAccepted}
 use Rattle.depth_maker.specs.declared.ground.Ground.{Ground}
@@ -18,26 +20,33 @@ pub record AreMade (image : ImageData) (plan : PlanData) (version : ℕ) (bytes 
   pub is_cert : IsCert cert
   pub made : IsMade image plan version cert
 
--- a refusal names a fault, or that too many areas are needed, and no certificate of the version is accepted
+-- a refusal names a fault, or that too many areas are needed, and no certificate of the version is
+-- accepted
 abbrev pub IsRefused : ImageData → PlanData → ℕ → MakeErr → Type 0
 IsRefused image plan version (Refused rule key addr) = IsRefusal image plan version rule key addr × NoneAccepted image plan version
 IsRefused image plan version NoMemory = Unit {0}
 
--- ---- by what the code has
+-- if a place is refused, each certificate of the version is refused
+abbrev pub RefusalsHold : Type 0
+RefusalsHold =
+    (image : ImageData) (plan : PlanData) (version rule : ℕ) (key : Key) (addr : ℕ) (cert : CertData) → IsRefused image plan version (Refused rule key addr)
+    → IsCert cert → cert.version ≡ version → Accepts image plan cert → ⊥
+
+-- ---- by the types of the code
 -- the limits are those of the version
 abbrev pub IsGroundOf : Ground → ℕ → Type 0
 IsGroundOf g version = g.bounds.now ≡ limits_for g.plan.now version
 
--- what is refused is a refusal
+-- the refusal holds
 abbrev pub Refuses : Ground → MakeErr → Type 0
 Refuses g (Refused rule key addr) = IsRefusalWith g.bounds.now g.image.now g.plan.now rule key addr
 Refuses g NoMemory = Unit {0}
 
--- the same for what the code has
+-- the bytes spell the certificate that is to be made
 abbrev pub AreMadeOn : Ground → ℕ → List ℕ → Type 0
 AreMadeOn g version bytes = AreMade g.image.now g.plan.now version bytes
 
--- the same for a refusal
+-- the refusal holds, and no certificate of the version is accepted
 abbrev pub IsRefusedOn : Ground → ℕ → MakeErr → Type 0
 IsRefusedOn g version e = IsRefused g.image.now g.plan.now version e
 

@@ -1,16 +1,22 @@
--- What the maker answers: the certificate of the least assignment with the least needs, or why there is none.
-use Rattle.std.specs.Prelude.{◌≡◌, ◌≤◌, ◌<◌, ◌-◌, ◌^◌, ℕ, IsSome, Contains, find}
+-- What the maker makes: the certificate of the least assignment with the least needs, or why there
+-- is none.
+use Rattle.std.specs.Prelude.{◌≡◌, ◌≤◌, ◌<◌, ◌-◌, ◌^◌, ℕ, IsSome, Some, Contains, find}
 use Rattle.elf_image.specs.Images.{ImageData}
 use Rattle.tcd_plan.specs.PlanData.{PlanData}
+use Rattle.value_domain.specs.declared.states.State.{State}
+use Rattle.value_domain.specs.State.{Covers}
 use Rattle.value_domain.specs.Thresholds.{limits_for}
 use Rattle.depth_cert.specs.declared.keys.Key.{Key}
+use Rattle.depth_cert.specs.declared.points.Exit.{Exit}
+use Rattle.depth_cert.specs.Exits.{ExitCovers}
+use Rattle.depth_cert.specs.Known.{state, leaving}
 use Rattle.depth_cert.specs.Points.{find_point}
 use Rattle.depth_cert.specs.Nodes.{NodeData}
 use Rattle.depth_cert.specs.Certs.{CertData, IsCert}
 use Rattle.cfg_recover.specs.Entries.{start_key}
 use Rattle.cfg_recover.specs.Accepting.{Accepts, need_of}
 use Rattle.depth_cert.specs.Keys.{same_key}
-use Rattle.cfg_recover.specs.Assignments.{Derived, Closed, IsBelowAt, known_in}
+use Rattle.cfg_recover.specs.Assignments.{Derived, Closed, IsBelowAt, known_in, point, exit}
 use Rattle.cfg_recover.specs.Refusals.{AreLeastNeeds, IsLeast, IsRefusal}
 use Rattle.depth_maker.specs.Growth.{IsGround}
 use Rattle.depth_maker.specs.Proper.{AllFaultless}
@@ -19,12 +25,12 @@ use Rattle.depth_maker.specs.Proper.{AllFaultless}
 abbrev pub needs_in : CertData → Key → ℕ
 needs_in cert k = need_of (find (λ n. same_key n.key k) cert.nodes)
 
--- a certificate of this version that is accepted; another one is not below it
+-- the other certificate covers what this one says, and has no lesser need of a frame
 pub record IsNoWorse (image : ImageData) (plan : PlanData) (cert other : CertData) : Type 0 where
   pub below : IsBelowAt (known_in cert) (known_in other)
   pub needs : (k : Key) → needs_in cert k ≤ needs_in other k
 
--- the certificate that is made
+-- the certificate that is made: accepted, and the least of its version
 pub record IsMade (image : ImageData) (plan : PlanData) (version : ℕ) (cert : CertData) : Type 0 where
   pub of_version : cert.version ≡ version
   pub accepted : Accepts image plan cert
@@ -32,11 +38,31 @@ pub record IsMade (image : ImageData) (plan : PlanData) (version : ℕ) (cert : 
   pub needs : AreLeastNeeds (limits_for plan version) image plan (known_in cert) (needs_in cert)
   pub best : (other : CertData) → IsCert other → other.version ≡ version → Accepts image plan other → IsNoWorse image plan cert other
 
+-- A made certificate in plain words. It is accepted, and each accepted certificate of its version
+-- has no lesser need of a frame, at each of its points a state that covers its own, and at each of
+-- its exits an exit that covers its own.
+pub record IsLeastAccepted (image : ImageData) (plan : PlanData) (version : ℕ) (cert : CertData) : Type 0 where
+  pub its_version : cert.version ≡ version
+  pub accepts : Accepts image plan cert
+  pub frames :
+      (other : CertData) (k : Key) → IsCert other → other.version ≡ version → Accepts image plan other
+      → need_of (find (λ n. same_key n.key k) cert.nodes) ≤ need_of (find (λ n. same_key n.key k) other.nodes)
+  pub points :
+      (other : CertData) (k : Key) (p : ℕ) (s : State) → IsCert other → other.version ≡ version → Accepts image plan other
+      → known_in cert (point k p) ≡ Some (state s) → (t : State) × (known_in other (point k p) ≡ Some (state t)) × Covers t s
+  pub exits :
+      (other : CertData) (k : Key) (x : Exit) → IsCert other → other.version ≡ version → Accepts image plan other
+      → known_in cert (exit k) ≡ Some (leaving x) → (y : Exit) × (known_in other (exit k) ≡ Some (leaving y)) × ExitCovers y x
+
+-- each certificate that is made is one
+abbrev pub MadeIsLeast : Type 0
+MadeIsLeast = (image : ImageData) (plan : PlanData) (version : ℕ) (cert : CertData) → IsMade image plan version cert → IsLeastAccepted image plan version cert
+
 -- no certificate of this version is accepted
 abbrev pub NoneAccepted : ImageData → PlanData → ℕ → Type 0
 NoneAccepted image plan version = (cert : CertData) → IsCert cert → cert.version ≡ version → Accepts image plan cert → ⊥
 
--- what the maker has to show of the certificate that it writes out
+-- what the maker shows of the certificate that it writes
 pub record IsWritten (image : ImageData) (plan : PlanData) (version : ℕ) (cert : CertData) : Type 0 where
   pub is_cert : IsCert cert
   pub of_version : cert.version ≡ version
@@ -53,7 +79,7 @@ WrittenIsMade =
     (image : ImageData) (plan : PlanData) (version : ℕ) (cert : CertData) → IsGround (limits_for plan version) image plan → image.entry < 2 ^ 32
     → IsWritten image plan version cert → IsMade image plan version cert
 
--- and where a refusal stands none is accepted
+-- if a refusal holds, no certificate is accepted
 abbrev pub RefusedIsNone : Type 0
 RefusedIsNone =
     (image : ImageData) (plan : PlanData) (version r : ℕ) (k : Key) (p : ℕ) → IsGround (limits_for plan version) image plan → image.entry < 2 ^ 32

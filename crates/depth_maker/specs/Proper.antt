@@ -1,4 +1,4 @@
--- Assignments of the plan and the version, without faults; and the laws by which the derived ones lie below them.
+-- Assignments at the limits and without faults, and the laws by which derived ones are below them.
 use Rattle.std.specs.Prelude.{◌≡◌, ℕ, Some, Contains}
 use Rattle.elf_image.specs.Images.{ImageData}
 use Rattle.tcd_plan.specs.PlanData.{PlanData}
@@ -17,7 +17,7 @@ use Rattle.cfg_recover.specs.Assignments.{Place, point, Assignment}
 use Rattle.depth_cert.specs.Known.{Known, state, CoversKnown, joined_known, IsProper, IsProperExit, IsProperKnown}
 use Rattle.depth_maker.specs.Growth.{IsProperDuty, IsOwedBelow}
 
--- all that an assignment knows is of the plan and the version
+-- all that an assignment knows is at the limits
 abbrev pub AllProper : Limits → Assignment → Type 0
 AllProper b a = (y : Place) (v : Known) → a y ≡ Some v → IsProperKnown b v
 
@@ -25,7 +25,7 @@ AllProper b a = (y : Place) (v : Known) → a y ≡ Some v → IsProperKnown b v
 abbrev pub AllFaultless : Limits → ImageData → PlanData → Assignment → Type 0
 AllFaultless b image plan a = (k : Key) (p : ℕ) (s : State) → a (point k p) ≡ Some (state s) → IsFaultless b image plan k p s
 
--- coverings compose, joinings are least, and what points owe grows with their states
+-- covering is transitive, joins are least, and what points owe grows with their states
 pub record AreLawful (b : Limits) (image : ImageData) (plan : PlanData) : Type 0 where
   pub covers_same : (v : Known) → CoversKnown v v
   pub covers_through : (v w u : Known) → IsProperKnown b v → IsProperKnown b w → CoversKnown u w → CoversKnown w v → CoversKnown u v

@@ -1,4 +1,4 @@
--- The first point that enters a frame from which its own is reached again, by what the code has.
+-- The first point that enters a frame from which its own is reached, by the types of the code.
 use Rattle.std.specs.Prelude.{◌≤◌, ℕ, Bool, List, [], ◌∷◌, ◌++◌, map, Option, Some, None, Contains}
 use Rattle.value_domain.specs.declared.states.State.{State}
 use Rattle.depth_cert.specs.declared.keys.Key.{Key}
@@ -10,15 +10,15 @@ use Rattle.depth_maker.specs.RowsBy.{RowsOn}
 use Rattle.depth_maker.specs.View.{seen}
 use Rattle.frame_places.specs.declared.places.Spot.{Spot}
 use Rattle.frame_places.specs.declared.places.Spot.TheVariants.{Point}
-use Rattle.frame_places.specs.declared.needs.reach.Edge.{Edge}
-use Rattle.frame_places.specs.declared.needs.row.Row.{Row}
+use Rattle.frame_places.specs.declared.needs.reach.FrameEdge.{FrameEdge}
+use Rattle.frame_places.specs.declared.needs.row.NeedRow.{NeedRow}
 use Rattle.depth_maker.specs.declared.rows.Source.{Source}
 
 -- the point p of the frame k enters t
 abbrev pub EntersBy : Source → Key → ℕ → State → Key → Type 0
 EntersBy s k p u t = Enters (s.ground.now).bounds.now (s.ground.now).image.now (s.ground.now).plan.now (seen s.table.now).cells k p u t
 
--- it enters a frame from which its own is reached again
+-- it enters a frame from which its own is reached
 abbrev pub RecursBy : Source → Key → ℕ → Type 0
 RecursBy s k p = Recurs (s.ground.now).bounds.now (s.ground.now).image.now (s.ground.now).plan.now (seen s.table.now).cells k p
 
@@ -26,20 +26,20 @@ RecursBy s k p = Recurs (s.ground.now).bounds.now (s.ground.now).image.now (s.gr
 abbrev pub RecursFirstBy : Source → Key → ℕ → Type 0
 RecursFirstBy s k p = RecursFirst (s.ground.now).bounds.now (s.ground.now).image.now (s.ground.now).plan.now (seen s.table.now).cells k p
 
--- the first point that recurs, or that none does
+-- the first recursive point, or that there is none
 abbrev pub IsRecursion : Source → Option (Key × ℕ) → Type 0
 IsRecursion s None = (k : Key) (p : ℕ) → RecursBy s k p → ⊥
 IsRecursion s (Some x) = RecursFirstBy s x.0 x.1
 
 -- the edges of the frames, by their numbers
-abbrev pub EdgesOn : Source → List Edge → Type 0
-EdgesOn s edges = (rows : List Row) × RowsOn s.ground.now s.table.now rows × AreEdges rows edges
+abbrev pub EdgesOn : Source → List FrameEdge → Type 0
+EdgesOn s edges = (rows : List NeedRow) × RowsOn s.ground.now s.table.now rows × AreEdges rows edges
 
--- the numbers by which the frames are ordered
+-- the numbers that order the frames
 abbrev pub orders_in : Source → List ℕ
 orders_in s = map number_of_key (s.table.now).frames.items
 
--- the point p of the frame k enters a frame that is marked
+-- the point p of the frame k enters a marked frame
 pub record EntersMarked (s : Source) (marks : List Bool) (k : Key) (p : ℕ) : Type 0 where
   pub before : State
   pub next : Key
@@ -51,7 +51,7 @@ abbrev pub IsFirstMarked : Source → List Bool → Key → List Spot → Option
 IsFirstMarked s marks k ys None = (p : ℕ) → Contains ys (Point k p) → EntersMarked s marks k p → ⊥
 IsFirstMarked s marks k ys (Some p) = EntersMarked s marks k p × ((q : ℕ) → Contains ys (Point k q) → EntersMarked s marks k q → p ≤ q)
 
--- where `old` is the first among some places, `new` is it among these and one more
+-- if `old` is the first among some places, `new` is it among these and one more
 abbrev pub IsFirstWith : Source → List Bool → Key → Spot → Option ℕ → Option ℕ → Type 0
 IsFirstWith s marks k y old new =
     (ys : List Spot) → IsFirstMarked s marks k ys old → IsFirstMarked s marks k (ys ++ y ∷ []) new

@@ -1,4 +1,4 @@
--- What the rows say of an assignment: for each point its frame, its locals, and the frames that it enters.
+-- The rows of an assignment: each point's frame, its locals, and the frames that it enters.
 use Rattle.std.specs.Prelude.{◌≡◌, ℕ, List, length, map, slice_index, Some, Contains}
 use Rattle.elf_image.specs.Images.{ImageData}
 use Rattle.tcd_plan.specs.PlanData.{PlanData}
@@ -12,10 +12,10 @@ use Rattle.cfg_recover.specs.Assignments.{point, Assignment}
 use Rattle.depth_cert.specs.Known.{state}
 use Rattle.depth_maker.specs.Entered.{entered_in}
 use Rattle.frame_places.specs.Numbers.{number_in}
-use Rattle.frame_places.specs.declared.needs.row.Row.{Row}
+use Rattle.frame_places.specs.declared.needs.row.NeedRow.{NeedRow}
 
--- the row of the point p of frame k, which has the state u; frames go by their numbers
-pub record IsRowAt (b : Limits) (image : ImageData) (plan : PlanData) (frames : List Key) (k : Key) (p : ℕ) (u : State) (row : Row) : Type 0 where
+-- the row of the point p of frame k with the state u; frames go by their numbers
+pub record IsRowAt (b : Limits) (image : ImageData) (plan : PlanData) (frames : List Key) (k : Key) (p : ℕ) (u : State) (row : NeedRow) : Type 0 where
   pub found : Located
   pub stands : StandsFaultless b image plan k p u found
   pub node : row.node ≡ number_in frames k
@@ -23,10 +23,10 @@ pub record IsRowAt (b : Limits) (image : ImageData) (plan : PlanData) (frames : 
   pub into : row.into.items ≡ map (number_in frames) (entered_in (duties_of b image plan k p u found.shape found.size))
 
 -- each row is that of a point, and each point has its row
-pub record AreRows (b : Limits) (image : ImageData) (plan : PlanData) (a : Assignment) (frames : List Key) (rows : List Row) : Type 0 where
-  pub sound : (row : Row) → Contains rows row → (k : Key) × (p : ℕ) × (u : State) × (a (point k p) ≡ Some (state u)) × IsRowAt b image plan frames k p u row
-  pub complete : (k : Key) (p : ℕ) (u : State) → a (point k p) ≡ Some (state u) → (row : Row) × Contains rows row × IsRowAt b image plan frames k p u row
+pub record AreRows (b : Limits) (image : ImageData) (plan : PlanData) (a : Assignment) (frames : List Key) (rows : List NeedRow) : Type 0 where
+  pub sound : (row : NeedRow) → Contains rows row → (k : Key) × (p : ℕ) × (u : State) × (a (point k p) ≡ Some (state u)) × IsRowAt b image plan frames k p u row
+  pub complete : (k : Key) (p : ℕ) (u : State) → a (point k p) ≡ Some (state u) → (row : NeedRow) × Contains rows row × IsRowAt b image plan frames k p u row
 
--- the need of a frame, where needs go by numbers
+-- the need of a frame, from needs by numbers
 abbrev pub need_by : List Key → List ℕ → Key → ℕ
 need_by frames needs k = slice_index needs (number_in frames k)

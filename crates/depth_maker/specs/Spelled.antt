@@ -1,4 +1,5 @@
--- The certificate of a table: a node for each frame, by ascending key, with the frame's points by ascending address.
+-- The certificate of a table: a node for each frame, by ascending key, with the frame's points by
+-- ascending address.
 use Rattle.std.specs.Prelude.{◌≡◌, ◌≤◌, ◌<◌, ◌-◌, ◌^◌, ◌++◌, ℕ, false, List, [], length, map, filter, Option, Some, None, All, IfSome, Contains}
 use Rattle.std.specs.List.{flat_map}
 use Rattle.std.specs.List.Sorted.{IsPermutation, IsNonDecreasingBy}
@@ -34,17 +35,17 @@ abbrev pub addresses_in : List Spot → Key → List ℕ
 addresses_in ps k = map spot_address (filter (is_point_of k) ps)
 
 -- ---- nodes
--- a state of which nothing is known
+-- a state without values
 abbrev pub no_state : State
 no_state = record { regs = []; ie = false; ccpn = 0; lower = false; locals = record { items = [] } }
 
--- the state that is known
+-- the known state
 abbrev pub state_at : Option Known → State
 state_at None = no_state
 state_at (Some (state s)) = s
 state_at (Some (leaving x)) = no_state
 
--- the exit that is known, if one is
+-- the known exit, if any
 abbrev pub exit_at : Option Known → Option exits.Exit
 exit_at None = None
 exit_at (Some (state s)) = None
@@ -62,13 +63,14 @@ node_at a need addresses k = record { key = k; need = need k; exit = exit_at (a 
 abbrev pub cert_with : ℕ → Assignment → (Key → ℕ) → (Key → List ℕ) → List Key → CertData
 cert_with version a need addresses ks = record { version = version; nodes = map (node_at a need addresses) ks }
 
--- CCPN is a byte wherever the node tells it
+-- each CCPN in the node is a byte
 pub record HasBytes (n : NodeData) : Type 0 where
   pub exit : IfSome n.exit (λ e. e.ccpn < 2 ^ 8)
   pub points : All (λ p. (p.state).ccpn < 2 ^ 8) n.points
 
--- ---- by what the code has
--- the least needs of the table's frames, by their numbers; none is above the areas without the reserve
+-- ---- by the types of the code
+-- the least needs of the table's frames, by their numbers; none is above the areas without the
+-- reserve
 pub record NeedsAre (s : Source) (needs : List ℕ) : Type 0 where
   pub least : AreLeastNeeds (s.ground.now).bounds.now (s.ground.now).image.now (s.ground.now).plan.now (seen s.table.now).cells (need_by (s.table.now).frames.items needs)
   pub few : (k : Key) → need_by (s.table.now).frames.items needs k ≤ ((s.ground.now).plan.now).areas - ((s.ground.now).plan.now).reserve
@@ -77,15 +79,15 @@ pub record NeedsAre (s : Source) (needs : List ℕ) : Type 0 where
 abbrev pub IsOfVersion : Source → ℕ → Type 0
 IsOfVersion s version = (s.ground.now).bounds.now ≡ limits_for (s.ground.now).plan.now version
 
--- what is known in the table at a place
+-- what is known at a place of the table
 abbrev pub known_on : Source → Place → Option Known
 known_on s y = (seen s.table.now).cells y
 
--- what is known at the exit of a frame, if anything is
+-- the exit of a frame, if it is known
 abbrev pub exit_on : Source → Key → Option exits.Exit
 exit_on s k = exit_at ((seen s.table.now).cells (exit k))
 
--- the point of a frame at an address, with the state that is known there
+-- the point of a frame at an address, with its known state
 abbrev pub point_on : Source → Key → ℕ → points.Point
 point_on s k p = point_at (seen s.table.now).cells k p
 
@@ -114,8 +116,8 @@ pub record IsOrdered (o : Ordered) : Type 0 where
   pub rising : IsNonDecreasingBy (λ x. x.order) o.points.now
   pub entries : AreEntries ((o.source.now).table.now).places o.points.now
 
--- ---- what is added
--- to the bytes old a point, and its CCPN is a byte
+-- ---- what is appended
+-- a point, whose CCPN is a byte
 pub record WritesPoint (s : Source) (k : Key) (p : ℕ) (old new : List ℕ) : Type 0 where
   pub bytes : new ≡ old ++ bytes_of_point (point_on s k p)
   pub ccpn : ((point_on s k p).state).ccpn < 2 ^ 8
@@ -140,7 +142,7 @@ pub record WritesNodes (o : Ordered) (ks : List Key) (old new : List ℕ) : Type
   pub bytes : new ≡ old ++ flat_map (λ k. bytes_of_node (node_on o.source.now o.needs.now (spots_of o) k)) ks
   pub ccpn : All (λ k. HasBytes (node_on o.source.now o.needs.now (spots_of o) k)) ks
 
--- all of the certificate
+-- the whole certificate
 pub record WritesCert (o : Ordered) (version : ℕ) (ks : List Key) (out : List ℕ) : Type 0 where
   pub bytes : out ≡ bytes_of (cert_on o.source.now version o.needs.now ks (spots_of o))
   pub ccpn : All (λ k. HasBytes (node_on o.source.now o.needs.now (spots_of o) k)) ks
@@ -154,11 +156,11 @@ pub record IsPointOf (s : Source) (k : Key) (x : PointEntry) : Type 0 where
   pub within : x.entry < length (keys (s.table.now).places)
   pub is : place_at (s.table.now).places x ≡ Point k (spot_address (place_at (s.table.now).places x))
 
--- so are these
+-- the entries of points of frame k
 abbrev pub ArePointsOf : Source → Key → List PointEntry → Type 0
 ArePointsOf s k xs = (x : PointEntry) → Contains xs x → IsPointOf s k x
 
--- this one is one of them
+-- a frame of the table
 abbrev pub IsFrameOf : Source → Key → Type 0
 IsFrameOf s k = Contains (s.table.now).frames.items k
 
@@ -166,6 +168,6 @@ IsFrameOf s k = Contains (s.table.now).frames.items k
 abbrev pub IsSpelled : ImageData → PlanData → ℕ → List ℕ → Type 0
 IsSpelled image plan version bytes = (cert : CertData) × (bytes ≡ bytes_of cert) × IsWritten image plan version cert
 
--- the same for what the code has
+-- the same, by the types of the code
 abbrev pub IsSpelledOn : Source → ℕ → List ℕ → Type 0
 IsSpelledOn s version bytes = IsSpelled (s.ground.now).image.now (s.ground.now).plan.now version bytes

@@ -1,5 +1,5 @@
 // The certificate of an image and a plan, or why there is none.
-ghost use Rattle.std.specs.Prelude.{◌≡◌, ◌⊎◌, IfErr, IfOk, None, Ok};
+ghost use Rattle.std.specs.Prelude.{◌≡◌, ◌⊎◌, IfErr, IfOk, None};
 ghost use Rattle.depth_maker.specs.Made.{AreMade, AreMadeOn, AreWritten, IsGroundOf, IsRefused, IsRefusedOn, Refuses};
 ghost use Rattle.depth_maker.specs.Making.{IsMade};
 ghost use Rattle.depth_maker.specs.NeedsBy.{NeedsOn};
@@ -14,21 +14,29 @@ use crate::ground::Ground;
 use crate::handlers::handlers;
 use crate::needs::frame_needs;
 use crate::rows::Source;
-use crate::spelling::spelled;
+use crate::spelling::cert_bytes;
 use crate::table::Table;
 use cfg_recover::start_key;
 use depth_cert::{Cert, CertErr, Key};
 use elf_image::Image;
-use frame_places::{Refusal, Spot, numbered};
-use std::alloc::{AllocFailed, Global};
+use frame_places::{NEEDS_RULE, Refusal, Spot, number_frames};
+use std::alloc::{AllocError, AllocFailed, Global};
 use tcd_plan::Plan;
 use value_domain::Bounds;
 
-/// Why there is no certificate: the rule that fails, with its place; or want of memory.
+/// Why there is no certificate: the rule that fails, with its place, or out of memory.
 #[derive(Clone, Copy, Debug, PartialEq, Eq)]
 pub enum MakeErr {
     Refused { rule: u8, key: Key, addr: u32 },
     NoMemory,
+}
+
+impl From<AllocError> for MakeErr {
+    ghost from_gives = { λ _ e. e ≡ NoMemory };
+
+    fn from(_error: AllocError) -> MakeErr {
+        MakeErr::NoMemory
+    }
 }
 
 impl<T: Drop> From<AllocFailed<T>> for MakeErr {
@@ -47,8 +55,8 @@ impl From<tcd_base::NoMemory> for MakeErr {
     }
 }
 
-/// What is refused at a place where a derived assignment has a fault.
-fn refused_at(_ground: &Ground, rule: u8, place: Spot) -> MakeErr
+/// Returns the refusal for a fault of a derived assignment at a place.
+fn error_at(_ground: &Ground, rule: u8, place: Spot) -> MakeErr
     requires { AnsweredOn _ground.now (Fault rule place) }
     ensures { Refuses _ground.now result }
 {
@@ -62,34 +70,34 @@ fn refused_at(_ground: &Ground, rule: u8, place: Spot) -> MakeErr
     }
 }
 
-/// What is refused where a derived assignment has a fault.
-fn refused(ground: &Ground, refusal: Refusal) -> MakeErr
+/// Returns the refusal for a fault of a derived assignment.
+fn error_of(ground: &Ground, refusal: Refusal) -> MakeErr
     requires { AnsweredOn ground.now refusal }
     ensures { Refuses ground.now result }
 {
     match refusal {
-        Refusal::Fault(rule, place) => refused_at(ground, rule, place),
+        Refusal::Fault(rule, place) => error_at(ground, rule, place),
         Refusal::NoMemory => MakeErr::NoMemory,
     }
 }
 
-/// What is refused where no needs are within the areas: the first recursion, or the start.
-fn needless(source: &Source, place: Option<(Key, u32)>) -> MakeErr
+/// Returns the refusal if no needs are within the areas: at the first recursion, or at the start.
+fn needs_error(source: &Source, place: Option<(Key, u32)>) -> MakeErr
     requires source { IsSource source.now }
-    requires none { NeedsOn source.now (Ok None) }
+    requires none { NeedsOn source.now None }
     requires place { IsRecursion source.now place }
     ensures { Refuses source.now.ground.now result }
 {
     match place {
         Some((key, addr)) => MakeErr::Refused {
-            rule: 14,
+            rule: NEEDS_RULE,
             key,
             addr,
         },
         None => {
             let key = start_key(source.ground.image, source.ground.plan);
             MakeErr::Refused {
-                rule: 14,
+                rule: NEEDS_RULE,
                 key,
                 addr: key.entry,
             }
@@ -97,7 +105,7 @@ fn needless(source: &Source, place: Option<(Key, u32)>) -> MakeErr
     }
 }
 
-/// The bytes of the certificate of a table without work, by its numbers of frames.
+/// Returns the bytes of the certificate of a table without work, or why its needs are too great.
 fn bytes_from(alloc: Global, source: &Source, version: u8) -> Result<Vec<u8>, MakeErr>
     requires source { IsSource source.now }
     requires version { (version ≡ 1) ⊎ (version ≡ 2) }
@@ -105,14 +113,13 @@ fn bytes_from(alloc: Global, source: &Source, version: u8) -> Result<Vec<u8>, Ma
     ensures ok { IfOk result (λ out. AreWritten source.now.ground.now version out.items) }
     ensures err { IfErr result (Refuses source.now.ground.now) }
 {
-    match frame_needs(alloc, source) {
-        Ok(Ok(needs)) => Ok(spelled(alloc, source, version, needs.as_slice())?),
-        Ok(Err(place)) => Err(needless(source, place)),
-        Err(_) => Err(MakeErr::NoMemory),
+    match frame_needs(alloc, source)? {
+        Ok(needs) => Ok(cert_bytes(alloc, source, version, needs.as_slice())?),
+        Err(place) => Err(needs_error(source, place)),
     }
 }
 
-/// The bytes of the certificate of a table without work.
+/// Returns the bytes of the certificate of a table without work, or why its needs are too great.
 fn bytes_by(alloc: Global, ground: &Ground, table: &Table, version: u8) -> Result<Vec<u8>, MakeErr>
     requires done { IsDone ground.now table.now }
     requires version { (version ≡ 1) ⊎ (version ≡ 2) }
@@ -120,10 +127,8 @@ fn bytes_by(alloc: Global, ground: &Ground, table: &Table, version: u8) -> Resul
     ensures ok { IfOk result (λ out. AreWritten ground.now version out.items) }
     ensures err { IfErr result (Refuses ground.now) }
 {
-    let numbers = numbered(alloc, table.frames.as_slice())?;
-    let Ok(handlers) = handlers(alloc, ground.plan, &numbers) else {
-        return Err(MakeErr::NoMemory);
-    };
+    let numbers = number_frames(alloc, table.frames.as_slice())?;
+    let handlers = handlers(alloc, ground.plan, &numbers)?;
     let source = Source {
         ground,
         table,
@@ -133,7 +138,7 @@ fn bytes_by(alloc: Global, ground: &Ground, table: &Table, version: u8) -> Resul
     bytes_from(alloc, &source, version)
 }
 
-/// The bytes of the certificate.
+/// Returns the bytes of the least certificate within these limits, or why there is none.
 fn bytes_on(alloc: Global, ground: &Ground, version: u8) -> Result<Vec<u8>, MakeErr>
     requires version { (version ≡ 1) ⊎ (version ≡ 2) }
     requires limits { IsGroundOf ground.now version }
@@ -142,11 +147,12 @@ fn bytes_on(alloc: Global, ground: &Ground, version: u8) -> Result<Vec<u8>, Make
 {
     match close(alloc, ground) {
         Ok(table) => bytes_by(alloc, ground, &table, version),
-        Err(refusal) => Err(refused(ground, refusal)),
+        Err(refusal) => Err(error_of(ground, refusal)),
     }
 }
 
-/// The bytes of the least certificate of version 1 or 2 that the rules accept, or why none is accepted.
+/// Returns the bytes of the least certificate of version 1 or 2 that the rules accept, or why none
+/// is accepted.
 pub fn make_bytes(
     alloc: Global,
     image: &Image,
@@ -168,7 +174,7 @@ pub fn make_bytes(
     bytes_on(alloc, &ground, version)
 }
 
-/// The least certificate of version 1 or 2 that the rules accept, or why none is accepted.
+/// Returns the least certificate of version 1 or 2 that the rules accept, or why none is accepted.
 pub fn make(alloc: Global, image: &Image, plan: &Plan, version: u8) -> Result<Cert, MakeErr>
     requires { (version ≡ 1) ⊎ (version ≡ 2) }
     ensures made { IfOk result (IsMade image.now plan.now version) }

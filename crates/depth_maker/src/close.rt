@@ -1,4 +1,4 @@
-// The visits of all points that have work.
+// The worklist algorithm: visits all points with work.
 ghost use Rattle.std.specs.Prelude.{◌≡◌, IsTrue, OnOk, IfOk, IfErr, None};
 ghost use Rattle.indexmap.specs.IndexMap.{get};
 ghost use Rattle.frame_places.specs.declared.places.Spot as spots;
@@ -6,29 +6,29 @@ ghost use Rattle.frame_places.specs.Nearby.{StandsAt};
 ghost use Rattle.frame_places.specs.Spots.{spot_eq};
 ghost use Rattle.cfg_recover.specs.SetOperations.{HoldsResults};
 ghost use Rattle.depth_maker.specs.Entered.{IsPlainIn};
-ghost use Rattle.depth_maker.specs.View.{AnsweredOn, EndsOn, FineOn, IsDone, IsOpen, NoneOpen, PaidOn, StepsOn, TurnsOn};
+ghost use Rattle.depth_maker.specs.View.{AnsweredOn, EndsOn, FineOn, IsDone, IsOpen, NoneOpen, PointJoinedOn, StepsOn, TurnsOn};
 
 use crate::ground::{Ground, Visit};
-use crate::heard::Hearings;
-use crate::paying::pay;
+use crate::interrupts::LastInterrupts;
 use crate::table::Table;
+use crate::visit::visit_point;
 use cfg_recover::{KnownCodes, OperationCache, start_key, start_state};
 use elf_image::Image;
-use frame_places::{Refusal, Spot, Work, add, has_work, open, settle};
+use frame_places::{Refusal, Spot, Work, add, begin_visit, end_visit, has_work};
 use indexmap::IndexMap;
-use small_states::{Asked, Cell, ScratchState};
+use small_states::{Incoming, ScratchState, SmallKnown};
 use std::alloc::Global;
 use vd_transfer::{Change, unchanged};
 
-/// What visits write over: the state of the point, and what is known of words of code.
+/// Room that visits write over: the state of the point, and the known words of code.
 #[derive(Drop)]
-struct Scratch {
+struct VisitScratch {
     state: ScratchState,
     codes: KnownCodes,
 }
 
-/// For how many places there is room at first: as many as the first segment may have instructions, of two bytes each, but 8,192
-/// at most.
+/// Returns the number of places to make room for at first: the number of 2-byte instructions in the
+/// first segment, at most 8,192.
 fn first_room(image: &Image) -> usize {
     match image.segments.first() {
         Some(segment) => (segment.bytes.len() / 2).min(8192),
@@ -36,14 +36,14 @@ fn first_room(image: &Image) -> usize {
     }
 }
 
-/// Nothing is read.
+/// Returns a map without readers.
 fn no_readers(alloc: Global) -> IndexMap<Spot, Vec<Spot>>
     ensures { (z : spots.Spot) → get spot_eq result z ≡ None }
 {
     IndexMap::new(alloc)
 }
 
-/// The table of the start alone.
+/// Returns the table with only the start.
 #[inline(never)]
 fn begin(alloc: Global, ground: &Ground) -> Result<Table, Refusal>
     ensures ok { IfOk result (λ t. FineOn ground.now t × NoneOpen t) }
@@ -53,8 +53,8 @@ fn begin(alloc: Global, ground: &Ground) -> Result<Table, Refusal>
     let place = Spot::Point(key, key.entry);
     let start = start_state(ground.plan);
     let same = unchanged(&start);
-    let asked = Asked::Changed(&start, &same);
-    let cell = Cell::new(alloc, ground.bounds, &asked)?;
+    let incoming = Incoming::Changed(&start, &same);
+    let cell = SmallKnown::new(alloc, ground.bounds, &incoming)?;
     let mut places = IndexMap::with_capacity(alloc, first_room(ground.image))?;
     let mut work = Work::new(alloc);
     let mut points = Vec::new(alloc);
@@ -68,7 +68,7 @@ fn begin(alloc: Global, ground: &Ground) -> Result<Table, Refusal>
         work,
         points,
         frames,
-        heard: Hearings {
+        interrupts: LastInterrupts {
             last: None,
             before: None,
         },
@@ -76,21 +76,21 @@ fn begin(alloc: Global, ground: &Ground) -> Result<Table, Refusal>
     })
 }
 
-/// Joins what is owed at the place that is visited, and says whether an instruction there is seen to enter no frame by itself;
-/// nothing is owed at an exit. The state of a point is written over `scratch`, what its instruction
-/// changes over `change`; results of operations on two sets are in `cache`.
-fn pay_place(
+/// Joins what the visited place owes, and returns true only if its instruction enters no frame by
+/// itself. An exit owes nothing. The state of a point is written over `scratch`, its changes over
+/// `change`, and results of operations on two sets are in `cache`.
+fn visit_place(
     alloc: Global,
     ground: &Ground,
     table: &mut Table,
-    scratch: &mut Scratch,
+    scratch: &mut VisitScratch,
     change: &mut Change,
     cache: &mut OperationCache,
 ) -> Result<bool, Refusal>
     requires fine { FineOn ground.now table.old }
     requires results { HoldsResults ground.now.bounds.now cache.old }
     ensures ok { (x : spots.Spot) → StandsAt table.old.places table.old.near x
-        → OnOk result (PaidOn ground.now table.old table.new x) }
+        → OnOk result (PointJoinedOn ground.now table.old table.new x) }
     ensures plain { (x : spots.Spot) → StandsAt table.old.places table.old.near x
         → IfOk result (λ plain. IsTrue plain
         → IsPlainIn ground.now.image.now ground.now.plan.now x) }
@@ -110,7 +110,7 @@ fn pay_place(
         addr,
         state: scratch.state.state(),
     };
-    pay(alloc, table, &v, change, &mut scratch.codes, cache)
+    visit_point(alloc, table, &v, change, &mut scratch.codes, cache)
 }
 
 /// Visits the place that was taken off the list.
@@ -118,7 +118,7 @@ fn visit(
     alloc: Global,
     ground: &Ground,
     table: &mut Table,
-    scratch: &mut Scratch,
+    scratch: &mut VisitScratch,
     change: &mut Change,
     cache: &mut OperationCache,
 ) -> Result<(), Refusal>
@@ -129,17 +129,18 @@ fn visit(
     ensures err { IfErr result (AnsweredOn ground.now) }
     ensures results { HoldsResults ground.now.bounds.now cache.new }
 {
-    let plain = pay_place(alloc, ground, table, scratch, change, cache)?;
-    settle(&mut table.places, table.near, plain);
+    let plain = visit_place(alloc, ground, table, scratch, change, cache)?;
+    end_visit(&mut table.places, table.near, plain);
     Ok(())
 }
 
-/// Takes the next place off the list, and visits it if it has work still; says whether there was one.
+/// Takes the next place off the list, and visits it if it still has work. Returns false if the list
+/// is empty.
 fn step(
     alloc: Global,
     ground: &Ground,
     table: &mut Table,
-    scratch: &mut Scratch,
+    scratch: &mut VisitScratch,
     change: &mut Change,
     cache: &mut OperationCache,
 ) -> Result<bool, Refusal>
@@ -156,19 +157,19 @@ fn step(
         return Ok(true);
     }
     table.near = number;
-    open(&mut table.places, number);
+    begin_visit(&mut table.places, number);
     visit(alloc, ground, table, scratch, change, cache)?;
     Ok(true)
 }
 
-/// Takes as many places off the list as it has now, and some more, as long as there are any, and visits those that have work; says
-/// whether some are left.
+/// Takes up to as many places off the list as it has now, and 1,024 more, and visits those with
+/// work. Returns whether some are left.
 #[inline(never)]
 fn turn(
     alloc: Global,
     ground: &Ground,
     table: &mut Table,
-    scratch: &mut Scratch,
+    scratch: &mut VisitScratch,
 ) -> Result<bool, Refusal>
     requires fine { FineOn ground.now table.old }
     requires none { NoneOpen table.old }
@@ -184,15 +185,15 @@ fn turn(
     Ok(!table.work.is_empty())
 }
 
-/// The least closed assignment, or a fault of a derived one.
-// A function of its own, so that its room is let go before the rows are made.
+/// Returns the least closed assignment, or a fault of a derived one.
+// It is a function of its own, so that its stack room is free before the rows are made.
 #[inline(never)]
 pub(crate) fn close(alloc: Global, ground: &Ground) -> Result<Table, Refusal>
     ensures ok { IfOk result (IsDone ground.now) }
     ensures err { IfErr result (AnsweredOn ground.now) }
 {
     let mut table = begin(alloc, ground)?;
-    let mut scratch = Scratch {
+    let mut scratch = VisitScratch {
         state: ScratchState::new(start_state(ground.plan)),
         codes: KnownCodes::new(),
     };

@@ -1,4 +1,4 @@
-// One duty of a point that is visited: what it asks for is joined at its place.
+// Joins what one duty of the visited point asks for.
 ghost use Rattle.std.specs.Prelude.{◌≡◌, ℕ, OnOk, IfErr, Some, [], ◌∷◌};
 ghost use Rattle.indexmap.specs.IndexMap.{get};
 ghost use Rattle.vd_transfer.specs.Changes.{state_after};
@@ -8,20 +8,20 @@ ghost use Rattle.depth_cert.specs.Exits.{exit_of};
 ghost use Rattle.depth_cert.specs.Known.{state};
 ghost use Rattle.frame_places.specs.declared.places.Spot.TheVariants.{Exit, Point};
 ghost use Rattle.frame_places.specs.Spots.{spot_eq};
-ghost use Rattle.depth_maker.specs.View.{AnsweredOn, OwesDuty, PaidBy, VisitedBy, seen};
+ghost use Rattle.depth_maker.specs.View.{AnsweredOn, OwesDuty, JoinedBy, VisitedBy, seen};
 ghost use Rattle.frame_places.specs.Marks.{Reads};
 
 use crate::ground::Visit;
-use crate::rise::raise;
+use crate::join::join_at;
 use crate::table::Table;
 use depth_cert::Key;
 use frame_places::{Refusal, Spot, has_work, register};
-use small_states::Asked;
+use small_states::Incoming;
 use std::alloc::Global;
 use vd_transfer::Change;
 
-/// A jump in the frame, with a changed state.
-pub(crate) fn pay_jump(
+/// Joins a changed state at a point of the same frame.
+pub(crate) fn join_jump(
     alloc: Global,
     table: &mut Table,
     v: &Visit,
@@ -31,18 +31,19 @@ pub(crate) fn pay_jump(
     requires visited { VisitedBy v.now table.old }
     requires owes { OwesDuty v.now (jump to (state_after v.now.state.now c.now)) }
     ensures ok { OnOk result
-        (PaidBy v.now table.old table.new
+        (JoinedBy v.now table.old table.new
         (owed 4 (jump to (state_after v.now.state.now c.now)) ∷ [])) }
     ensures err { IfErr result (AnsweredOn v.now.ground.now) }
 {
     if has_work(&table.places, table.near) {
         return Ok(());
     }
-    pay_first(alloc, table, v, to, c)
+    join_first_jump(alloc, table, v, to, c)
 }
 
-/// The same before anything else is joined, while the point has the state that it is visited with.
-pub(crate) fn pay_first(
+/// Joins a changed state at a point of the same frame, before anything else is joined: the visited
+/// point still has its state.
+pub(crate) fn join_first_jump(
     alloc: Global,
     table: &mut Table,
     v: &Visit,
@@ -54,16 +55,16 @@ pub(crate) fn pay_first(
         ≡ Some (state v.now.state.now) }
     requires owes { OwesDuty v.now (jump to (state_after v.now.state.now c.now)) }
     ensures ok { OnOk result
-        (PaidBy v.now table.old table.new
+        (JoinedBy v.now table.old table.new
         (owed 4 (jump to (state_after v.now.state.now c.now)) ∷ [])) }
     ensures err { IfErr result (AnsweredOn v.now.ground.now) }
 {
-    let asked = Asked::Changed(v.state, c);
-    raise(alloc, table, v, &Spot::Point(v.key, to), &asked)
+    let incoming = Incoming::Changed(v.state, c);
+    join_at(alloc, table, v, &Spot::Point(v.key, to), &incoming)
 }
 
-/// An entry of a frame, with a changed state.
-pub(crate) fn pay_enter(
+/// Joins a changed state at the entry of a frame.
+pub(crate) fn join_entry(
     alloc: Global,
     table: &mut Table,
     v: &Visit,
@@ -74,39 +75,46 @@ pub(crate) fn pay_enter(
     requires owes { OwesDuty v.now (enter key (state_after v.now.state.now c.now)) }
     ensures ok { (rule : ℕ)
         → OnOk result
-        (PaidBy v.now table.old table.new
+        (JoinedBy v.now table.old table.new
         (owed rule (enter key (state_after v.now.state.now c.now)) ∷ [])) }
     ensures err { IfErr result (AnsweredOn v.now.ground.now) }
 {
     if has_work(&table.places, table.near) {
         return Ok(());
     }
-    let asked = Asked::Changed(v.state, c);
-    raise(alloc, table, v, &Spot::Point(key, key.entry), &asked)
+    let incoming = Incoming::Changed(v.state, c);
+    join_at(alloc, table, v, &Spot::Point(key, key.entry), &incoming)
 }
 
-/// The point's frame is left.
-pub(crate) fn pay_leave(alloc: Global, table: &mut Table, v: &Visit) -> Result<(), Refusal>
+/// Joins the state at the exit of the point's frame, which it leaves.
+pub(crate) fn join_exit(alloc: Global, table: &mut Table, v: &Visit) -> Result<(), Refusal>
     requires visited { VisitedBy v.now table.old }
     requires owes { OwesDuty v.now (leave (exit_of v.now.state.now)) }
     ensures ok { (rule : ℕ)
         → OnOk result
-        (PaidBy v.now table.old table.new (owed rule (leave (exit_of v.now.state.now)) ∷ [])) }
+        (JoinedBy v.now table.old table.new (owed rule (leave (exit_of v.now.state.now)) ∷ [])) }
     ensures err { IfErr result (AnsweredOn v.now.ground.now) }
 {
     if has_work(&table.places, table.near) {
         return Ok(());
     }
-    let asked = Asked::Leaving(v.state);
-    raise(alloc, table, v, &Spot::Exit(v.key), &asked)
+    let incoming = Incoming::Leaving(v.state);
+    join_at(alloc, table, v, &Spot::Exit(v.key), &incoming)
 }
 
-/// Where a frame of this key has an exit, the point's frame goes on at `back`.
-fn pay_back(alloc: Global, table: &mut Table, v: &Visit, key: Key, back: u32) -> Result<(), Refusal>
+/// Joins the state after a frame returned at `back`, if the exit of that frame is known.
+fn join_return(
+    alloc: Global,
+    table: &mut Table,
+    v: &Visit,
+    key: Key,
+    back: u32,
+) -> Result<(), Refusal>
     requires visited { VisitedBy v.now table.old }
-    requires told { Reads (get spot_eq table.old.readers (Exit key)) (Point v.now.key v.now.addr) }
+    requires registered { Reads (get spot_eq table.old.readers (Exit key))
+        (Point v.now.key v.now.addr) }
     requires owes { OwesDuty v.now (resume key back) }
-    ensures ok { OnOk result (PaidBy v.now table.old table.new (owed 4 (resume key back) ∷ [])) }
+    ensures ok { OnOk result (JoinedBy v.now table.old table.new (owed 4 (resume key back) ∷ [])) }
     ensures err { IfErr result (AnsweredOn v.now.ground.now) }
 {
     if has_work(&table.places, table.near) {
@@ -116,15 +124,16 @@ fn pay_back(alloc: Global, table: &mut Table, v: &Visit, key: Key, back: u32) ->
         return Ok(());
     };
     let Some(exit) = place.value.exit() else {
-        return Ok(());
+        unreachable!();
     };
     let copy = exit.copy()?;
-    let asked = Asked::After(v.state, &copy, key.kind);
-    raise(alloc, table, v, &Spot::Point(v.key, back), &asked)
+    let incoming = Incoming::After(v.state, &copy, key.kind);
+    join_at(alloc, table, v, &Spot::Point(v.key, back), &incoming)
 }
 
-/// The point is told of the exit of the frame that it enters, and goes on at `back` where there is one.
-fn pay_resume(
+/// Makes the point a reader of the exit of the frame that it enters, and joins the state after the
+/// return at `back`.
+fn join_resume(
     alloc: Global,
     table: &mut Table,
     v: &Visit,
@@ -133,7 +142,7 @@ fn pay_resume(
 ) -> Result<(), Refusal>
     requires visited { VisitedBy v.now table.old }
     requires owes { OwesDuty v.now (resume key back) }
-    ensures ok { OnOk result (PaidBy v.now table.old table.new (owed 4 (resume key back) ∷ [])) }
+    ensures ok { OnOk result (JoinedBy v.now table.old table.new (owed 4 (resume key back) ∷ [])) }
     ensures err { IfErr result (AnsweredOn v.now.ground.now) }
 {
     register(
@@ -142,11 +151,11 @@ fn pay_resume(
         Spot::Exit(key),
         Spot::Point(v.key, v.addr),
     )?;
-    pay_back(alloc, table, v, key, back)
+    join_return(alloc, table, v, key, back)
 }
 
-/// An entry of a frame that may come back.
-pub(crate) fn pay_entry(
+/// Joins a changed state at the entry of a frame, and the state after its return at `back`.
+pub(crate) fn join_entry_and_back(
     alloc: Global,
     table: &mut Table,
     v: &Visit,
@@ -159,10 +168,10 @@ pub(crate) fn pay_entry(
     requires resumes { OwesDuty v.now (resume key back) }
     ensures ok { (rule : ℕ)
         → OnOk result
-        (PaidBy v.now table.old table.new
+        (JoinedBy v.now table.old table.new
         (entered_and_back rule key (state_after v.now.state.now c.now) back)) }
     ensures err { IfErr result (AnsweredOn v.now.ground.now) }
 {
-    pay_enter(alloc, table, v, key, c)?;
-    pay_resume(alloc, table, v, key, back)
+    join_entry(alloc, table, v, key, c)?;
+    join_resume(alloc, table, v, key, back)
 }

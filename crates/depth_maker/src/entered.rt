@@ -10,7 +10,7 @@ ghost use Rattle.depth_maker.specs.View.{StandsBy, access_by, entries_by, misali
 
 use crate::ground::Visit;
 use cfg_recover::{Located, aln_key, entered_key, is_aligned, sys_key, targets};
-use depth_cert::Key;
+use depth_cert::{CALL, Key};
 use std::alloc::{AllocError, Global};
 use tc_isa::Shape;
 use vd_transfer::address_by;
@@ -20,7 +20,7 @@ fn add_calls(keys: &mut Vec<Key>, key: Key, targets: &[u32]) -> Result<(), Alloc
         (keys.new.items ≡ keys.old.items ++ map (frames.call_key key) targets.now) }
 {
     for t in targets {
-        keys.push(entered_key(&key, 1, *t))?;
+        keys.push(entered_key(&key, CALL, *t))?;
     }
     Ok(())
 }
@@ -44,7 +44,8 @@ fn add_entries(keys: &mut Vec<Key>, v: &Visit, found: &Located) -> Result<(), Al
     }
 }
 
-/// Whether an address of an access of this shape and size may be misaligned; by itself, as it has room for a value.
+/// Returns whether an address of an access of this shape and size may be misaligned. It is a call
+/// of its own, since it has room for a value.
 #[inline(never)]
 fn accesses_misaligned(v: &Visit, shape: Shape, size: u8) -> bool
     requires proper { IsProper v.now.ground.now.bounds.now v.now.state.now }
@@ -58,7 +59,8 @@ fn accesses_misaligned(v: &Visit, shape: Shape, size: u8) -> bool
     !is_aligned(g.bounds, &at, size)
 }
 
-/// Whether an access of the instruction may be misaligned; none is where no trap of those is stated.
+/// Returns whether an access of the instruction may be misaligned and the plan has traps of
+/// misaligned accesses.
 pub(crate) fn is_misaligned(v: &Visit, found: &Located) -> bool
     requires proper { IsProper v.now.ground.now.bounds.now v.now.state.now }
     requires stands { StandsBy v.now found.now }
@@ -87,8 +89,12 @@ fn add_access(keys: &mut Vec<Key>, v: &Visit, found: &Located) -> Result<(), All
     Ok(())
 }
 
-/// The frames that the instruction at the point enters, in the order of its duties.
-pub(crate) fn entered(alloc: Global, v: &Visit, found: &Located) -> Result<Vec<Key>, AllocError>
+/// Returns the frames that the instruction at the point enters, in the order of its duties.
+pub(crate) fn entered_frames(
+    alloc: Global,
+    v: &Visit,
+    found: &Located,
+) -> Result<Vec<Key>, AllocError>
     requires proper { IsProper v.now.ground.now.bounds.now v.now.state.now }
     requires stands { StandsBy v.now found.now }
     ensures { IfOk result (λ keys. keys.items

@@ -15,7 +15,7 @@ pub(crate) struct Ground<'a> {
     pub ghost sound: { IsGround bounds.now image.now plan.now },
 }
 
-/// A point that is visited, and its state.
+/// A visited point, and its state.
 #[derive(Drop)]
 pub(crate) struct Visit<'a> {
     pub(crate) ground: &'a Ground<'a>,

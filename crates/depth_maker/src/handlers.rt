@@ -11,14 +11,14 @@ use indexmap::IndexMap;
 use std::alloc::{AllocError, Global};
 use tcd_plan::Plan;
 
-/// The priority of an interrupt, and the number of its handler's frame.
+/// A handler: the priority of its interrupt, and the number of its frame.
 #[derive(Drop)]
 pub(crate) struct Handler {
     prio: u8,
     node: usize,
 }
 
-/// The handlers of these interrupts.
+/// Returns the handlers of these interrupts.
 fn handlers_of(
     alloc: Global,
     plan: &Plan,
@@ -37,7 +37,7 @@ fn handlers_of(
     Ok(handlers)
 }
 
-/// The handlers of all stated interrupts.
+/// Returns the handlers of all stated interrupts.
 pub(crate) fn handlers(
     alloc: Global,
     plan: &Plan,
@@ -50,7 +50,7 @@ pub(crate) fn handlers(
     handlers_of(alloc, plan, numbers, plan.irqs.as_slice())
 }
 
-/// Adds the frame of a handler, for which there is room, if the interrupt is above this priority.
+/// Appends the frame of a handler if its interrupt is above this priority. There is room for it.
 #[inline(always)]
 fn add_above(into: &mut Vec<usize>, ccpn: u8, handler: &Handler)
     requires { vec_len into.old < vec_capacity into.old }
@@ -64,7 +64,7 @@ fn add_above(into: &mut Vec<usize>, ccpn: u8, handler: &Handler)
     into.push_reserved(handler.node);
 }
 
-/// Adds those of all interrupts above this priority, for which there is room.
+/// Appends the frames of all handlers above this priority. There is room for them.
 #[inline(always)]
 fn add_all_above(into: &mut Vec<usize>, ccpn: u8, handlers: &[Handler])
     requires { vec_len into.old + length handlers.now ≤ vec_capacity into.old }
@@ -75,7 +75,7 @@ fn add_all_above(into: &mut Vec<usize>, ccpn: u8, handlers: &[Handler])
     }
 }
 
-/// Adds the frames of the interrupts that may be taken: none where they may not come, else those above this priority.
+/// Appends the frames of the interrupts that may be taken: those above this priority if IE is on.
 pub(crate) fn add_taken(
     into: &mut Vec<usize>,
     ie: bool,

@@ -1,53 +1,57 @@
-// With what the entries of interrupts are covered already.
-ghost use Rattle.std.specs.Prelude.{IsTrue, slice_index_or};
-ghost use Rattle.value_domain.specs.Values.{IsBelow, IsWell, any_val};
-ghost use Rattle.depth_maker.specs.Hearing.{AsksNoMore, IsHeardAt};
+// The last contexts in which interrupts were taken: their handlers' entries are covered.
+ghost use Rattle.std.specs.Prelude.{IsTrue};
+ghost use Rattle.value_domain.specs.Values.{IsBelow, IsWell};
+ghost use Rattle.depth_maker.specs.Interrupts.{IsContextOf, IsWithinContext, a10_of};
 
-use value_domain::{State, Val, leq};
+use value_domain::{A10_SLOT, State, Val, leq};
 
-/// What interrupts enter with: whether they stay on the interrupt stack, A10 there, and the priority that they lie above.
+/// What the handlers' entries depend on at a point.
 #[derive(Drop)]
-pub(crate) struct Heard {
+pub(crate) struct InterruptContext {
+    /// The frame runs on the interrupt stack (PSW.IS), so its handlers do too.
     is: bool,
+    /// A10 at the point.
     sp: Val,
+    /// Interrupts above this priority may be taken.
     ccpn: u8,
 }
 
-/// The two that were heard last.
+/// The last two contexts of which all entries are covered.
 #[derive(Drop)]
-pub(crate) struct Hearings {
-    pub(crate) last: Option<Heard>,
-    pub(crate) before: Option<Heard>,
+pub(crate) struct LastInterrupts {
+    pub(crate) last: Option<InterruptContext>,
+    pub(crate) before: Option<InterruptContext>,
 }
 
-impl Heard {
-    /// What they enter with from this state, of a frame that runs on the interrupt stack or on another.
-    pub(crate) fn at(is: bool, s: &State) -> Heard
-        ensures { IsHeardAt result is s.now }
+impl InterruptContext {
+    /// Returns the context of a frame with this state. `is` says whether it runs on the interrupt
+    /// stack.
+    pub(crate) fn at(is: bool, s: &State) -> InterruptContext
+        ensures { IsContextOf result is s.now }
     {
-        Heard {
+        InterruptContext {
             is,
-            sp: s.regs[22].copy(),
+            sp: s.regs[A10_SLOT].copy(),
             ccpn: s.ccpn,
         }
     }
 
-    /// Whether A10 of this state is no more than was heard; it only counts on the interrupt stack.
-    fn has_stack(&self, s: &State) -> bool
+    /// Returns whether A10 of this state is covered. It matters only on the interrupt stack.
+    fn covers_stack(&self, s: &State) -> bool
         requires own { IsWell self.now.sp }
-        requires other { IsWell (slice_index_or s.now.regs 22 any_val) }
+        requires other { IsWell (a10_of s.now) }
         ensures { IsTrue result → IsTrue self.now.is
-            → IsBelow (slice_index_or s.now.regs 22 any_val) self.now.sp }
+            → IsBelow (a10_of s.now) self.now.sp }
     {
-        !self.is || leq(&s.regs[22], &self.sp)
+        !self.is || leq(&s.regs[A10_SLOT], &self.sp)
     }
 
-    /// Whether no more of them may be taken from this state, nor with more stack pointers.
-    pub(crate) fn has(&self, is: bool, s: &State) -> bool
+    /// Returns true only if its entries cover those of a frame with this state.
+    pub(crate) fn covers(&self, is: bool, s: &State) -> bool
         requires own { IsWell self.now.sp }
-        requires other { IsWell (slice_index_or s.now.regs 22 any_val) }
-        ensures { IsTrue result → AsksNoMore self.now is s.now }
+        requires other { IsWell (a10_of s.now) }
+        ensures { IsTrue result → IsWithinContext self.now is s.now }
     {
-        self.is == is && self.ccpn <= s.ccpn && self.has_stack(s)
+        self.is == is && self.ccpn <= s.ccpn && self.covers_stack(s)
     }
 }

@@ -1,41 +1,44 @@
-// One joining.
+// Joins what flows from the visited point into a place.
 ghost use Rattle.std.specs.Prelude.{◌≡◌, IfErr, None, OnOk, Some};
 ghost use Rattle.indexmap.specs.IndexMap.{get};
 ghost use Rattle.cfg_recover.specs.Assignments.{point};
 ghost use Rattle.depth_cert.specs.Known.{state};
-ghost use Rattle.small_states.specs.Kept.{asked_for, asking};
+ghost use Rattle.small_states.specs.Incoming.{incoming_known, sender_state};
 ghost use Rattle.frame_places.specs.declared.places.Spot.TheVariants.{Point};
-ghost use Rattle.frame_places.specs.Marks.{AllListed, AreKnown, Reads, Tells};
+ghost use Rattle.frame_places.specs.Marks.{AllListed, AreKnown, Reads, Requeues};
 ghost use Rattle.frame_places.specs.Work.{all_work};
 ghost use Rattle.frame_places.specs.Nearby.{StandsAt};
 ghost use Rattle.frame_places.specs.Spots.{spot_eq};
-ghost use Rattle.depth_maker.specs.View.{seen, AnsweredOn, AreExitsRead, AsksOn, FineOn, JoinedOn, RaisesOn};
+ghost use Rattle.depth_maker.specs.View.{seen, AnsweredOn, AreExitsRead, AsksOn, FineOn, JoinedOn, JoinsOn};
 
 use crate::ground::Visit;
 use crate::table::Table;
-use frame_places::{Marked, Refusal, Spot, Work, add_or_find, count, put, wake};
+use frame_places::{
+    LOCALS_RULE, Marked, Refusal, Spot, Work, add_or_find, count, put, requeue_readers_of,
+};
 use indexmap::IndexMap;
-use small_states::{Asked, Cell, priority};
+use small_states::{Incoming, SmallKnown, priority};
 use std::alloc::{AllocError, Global};
 
-/// Joins what is asked into what is known at y, which has this number, and puts y on the list, unless it is covered; says whether
-/// it was not. The entry point of a frame waits if it was visited.
-fn raise_place(
+/// Joins what flows into `y`, which has this number, and queues `y`, unless it is covered. Returns
+/// whether it wasn't. The entry point of a frame waits for the next round if it was visited.
+fn join_known(
     alloc: Global,
     table: &mut Table,
     v: &Visit,
     number: usize,
     y: &Spot,
-    asked: &Asked,
+    incoming: &Incoming,
 ) -> Result<bool, Refusal>
     requires fine { FineOn v.now.ground.now table.old }
     requires there { StandsAt table.old.places number y.now }
     requires near { StandsAt table.old.places table.old.near (Point v.now.key v.now.addr) }
     requires at { (seen table.old).cells (point v.now.key v.now.addr)
         ≡ Some (state v.now.state.now) }
-    requires own { asking asked.now ≡ v.now.state.now }
-    requires asked { AsksOn v.now.ground.now table.old y.now (asked_for asked.now) }
-    ensures { RaisesOn v.now.ground.now table.old table.new y.now (asked_for asked.now) result }
+    requires own { sender_state incoming.now ≡ v.now.state.now }
+    requires incoming { AsksOn v.now.ground.now table.old y.now (incoming_known incoming.now) }
+    ensures { JoinsOn v.now.ground.now table.old table.new y.now
+        (incoming_known incoming.now) result }
 {
     let Some((_, place)) = table.places.get_index(number) else {
         unreachable!();
@@ -44,11 +47,11 @@ fn raise_place(
         unreachable!();
     };
     let b = v.ground.bounds;
-    if place.value.covers(b, asked) {
+    if place.value.covers(b, incoming) {
         return Ok(false);
     }
-    let Some(cell) = place.value.join_from(alloc, b, &own.value, asked)? else {
-        return Err(Refusal::Fault(8, *y));
+    let Some(cell) = place.value.join_from(alloc, b, &own.value, incoming)? else {
+        return Err(Refusal::Fault(LOCALS_RULE, *y));
     };
     put(
         &mut table.places,
@@ -60,64 +63,66 @@ fn raise_place(
     Ok(true)
 }
 
-/// Adds y with what is asked, made from what is known at the point that asks, and counts it, where nothing is known there; else
-/// joins what is asked there, unless it is covered. Says whether it was not.
-fn rise_anew(
+/// Adds the place `y` with what flows in, and counts it. If `y` is known, joins what flows in,
+/// unless it is covered. Returns whether it wasn't.
+fn join_new(
     alloc: Global,
     table: &mut Table,
     v: &Visit,
     y: &Spot,
-    asked: &Asked,
+    incoming: &Incoming,
 ) -> Result<bool, Refusal>
     requires fine { FineOn v.now.ground.now table.old }
     requires near { StandsAt table.old.places table.old.near (Point v.now.key v.now.addr) }
     requires at { (seen table.old).cells (point v.now.key v.now.addr)
         ≡ Some (state v.now.state.now) }
-    requires own { asking asked.now ≡ v.now.state.now }
-    requires asked { AsksOn v.now.ground.now table.old y.now (asked_for asked.now) }
-    ensures { RaisesOn v.now.ground.now table.old table.new y.now (asked_for asked.now) result }
+    requires own { sender_state incoming.now ≡ v.now.state.now }
+    requires incoming { AsksOn v.now.ground.now table.old y.now (incoming_known incoming.now) }
+    ensures { JoinsOn v.now.ground.now table.old table.new y.now
+        (incoming_known incoming.now) result }
 {
     let Some((_, own)) = table.places.get_index(table.near) else {
-        return Err(Refusal::NoMemory);
+        unreachable!();
     };
-    let value = own.value.changed(alloc, asked)?;
+    let value = own.value.apply(alloc, incoming)?;
     match add_or_find(&mut table.places, &mut table.work, *y, value)? {
         None => {
             count(false, &mut table.points, &mut table.frames, *y)?;
             Ok(true)
         }
-        Some(number) => raise_place(alloc, table, v, number, y, asked),
+        Some(number) => join_known(alloc, table, v, number, y, incoming),
     }
 }
 
-/// Joins what is asked at y alone, unless it is covered; says whether it was not. Behind the last place that was found mostly
-/// nothing is known, so there y is looked up as it is added.
-fn rise(
+/// Joins what flows into `y` alone, unless it is covered. Returns whether it wasn't. After the last
+/// place that was found mostly nothing is known, so `y` is looked up as it is added.
+fn join_alone(
     alloc: Global,
     table: &mut Table,
     v: &Visit,
     y: &Spot,
-    asked: &Asked,
+    incoming: &Incoming,
 ) -> Result<bool, Refusal>
     requires fine { FineOn v.now.ground.now table.old }
     requires near { StandsAt table.old.places table.old.near (Point v.now.key v.now.addr) }
     requires at { (seen table.old).cells (point v.now.key v.now.addr)
         ≡ Some (state v.now.state.now) }
-    requires own { asking asked.now ≡ v.now.state.now }
-    requires asked { AsksOn v.now.ground.now table.old y.now (asked_for asked.now) }
-    ensures { RaisesOn v.now.ground.now table.old table.new y.now (asked_for asked.now) result }
+    requires own { sender_state incoming.now ≡ v.now.state.now }
+    requires incoming { AsksOn v.now.ground.now table.old y.now (incoming_known incoming.now) }
+    ensures { JoinsOn v.now.ground.now table.old table.new y.now
+        (incoming_known incoming.now) result }
 {
     if table.near < table.places.len().saturating_sub(1) {
         if let Some(number) = table.places.get_index_of(y) {
-            return raise_place(alloc, table, v, number, y, asked);
+            return join_known(alloc, table, v, number, y, incoming);
         }
     }
-    rise_anew(alloc, table, v, y, asked)
+    join_new(alloc, table, v, y, incoming)
 }
 
-/// Puts all that read y on the list, where they wait or are next; no point is read.
-fn tell(
-    places: &mut IndexMap<Spot, Marked<Cell>>,
+/// Queues all readers of `y`. They wait for the next round, or are next. A point has no readers.
+fn requeue_readers(
+    places: &mut IndexMap<Spot, Marked<SmallKnown>>,
     work: &mut Work,
     readers: &IndexMap<Spot, Vec<Spot>>,
     y: &Spot,
@@ -127,39 +132,39 @@ fn tell(
     requires exits { AreExitsRead readers.now }
     requires known { AreKnown places.old (Reads (get spot_eq readers.now y.now)) }
     ensures marks { OnOk result
-        (Tells places.old places.new (Reads (get spot_eq readers.now y.now))) }
+        (Requeues places.old places.new (Reads (get spot_eq readers.now y.now))) }
     ensures work { OnOk result (AllListed places.new (all_work work.new)) }
 {
     if let Spot::Point(_, _) = *y {
         return Ok(());
     }
-    wake(places, work, readers, *y, waits)
+    requeue_readers_of(places, work, readers, *y, waits)
 }
 
-/// Joins what is asked by a point, which has the state that it is visited with, into what is known at y. Those that read an exit
-/// which was known and rises again wait.
-pub(crate) fn raise(
+/// Joins what flows from the visited point, which still has its state, into `y`. The readers of a
+/// known exit that rises wait for the next round.
+pub(crate) fn join_at(
     alloc: Global,
     table: &mut Table,
     v: &Visit,
     y: &Spot,
-    asked: &Asked,
+    incoming: &Incoming,
 ) -> Result<(), Refusal>
     requires fine { FineOn v.now.ground.now table.old }
     requires near { StandsAt table.old.places table.old.near (Point v.now.key v.now.addr) }
     requires at { (seen table.old).cells (point v.now.key v.now.addr)
         ≡ Some (state v.now.state.now) }
-    requires own { asking asked.now ≡ v.now.state.now }
-    requires asked { AsksOn v.now.ground.now table.old y.now (asked_for asked.now) }
+    requires own { sender_state incoming.now ≡ v.now.state.now }
+    requires incoming { AsksOn v.now.ground.now table.old y.now (incoming_known incoming.now) }
     ensures ok { OnOk result
-        (JoinedOn v.now.ground.now table.old table.new y.now (asked_for asked.now)) }
+        (JoinedOn v.now.ground.now table.old table.new y.now (incoming_known incoming.now)) }
     ensures err { IfErr result (AnsweredOn v.now.ground.now) }
 {
-    let _byte = priority(asked);
+    let _byte = priority(incoming);
     let known = table.places.len();
-    if rise(alloc, table, v, y, asked)? {
+    if join_alone(alloc, table, v, y, incoming)? {
         let again = table.places.len() == known;
-        tell(&mut table.places, &mut table.work, &table.readers, y, again)?;
+        requeue_readers(&mut table.places, &mut table.work, &table.readers, y, again)?;
     }
     Ok(())
 }

@@ -2,22 +2,22 @@
 #![tactic(auto)]
 
 mod answering;
-mod asking;
 mod close;
+mod duty;
 mod entered;
 mod entries;
 mod ground;
 mod handlers;
-mod heard;
+mod interrupts;
+mod join;
 mod laws;
 mod needs;
-mod paying;
 mod recursion;
-mod rise;
 mod rows;
 mod spelling;
 mod successors;
 mod table;
+mod visit;
 
 pub use answering::{MakeErr, make, make_bytes};
 pub use laws::{

@@ -1,16 +1,16 @@
 // The least needs of the frames of a closed table.
-ghost use Rattle.std.specs.Prelude.{◌≡◌, ◌≤◌, ◌-◌};
+ghost use Rattle.std.specs.Prelude.{◌≡◌, ◌≤◌, ◌-◌, IfOk};
 ghost use Rattle.depth_maker.specs.RowsBy.{IsSource, RowsOn};
 ghost use Rattle.depth_maker.specs.NeedsBy.{NeedsOrPlace};
 
 use crate::recursion::recursion;
 use crate::rows::{Source, rows};
 use depth_cert::Key;
-use frame_places::{Refusal, Row, least_needs, soon_needs};
-use std::alloc::Global;
+use frame_places::{NeedRow, least_needs, soon_needs};
+use std::alloc::{AllocError, Global};
 use tcd_plan::Plan;
 
-/// The areas without the reserve.
+/// Returns the areas without the reserve.
 pub(crate) fn usable(plan: &Plan) -> u32
     ensures areas { result ≡ plan.now.areas - plan.now.reserve }
     ensures few { result ≤ 4096 }
@@ -18,19 +18,19 @@ pub(crate) fn usable(plan: &Plan) -> u32
     plan.areas - plan.reserve
 }
 
-/// The least needs that meet these rows, which are all of the table; or the first recursion, if there
-/// is one, where no needs are within the areas. Where a few passes don't tell them, recursion is asked
-/// before more are made: up to as many as there are areas.
+/// Returns the least needs that meet these rows of all points, or the first recursion, if any, if
+/// no needs are within the areas. If a few passes don't find the needs, it looks for recursion
+/// before it makes up to as many passes as there are areas.
 fn needs_by(
     alloc: Global,
     source: &Source,
-    rows: &[Row],
+    rows: &[NeedRow],
     frames: &[Key],
-) -> Result<Result<Vec<u32>, Option<(Key, u32)>>, Refusal>
+) -> Result<Result<Vec<u32>, Option<(Key, u32)>>, AllocError>
     requires source { IsSource source.now }
     requires rows { RowsOn source.now.ground.now source.now.table.now rows.now }
     requires frames { frames.now ≡ source.now.table.now.frames.items }
-    ensures { NeedsOrPlace source.now result }
+    ensures { IfOk result (NeedsOrPlace source.now) }
 {
     let cap = usable(source.ground.plan);
     let soon = soon_needs(alloc, frames.len(), rows, cap)?;
@@ -48,15 +48,15 @@ fn needs_by(
     }
 }
 
-/// The least needs of the frames, by their numbers; where the start needs more than the areas without
-/// the reserve, the first recursion, if there is one. Needs are raised from the last row on, and
-/// interrupts enter frames of higher priority: their rows stand last.
+/// Returns the least needs of the frames, by their numbers. If the start needs more than the areas
+/// without the reserve, it returns the first recursion, if there is one. Passes begin at the last
+/// row, and interrupts enter frames of higher priority, so the rows of these are last.
 pub(crate) fn frame_needs(
     alloc: Global,
     source: &Source,
-) -> Result<Result<Vec<u32>, Option<(Key, u32)>>, Refusal>
+) -> Result<Result<Vec<u32>, Option<(Key, u32)>>, AllocError>
     requires { IsSource source.now }
-    ensures { NeedsOrPlace source.now result }
+    ensures { IfOk result (NeedsOrPlace source.now) }
 {
     let mut rows = rows(alloc, source)?;
     let frames = source.table.frames.as_slice();

@@ -1,4 +1,4 @@
-// The first point that enters a frame from which its own is reached again.
+// The first point that enters a frame from which its own is reached.
 ghost use Rattle.std.specs.Prelude.{◌≡◌, ◌↔◌, IsTrue, IfOk, Some};
 ghost use Rattle.frame_places.specs.Reaching.{IsFirstRecurring};
 ghost use Rattle.depth_maker.specs.Recursing.{EdgesOn, EntersMarked, IsFirstMarked, IsFirstWith, IsRecursion, orders_in};
@@ -9,12 +9,13 @@ use crate::rows::{KnownPoint, Source, point_row, rows};
 use cfg_recover::start_state;
 use depth_cert::Key;
 use frame_places::{
-    Edge, Spot, address_in, edges_of, first_recurring, has_marked, number_of, orders_of, reaching,
+    FrameEdge, Spot, address_in, edges_of, first_recurring, has_marked, nodes_reaching, number_of,
+    orders_of,
 };
 use small_states::ScratchState;
 use std::alloc::{AllocError, Global};
 
-/// Whether the point enters a marked frame.
+/// Returns whether the point enters a marked frame.
 fn enters_marked(
     alloc: Global,
     source: &Source,
@@ -36,13 +37,11 @@ fn enters_marked(
         known,
     };
     let mut state = ScratchState::new(start_state(source.ground.plan));
-    match point_row(alloc, source, &mut state, &at) {
-        Ok(row) => Ok(has_marked(marks, row.into.as_slice())),
-        Err(_) => Err(AllocError),
-    }
+    let row = point_row(alloc, source, &mut state, &at)?;
+    Ok(has_marked(marks, row.into.as_slice()))
 }
 
-/// The first address with this one more, where `first` is that of some places.
+/// Returns the first address among some places and this one. `first` is that of the others.
 fn address_with(
     alloc: Global,
     source: &Source,
@@ -66,7 +65,7 @@ fn address_with(
     }
 }
 
-/// The same with one more place, whichever it is.
+/// Returns the first address among some places and this one, which may be in any frame.
 fn place_with(
     alloc: Global,
     source: &Source,
@@ -84,7 +83,7 @@ fn place_with(
     }
 }
 
-/// The first address of the frame at which a marked frame is entered.
+/// Returns the first address of the frame at which it enters a marked frame.
 fn first_address(
     alloc: Global,
     source: &Source,
@@ -102,11 +101,11 @@ fn first_address(
     Ok(first)
 }
 
-/// The first point of the first frame that recurs.
+/// Returns the first recursive point of the first recursive frame.
 fn recursion_in(
     alloc: Global,
     source: &Source,
-    edges: &[Edge],
+    edges: &[FrameEdge],
     frames: &[Key],
     node: usize,
 ) -> Result<Option<(Key, u32)>, AllocError>
@@ -116,20 +115,20 @@ fn recursion_in(
     requires first { IsFirstRecurring (orders_in source.now) edges.now (Some node) }
     ensures { IfOk result (IsRecursion source.now) }
 {
-    let marks = reaching(alloc, frames.len(), edges, node)?;
+    let marks = nodes_reaching(alloc, frames.len(), edges, node)?;
     let key = frames[node];
     let points = source.table.points.as_slice();
     match first_address(alloc, source, marks.as_slice(), key, points)? {
         Some(addr) => Ok(Some((key, addr))),
-        None => Ok(None),
+        None => unreachable!(),
     }
 }
 
-/// The first point that recurs, by the entries of frames from each other.
+/// Returns the first recursive point, from the entries between frames.
 fn recursion_by(
     alloc: Global,
     source: &Source,
-    edges: &[Edge],
+    edges: &[FrameEdge],
     frames: &[Key],
 ) -> Result<Option<(Key, u32)>, AllocError>
     requires source { IsSource source.now }
@@ -144,15 +143,13 @@ fn recursion_by(
     }
 }
 
-/// The first point, by key and address, that enters a frame from which its own is reached again;
-/// `None` where no point does.
+/// Returns the first point, by key and address, that enters a frame from which its own is reached,
+/// or `None` if no point does.
 pub(crate) fn recursion(alloc: Global, source: &Source) -> Result<Option<(Key, u32)>, AllocError>
     requires { IsSource source.now }
     ensures { IfOk result (IsRecursion source.now) }
 {
-    let Ok(rows) = rows(alloc, source) else {
-        return Err(AllocError);
-    };
+    let rows = rows(alloc, source)?;
     let edges = edges_of(alloc, rows.as_slice())?;
     let frames = source.table.frames.as_slice();
     recursion_by(alloc, source, edges.as_slice(), frames)

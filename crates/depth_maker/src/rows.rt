@@ -1,4 +1,4 @@
-// The rows of all points: which frames each enters, by numbers, and with how many locals.
+// The rows of all points: the frames that each enters, by numbers, and its number of locals.
 ghost use Rattle.std.specs.Prelude.{◌≡◌, ◌+◌, ◌<◌, List, IfOk, IsTrue, OnOk};
 ghost use Rattle.indexmap.specs.IndexMap.{index_map_len};
 ghost use Rattle.depth_cert.specs.declared.keys.Key as keys;
@@ -6,20 +6,21 @@ ghost use Rattle.depth_cert.specs.Known.{IsProper};
 ghost use Rattle.frame_places.specs.Numbers.{number_in};
 ghost use Rattle.depth_maker.specs.Handlers.{AreNumbered};
 ghost use Rattle.depth_maker.specs.View.{StandsBy};
-ghost use Rattle.depth_maker.specs.RowsBy.{AddsPlain, AddsPoint, AllKnownBy, IsDraft, IsKnownPoint, IsPointRow, IsRowBy, IsSaidBy, IsSource, RowsOn};
+ghost use Rattle.depth_maker.specs.RowsBy.{AddsPlain, AddsPoint, AllKnownBy, IsDraft, IsKnownPoint, IsPointRow, IsRowBy, HasRow, IsSource, RowsOn};
 
-use crate::entered::entered;
+use crate::entered::entered_frames;
 use crate::ground::{Ground, Visit};
 use crate::handlers::{Handler, add_taken};
 use crate::table::Table;
 use cfg_recover::{Located, local_check, start_state};
 use depth_cert::Key;
-use frame_places::{Marked, Refusal, Row, Spot, is_plain, number_near, numbers_of};
+use frame_places::{Marked, NeedRow, Spot, is_plain, number_near, numbers_of};
 use indexmap::IndexMap;
-use small_states::{Cell, Outline, ScratchState};
+use small_states::{Outline, ScratchState, SmallKnown};
 use std::alloc::{AllocError, Global};
 
-/// What rows are made from: a table without work, the numbers of its frames, and the handlers of interrupts with theirs.
+/// What rows are made from: a table without work, the numbers of its frames, and the handlers of
+/// interrupts.
 #[derive(Drop)]
 pub(crate) struct Source<'a> {
     pub(crate) ground: &'a Ground<'a>,
@@ -28,23 +29,25 @@ pub(crate) struct Source<'a> {
     pub(crate) handlers: &'a [Handler],
 }
 
-/// A point of a table, the number of its frame, and what is known there with its mark.
+/// A point of a table.
 #[derive(Drop)]
 pub(crate) struct KnownPoint<'a> {
     pub(crate) key: Key,
     pub(crate) addr: u32,
+    /// The number of its frame.
     pub(crate) node: usize,
-    pub(crate) known: &'a Marked<Cell>,
+    /// What is known there, with its mark.
+    pub(crate) known: &'a Marked<SmallKnown>,
 }
 
-/// The row of a point, by what stands there.
+/// Returns the row of a point, from its instruction.
 fn row_with(
     alloc: Global,
     v: &Visit,
     source: &Source,
     node: usize,
     found: &Located,
-) -> Result<Row, AllocError>
+) -> Result<NeedRow, AllocError>
     requires found { StandsBy v.now found.now }
     requires proper { IsProper v.now.ground.now.bounds.now v.now.state.now }
     ensures { IfOk result (λ row. (frames : List keys.Key)
@@ -52,24 +55,24 @@ fn row_with(
         source.now.handlers.now frames
         → AllKnownBy v.now frames → node ≡ number_in frames v.now.key → IsRowBy v.now frames row) }
 {
-    let keys = entered(alloc, v, found)?;
+    let keys = entered_frames(alloc, v, found)?;
     let more = source.handlers.len();
     let mut into = numbers_of(alloc, source.numbers, keys.as_slice(), more)?;
     add_taken(&mut into, v.state.ie, v.state.ccpn, source.handlers)?;
-    Ok(Row {
+    Ok(NeedRow {
         node,
         held: v.state.locals.len() as u8,
         into,
     })
 }
 
-/// The row of a point, whose state is written over `state`.
+/// Returns the row of a point. Its state is written over `state`.
 pub(crate) fn point_row(
     alloc: Global,
     source: &Source,
     state: &mut ScratchState,
     at: &KnownPoint,
-) -> Result<Row, Refusal>
+) -> Result<NeedRow, AllocError>
     requires source { IsSource source.now }
     requires at { IsKnownPoint source.now at.now }
     ensures { IfOk result (IsPointRow source.now at.now.key at.now.addr) }
@@ -89,25 +92,27 @@ pub(crate) fn point_row(
     }
 }
 
-/// Rows as they are made: `said` has for frames, by their numbers, the outline of a point that enters no frame by itself and whose
-/// row stands there; `node` is the number of the frame that was met last. States are read over `state`.
+/// Rows in the making.
 #[derive(Drop)]
 pub(crate) struct Draft {
-    rows: Vec<Row>,
-    said: Vec<Option<Outline>>,
+    rows: Vec<NeedRow>,
+    /// For each frame by its number, the outline of its last plain point, whose row is in `rows`.
+    outlines: Vec<Option<Outline>>,
+    /// Room that states are read into.
     state: ScratchState,
+    /// The number of the frame of the last point.
     node: usize,
 }
 
-/// Whether a row of the frame says what that of a point says at which this is known.
+/// Returns true only if the frame has a row that is equal to that of a point with this value.
 #[inline(always)]
-fn is_said(said: &[Option<Outline>], node: usize, known: &Marked<Cell>) -> bool
-    ensures { IsTrue result → IsSaidBy said.now node known.now }
+fn has_row(outlines: &[Option<Outline>], node: usize, known: &Marked<SmallKnown>) -> bool
+    ensures { IsTrue result → HasRow outlines.now node known.now }
 {
     if !is_plain(known.mark) {
         return false;
     }
-    let Some(Some(other)) = said.get(node) else {
+    let Some(Some(other)) = outlines.get(node) else {
         return false;
     };
     let cell = &known.value;
@@ -117,7 +122,7 @@ fn is_said(said: &[Option<Outline>], node: usize, known: &Marked<Cell>) -> bool
     }
 }
 
-/// Adds the row of a point whose instruction enters no frame by itself.
+/// Appends the row of a point whose instruction enters no frame by itself.
 fn add_plain(
     alloc: Global,
     source: &Source,
@@ -129,25 +134,25 @@ fn add_plain(
 {
     let mut into = Vec::new(alloc);
     add_taken(&mut into, outline.ie, outline.ccpn, source.handlers)?;
-    draft.rows.push(Row {
+    draft.rows.push(NeedRow {
         node,
         held: outline.held,
         into,
     })?;
-    if node < draft.said.len() {
-        draft.said[node] = Some(outline);
+    if node < draft.outlines.len() {
+        draft.outlines[node] = Some(outline);
     }
     Ok(())
 }
 
-/// Adds the row of a point; by itself, as it is seldom asked for.
+/// Appends the row of a point. Few points need this call.
 #[inline(never)]
 fn add_point(
     alloc: Global,
     source: &Source,
     draft: &mut Draft,
     at: &KnownPoint,
-) -> Result<(), Refusal>
+) -> Result<(), AllocError>
     requires source { IsSource source.now }
     requires at { IsKnownPoint source.now at.now }
     ensures { OnOk result (AddsPoint source.now draft.old draft.new at.now) }
@@ -164,9 +169,14 @@ fn add_point(
     Ok(())
 }
 
-/// Adds the row of the place that has this number, if it is a point and no row says what its would say.
+/// Appends the row of the place with this number if it is a point without an equal row.
 #[inline(always)]
-fn add_row(alloc: Global, source: &Source, draft: &mut Draft, entry: usize) -> Result<(), Refusal>
+fn add_row(
+    alloc: Global,
+    source: &Source,
+    draft: &mut Draft,
+    entry: usize,
+) -> Result<(), AllocError>
     requires source { IsSource source.now }
     requires entry { entry < index_map_len source.now.table.now.places }
     requires draft { IsDraft source.now entry draft.old }
@@ -180,7 +190,7 @@ fn add_row(alloc: Global, source: &Source, draft: &mut Draft, entry: usize) -> R
     };
     let node = number_near(source.numbers, draft.node, key);
     draft.node = node;
-    if is_said(draft.said.as_slice(), node, known) {
+    if has_row(draft.outlines.as_slice(), node, known) {
         return Ok(());
     }
     let at = KnownPoint {
@@ -193,14 +203,15 @@ fn add_row(alloc: Global, source: &Source, draft: &mut Draft, entry: usize) -> R
     Ok(())
 }
 
-/// The rows of all points; a plain point's with the outline that was met last at one of its frame isn't put in again.
-pub(crate) fn rows(alloc: Global, source: &Source) -> Result<Vec<Row>, Refusal>
+/// Returns the rows of all points. A plain point has none of its own if its outline is that of the
+/// last plain point of its frame.
+pub(crate) fn rows(alloc: Global, source: &Source) -> Result<Vec<NeedRow>, AllocError>
     requires { IsSource source.now }
     ensures { IfOk result (λ rows. RowsOn source.now.ground.now source.now.table.now rows.items) }
 {
     let mut draft = Draft {
         rows: Vec::new(alloc),
-        said: vec![in alloc; None; source.table.frames.len()]?,
+        outlines: vec![in alloc; None; source.table.frames.len()]?,
         state: ScratchState::new(start_state(source.ground.plan)),
         node: 0,
     };

@@ -1,4 +1,4 @@
-// The certificate of a table, written point by point.
+// Writes the certificate of a table, point by point.
 ghost use Rattle.std.specs.Prelude.{◌≡◌, ◌<◌, ◌^◌, ◌⊎◌, OnOk, IfOk};
 ghost use Rattle.frame_places.specs.Entries.{place_at};
 ghost use Rattle.frame_places.specs.Spots.{spot_address};
@@ -14,12 +14,15 @@ use frame_places::{
 use std::alloc::Global;
 use tcd_base::{NoMemory, put_u32};
 
+/// The magic bytes 54 43 44 43 of a certificate, as a little-endian word.
+const MAGIC: u32 = 0x4344_4354;
+
 /// A byte is below 256.
 fn is_byte(_byte: u8)
     ensures { _byte < 2 ^ 8 }
 {}
 
-/// Adds a point: its address and its state.
+/// Appends a point: its address and its state.
 fn write_point(
     out: &mut Vec<u8>,
     source: &Source,
@@ -33,7 +36,7 @@ fn write_point(
         out.old.items out.new.items) }
 {
     let Some((place, known)) = source.table.places.get_index(point.entry) else {
-        return Ok(());
+        unreachable!();
     };
     put_u32(out, address_at(place))?;
     let cell = &known.value;
@@ -41,7 +44,7 @@ fn write_point(
     Ok(())
 }
 
-/// Adds these points of a frame.
+/// Appends these points of a frame.
 fn write_points(
     out: &mut Vec<u8>,
     source: &Source,
@@ -59,7 +62,7 @@ fn write_points(
     Ok(())
 }
 
-/// Adds the exit of a frame, if one is known.
+/// Appends the exit of a frame, or that none is known.
 fn write_exit_of(out: &mut Vec<u8>, source: &Source, key: Key) -> Result<(), NoMemory>
     requires source { IsSource source.now }
     ensures { OnOk result (WritesExit source.now key out.old.items out.new.items) }
@@ -70,14 +73,14 @@ fn write_exit_of(out: &mut Vec<u8>, source: &Source, key: Key) -> Result<(), NoM
     };
     let cell = &known.value;
     let Some(exit) = cell.exit() else {
-        return Ok(());
+        unreachable!();
     };
     is_byte(exit.ccpn);
     exit.spell(out)?;
     Ok(())
 }
 
-/// The need of a frame, by its number.
+/// Returns the need of a frame.
 fn need_at(source: &Source, needs: &[u32], key: Key) -> u16
     requires source { IsSource source.now }
     requires needs { NeedsAre source.now needs.now }
@@ -99,7 +102,7 @@ pub(crate) struct Ordered<'a> {
     pub(crate) points: &'a [PointEntry],
 }
 
-/// Adds the node of a frame.
+/// Appends the node of a frame.
 fn write_frame(out: &mut Vec<u8>, ordered: &Ordered, key: Key) -> Result<(), NoMemory>
     requires ordered { IsOrdered ordered.now }
     requires key { IsFrameOf ordered.now.source.now key }
@@ -115,7 +118,7 @@ fn write_frame(out: &mut Vec<u8>, ordered: &Ordered, key: Key) -> Result<(), NoM
     Ok(())
 }
 
-/// Adds the nodes of these frames.
+/// Appends the nodes of these frames.
 fn write_frames(out: &mut Vec<u8>, ordered: &Ordered, frames: &[Key]) -> Result<(), NoMemory>
     requires ordered { IsOrdered ordered.now }
     requires frames { AreFrames ordered.now frames.now }
@@ -127,22 +130,28 @@ fn write_frames(out: &mut Vec<u8>, ordered: &Ordered, frames: &[Key]) -> Result<
     Ok(())
 }
 
-/// The certificate of these frames, which are in order.
-fn spell(alloc: Global, ordered: &Ordered, version: u8, frames: &[Key]) -> Result<Vec<u8>, NoMemory>
+/// Returns the bytes of the certificate of these frames, which are in order.
+fn write_cert(
+    alloc: Global,
+    ordered: &Ordered,
+    version: u8,
+    frames: &[Key],
+) -> Result<Vec<u8>, NoMemory>
     requires ordered { IsOrdered ordered.now }
     requires frames { AreFrames ordered.now frames.now }
     ensures { IfOk result (λ out. WritesCert ordered.now version frames.now out.items) }
 {
     let mut out = Vec::new(alloc);
-    put_u32(&mut out, 0x4344_4354)?;
+    put_u32(&mut out, MAGIC)?;
     put_u16(&mut out, u16::from(version))?;
     put_u16(&mut out, frames.len() as u16)?;
     write_frames(&mut out, ordered, frames)?;
     Ok(out)
 }
 
-/// The bytes of the certificate that the table, without work, and the least needs of its frames give.
-pub(crate) fn spelled(
+/// Returns the bytes of the certificate of a table without work, with the least needs of its
+/// frames.
+pub(crate) fn cert_bytes(
     alloc: Global,
     source: &Source,
     version: u8,
@@ -161,6 +170,6 @@ pub(crate) fn spelled(
         needs,
         points: points.as_slice(),
     };
-    let out = spell(alloc, &ordered, version, frames.as_slice())?;
+    let out = write_cert(alloc, &ordered, version, frames.as_slice())?;
     Ok(out)
 }

@@ -1,4 +1,4 @@
-// The jumps of a point in its frame.
+// Joins the successors of the visited point in its frame.
 ghost use Rattle.std.specs.Prelude.{◌≡◌, OnOk, IfErr, Some, [], ◌++◌, unwrap_or, false, true};
 ghost use Rattle.tc_isa.specs.Bounded.{IsShape, IsTarget};
 ghost use Rattle.value_domain.specs.State.{AreValues};
@@ -6,12 +6,12 @@ ghost use Rattle.vd_transfer.specs.Changes.{state_after};
 ghost use Rattle.vd_transfer.specs.Effects.{HasRoom};
 ghost use Rattle.cfg_recover.specs.Assignments.{point};
 ghost use Rattle.cfg_recover.specs.Local.{targets_of};
+ghost use Rattle.cfg_recover.specs.SetOperations.{HoldsResults};
 ghost use Rattle.cfg_recover.specs.Duties.{jumps_to, jump_on};
 ghost use Rattle.depth_cert.specs.Known.{state};
-ghost use Rattle.cfg_recover.specs.SetOperations.{HoldsResults};
-ghost use Rattle.depth_maker.specs.View.{AnsweredOn, OwesAll, PaidBy, StandsBy, VisitedBy, next_by, seen, side_by, step_by, successors_by};
+ghost use Rattle.depth_maker.specs.View.{AnsweredOn, OwesAll, JoinedBy, StandsBy, VisitedBy, next_by, seen, side_by, step_by, successors_by};
 
-use crate::asking::{pay_first, pay_jump};
+use crate::duty::{join_first_jump, join_jump};
 use crate::ground::Visit;
 use crate::table::Table;
 use cfg_recover::{Located, OperationCache, direct_target, step_change, targets};
@@ -20,7 +20,7 @@ use std::alloc::Global;
 use tc_isa::{Shape, Target};
 use vd_transfer::{Change, change_on};
 
-/// A side of a branch: its shape, whether it is taken there, and where it runs on.
+/// A side of a branch: its shape, whether the branch is taken, and the next address.
 #[derive(Clone, Copy)]
 struct Side {
     shape: Shape,
@@ -28,8 +28,8 @@ struct Side {
     to: u32,
 }
 
-/// A jump on a side of a branch, if that side is possible.
-fn pay_side(
+/// Joins a side of a branch if it is possible.
+fn join_side(
     alloc: Global,
     table: &mut Table,
     v: &Visit,
@@ -40,7 +40,7 @@ fn pay_side(
     requires shape { IsShape side.shape }
     requires owes { OwesAll v.now (jump_on side.to (side_by v.now side.shape side.taken)) }
     ensures ok { OnOk result
-        (PaidBy v.now table.old table.new
+        (JoinedBy v.now table.old table.new
         (jump_on side.to (side_by v.now side.shape side.taken))) }
     ensures err { IfErr result (AnsweredOn v.now.ground.now) }
 {
@@ -48,11 +48,11 @@ fn pay_side(
     if !change_on(g.bounds, g.plan, side.shape, v.state, side.taken, c) {
         return Ok(());
     }
-    pay_jump(alloc, table, v, side.to, &*c)
+    join_jump(alloc, table, v, side.to, &*c)
 }
 
-/// Both sides of a branch.
-fn pay_sides(
+/// Joins both sides of a branch.
+fn join_sides(
     alloc: Global,
     table: &mut Table,
     v: &Visit,
@@ -67,17 +67,17 @@ fn pay_sides(
         (jump_on next.to (side_by v.now next.shape next.taken)
         ++ jump_on taken.to (side_by v.now taken.shape taken.taken)) }
     ensures ok { OnOk result
-        (PaidBy v.now table.old table.new
+        (JoinedBy v.now table.old table.new
         (jump_on next.to (side_by v.now next.shape next.taken)
         ++ jump_on taken.to (side_by v.now taken.shape taken.taken))) }
     ensures err { IfErr result (AnsweredOn v.now.ground.now) }
 {
-    pay_side(alloc, table, v, next, c)?;
-    pay_side(alloc, table, v, taken, c)
+    join_side(alloc, table, v, next, c)?;
+    join_side(alloc, table, v, taken, c)
 }
 
-/// A jump to each of these addresses, with the state as it is.
-fn pay_jumps(
+/// Joins the unchanged state at each of these addresses.
+fn join_jumps(
     alloc: Global,
     table: &mut Table,
     v: &Visit,
@@ -87,19 +87,19 @@ fn pay_jumps(
     requires visited { VisitedBy v.now table.old }
     requires owes { OwesAll v.now (jumps_to v.now.state.now targets.now) }
     ensures ok { OnOk result
-        (PaidBy v.now table.old table.new (jumps_to v.now.state.now targets.now)) }
+        (JoinedBy v.now table.old table.new (jumps_to v.now.state.now targets.now)) }
     ensures err { IfErr result (AnsweredOn v.now.ground.now) }
 {
     c.keep(v.state);
     for t in targets {
-        pay_jump(alloc, table, v, *t, &*c)?;
+        join_jump(alloc, table, v, *t, &*c)?;
     }
     Ok(())
 }
 
-/// A jump with the state as it is, to one of the targets that are listed.
+/// Joins the unchanged state at each target that is listed.
 #[inline(never)]
-fn pay_listed_jumps(
+fn join_listed_jumps(
     alloc: Global,
     table: &mut Table,
     v: &Visit,
@@ -111,17 +111,18 @@ fn pay_listed_jumps(
     requires owes { OwesAll v.now
         (jumps_to v.now.state.now
         (unwrap_or (targets_of v.now.ground.now.plan.now v.now.state.now v.now.addr to) [])) }
-    ensures ok { OnOk result (PaidBy v.now table.old table.new
+    ensures ok { OnOk result (JoinedBy v.now table.old table.new
         (jumps_to v.now.state.now
         (unwrap_or (targets_of v.now.ground.now.plan.now v.now.state.now v.now.addr to) []))) }
     ensures err { IfErr result (AnsweredOn v.now.ground.now) }
 {
     let targets = targets(v.ground.plan, v.state, v.addr, to);
-    pay_jumps(alloc, table, v, targets.as_slice(), c)
+    join_jumps(alloc, table, v, targets.as_slice(), c)
 }
 
-/// A jump with the state as it is, before anything else is joined; a list of targets is filled only where a register tells them.
-fn pay_targets(
+/// Joins the unchanged state at the targets of a jump, before anything else is joined. The list of
+/// targets is made only for a jump by a register.
+fn join_targets(
     alloc: Global,
     table: &mut Table,
     v: &Visit,
@@ -135,7 +136,7 @@ fn pay_targets(
     requires owes { OwesAll v.now
         (jumps_to v.now.state.now
         (unwrap_or (targets_of v.now.ground.now.plan.now v.now.state.now v.now.addr to) [])) }
-    ensures ok { OnOk result (PaidBy v.now table.old table.new
+    ensures ok { OnOk result (JoinedBy v.now table.old table.new
         (jumps_to v.now.state.now
         (unwrap_or (targets_of v.now.ground.now.plan.now v.now.state.now v.now.addr to) []))) }
     ensures err { IfErr result (AnsweredOn v.now.ground.now) }
@@ -143,9 +144,9 @@ fn pay_targets(
     match direct_target(v.addr, to) {
         Some(target) => {
             c.keep(v.state);
-            pay_first(alloc, table, v, target, &*c)
+            join_first_jump(alloc, table, v, target, &*c)
         }
-        None => pay_listed_jumps(alloc, table, v, to, c),
+        None => join_listed_jumps(alloc, table, v, to, c),
     }
 }
 
@@ -167,8 +168,8 @@ fn change_at(v: &Visit, shape: Shape, c: &mut Change, cache: &mut OperationCache
     step_change(g.bounds, g.image, g.plan, shape, v.state, c);
 }
 
-/// The step to the next instruction, before anything else is joined.
-fn pay_step(
+/// Joins the state after the instruction at the next one, before anything else is joined.
+fn join_step(
     alloc: Global,
     table: &mut Table,
     v: &Visit,
@@ -182,17 +183,18 @@ fn pay_step(
     requires found { StandsBy v.now found.now }
     requires owes { OwesAll v.now (next_by v.now found.now) }
     requires results { HoldsResults v.now.ground.now.bounds.now cache.old }
-    ensures ok { OnOk result (PaidBy v.now table.old table.new (next_by v.now found.now)) }
+    ensures ok { OnOk result (JoinedBy v.now table.old table.new (next_by v.now found.now)) }
     ensures err { IfErr result (AnsweredOn v.now.ground.now) }
     ensures results { HoldsResults v.now.ground.now.bounds.now cache.new }
 {
     change_at(v, found.shape, c, cache);
-    pay_first(alloc, table, v, v.addr.wrapping_add(found.size), &*c)
+    join_first_jump(alloc, table, v, v.addr.wrapping_add(found.size), &*c)
 }
 
-/// The successors in the same frame, without those after a call or a system call; they are joined before anything else.
-/// What the instruction changes is written over `c`; results of operations on two sets are in `cache`.
-pub(crate) fn pay_successors(
+/// Joins the successors in the same frame, before anything else is joined; those after calls and
+/// system calls are left to `join_entries`. The change by the instruction is written over `c`, and
+/// results of operations on two sets are in `cache`.
+pub(crate) fn join_successors(
     alloc: Global,
     table: &mut Table,
     v: &Visit,
@@ -206,7 +208,7 @@ pub(crate) fn pay_successors(
     requires found { StandsBy v.now found.now }
     requires owes { OwesAll v.now (successors_by v.now found.now) }
     requires results { HoldsResults v.now.ground.now.bounds.now cache.old }
-    ensures ok { OnOk result (PaidBy v.now table.old table.new (successors_by v.now found.now)) }
+    ensures ok { OnOk result (JoinedBy v.now table.old table.new (successors_by v.now found.now)) }
     ensures err { IfErr result (AnsweredOn v.now.ground.now) }
     ensures results { HoldsResults v.now.ground.now.bounds.now cache.new }
 {
@@ -223,11 +225,11 @@ pub(crate) fn pay_successors(
                 taken: true,
                 to: v.addr.wrapping_add(by),
             };
-            pay_sides(alloc, table, v, straight, taken, c)
+            join_sides(alloc, table, v, straight, taken, c)
         }
-        Shape::Jump { to } => pay_targets(alloc, table, v, to, c),
+        Shape::Jump { to } => join_targets(alloc, table, v, to, c),
         Shape::Call { .. } | Shape::Ret | Shape::Rfe | Shape::Syscall { .. } | Shape::Mtcr { .. } =>
             Ok(()),
-        _ => pay_step(alloc, table, v, found, c, cache),
+        _ => join_step(alloc, table, v, found, c, cache),
     }
 }

@@ -1,20 +1,25 @@
-// The table: what is known, which places have work, who reads which exit, the list of work, and what is counted.
-use crate::heard::Hearings;
+// The table of the worklist algorithm.
+use crate::interrupts::LastInterrupts;
 use depth_cert::Key;
 use frame_places::{Marked, Spot, Work};
 use indexmap::IndexMap;
-use small_states::Cell;
+use small_states::SmallKnown;
 
-/// What is known at each place, and its mark, with the list of work, which has all places that have some, by their numbers in the order of
-/// `places`. `points` has each point that is known, and `frames` each frame that has one, in the order in which they came; the
-/// entries of the interrupts that were `heard` are covered. `near` is the number of the place that is visited.
+/// What is known at each place, and which places have work.
 #[derive(Drop)]
 pub(crate) struct Table {
-    pub(crate) places: IndexMap<Spot, Marked<Cell>>,
+    /// What is known at each place, with the place's mark.
+    pub(crate) places: IndexMap<Spot, Marked<SmallKnown>>,
+    /// The points that read each exit.
     pub(crate) readers: IndexMap<Spot, Vec<Spot>>,
+    /// The places with work, by their numbers in the order of `places`.
     pub(crate) work: Work,
+    /// The known points, in the order in which they were found.
     pub(crate) points: Vec<Spot>,
+    /// The frames with a known point, in the order in which they were found.
     pub(crate) frames: Vec<Key>,
-    pub(crate) heard: Hearings,
+    /// The last contexts of interrupts, whose handlers' entries are covered.
+    pub(crate) interrupts: LastInterrupts,
+    /// The number of the visited place.
     pub(crate) near: usize,
 }

@@ -1,4 +1,4 @@
-// A visit: all that a point owes is joined, in the order in which its duties are listed.
+// A visit joins all that a point owes, in the order of its duties.
 ghost use Rattle.std.specs.Prelude.{◌≡◌, IsTrue, OnOk, IfErr, IfOk, Some};
 ghost use Rattle.cfg_recover.specs.Assignments.{point};
 ghost use Rattle.depth_cert.specs.Known.{state};
@@ -6,33 +6,34 @@ ghost use Rattle.cfg_recover.specs.Duties.{leavings_of};
 ghost use Rattle.frame_places.specs.declared.places.Spot.TheVariants.{Point};
 ghost use Rattle.cfg_recover.specs.SetOperations.{HoldsResults};
 ghost use Rattle.depth_maker.specs.Entered.{EntersNone};
-ghost use Rattle.depth_maker.specs.View.{seen, AnsweredOn, IsPlainBy, OwesAll, PaidBy, PaidOn, StandsBy, VisitedBy, duties_by};
+ghost use Rattle.depth_maker.specs.View.{seen, AnsweredOn, IsPlainBy, OwesAll, JoinedBy, PointJoinedOn, StandsBy, VisitedBy, duties_by};
 
-use crate::asking::pay_leave;
-use crate::entries::{pay_access, pay_entries, pay_interrupts};
+use crate::duty::join_exit;
+use crate::entries::{join_access, join_entries, join_interrupts};
 use crate::ground::Visit;
-use crate::successors::pay_successors;
+use crate::successors::join_successors;
 use crate::table::Table;
 use cfg_recover::{KnownCodes, Located, OperationCache, check_located};
+use depth_cert::SYS;
 use frame_places::{Refusal, Spot};
 use std::alloc::Global;
 use tc_isa::Shape;
 use tcd_plan::Plan;
 use vd_transfer::Change;
 
-/// The frame is left by RET, or by RFE of a system call's handler.
-fn pay_leavings(alloc: Global, table: &mut Table, v: &Visit, shape: Shape) -> Result<(), Refusal>
+/// Joins the exit if the instruction leaves the frame: RET, or RFE in a system call's handler.
+fn join_leavings(alloc: Global, table: &mut Table, v: &Visit, shape: Shape) -> Result<(), Refusal>
     requires visited { VisitedBy v.now table.old }
     requires owes { OwesAll v.now (leavings_of v.now.key v.now.state.now shape) }
     ensures ok { OnOk result
-        (PaidBy v.now table.old table.new (leavings_of v.now.key v.now.state.now shape)) }
+        (JoinedBy v.now table.old table.new (leavings_of v.now.key v.now.state.now shape)) }
     ensures err { IfErr result (AnsweredOn v.now.ground.now) }
 {
     match shape {
-        Shape::Ret => pay_leave(alloc, table, v),
+        Shape::Ret => join_exit(alloc, table, v),
         Shape::Rfe => {
-            if v.key.kind == 3 {
-                return pay_leave(alloc, table, v);
+            if v.key.kind == SYS {
+                return join_exit(alloc, table, v);
             }
             Ok(())
         }
@@ -40,8 +41,8 @@ fn pay_leavings(alloc: Global, table: &mut Table, v: &Visit, shape: Shape) -> Re
     }
 }
 
-/// All that the point owes, by what stands there; what its instruction changes is written over `c`.
-fn pay_duties(
+/// Joins all that the point owes. The change by its instruction is written over `c`.
+fn join_duties(
     alloc: Global,
     table: &mut Table,
     v: &Visit,
@@ -54,19 +55,19 @@ fn pay_duties(
         ≡ Some (state v.now.state.now) }
     requires found { StandsBy v.now found.now }
     requires results { HoldsResults v.now.ground.now.bounds.now cache.old }
-    ensures ok { OnOk result (PaidBy v.now table.old table.new (duties_by v.now found.now)) }
+    ensures ok { OnOk result (JoinedBy v.now table.old table.new (duties_by v.now found.now)) }
     ensures err { IfErr result (AnsweredOn v.now.ground.now) }
     ensures results { HoldsResults v.now.ground.now.bounds.now cache.new }
 {
-    pay_successors(alloc, table, v, found, c, cache)?;
-    pay_entries(alloc, table, v, found.shape, found.size, c)?;
-    pay_access(alloc, table, v, found)?;
-    pay_interrupts(alloc, table, v)?;
-    pay_leavings(alloc, table, v, found.shape)
+    join_successors(alloc, table, v, found, c, cache)?;
+    join_entries(alloc, table, v, found.shape, found.size, c)?;
+    join_access(alloc, table, v, found)?;
+    join_interrupts(alloc, table, v)?;
+    join_leavings(alloc, table, v, found.shape)
 }
 
-/// Whether an instruction of this shape is seen to enter no frame by itself; an access is aligned where no trap of misaligned
-/// ones is stated.
+/// Returns true only if an instruction of this shape enters no frame by itself. Without traps of
+/// misaligned accesses, accesses are aligned.
 fn enters_none(plan: &Plan, shape: Shape) -> bool
     ensures { IsTrue result → EntersNone plan.now shape }
 {
@@ -80,10 +81,10 @@ fn enters_none(plan: &Plan, shape: Shape) -> bool
     }
 }
 
-/// Joins what the point owes, or some of it where it has work again; says whether its instruction is seen to enter no frame by
-/// itself. What the instruction changes is written over `c`, what it is is known from then on, and
-/// results of operations on two sets are in `cache`.
-pub(crate) fn pay(
+/// Joins what the point owes, or a part of it if the point has new work. Returns true only if its
+/// instruction enters no frame by itself. The change by the instruction is written over `c`, its
+/// word is remembered in `codes`, and results of operations on two sets are in `cache`.
+pub(crate) fn visit_point(
     alloc: Global,
     table: &mut Table,
     v: &Visit,
@@ -96,7 +97,7 @@ pub(crate) fn pay(
         ≡ Some (state v.now.state.now) }
     requires results { HoldsResults v.now.ground.now.bounds.now cache.old }
     ensures ok { OnOk result
-        (PaidOn v.now.ground.now table.old table.new (Point v.now.key v.now.addr)) }
+        (PointJoinedOn v.now.ground.now table.old table.new (Point v.now.key v.now.addr)) }
     ensures plain { IfOk result (λ plain. IsTrue plain → IsPlainBy v.now) }
     ensures err { IfErr result (AnsweredOn v.now.ground.now) }
     ensures results { HoldsResults v.now.ground.now.bounds.now cache.new }
@@ -105,7 +106,7 @@ pub(crate) fn pay(
     let located = codes.located(g.image, g.plan, v.addr);
     match check_located(g.bounds, g.plan, &v.key, v.state, &located) {
         Ok(found) => {
-            pay_duties(alloc, table, v, found, c, cache)?;
+            join_duties(alloc, table, v, found, c, cache)?;
             Ok(enters_none(g.plan, found.shape))
         }
         Err(rule) => Err(Refusal::Fault(rule, Spot::Point(v.key, v.addr))),

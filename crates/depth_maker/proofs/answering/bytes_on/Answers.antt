@@ -9,4 +9,4 @@ pub returns-in-Ok-clause-refused : goal.returns-in-Ok-clause-refused
 returns-in-Ok-clause-refused c = IfErr-weaker c.bytes_by.result _ _ (λ e r. is_refused c.args.ground.now c.args.version e c.requires.limits r) c.bytes_by.ensures.err
 
 pub returns-in-Err-clause-refused : goal.returns-in-Err-clause-refused
-returns-in-Err-clause-refused c = is_refused c.args.ground.now c.args.version c.refused.result c.requires.limits c.refused.ensures
+returns-in-Err-clause-refused c = is_refused c.args.ground.now c.args.version c.error_of.result c.requires.limits c.error_of.ensures

@@ -3,7 +3,7 @@ use Rattle.depth_maker.specs.View.{AnsweredOn}
 use Rattle.frame_places.specs.declared.places.Spot.{Spot}
 use Rattle.frame_places.specs.declared.refusals.Refusal.TheVariants.{Fault}
 use Rattle.depth_maker.proofs.MakeLemmas.{fault_refuses, no_exit_refuses}
-use Rattle.depth_maker.proofs.answering.refused_at.Goals as goal
+use Rattle.depth_maker.proofs.answering.error_at.Goals as goal
 
 pub returns-in-Point : goal.returns-in-Point
 returns-in-Point c =

@@ -1,7 +1,7 @@
 use Rattle.std.proofs.Common.{subst}
 use Rattle.depth_maker.specs.Recursing.{IsRecursion}
 use Rattle.depth_maker.proofs.MakeLemmas.{recursion_refuses, need_refuses}
-use Rattle.depth_maker.proofs.answering.needless.Goals as goal
+use Rattle.depth_maker.proofs.answering.needs_error.Goals as goal
 
 pub returns-in-Some : goal.returns-in-Some
 returns-in-Some c =

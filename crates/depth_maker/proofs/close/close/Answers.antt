@@ -2,7 +2,7 @@ use Rattle.frame_places.specs.Work.{all_work}
 use Rattle.depth_maker.specs.Levels.{level}
 use Rattle.depth_maker.proofs.Lawful.{lawful}
 use Rattle.depth_maker.proofs.LevelSteps.{level_falls, level_most, none_queued}
-use Rattle.depth_maker.proofs.RiseLemmas.{cells_proper}
+use Rattle.depth_maker.proofs.JoinLemmas.{cells_proper}
 use Rattle.depth_maker.proofs.VisitLemmas.{closed_table}
 use Rattle.depth_maker.proofs.close.close.Goals as goal
 

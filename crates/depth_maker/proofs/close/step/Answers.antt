@@ -34,7 +34,7 @@ visit-requires-clause-fine c =
     let number = c.in-Some.number in
     let takes = c.in-Some.ensures.some in
     let x = c.requires.fine.listed.known number (takes_there s.work c.pop.new.self number takes) in
-    (opened _ _ _ (lawful _ _ _ c.args.ground.now.sound) s _ x.0 Open (c.open.ensures x.0 x.1) refl refl refl refl refl c.requires.fine c.requires.none takes x.1).0
+    (opened _ _ _ (lawful _ _ _ c.args.ground.now.sound) s _ x.0 Open (c.begin_visit.ensures x.0 x.1) refl refl refl refl refl c.requires.fine c.requires.none takes x.1).0
 
 pub visit-requires-clause-opened : goal.visit-requires-clause-opened
 visit-requires-clause-opened c =
@@ -42,7 +42,7 @@ visit-requires-clause-opened c =
     let number = c.in-Some.number in
     let takes = c.in-Some.ensures.some in
     let x = c.requires.fine.listed.known number (takes_there s.work c.pop.new.self number takes) in
-    (x.0, (opened _ _ _ (lawful _ _ _ c.args.ground.now.sound) s _ x.0 Open (c.open.ensures x.0 x.1) refl refl refl refl refl c.requires.fine c.requires.none takes x.1).1)
+    (x.0, (opened _ _ _ (lawful _ _ _ c.args.ground.now.sound) s _ x.0 Open (c.begin_visit.ensures x.0 x.1) refl refl refl refl refl c.requires.fine c.requires.none takes x.1).1)
 
 pub returns-clause-steps : goal.returns-clause-steps
 returns-clause-steps c =
@@ -50,7 +50,7 @@ returns-clause-steps c =
     let number = c.in-Some.number in
     let takes = c.in-Some.ensures.some in
     let x = c.requires.fine.listed.known number (takes_there s.work c.pop.new.self number takes) in
-    let m = c.open.ensures x.0 x.1 in
-    let o : made.Table = record s { places = c.open.new.places; work = c.pop.new.self; near = number } in
+    let m = c.begin_visit.ensures x.0 x.1 in
+    let o : made.Table = record s { places = c.begin_visit.new.places; work = c.pop.new.self; near = number } in
     let v = c.in_ok-visit.ensures.ok in
     (v.0, v.1, visited_one s o c.visit.new.table (same_level s o m.values refl refl) (shorter s.work c.pop.new.self number takes) v.2)

@@ -6,16 +6,16 @@ use Rattle.depth_cert.specs.Known.{Known, state}
 use Rattle.frame_places.specs.declared.places.Spot.{Spot}
 use Rattle.frame_places.specs.declared.places.Marked.{Marked}
 use Rattle.frame_places.specs.declared.places.Spot.TheVariants.{Exit, Point}
-use Rattle.small_states.specs.Kept.{IsStateAt}
+use Rattle.small_states.specs.Incoming.{IsStateAt}
 use Rattle.frame_places.specs.Marks.{value_for}
 use Rattle.frame_places.specs.Spots.{spot_eq}
 use Rattle.frame_places.proofs.NearbyLemmas.{nowhere, one_there, there}
 use Rattle.depth_maker.specs.Entered.{IsPlainIn}
-use Rattle.depth_maker.specs.View.{PaidOn, seen}
+use Rattle.depth_maker.specs.View.{PointJoinedOn, seen}
 use Rattle.depth_maker.proofs.Lawful.{lawful}
-use Rattle.depth_maker.proofs.RiseLemmas.{cells_proper}
-use Rattle.depth_maker.proofs.VisitLemmas.{paid_exit, point_state, visited_at}
-use Rattle.depth_maker.proofs.close.pay_place.Goals as goal
+use Rattle.depth_maker.proofs.JoinLemmas.{cells_proper}
+use Rattle.depth_maker.proofs.VisitLemmas.{duties_exit, point_state, visited_at}
+use Rattle.depth_maker.proofs.close.visit_place.Goals as goal
 
 pub returns-in_default-clause-ok : goal.returns-in_default-clause-ok
 returns-in_default-clause-ok c x stands = absurd (nowhere c.args.table.now.places c.args.table.now.near x (sym c.in_default.ensures.entry) stands)
@@ -25,15 +25,15 @@ returns-in_default-at-clause-ok c x stands =
     let s = c.args.table.now in
     let k = c.in_default-at.field-0 in
     let same : Exit k ≡ x = sym c.in_default-at.is ∙ one_there s.places s.near x c.in-Some.at.now c.in-Some.place.now (sym c.in-Some.ensures.entry) stands in
-    subst (λ (z : Spot). PaidOn c.args.ground.now s s z) same (paid_exit _ _ _ s k c.requires.fine)
+    subst (λ (z : Spot). PointJoinedOn c.args.ground.now s s z) same (duties_exit _ _ _ s k c.requires.fine)
 
 pub read_state-requires : goal.read_state-requires
 read_state-requires c =
     cells_proper _ _ _ (lawful _ _ _ c.args.ground.now.sound) c.args.table.now c.requires.fine c.in-Some.at.now c.in-Some.place.now.value
     (ap (option_map (λ (m : Marked Known). m.value)) c.in-Some.ensures.value)
 
-pub pay-requires-clause-visited : goal.pay-requires-clause-visited
-pay-requires-clause-visited c =
+pub visit_point-requires-clause-visited : goal.visit_point-requires-clause-visited
+visit_point-requires-clause-visited c =
     let s = c.args.table.now in
     let k = c.in-Point.key in
     let p = c.in-Point.addr in
@@ -46,9 +46,9 @@ pay-requires-clause-visited c =
     (there s.places s.near (Point k p) old (subst (λ (z : Spot). slice_get s.places.entries s.near ≡ Some (z, old)) c.in-Point.is (sym c.in-Some.ensures.entry)))
     (at ∙ ap (λ (w : Known). Some w) (e.1 ∙ ap state (sym is)))
 
-pub pay-requires-clause-at : goal.pay-requires-clause-at
+pub visit_point-requires-clause-at : goal.visit_point-requires-clause-at
 unfolding seen
-pay-requires-clause-at c =
+visit_point-requires-clause-at c =
     let s = c.args.table.now in
     let k = c.in-Point.key in
     let p = c.in-Point.addr in
@@ -63,11 +63,11 @@ pub returns-clause-ok : goal.returns-clause-ok
 returns-clause-ok c x stands =
     let s = c.args.table.now in
     let same : Point c.in-Point.key c.in-Point.addr ≡ x = sym c.in-Point.is ∙ one_there s.places s.near x c.in-Some.at.now c.in-Some.place.now (sym c.in-Some.ensures.entry) stands in
-    subst (λ (z : Spot). OnOk c.pay.result (PaidOn c.args.ground.now s c.pay.new.table z)) same c.pay.ensures.ok
+    subst (λ (z : Spot). OnOk c.visit_point.result (PointJoinedOn c.args.ground.now s c.visit_point.new.table z)) same c.visit_point.ensures.ok
 
 pub returns-clause-plain : goal.returns-clause-plain
 returns-clause-plain c x stands =
     let s = c.args.table.now in
     let g = c.args.ground.now in
     let same : Point c.in-Point.key c.in-Point.addr ≡ x = sym c.in-Point.is ∙ one_there s.places s.near x c.in-Some.at.now c.in-Some.place.now (sym c.in-Some.ensures.entry) stands in
-    subst (λ (z : Spot). IfOk c.pay.result (λ plain. IsTrue plain → IsPlainIn g.image.now g.plan.now z)) same c.pay.ensures.plain
+    subst (λ (z : Spot). IfOk c.visit_point.result (λ plain. IsTrue plain → IsPlainIn g.image.now g.plan.now z)) same c.visit_point.ensures.plain

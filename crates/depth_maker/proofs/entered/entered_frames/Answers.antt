@@ -2,7 +2,7 @@ use Rattle.std.proofs.Common.{◌∙◌, ap, ◌++◌, List}
 use Rattle.depth_cert.specs.declared.keys.Key.{Key}
 use Rattle.depth_maker.specs.Entered.{entered_in}
 use Rattle.depth_maker.specs.View.{access_by, entries_by}
-use Rattle.depth_maker.proofs.entered.entered.Goals as goal
+use Rattle.depth_maker.proofs.entered.entered_frames.Goals as goal
 
 pub returns : goal.returns
 returns c =

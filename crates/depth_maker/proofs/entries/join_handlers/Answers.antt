@@ -2,11 +2,11 @@ use Rattle.std.proofs.Common.{sym, subst, List}
 use Rattle.std.specs.Prelude.{OnOk}
 use Rattle.cfg_recover.specs.Duties.{Owed}
 use Rattle.cfg_recover.proofs.FlowDuties.{told_irqs-is}
-use Rattle.depth_maker.specs.View.{OwesAll, PaidBy}
-use Rattle.depth_maker.proofs.entries.pay_handlers.Goals as goal
+use Rattle.depth_maker.specs.View.{OwesAll, JoinedBy}
+use Rattle.depth_maker.proofs.entries.join_handlers.Goals as goal
 
-pub pay_irqs-requires-clause-owes : goal.pay_irqs-requires-clause-owes
-pay_irqs-requires-clause-owes c =
+pub join_irqs-requires-clause-owes : goal.join_irqs-requires-clause-owes
+join_irqs-requires-clause-owes c =
     let v = c.args.v.now in
     subst (λ (l : List Owed). OwesAll v l)
     (sym (told_irqs-is v.ground.now.plan.now v.key v.state.now _ _ c.handler_change-entry.ensures.entry c.requires.irqs)) c.requires.owes
@@ -14,5 +14,5 @@ pay_irqs-requires-clause-owes c =
 pub returns-clause-ok : goal.returns-clause-ok
 returns-clause-ok c =
     let v = c.args.v.now in
-    subst (λ (l : List Owed). OnOk c.pay_irqs.result (PaidBy v c.args.table.now c.pay_irqs.new.table l))
-    (told_irqs-is v.ground.now.plan.now v.key v.state.now _ _ c.handler_change-entry.ensures.entry c.requires.irqs) c.pay_irqs.ensures.ok
+    subst (λ (l : List Owed). OnOk c.join_irqs.result (JoinedBy v c.args.table.now c.join_irqs.new.table l))
+    (told_irqs-is v.ground.now.plan.now v.key v.state.now _ _ c.handler_change-entry.ensures.entry c.requires.irqs) c.join_irqs.ensures.ok

@@ -10,15 +10,15 @@ use Rattle.frame_places.specs.declared.places.Marked.{Marked}
 use Rattle.frame_places.specs.Counting.{frames_after, points_after}
 use Rattle.frame_places.specs.Marks.{value_for}
 use Rattle.frame_places.proofs.NearbyLemmas.{had_at, nowhere}
-use Rattle.small_states.specs.Kept.{asked_for}
+use Rattle.small_states.specs.Incoming.{incoming_known}
 use Rattle.depth_maker.specs.Spots.{place_of}
 use Rattle.depth_maker.specs.View.{seen}
 use Rattle.depth_maker.proofs.Below.{asks_proper}
 use Rattle.depth_maker.proofs.Lawful.{lawful}
 use Rattle.depth_maker.proofs.SpotLemmas.{forth}
 use Rattle.depth_maker.proofs.TableLaws.{derived_proper}
-use Rattle.depth_maker.proofs.RiseLemmas.{cells_proper, stays_joined, the_answer}
-use Rattle.depth_maker.proofs.rise.raise_place.Goals as goal
+use Rattle.depth_maker.proofs.JoinLemmas.{cells_proper, stays_joined, the_answer}
+use Rattle.depth_maker.proofs.join.join_known.Goals as goal
 
 pub covers-requires-clause-known : goal.covers-requires-clause-known
 covers-requires-clause-known c =
@@ -26,11 +26,11 @@ covers-requires-clause-known c =
     cells_proper _ _ _ (lawful _ _ _ c.args.v.now.ground.now.sound) s c.requires.fine c.args.y.now c.in-Some.place.now.value
     (ap (option_map (λ (m : Marked Known). m.value)) (had_at s.places c.args.number c.args.y.now _ c.in-Some.place.now (sym c.in-Some.ensures.entry) c.in-Some.ensures.value c.requires.there))
 
-pub covers-requires-clause-asked : goal.covers-requires-clause-asked
-covers-requires-clause-asked c =
+pub covers-requires-clause-incoming : goal.covers-requires-clause-incoming
+covers-requires-clause-incoming c =
     let laws = lawful _ _ _ c.args.v.now.ground.now.sound in
-    asks_proper _ _ _ laws (seen c.args.table.now).cells (place_of c.args.y.now) (asked_for c.args.asked.now)
-    (derived_proper _ _ _ laws (seen c.args.table.now).cells (c.requires.fine.table).derived) c.requires.asked
+    asks_proper _ _ _ laws (seen c.args.table.now).cells (place_of c.args.y.now) (incoming_known c.args.incoming.now)
+    (derived_proper _ _ _ laws (seen c.args.table.now).cells (c.requires.fine.table).derived) c.requires.incoming
 
 pub join_from-requires-clause-known : goal.join_from-requires-clause-known
 join_from-requires-clause-known c =
@@ -38,11 +38,11 @@ join_from-requires-clause-known c =
     cells_proper _ _ _ (lawful _ _ _ c.args.v.now.ground.now.sound) s c.requires.fine c.args.y.now c.in-Some.place.now.value
     (ap (option_map (λ (m : Marked Known). m.value)) (had_at s.places c.args.number c.args.y.now _ c.in-Some.place.now (sym c.in-Some.ensures.entry) c.in-Some.ensures.value c.requires.there))
 
-pub join_from-requires-clause-asked : goal.join_from-requires-clause-asked
-join_from-requires-clause-asked c =
+pub join_from-requires-clause-incoming : goal.join_from-requires-clause-incoming
+join_from-requires-clause-incoming c =
     let laws = lawful _ _ _ c.args.v.now.ground.now.sound in
-    asks_proper _ _ _ laws (seen c.args.table.now).cells (place_of c.args.y.now) (asked_for c.args.asked.now)
-    (derived_proper _ _ _ laws (seen c.args.table.now).cells (c.requires.fine.table).derived) c.requires.asked
+    asks_proper _ _ _ laws (seen c.args.table.now).cells (place_of c.args.y.now) (incoming_known c.args.incoming.now)
+    (derived_proper _ _ _ laws (seen c.args.table.now).cells (c.requires.fine.table).derived) c.requires.incoming
 
 pub join_from-requires-clause-own : goal.join_from-requires-clause-own
 unfolding seen
@@ -61,7 +61,7 @@ unfolding seen
 returns-then-covers c =
     let s = c.args.table.now in
     let at = ap (option_map (λ (m : Marked Known). m.value)) (had_at s.places c.args.number c.args.y.now _ c.in-Some.place.now (sym c.in-Some.ensures.entry) c.in-Some.ensures.value c.requires.there) in
-    stays_joined _ _ _ s c.args.y.now (asked_for c.args.asked.now) c.requires.fine
+    stays_joined _ _ _ s c.args.y.now (incoming_known c.args.incoming.now) c.requires.fine
     (record {
       known = c.in-Some.place.now.value;
       at = ap (value_for s.places) (forth c.args.y.now) ∙ at;
@@ -72,12 +72,12 @@ pub returns-in_default-2 : goal.returns-in_default-2
 returns-in_default-2 c =
     let s = c.args.table.now in
     let at = ap (option_map (λ (m : Marked Known). m.value)) (had_at s.places c.args.number c.args.y.now _ c.in-Some.place.now (sym c.in-Some.ensures.entry) c.in-Some.ensures.value c.requires.there) in
-    the_answer _ _ _ s c.args.y.now c.in-Some.place.now.value (asked_for c.args.asked.now) c.requires.fine c.requires.asked at (sym c.in_ok-cell.ensures ∙ c.in_default-2.is)
+    the_answer _ _ _ s c.args.y.now c.in-Some.place.now.value (incoming_known c.args.incoming.now) c.requires.fine c.requires.incoming at (sym c.in_ok-cell.ensures ∙ c.in_default-2.is)
 
 pub returns : goal.returns
 returns c =
     let s = c.args.table.now in
-    let v = asked_for c.args.asked.now in
+    let v = incoming_known c.args.incoming.now in
     let at = ap (option_map (λ (m : Marked Known). m.value)) (had_at s.places c.args.number c.args.y.now _ c.in-Some.place.now (sym c.in-Some.ensures.entry) c.in-Some.ensures.value c.requires.there) in
     record {
       known = c.in-Some-2.cell;
@@ -89,7 +89,7 @@ returns c =
       listed = c.in_ok-put.ensures.work c.args.y.now c.requires.there;
       near = refl;
       readers = refl;
-      heard = refl;
+      interrupts = refl;
       points = ap (λ (k : Bool). points_after k s.points.items c.args.y.now) (sym (ap is_some at));
       frames = ap (λ (k : Bool). frames_after k s.frames.items c.args.y.now) (sym (ap is_some at));
       few = (c.requires.fine.counted).few;

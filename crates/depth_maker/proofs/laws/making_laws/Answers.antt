@@ -1,4 +1,4 @@
-use Rattle.depth_maker.proofs.MadeLaws.{made, refused}
+use Rattle.depth_maker.proofs.MadeLaws.{made, refused, made_is_least, none_accepted}
 use Rattle.depth_maker.proofs.laws.making_laws.Goals as goal
 
 pub returns-clause-made : goal.returns-clause-made
@@ -6,3 +6,9 @@ returns-clause-made c = made
 
 pub returns-clause-refused : goal.returns-clause-refused
 returns-clause-refused c = refused
+
+pub returns-clause-least : goal.returns-clause-least
+returns-clause-least c = made_is_least
+
+pub returns-clause-none : goal.returns-clause-none
+returns-clause-none c = none_accepted

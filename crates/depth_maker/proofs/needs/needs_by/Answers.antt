@@ -36,7 +36,7 @@ returns-in-Some-needs c =
     source_needs c.args.source.now c.args.rows.now c.usable-cap.result c.requires.source c.requires.rows c.usable-cap.ensures.areas (Ok c.in_ok-needs.needs) c.in_ok-needs.needs refl
     (subst (λ (l : List Key). LeastNeeds (length l) c.args.rows.now c.usable-cap.result (Ok c.in_ok-needs.needs)) c.requires.frames c.in_ok-needs.ensures)
     in
-    subst (λ (o : Option (Vec ℕ Global)). NeedsOn c.args.source.now (Ok o)) c.in-Some-needs.is h
+    subst (λ (o : Option (Vec ℕ Global)). NeedsOn c.args.source.now o) c.in-Some-needs.is h
 
 pub returns-in-None : goal.returns-in-None
 returns-in-None c =
@@ -44,7 +44,7 @@ returns-in-None c =
     source_needs c.args.source.now c.args.rows.now c.usable-cap.result c.requires.source c.requires.rows c.usable-cap.ensures.areas (Ok c.in_ok-needs.needs) c.in_ok-needs.needs refl
     (subst (λ (l : List Key). LeastNeeds (length l) c.args.rows.now c.usable-cap.result (Ok c.in_ok-needs.needs)) c.requires.frames c.in_ok-needs.ensures)
     in
-    (subst (λ (o : Option (Vec ℕ Global)). NeedsOn c.args.source.now (Ok o)) c.in-None.is h, c.in_ok-recurs.ensures)
+    (subst (λ (o : Option (Vec ℕ Global)). NeedsOn c.args.source.now o) c.in-None.is h, c.in_ok-recurs.ensures)
 
 pub returns-in-Some : goal.returns-in-Some
 returns-in-Some c =

@@ -7,8 +7,8 @@ use Rattle.depth_maker.proofs.RecursSteps.{none_marked, row_marked}
 use Rattle.depth_maker.proofs.RowSteps.{number_there}
 use Rattle.depth_maker.proofs.recursion.enters_marked.Goals as goal
 
-abbrev Tells : List Bool → Bool → List ℕ → Type 0
-Tells marks r l = (IsTrue r → (t : ℕ) × Contains l t × IsMarked marks t) × (((t : ℕ) × Contains l t × IsMarked marks t) → IsTrue r)
+abbrev SaysMarked : List Bool → Bool → List ℕ → Type 0
+SaysMarked marks r l = (IsTrue r → (t : ℕ) × Contains l t × IsMarked marks t) × (((t : ℕ) × Contains l t × IsMarked marks t) → IsTrue r)
 
 pub returns-in_default : goal.returns-in_default
 unfolding seen
@@ -22,7 +22,7 @@ point_row-requires-clause-at c =
     let at = sym c.in-Some.ensures.value in
     record { known = at; node = number_there c.args.source.now c.requires c.args.key c.args.addr c.in-Some.known.now _ at c.number_of.ensures }
 
-pub returns-in-Ok : goal.returns-in-Ok
-returns-in-Ok c =
-    row_marked c.args.source.now c.requires c.args.marks.now c.args.key c.args.addr c.in-Ok.row c.in-Ok.ensures c.has_marked.result
-    (subst (Tells c.args.marks.now c.has_marked.result) c.as_slice.ensures.value c.has_marked.ensures)
+pub returns : goal.returns
+returns c =
+    row_marked c.args.source.now c.requires c.args.marks.now c.args.key c.args.addr c.in_ok-row.row c.in_ok-row.ensures c.has_marked.result
+    (subst (SaysMarked c.args.marks.now c.has_marked.result) c.as_slice.ensures.value c.has_marked.ensures)

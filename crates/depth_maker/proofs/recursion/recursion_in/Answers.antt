@@ -6,12 +6,12 @@ use Rattle.frame_places.specs.declared.places.Spot.{Spot}
 use Rattle.depth_maker.proofs.RecursSteps.{edges_within, key_there, one_stands, first_recurs}
 use Rattle.depth_maker.proofs.recursion.recursion_in.Goals as goal
 
-pub reaching-requires-clause-edges : goal.reaching-requires-clause-edges
-reaching-requires-clause-edges c =
+pub nodes_reaching-requires-clause-edges : goal.nodes_reaching-requires-clause-edges
+nodes_reaching-requires-clause-edges c =
     subst (λ (l : List Key). AreBetween c.args.edges.now (length l)) (sym c.requires.frames) (edges_within c.args.source.now c.requires.source c.args.edges.now c.requires.edges)
 
-pub returns-in-Some : goal.returns-in-Some
-returns-in-Some c =
+pub returns : goal.returns
+returns c =
     let d : Key = record { kind = 0; entry = 0; prio = 0; is = false } in
     let key : Key = get_or c.args.frames.now c.args.node d in
     first_recurs c.args.source.now c.requires.source c.args.edges.now c.requires.edges (length c.args.frames.now) c.args.node key c.requires.first c.as_slice.result.now
@@ -21,12 +21,12 @@ returns-in-Some c =
     (subst (λ (l : List Spot). IsFirstMarked c.args.source.now c.as_slice.result.now key l (Some c.in-Some.addr)) c.as_slice-points.ensures.value
     (subst (IsFirstMarked c.args.source.now c.as_slice.result.now key c.as_slice-points.result.now) c.in-Some.is c.in_ok-addr.ensures))
 
-pub returns : goal.returns
-returns c =
+pub unreachable-requires : goal.unreachable-requires
+unreachable-requires c =
     let d : Key = record { kind = 0; entry = 0; prio = 0; is = false } in
     let key : Key = get_or c.args.frames.now c.args.node d in
-    absurd (one_stands c.args.source.now c.requires.source c.args.edges.now c.requires.edges (length c.args.frames.now) c.args.node key c.requires.first c.as_slice.result.now
+    one_stands c.args.source.now c.requires.source c.args.edges.now c.requires.edges (length c.args.frames.now) c.args.node key c.requires.first c.as_slice.result.now
     (subst (AreReaching c.args.edges.now (length c.args.frames.now) c.args.node) (sym c.as_slice.ensures.value) c.in_ok-marks.ensures)
     (key_there c.args.source.now c.requires.source c.args.edges.now c.requires.edges c.args.node c.requires.first c.args.frames.now d c.requires.frames)
     (subst (λ (l : List Spot). IsFirstMarked c.args.source.now c.as_slice.result.now key l None) c.as_slice-points.ensures.value
-    (subst (IsFirstMarked c.args.source.now c.as_slice.result.now key c.as_slice-points.result.now) c.in-None.is c.in_ok-addr.ensures)))
+    (subst (IsFirstMarked c.args.source.now c.as_slice.result.now key c.as_slice-points.result.now) c.in-None.is c.in_ok-addr.ensures))

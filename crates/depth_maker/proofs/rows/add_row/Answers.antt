@@ -2,8 +2,8 @@ use Rattle.std.proofs.Common.{refl, sym, ap, subst, ◌∙◌, ◌≡◌, ℕ, L
 use Rattle.indexmap.specs.IndexMap.{get}
 use Rattle.frame_places.specs.Spots.{spot_eq}
 use Rattle.frame_places.specs.declared.places.Spot.TheVariants.{Point}
-use Rattle.small_states.specs.declared.cells.Outline.{Outline}
-use Rattle.depth_maker.specs.RowsBy.{IsPlainRow, IsSaidBy}
+use Rattle.small_states.specs.declared.known.Outline.{Outline}
+use Rattle.depth_maker.specs.RowsBy.{IsPlainRow, HasRow}
 use Rattle.depth_maker.specs.declared.rows.KnownPoint.{KnownPoint}
 use Rattle.depth_maker.proofs.PlainRows.{plain_point}
 use Rattle.depth_maker.proofs.RowSteps.{draft_more, draft_same, index_there, number_there, row_moves}
@@ -15,17 +15,17 @@ returns-in_default-place c =
     draft_same s c.args.entry c.in-Some.place.now c.args.draft.now c.args.draft.now (index_there s.table.now.places c.args.entry c.in-Some.place.now c.in-Some.known.now c.in-Some.ensures.entry) c.requires.draft refl refl
     (λ k p e. absurd (c.in_default-place.not-Point k p e))
 
-pub returns-then-is_said : goal.returns-then-is_said
-returns-then-is_said c =
+pub returns-then-has_row : goal.returns-then-has_row
+returns-then-has_row c =
     let s = c.args.source.now in
     let k = c.in-Point.key in
     let p = c.in-Point.addr in
     let known = c.in-Some.known.now in
     let node = c.number_near-node.result in
-    let b = subst (λ (l : List (Option Outline)). IsSaidBy l node known) c.as_slice.ensures.value (c.is_said.ensures c.if-is_said.true) in
+    let b = subst (λ (l : List (Option Outline)). HasRow l node known) c.as_slice.ensures.value (c.has_row.ensures c.if-has_row.true) in
     let at : get spot_eq s.table.now.places (Point k p) ≡ Some known = ap (get spot_eq s.table.now.places) (sym c.in-Point.is) ∙ c.in-Some.ensures.value in
     let number = number_there s c.requires.source k p known node at c.number_near-node.ensures in
-    let r = (c.requires.draft).said node b.outline b.there in
+    let r = (c.requires.draft).outlines node b.outline b.there in
     let row = plain_point s c.requires.source k p known b.outline r.0 at b.plain b.is (subst (λ (n : ℕ). IsPlainRow s n b.outline r.0) number r.2) in
     draft_same s c.args.entry c.in-Some.place.now c.args.draft.now _ (index_there s.table.now.places c.args.entry c.in-Some.place.now known c.in-Some.ensures.entry) c.requires.draft refl refl
     (λ j q e. (r.0, r.1, row_moves s r.0 k j p q (sym c.in-Point.is ∙ e) row))

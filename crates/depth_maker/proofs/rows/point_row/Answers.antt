@@ -1,6 +1,6 @@
 use Rattle.std.proofs.Common.{subst, sym}
 use Rattle.depth_cert.specs.Known.{state}
-use Rattle.small_states.specs.Kept.{IsStateAt}
+use Rattle.small_states.specs.Incoming.{IsStateAt}
 use Rattle.frame_places.specs.declared.places.Spot.TheVariants.{Point}
 use Rattle.depth_maker.specs.View.{seen}
 use Rattle.depth_maker.proofs.RowSteps.{all_known, done_proper, known_there, read_there}

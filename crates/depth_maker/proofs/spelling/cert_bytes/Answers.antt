@@ -7,7 +7,7 @@ use Rattle.frame_places.specs.Entries.{AreEntries, places_at, points_in}
 use Rattle.frame_places.specs.declared.ordering.PointEntry.{PointEntry}
 use Rattle.depth_maker.specs.declared.spelling.Ordered.{Ordered}
 use Rattle.depth_maker.proofs.OutLemmas.{spelled_is}
-use Rattle.depth_maker.proofs.spelling.spelled.Goals as goal
+use Rattle.depth_maker.proofs.spelling.cert_bytes.Goals as goal
 
 pub returns : goal.returns
 returns c =

@@ -3,7 +3,7 @@ use Rattle.tcd_base.specs.Bytes.{bytes_of_half}
 use Rattle.std.proofs.lemmas.List.Sorted.{length_permutation}
 use Rattle.depth_maker.proofs.CountedLemmas.{few_spots}
 use Rattle.depth_maker.proofs.OutLemmas.{writes_cert}
-use Rattle.depth_maker.proofs.spelling.spell.Goals as goal
+use Rattle.depth_maker.proofs.spelling.write_cert.Goals as goal
 
 pub overflow_cast-frames : goal.overflow_cast-frames
 overflow_cast-frames c =

@@ -9,8 +9,8 @@ pub returns-in_default : goal.returns-in_default
 unfolding seen
 returns-in_default c = writes_no_exit c.args.source.now c.args.key c.args.out.now.items c.write_exit.new.out.items (ap (option_map (λ m. m.value)) (sym c.in_default.ensures.value)) c.in_ok-write_exit.ensures
 
-pub returns-in_default-exit : goal.returns-in_default-exit
-returns-in_default-exit c = absurd (no_exit_there c.args.source.now c.requires.source c.args.key c.in-Some.known.now.value (ap (option_map (λ m. m.value)) (sym c.in-Some.ensures.value)) c.in_default-exit.ensures.none)
+pub unreachable-requires : goal.unreachable-requires
+unreachable-requires c = no_exit_there c.args.source.now c.requires.source c.args.key c.in-Some.known.now.value (ap (option_map (λ m. m.value)) (sym c.in-Some.ensures.value)) c.in_default-exit.ensures.none
 
 pub spell-requires : goal.spell-requires
 spell-requires c =

@@ -3,7 +3,7 @@ use Rattle.std.specs.Option.{option_map}
 use Rattle.std.proofs.lemmas.Map.Entries.{length-keys_of}
 use Rattle.tcd_base.specs.Bytes.{bytes_of_word}
 use Rattle.depth_cert.specs.Known.{Known}
-use Rattle.small_states.specs.Kept.{AddsState, IsStateAt}
+use Rattle.small_states.specs.Incoming.{AddsState, IsStateAt}
 use Rattle.frame_places.specs.Entries.{place_at}
 use Rattle.frame_places.specs.Marks.{value_for}
 use Rattle.frame_places.specs.Spots.{spot_address}
@@ -39,6 +39,6 @@ returns c =
     writes_point s k p e.0 c.args.out.now.items c.put_u32.new.out.items c.spell_state.new.out.items there adds.1
     (c.in_ok-put_u32.ensures.ok ∙ ap (λ (n : ℕ). c.args.out.now.items ++ bytes_of_word n) address) adds.0
 
-pub returns-in_default : goal.returns-in_default
-returns-in_default c =
-    absurd (let f : false ≡ true = c.in_default.ensures.found.1 (subst (λ (n : ℕ). c.args.point.now.entry < n) (length-keys_of c.args.source.now.table.now.places.entries) (c.requires.point).within) in cc)
+pub unreachable-requires : goal.unreachable-requires
+unreachable-requires c =
+    (let f : false ≡ true = c.in_default.ensures.found.1 (subst (λ (n : ℕ). c.args.point.now.entry < n) (length-keys_of c.args.source.now.table.now.places.entries) (c.requires.point).within) in cc)

@@ -2,20 +2,20 @@ use Rattle.cfg_recover.specs.Duties.{jump_on}
 use Rattle.depth_maker.specs.View.{side_by}
 use Rattle.depth_maker.proofs.Lawful.{lawful}
 use Rattle.depth_maker.proofs.PartLemmas.{owes_front, owes_back, visited_after, on_both}
-use Rattle.depth_maker.proofs.successors.pay_sides.Goals as goal
+use Rattle.depth_maker.proofs.successors.join_sides.Goals as goal
 
-pub pay_side-requires-clause-owes : goal.pay_side-requires-clause-owes
-pay_side-requires-clause-owes c =
+pub join_side-requires-clause-owes : goal.join_side-requires-clause-owes
+join_side-requires-clause-owes c =
     let v = c.args.v.now in
     owes_front _ _ _ v.key v.addr v.state.now (jump_on c.args.next.to (side_by v c.args.next.shape c.args.next.taken)) (jump_on c.args.taken.to (side_by v c.args.taken.shape c.args.taken.taken)) c.requires.owes
 
-pub pay_side-requires-2-clause-visited : goal.pay_side-requires-2-clause-visited
-pay_side-requires-2-clause-visited c =
+pub join_side-requires-2-clause-visited : goal.join_side-requires-2-clause-visited
+join_side-requires-2-clause-visited c =
     let v = c.args.v.now in
-    visited_after _ _ _ v.key v.addr v.state.now c.args.table.now _ _ c.requires.visited c.in_ok-pay_side.ensures.ok
+    visited_after _ _ _ v.key v.addr v.state.now c.args.table.now _ _ c.requires.visited c.in_ok-join_side.ensures.ok
 
-pub pay_side-requires-2-clause-owes : goal.pay_side-requires-2-clause-owes
-pay_side-requires-2-clause-owes c =
+pub join_side-requires-2-clause-owes : goal.join_side-requires-2-clause-owes
+join_side-requires-2-clause-owes c =
     let v = c.args.v.now in
     owes_back _ _ _ v.key v.addr v.state.now (jump_on c.args.next.to (side_by v c.args.next.shape c.args.next.taken)) (jump_on c.args.taken.to (side_by v c.args.taken.shape c.args.taken.taken)) c.requires.owes
 
@@ -24,5 +24,5 @@ returns-clause-ok c =
     let v = c.args.v.now in
     let ds = jump_on c.args.next.to (side_by v c.args.next.shape c.args.next.taken) in
     let es = jump_on c.args.taken.to (side_by v c.args.taken.shape c.args.taken.taken) in
-    on_both _ _ _ v.key v.addr v.state.now (lawful _ _ _ v.ground.now.sound) c.args.table.now c.pay_side.new.table _ ds es _ c.requires.visited
-    (owes_front _ _ _ v.key v.addr v.state.now ds es c.requires.owes) c.in_ok-pay_side.ensures.ok c.pay_side-2.ensures.ok
+    on_both _ _ _ v.key v.addr v.state.now (lawful _ _ _ v.ground.now.sound) c.args.table.now c.join_side.new.table _ ds es _ c.requires.visited
+    (owes_front _ _ _ v.key v.addr v.state.now ds es c.requires.owes) c.in_ok-join_side.ensures.ok c.join_side-2.ensures.ok

@@ -2,12 +2,12 @@ use Rattle.std.proofs.Common.{List, [], ◌∷◌, ℕ, Option, sym, subst}
 use Rattle.std.specs.Prelude.{OnOk, unwrap_or}
 use Rattle.value_domain.specs.declared.states.State.{State}
 use Rattle.cfg_recover.specs.Duties.{owed, jump, jumps_to}
-use Rattle.depth_maker.specs.View.{OwesAll, OwesDuty, PaidBy}
+use Rattle.depth_maker.specs.View.{OwesAll, OwesDuty, JoinedBy}
 use Rattle.depth_maker.proofs.PartLemmas.{owes_one}
-use Rattle.depth_maker.proofs.successors.pay_targets.Goals as goal
+use Rattle.depth_maker.proofs.successors.join_targets.Goals as goal
 
-pub pay_first-requires-clause-owes : goal.pay_first-requires-clause-owes
-pay_first-requires-clause-owes c =
+pub join_first_jump-requires-clause-owes : goal.join_first_jump-requires-clause-owes
+join_first_jump-requires-clause-owes c =
     let v = c.args.v.now in
     let to = c.in-Some.target in
     let one = (rw c.in-Some.is at c.direct_target.ensures.one) v.ground.now.plan.now v.state.now in
@@ -19,5 +19,5 @@ returns-in-Some-clause-ok c =
     let v = c.args.v.now in
     let to = c.in-Some.target in
     let one = (rw c.in-Some.is at c.direct_target.ensures.one) v.ground.now.plan.now v.state.now in
-    subst (λ (o : Option (List ℕ)). OnOk c.pay_first.result (PaidBy v c.args.table.now c.pay_first.new.table (jumps_to v.state.now (unwrap_or o [])))) (sym one)
-    (subst (λ (s : State). OnOk c.pay_first.result (PaidBy v c.args.table.now c.pay_first.new.table (owed 4 (jump to s) ∷ []))) c.keep.ensures.same c.pay_first.ensures.ok)
+    subst (λ (o : Option (List ℕ)). OnOk c.join_first_jump.result (JoinedBy v c.args.table.now c.join_first_jump.new.table (jumps_to v.state.now (unwrap_or o [])))) (sym one)
+    (subst (λ (s : State). OnOk c.join_first_jump.result (JoinedBy v c.args.table.now c.join_first_jump.new.table (owed 4 (jump to s) ∷ []))) c.keep.ensures.same c.join_first_jump.ensures.ok)

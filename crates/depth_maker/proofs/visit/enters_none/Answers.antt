@@ -2,7 +2,7 @@ use Rattle.std.proofs.Common.{sym, ap, ◌∙◌}
 use Rattle.tcd_plan.specs.PlanData.{PlanData}
 use Rattle.depth_maker.proofs.EnteredLemmas.{access_none, entries_none}
 use Rattle.depth_maker.proofs.PlainRows.{load_enters_none, off_of, store_enters_none}
-use Rattle.depth_maker.proofs.paying.enters_none.Goals as goal
+use Rattle.depth_maker.proofs.visit.enters_none.Goals as goal
 
 pub returns-in-Load : goal.returns-in-Load
 returns-in-Load c t = load_enters_none c.args.plan.now c.args.shape (sym (ap (λ (p : PlanData). p.aln) c.plan.view_is) ∙ off_of c.plan.inside.aln t) _ _ _ _ _ _ c.in-Load.is

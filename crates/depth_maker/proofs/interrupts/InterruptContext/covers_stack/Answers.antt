@@ -2,7 +2,7 @@ use Rattle.std.proofs.Common.{◌∙◌, arith, sym, subst}
 use Rattle.value_domain.specs.Values.{IsBelow, any_val}
 use Rattle.value_domain.specs.declared.values.Val.{Val}
 use Rattle.value_domain.proofs.RegLaws.{read_at}
-use Rattle.depth_maker.proofs.heard.Heard.has_stack.Goals as goal
+use Rattle.depth_maker.proofs.interrupts.InterruptContext.covers_stack.Goals as goal
 
 pub returns-else-not-self : goal.returns-else-not-self
 returns-else-not-self c told on =
