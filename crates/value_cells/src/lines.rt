@@ -3,7 +3,7 @@ ghost use Rattle.std.specs.Prelude.{◌≡◌, [], ◌∷◌, IfSome};
 ghost use Rattle.value_cells.specs.Reading.{cell_of, cell_of_words, cell_of_numbers, IsSaid};
 
 use crate::Cell;
-use tcd_text::{cut_word, hex_number};
+use tcd_text::{Words, hex_number, words_in};
 
 // Returns a cell, if its address is a multiple of 4 and its bounds are in order.
 fn cell_of_numbers(at: u32, lo: u32, hi: u32) -> Option<Cell>
@@ -33,22 +33,16 @@ fn cell_of_words(word: &[u8], at: &[u8], lo: &[u8], hi: &[u8]) -> Option<Cell>
 }
 
 /// Returns the cell of a line, or nothing if the line has another form.
-#[tactic(auto, using(crate::proofs::LineForms::five_words), unfolding(crate::specs::Reading::cell_of_words))]
+#[tactic(auto, using(crate::proofs::LineForms::more), unfolding(crate::specs::Reading::cell_of_words))]
 pub(crate) fn cell_in(line: &[u8]) -> Option<Cell>
     ensures cell { result ≡ cell_of line.now }
     ensures said { IfSome result IsSaid }
 {
-    let Some((word, rest)) = cut_word(line) else {
-        return None;
-    };
-    let Some((at, rest)) = cut_word(rest) else {
-        return None;
-    };
-    let Some((lo, rest)) = cut_word(rest) else {
-        return None;
-    };
-    match cut_word(rest) {
-        Some((_hi, _more)) => None,
-        None => cell_of_words(word, at, lo, rest),
+    match words_in(line) {
+        Words::One(_) => None,
+        Words::Two(_, _) => None,
+        Words::Three(_, _, _) => None,
+        Words::Four(word, at, lo, hi) => cell_of_words(word, at, lo, hi),
+        Words::More => None,
     }
 }
