@@ -4,7 +4,7 @@ ghost use Rattle.tcd_text.specs.Lines.{words_of};
 ghost use Rattle.task_chains.specs.Reading.{pair_of_words, places_of, task_of};
 
 use crate::Task;
-use tcd_text::{cut_word, hex_number};
+use tcd_text::{Words, hex_number, words_in};
 
 /// The addresses of the switch routine and of the tasks' block of words.
 #[derive(Clone, Copy, Debug, PartialEq, Eq)]
@@ -27,19 +27,16 @@ fn pair_of_words(name: &[u8], word: &[u8], x: &[u8], y: &[u8]) -> Option<(u32, u
 }
 
 // Returns the two numbers of a line that begins with this name.
-#[tactic(auto, using(crate::proofs::LineForms::four_words), unfolding(crate::specs::Reading::pair_of_words))]
+#[tactic(auto, using(crate::proofs::LineForms::more), unfolding(crate::specs::Reading::pair_of_words))]
 fn pair_in(name: &[u8], line: &[u8]) -> Option<(u32, u32)>
     ensures { result ≡ pair_of_words name.now (words_of line.now) }
 {
-    let Some((word, rest)) = cut_word(line) else {
-        return None;
-    };
-    let Some((x, rest)) = cut_word(rest) else {
-        return None;
-    };
-    match cut_word(rest) {
-        Some((_y, _more)) => None,
-        None => pair_of_words(name, word, x, rest),
+    match words_in(line) {
+        Words::One(_) => None,
+        Words::Two(_, _) => None,
+        Words::Three(word, x, y) => pair_of_words(name, word, x, y),
+        Words::Four(_, _, _, _) => None,
+        Words::More => None,
     }
 }
 
