@@ -20,7 +20,8 @@ fn main(rt: HostRuntime) -> ExitCode {
     }
 }
 
-// The exit status of the words behind the program's name, over the system's files and standard output.
+// The exit status of the words behind the program's name, over the system's files and standard
+// output.
 fn number_of<R: rt::Files + Print + AllocGlobal>(rt: &R, words: &[String]) -> u8 {
     let mut files = RealFiles { rt, failed: 0 };
     let mut out = Stdout { rt, failed: 0 };
