@@ -1,6 +1,5 @@
 -- The guard laws.
-use Rattle.std.proofs.Common.{◌≡◌, ℕ, zero, suc, ◌+◌, ◌-◌, ◌*◌, ◌/◌, ◌%◌, ◌^◌, ◌<◌, ◌≤◌, ◌⊎◌, inl, inr, Bool, true, false, cond, List, [], ◌∷◌, ◌++◌, length, map, get_or, slice_get, Some, refl, sym, ap, ◌∙◌, subst, arith, append_assoc, add-one, nat_lt, nat_le, ◌||◌}
-use Rattle.std.specs.Prelude.{flat_map, min, max}
+use Rattle.std.proofs.Common.{◌≡◌, ℕ, zero, suc, ◌+◌, ◌-◌, ◌*◌, ◌/◌, ◌%◌, ◌^◌, ◌<◌, ◌≤◌, ◌⊎◌, inl, inr, Bool, true, false, cond, List, [], ◌∷◌, ◌++◌, length, map, get_or, slice_get, Some, refl, sym, ap, ◌∙◌, subst, arith, append_assoc, add-one, nat_le, ◌||◌}
 use Rattle.std.specs.List.{list_all, slice_index_or}
 use Rattle.std.proofs.lemmas.Bool.{cases_lt, and_from, and_parts, lt-ltb, le-ltb, leb-true, eq-eqb, eqb-true}
 use Rattle.std.proofs.lemmas.List.{length-append}
@@ -19,7 +18,8 @@ use Rattle.tc_machine.specs.PlanAreas.{first_link}
 use Rattle.tc_machine.specs.Machine.{is_of}
 use Rattle.tc_machine.proofs.PlanLaws.{link_lt}
 use Rattle.task_chains.specs.declared.task_lists.Task.{Task}
-use Rattle.task_chains.specs.Views.{between, without}
+use Rattle.tcd_plan.specs.Cutting.{without, ranges_without}
+use Rattle.tcd_plan.proofs.CutLaws.{two_left, one_left}
 use Rattle.task_chains.specs.Starting.{upper_area, lower_area, held_at_start, link_or_end, IsReady}
 use Rattle.task_chains.specs.Guards.{EveryTaskIsReady, EveryPlanFits, EveryTasksStart}
 use Rattle.task_chains.proofs.DeviceLaws.{length-devices}
@@ -76,31 +76,7 @@ apart_front (r ∷ rs) ss e =
     let each = and_parts (list_all (ranges_apart r) rs) (list_all (ranges_apart r) ss) (sym (list_all-append (ranges_apart r) rs ss) ∙ parts.0) in
     and_from _ _ each.0 (apart_front rs ss parts.1)
 
-one_between : (from upto : ℕ) → length (between from upto) ≤ 1
-one_between from upto = by_test (nat_lt from upto)
-  where
-    by_test : (t : Bool) → length {A = Range} (cond t (record { at = from; len = upto - from } ∷ []) []) ≤ 1
-    by_test true = omega arith
-    by_test false = omega arith
-
-none_between : (from upto : ℕ) → upto ≤ from → length (between from upto) ≡ 0
-none_between from upto le = ap (λ t. length {A = Range} (cond t (record { at = from; len = upto - from } ∷ []) [])) (le-ltb from upto le)
-
 module _ (x n : ℕ) where
-  two_left : (r : Range) → length (without x n r) ≤ 2
-  two_left r = let a = one_between r.at (min x (r.at + r.len)) in let b = one_between (max (x + n) r.at) (r.at + r.len) in omega (arith, length-append (between r.at (min x (r.at + r.len))) (between (max (x + n) r.at) (r.at + r.len)))
-
-  -- a range below the bytes or above them isn't changed
-  one_left : (r : Range) → (r.at + r.len ≤ x) ⊎ (x + n ≤ r.at) → length (without x n r) ≤ 1
-  one_left r (inl below) =
-      let a = one_between r.at (min x (r.at + r.len)) in
-      let b = none_between (max (x + n) r.at) (r.at + r.len) (omega arith) in
-      omega (arith, length-append (between r.at (min x (r.at + r.len))) (between (max (x + n) r.at) (r.at + r.len)))
-  one_left r (inr above) =
-      let a = none_between r.at (min x (r.at + r.len)) (omega arith) in
-      let b = one_between (max (x + n) r.at) (r.at + r.len) in
-      omega (arith, length-append (between r.at (min x (r.at + r.len))) (between (max (x + n) r.at) (r.at + r.len)))
-
   -- ranges that share no byte with a range that has the bytes are below them or above
   away_front : (r s : Range) → r.at ≤ x → x + n ≤ r.at + r.len → ranges_apart r s ≡ true → (s.at + s.len ≤ x) ⊎ (x + n ≤ s.at)
   away_front r s low high apart = elim (or_cases (nat_le (r.at + r.len) s.at) (nat_le (s.at + s.len) r.at) apart) [
@@ -115,14 +91,14 @@ module _ (x n : ℕ) where
   ]
 
   -- the number of parts that are left of one range and of others
-  left_step : (s : Range) (rs : List Range) → length (flat_map (without x n) (s ∷ rs)) ≡ length (without x n s) + length (flat_map (without x n) rs)
-  left_step s rs = length-append (without x n s) (flat_map (without x n) rs)
+  left_step : (s : Range) (rs : List Range) → length (ranges_without x n (s ∷ rs)) ≡ length (without x n s) + length (ranges_without x n rs)
+  left_step s rs = length-append (without x n s) (ranges_without x n rs)
 
-  others_left : (r : Range) (rs : List Range) → r.at ≤ x → x + n ≤ r.at + r.len → list_all (ranges_apart r) rs ≡ true → length (flat_map (without x n) rs) ≤ length rs
+  others_left : (r : Range) (rs : List Range) → r.at ≤ x → x + n ≤ r.at + r.len → list_all (ranges_apart r) rs ≡ true → length (ranges_without x n rs) ≤ length rs
   others_left r [] low high apart = omega arith
   others_left r (s ∷ rs) low high apart =
       let parts = and_parts (ranges_apart r s) (list_all (ranges_apart r) rs) apart in
-      let one = one_left s (away_front r s low high parts.0) in
+      let one = one_left x n s (away_front r s low high parts.0) in
       let rest = others_left r rs low high parts.1 in
       omega (arith, left_step s rs)
 
@@ -131,16 +107,16 @@ module _ (x n : ℕ) where
   in_list s r (z ∷ zs) zero lt at all = ap (ranges_apart s) (sym at) ∙ (and_parts (ranges_apart s z) (list_all (ranges_apart s) zs) all).0
   in_list s r (z ∷ zs) (suc k) lt at all = in_list s r zs k (omega arith) at (and_parts (ranges_apart s z) (list_all (ranges_apart s) zs) all).1
 
-  left_all : (rs : List Range) (r : Range) (k : ℕ) → r.at ≤ x → x + n ≤ r.at + r.len → k < length rs → get_or rs k r ≡ r → all_apart rs ≡ true → length (flat_map (without x n) rs) ≤ length rs + 1
+  left_all : (rs : List Range) (r : Range) (k : ℕ) → r.at ≤ x → x + n ≤ r.at + r.len → k < length rs → get_or rs k r ≡ r → all_apart rs ≡ true → length (ranges_without x n rs) ≤ length rs + 1
   left_all [] r k low high lt at apart = absurd (omega arith)
   left_all (s ∷ rs) r zero low high lt at apart =
       let parts = and_parts (list_all (ranges_apart s) rs) (all_apart rs) apart in
-      let two = two_left s in
+      let two = two_left x n s in
       let rest = others_left s rs (subst (λ (z : Range). z.at ≤ x) (sym at) low) (subst (λ (z : Range). x + n ≤ z.at + z.len) (sym at) high) parts.0 in
       omega (arith, left_step s rs)
   left_all (s ∷ rs) r (suc k) low high lt at apart =
       let parts = and_parts (list_all (ranges_apart s) rs) (all_apart rs) apart in
-      let one = one_left s (away_behind r s low high (in_list s r rs k (omega arith) at parts.0)) in
+      let one = one_left x n s (away_behind r s low high (in_list s r rs k (omega arith) at parts.0)) in
       let rest = left_all rs r k low high (omega arith) at parts.1 in
       omega (arith, left_step s rs)
 
@@ -156,7 +132,7 @@ every_fit plan switch block list r ok has low high few own =
     let all : all_apart (plan.rom ++ (plan.ram ++ rest)) ≡ true = subst (λ l. all_apart l ≡ true) (append_assoc (plan.rom ++ plan.ram) (map (λ (d : Device). d.range) plan.devices) (areas_range plan ∷ []) ∙ append_assoc plan.rom plan.ram rest) ok.apart in
     let apart = apart_front plan.ram rest (all_apart-behind plan.rom (plan.ram ++ rest) all) in
     let left = left_all block n plan.ram r has.0 low high has.1 has.2 apart in
-    record { in_ram = in_one_of block n plan.ram r has.0 low high has.1 has.2; room = omega (arith, length-devices plan.devices (flat_map (without block n) plan.ram)); own_stack = own }
+    record { in_ram = in_one_of block n plan.ram r has.0 low high has.1 has.2; room = omega (arith, length-devices plan.devices (ranges_without block n plan.ram)); own_stack = own }
 
 -- ---- start states
 pub every_tasks_start : EveryTasksStart

@@ -3,63 +3,20 @@ use Rattle.std.proofs.Common.{◌≡◌, ℕ, ◌+◌, ◌-◌, ◌%◌, ◌^◌
 use Rattle.std.proofs.lemmas.Bool.{cases_Bool, cases_lt, and_parts, and_from, leb-true, leb-false, le-leb, ltb-true, lt-ltb, eqb-true, eq-eqb}
 use Rattle.std.proofs.lemmas.List.{append-nil, map-append}
 use Rattle.std.proofs.lemmas.List.Folds.{list_all-append}
-use Rattle.std.specs.Prelude.{min, max, flat_map}
+use Rattle.std.specs.Prelude.{min, max}
 use Rattle.std.specs.List.{list_all}
 use Rattle.tcd_base.specs.declared.range.Range.{Range}
 use Rattle.tcd_plan.specs.declared.plans.Device.{Device}
 use Rattle.tcd_plan.specs.PlanData.{PlanData, IsPlan, is_range, is_device, ranges_apart, areas_range, all_apart}
 use Rattle.tcd_base.specs.Ranges.{IsWithin, IsInOne}
 use Rattle.tcd_plan.specs.Regions.{IsInDevice, IsStoreInRange}
+use Rattle.tcd_plan.specs.Cutting.{between, without, ranges_without}
 use Rattle.tcd_base.proofs.RangeLaws.{in_one, IsInOne-front, IsInOne-behind}
 use Rattle.tcd_plan.proofs.ApartLaws.{all_apart-before, all_apart-behind}
-use Rattle.tc_machine.proofs.Zeros.{IsInOne-parts}
+use Rattle.tcd_plan.proofs.CutLaws.{IsInOne-parts, in_part, in_ranges_without}
 use Rattle.task_chains.specs.Tasks.{TasksData, AreTasks, count, block_size}
-use Rattle.task_chains.specs.Views.{between, without, any_device, view_devices, view_plan_of, FitPlan}
+use Rattle.task_chains.specs.Views.{any_device, view_devices, view_plan_of, FitPlan}
 use Rattle.task_chains.specs.Safe.{MissesBlock}
-
--- ---- parts of ranges
-abbrev pub parts : ℕ → ℕ → List Range → List Range
-parts x k rs = flat_map (without x k) rs
-
-in_between : (from upto x n : ℕ) → IsInOne x n (between from upto) → (from ≤ x) × (x + n ≤ upto)
-in_between from upto x n h = by_test (nat_lt from upto) refl h
-  where
-    by_test : (t : Bool) → nat_lt from upto ≡ t → IsInOne x n (cond t (record { at = from; len = upto - from } ∷ []) []) → (from ≤ x) × (x + n ≤ upto)
-    by_test true lt (inl w) = let less = ltb-true from upto lt in let high = w.1 in (w.0, omega arith)
-    by_test true lt (inr none) = absurd none
-    by_test false lt none = absurd none
-
-min_left : (a b x : ℕ) → x ≤ min a b → x ≤ a
-min_left a b x h = omega arith
-
-min_right : (a b x : ℕ) → x ≤ min a b → x ≤ b
-min_right a b x h = omega arith
-
-max_left : (a b x : ℕ) → max a b ≤ x → a ≤ x
-max_left a b x h = omega arith
-
-max_right : (a b x : ℕ) → max a b ≤ x → b ≤ x
-max_right a b x h = omega arith
-
--- addresses inside a part of a range are inside the range, and miss what was taken out
-in_part : (b k : ℕ) (r : Range) (x n : ℕ) → IsInOne x n (without b k r) → IsWithin x n r × ((x + n ≤ b) ⊎ (b + k ≤ x))
-in_part b k r x n h =
-    elim (IsInOne-parts x n (between r.at (min b (r.at + r.len))) (between (max (b + k) r.at) (r.at + r.len)) h) [
-      | inl first ↦
-          let p = in_between r.at (min b (r.at + r.len)) x n first in
-          ((p.0, min_right b (r.at + r.len) (x + n) p.1), inl (min_left b (r.at + r.len) (x + n) p.1))
-      | inr second ↦
-          let p = in_between (max (b + k) r.at) (r.at + r.len) x n second in
-          ((max_right (b + k) r.at x p.0, p.1), inr (max_left (b + k) r.at x p.0))
-    ]
-
-in_parts : (b k : ℕ) (rs : List Range) (x n : ℕ) → IsInOne x n (parts b k rs) → IsInOne x n rs × ((x + n ≤ b) ⊎ (b + k ≤ x))
-in_parts b k [] x n h = absurd h
-in_parts b k (r ∷ rs) x n h =
-    elim (IsInOne-parts x n (without b k r) (parts b k rs) h) [
-      | inl here ↦ let p = in_part b k r x n here in (inl p.0, p.1)
-      | inr rest ↦ let p = in_parts b k rs x n rest in (inr p.0, p.1)
-    ]
 
 -- ---- devices
 pub in_devices : (ds : List Device) (rs : List Range) (x n : ℕ) → IsInDevice x n (ds ++ map any_device rs) → IsInDevice x n ds ⊎ IsInOne x n rs
@@ -187,11 +144,25 @@ without_range b k r hb hk is =
     list_all-append is_range (between r.at (min b (r.at + r.len))) (between (max (b + k) r.at) (r.at + r.len))
     ∙ and_from _ _ (between_range r.at (min b (r.at + r.len)) a (min_four b (r.at + r.len) hb upto) (omega arith)) (between_range (max (b + k) r.at) (r.at + r.len) (max_four (b + k) r.at last a) upto fits)
 
-parts_range : (b k : ℕ) (rs : List Range) → b % 4 ≡ 0 → k % 4 ≡ 0 → list_all is_range rs ≡ true → list_all is_range (parts b k rs) ≡ true
+parts_range : (b k : ℕ) (rs : List Range) → b % 4 ≡ 0 → k % 4 ≡ 0 → list_all is_range rs ≡ true → list_all is_range (ranges_without b k rs) ≡ true
 parts_range b k [] hb hk h = refl
 parts_range b k (r ∷ rs) hb hk h =
     let p = and_parts (is_range r) (list_all is_range rs) h in
-    list_all-append is_range (without b k r) (parts b k rs) ∙ and_from _ _ (without_range b k r hb hk p.0) (parts_range b k rs hb hk p.1)
+    list_all-append is_range (without b k r) (ranges_without b k rs) ∙ and_from _ _ (without_range b k r hb hk p.0) (parts_range b k rs hb hk p.1)
+
+in_between : (from upto x n : ℕ) → IsInOne x n (between from upto) → (from ≤ x) × (x + n ≤ upto)
+in_between from upto x n h = by_test (nat_lt from upto) refl h
+  where
+    by_test : (t : Bool) → nat_lt from upto ≡ t → IsInOne x n (cond t (record { at = from; len = upto - from } ∷ []) []) → (from ≤ x) × (x + n ≤ upto)
+    by_test true lt (inl w) = let less = ltb-true from upto lt in let high = w.1 in (w.0, omega arith)
+    by_test true lt (inr none) = absurd none
+    by_test false lt none = absurd none
+
+min_left : (a b x : ℕ) → x ≤ min a b → x ≤ a
+min_left a b x h = omega arith
+
+max_left : (a b x : ℕ) → max a b ≤ x → a ≤ x
+max_left a b x h = omega arith
 
 without_apart : (b k : ℕ) (r : Range) → b % 4 ≡ 0 → k % 4 ≡ 0 → is_range r ≡ true → all_apart (without b k r) ≡ true
 without_apart b k r hb hk is =
@@ -205,13 +176,13 @@ without_apart b k r hb hk is =
     let high = max_left (b + k) r.at y q.0 in
     absurd (omega arith))
 
-parts_apart : (b k : ℕ) (rs : List Range) → b % 4 ≡ 0 → k % 4 ≡ 0 → list_all is_range rs ≡ true → all_apart rs ≡ true → all_apart (parts b k rs) ≡ true
+parts_apart : (b k : ℕ) (rs : List Range) → b % 4 ≡ 0 → k % 4 ≡ 0 → list_all is_range rs ≡ true → all_apart rs ≡ true → all_apart (ranges_without b k rs) ≡ true
 parts_apart b k [] hb hk h a = refl
 parts_apart b k (r ∷ rs) hb hk h a =
     let p = and_parts (is_range r) (list_all is_range rs) h in
     let q = and_parts (list_all (ranges_apart r) rs) (all_apart rs) a in
-    apart_both (without b k r) (parts b k rs) (HaveBytes-ranges _ (without_range b k r hb hk p.0)) (HaveBytes-ranges _ (parts_range b k rs hb hk p.1)) (without_apart b k r hb hk p.0) (parts_apart b k rs hb hk p.1 q.1)
-    (λ y first second. all_apart-before y (r ∷ []) rs a (inl (in_part b k r y 1 first).0) (in_parts b k rs y 1 second).0)
+    apart_both (without b k r) (ranges_without b k rs) (HaveBytes-ranges _ (without_range b k r hb hk p.0)) (HaveBytes-ranges _ (parts_range b k rs hb hk p.1)) (without_apart b k r hb hk p.0) (parts_apart b k rs hb hk p.1 q.1)
+    (λ y first second. all_apart-before y (r ∷ []) rs a (inl (in_part b k r y 1 first).0) (in_ranges_without b k rs y 1 second).0)
 
 -- ---- the plan
 module _ {plan : PlanData} (ok : IsPlan plan) (tasks : TasksData) (are : AreTasks tasks) (fit : FitPlan plan tasks) where
@@ -219,7 +190,7 @@ module _ {plan : PlanData} (ok : IsPlan plan) (tasks : TasksData) (are : AreTask
   dev = map (λ (d : Device). d.range) plan.devices
 
   abbrev pub left : List Range
-  left = parts tasks.block (block_size tasks) plan.ram
+  left = ranges_without tasks.block (block_size tasks) plan.ram
 
   pub rest_apart : all_apart (plan.rom ++ (plan.ram ++ (dev ++ areas_range plan ∷ []))) ≡ true
   rest_apart = sym (ap all_apart (append_assoc (plan.rom ++ plan.ram) dev (areas_range plan ∷ []) ∙ append_assoc plan.rom plan.ram (dev ++ areas_range plan ∷ []))) ∙ ok.apart
@@ -237,7 +208,7 @@ module _ {plan : PlanData} (ok : IsPlan plan) (tasks : TasksData) (are : AreTask
   left_range = parts_range tasks.block (block_size tasks) plan.ram are.whole whole_block (ok.ranges).ram
 
   pub in_left : (y : ℕ) → IsInOne y 1 left → IsInOne y 1 plan.ram
-  in_left y h = (in_parts tasks.block (block_size tasks) plan.ram y 1 h).0
+  in_left y h = (in_ranges_without tasks.block (block_size tasks) plan.ram y 1 h).0
 
   areas_have : HaveBytes (areas_range plan ∷ [])
   areas_have = (let some = (ok.areas).some in omega arith, tt)
@@ -318,7 +289,7 @@ module _ {plan : PlanData} (ok : IsPlan plan) (tasks : TasksData) (are : AreTask
         | inl none ↦ absurd none
         | inr at ↦ elim (in_devices plan.devices left x n at) [
           | inl device ↦ ((range.0, inr device), device_misses device)
-          | inr ram ↦ let p = in_parts tasks.block (block_size tasks) plan.ram x n ram in ((range.0, inl p.0), p.1)
+          | inr ram ↦ let p = in_ranges_without tasks.block (block_size tasks) plan.ram x n ram in ((range.0, inl p.0), p.1)
         ]
       ]
     where

@@ -1,9 +1,10 @@
 -- The view of a task: the image and the plan for which its certificate is judged.
-use Rattle.std.specs.Prelude.{◌≡◌, ◌+◌, ◌-◌, ◌^◌, ◌≤◌, ◌==◌, ◌&&◌, ℕ, Bool, false, nat_le, nat_lt, min, max, if◌then◌else◌, List, [], ◌∷◌, ◌++◌, length, map, flat_map, slice_index_or}
+use Rattle.std.specs.Prelude.{◌≡◌, ◌+◌, ◌-◌, ◌^◌, ◌≤◌, ◌==◌, ◌&&◌, ℕ, Bool, false, nat_le, nat_lt, if◌then◌else◌, List, [], ◌∷◌, ◌++◌, length, map, slice_index_or}
 use Rattle.elf_image.specs.Images.{ImageData, SegmentData}
 use Rattle.tcd_base.specs.declared.range.Range.{Range}
 use Rattle.tcd_plan.specs.declared.plans.Device.{Device}
 use Rattle.tcd_plan.specs.PlanData.{PlanData}
+use Rattle.tcd_plan.specs.Cutting.{ranges_without}
 use Rattle.tcd_base.specs.Ranges.{IsInOne}
 use Rattle.task_chains.specs.Tasks.{TasksData, task_at, block_size, routine_size}
 use Rattle.task_chains.specs.Routine.{view_routine_bytes}
@@ -28,21 +29,13 @@ abbrev pub view_image_of : ImageData → TasksData → ℕ → ImageData
 view_image_of image tasks u = record { entry = (task_at tasks u).entry; segments = map (view_segment tasks) image.segments }
 
 -- ---- the plan
--- the range from one address up to another; none if it has no byte
-abbrev pub between : ℕ → ℕ → List Range
-between from to_ = if nat_lt from to_ then record { at = from; len = to_ - from } ∷ [] else []
-
--- what is left of a range without the n bytes from x on, ascending
-abbrev pub without : ℕ → ℕ → Range → List Range
-without x n r = between r.at (min x (r.at + r.len)) ++ between (max (x + n) r.at) (r.at + r.len)
-
 -- a range that answers with any word
 abbrev pub any_device : Range → Device
 any_device r = record { range = r; lo = 0; hi = 2 ^ 32 - 1 }
 
 -- the plan's devices, and then what is left of each ram range without the block
 abbrev pub view_devices : PlanData → TasksData → List Device
-view_devices plan tasks = plan.devices ++ map any_device (flat_map (without tasks.block (block_size tasks)) plan.ram)
+view_devices plan tasks = plan.devices ++ map any_device (ranges_without tasks.block (block_size tasks) plan.ram)
 
 -- the plan with the task's stack pointer, without ram, and with interrupts off at the start of all
 -- tasks but the first
