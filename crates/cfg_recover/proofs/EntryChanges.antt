@@ -25,7 +25,7 @@ pub system-is : (plan : PlanData) (key : Key) (s : State) (tin : ℕ) → state_
 unfolding slot
 system-is plan key s tin = refl
 
--- ---- their values
+-- ---- the values of these states
 pub handler_values : (b : Limits) (s : State) (sp : Val) (ccpn : ℕ) → AreLimits b → IsValue b sp → AreValues b (state_after s (handler_change sp ccpn)).regs
 unfolding slot
 handler_values b s sp ccpn limits value = entry_values b sp false ccpn true limits value

@@ -296,7 +296,7 @@ holds_exit plan s word ie ccpn y len c h = record {
   priority = omega (arith, c.priority, h.priority);
 }
 
--- ---- coming back
+-- ---- returns
 get_or-with_lower : (k : ℕ) (lower vs : List Val) (i : ℕ) → i < length vs
     → get_or (with_lower_from k lower vs) i any_val ≡ cond (is_lower_slot (k + i)) (get_or lower (cond (ltb (k + i) 8) (k + i) (k + i - 8)) any_val) (get_or vs i any_val)
 unfolding with_lower_from
@@ -353,7 +353,7 @@ module _ (plan : PlanData) (s : State) (x : Exit) (kind : ℕ) (word : ℕ → �
 pub after_length : (s : State) (x : Exit) (kind : ℕ) → length (after_of s x kind).regs ≡ length s.regs
 after_length s x kind = with_lower_length 0 x.lower s.regs
 
--- ---- how many values a state has
+-- ---- the number of values of a state
 base_length : (b : Limits) (plan : PlanData) (s : State) (base : Arg) (offset : ℕ) (after : Bool) → length (with_base b plan s base offset after).regs ≡ length s.regs
 base_length b plan s (Word w) offset after = refl
 base_length b plan s (Reg r) offset false = refl

@@ -21,7 +21,7 @@ replicate-all v (suc n) (w ∷ vs) e each =
     let rest : vs ≡ replicate n v = replicate-all v n vs (omega arith) (λ i h. each (suc i) (omega arith)) in
     cc
 
--- ---- lists of values of the plan
+-- ---- lists of values of the lattice
 pub set_values : (b : Limits) (vs : List Val) (i : ℕ) (v : Val) → AreValues b vs → IsValue b v → AreValues b (set vs i v)
 set_values b vs i v values value r h =
     let within : r < length vs = omega (arith, length-set {A = Val}) in

@@ -5,7 +5,7 @@ use Rattle.value_domain.specs.Sets.{Among, Rising, sorted_insert, distinct}
 use Rattle.value_domain.proofs.SetLaws.{put-eq, put-gt, put_has, length_put, distinct_same, among_distinct}
 use Rattle.value_domain.proofs.ExtentLaws.{among_append, append_left, append_right}
 
--- ---- a word behind an ascending list
+-- ---- a word at the end of an ascending list
 some_same : (x y : ℕ) → Some x ≡ Some y → x ≡ y
 some_same x y e = cc
 

@@ -19,7 +19,7 @@ use Rattle.cfg_recover.specs.Finding.{FindsInRom, FindsBytes, LocatesCode}
 use Rattle.cfg_recover.specs.KnownCodes.{located_of, located_in}
 use Rattle.cfg_recover.proofs.CodeLaws.{by_four, IsCode-bounded}
 
--- ---- where the first byte is even, what follows the second is of no account
+-- ---- if the first byte is even, only the first two count
 -- the instruction has two bytes
 two_long : (a b n : ℕ) (r : List ℕ) (i : InstData) → a % 2 ≡ 0 → decoded_of (a ∷ b ∷ r) ≡ Ok (i, n) → n ≡ 2
 two_long a b n r i even e =
@@ -83,7 +83,7 @@ half_word w (a ∷ b ∷ rest) long small is even =
     let same : bytes_of_word (w % 65536) ≡ a ∷ b ∷ 0 ∷ 0 ∷ [] = rw (e0, e1, e2, e3) refl in
     ap (λ (l : List ℕ). located_of (decoded_of l)) same ∙ low_two a b (0 ∷ 0 ∷ []) rest (omega arith)
 
--- ---- what stands where the bytes stand
+-- ---- the instruction at an address with these bytes
 none_of : (bs : List ℕ) (e : DecodeErr) → decoded_of bs ≡ Err e → FindsBytes bs None
 none_of bs e is inst n ok = ok_err (inst, n) e (decoded_of bs) ok is
 

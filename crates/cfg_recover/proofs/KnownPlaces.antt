@@ -150,7 +150,7 @@ pub record Above (cert : CertData) (k : Key) (q : Point) : Type 0 where
   pub addr : place.addr ≡ q.addr
   pub covers : Covers place.state q.state
 
--- ---- a lesser certificate below a greater one
+-- ---- one certificate below another
 module _ (lower upper : CertData) (low_cert : IsCert lower) (below : IsBelowAt (known_in lower) (known_in upper)) where
   pub above : (node : NodeData) (q : Point) → Contains lower.nodes node → Contains node.points q → Above upper node.key q
   above node q has stands =

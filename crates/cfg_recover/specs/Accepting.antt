@@ -23,7 +23,7 @@ use Rattle.cfg_recover.specs.Duties.{Duty, jump, enter, resume, leave, Owed, dut
 abbrev pub limits_in : PlanData → CertData → Limits
 limits_in plan cert = limits_for plan cert.version
 
--- ---- what stands and covers
+-- ---- points that cover a state, and duties that are met
 -- the node has a point at this address, and its state covers this one
 abbrev pub HasPoint : NodeData → ℕ → State → Type 0
 HasPoint node q s = IsSomeAnd (find_point q node.points) (λ p. Covers p.state s)

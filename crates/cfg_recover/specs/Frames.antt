@@ -120,7 +120,7 @@ frames_from m (e ∷ es) fs = frames_from (step m e) es (frames_after m e fs)
 abbrev pub frames : ImageData → PlanData → Machine → List Event → List Standing
 frames image plan m es = frames_from m es (record { key = start_key image plan; at = m.pc } ∷ [])
 
--- ---- what an accepted certificate says of them
+-- ---- what an accepted certificate says about frames
 -- a node's point at this address has a state that holds the machine
 abbrev pub LiesAt : PlanData → CertData → Machine → Standing → Type 0
 LiesAt plan cert m f = IsSomeAnd (find_node f.key cert.nodes) (λ n. IsSomeAnd (find_point f.at n.points) (λ p. InState plan m p.state))

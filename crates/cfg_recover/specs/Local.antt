@@ -48,7 +48,7 @@ direct_target p (target.Reg r) = None
 abbrev pub are_aligned : Val → ℕ → Bool
 are_aligned v size = list_all (λ x. x % size == 0) (members v)
 
--- ---- the rules' own parts, by shape; all other shapes have nothing to meet
+-- ---- the rules' own parts, by shape; nothing is asked of other shapes
 -- rule 5: the targets of a jump or a call are a known list of addresses
 abbrev pub KnowsTargets : PlanData → State → ℕ → Shape → Type 0
 KnowsTargets plan s p (Jump to) = IsSome (targets_of plan s p to)

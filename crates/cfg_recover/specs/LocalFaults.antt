@@ -32,7 +32,7 @@ IsAccessFault b plan s shape (Some r) =
     ((r ≡ 9) × (StoresInRange b plan s shape → ⊥)) ⊎ ((r ≡ 10) × StoresInRange b plan s shape × (MayAccess b plan s shape → ⊥))
 IsAccessFault b plan s shape None = StoresInRange b plan s shape × MayAccess b plan s shape
 
--- ---- the same, where the address of the access is one of these
+-- ---- rules 9 and 10, by the addresses of the access
 -- Rule 9: each possible store is in one ram range or one device range as a whole.
 abbrev pub StoresInRangeAt : PlanData → Val → Shape → Type 0
 StoresInRangeAt plan at (Store src base offset size after) = AreStoresInRange plan at size
