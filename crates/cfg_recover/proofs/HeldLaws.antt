@@ -81,3 +81,10 @@ held_four inside image ss i t bs x same apart are lt at stands four =
     let there : slice_get inside.segments i ≡ Some (segment_data t) = ap (λ (l : List SegmentData). slice_get l i) are ∙ segment_there ss i t lt at in
     let held : held_bytes inside x (length bs) ≡ Some bs = held_in inside i (segment_data t) bs x apart there stands in
     ap (λ (d : ImageData). held_bytes d x 4) (sym same) ∙ ap (λ (n : ℕ). held_bytes inside x n) (sym four) ∙ held
+
+-- so is one byte
+pub held_byte : (inside image : ImageData) (ss : List Segment) (i : ℕ) (t : Segment) (b x : ℕ) → inside ≡ image → all_apart inside.segments ≡ true → inside.segments ≡ map segment_data ss
+    → i < length ss → t ≡ get_or ss i t → StandIn (segment_data t) x (b ∷ []) → image_byte image x ≡ Some b
+held_byte inside image ss i t b x same apart are lt at stands =
+    let there : slice_get inside.segments i ≡ Some (segment_data t) = ap (λ (l : List SegmentData). slice_get l i) are ∙ segment_there ss i t lt at in
+    ap (λ (d : ImageData). image_byte d x) (sym same) ∙ byte_there inside.segments i (segment_data t) x b apart there stands.0 stands.1

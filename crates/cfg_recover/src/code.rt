@@ -1,7 +1,7 @@
 // The instruction at an address of an image.
-ghost use Rattle.std.specs.Prelude.{◌≡◌, ◌≤◌, ◌+◌, ◌^◌, ◌↔◌, IsTrue, IfSome};
+ghost use Rattle.std.specs.Prelude.{◌≡◌, ◌≤◌, ◌+◌, ◌^◌, ◌↔◌, [], ◌∷◌, IsTrue, IfSome};
 ghost use Rattle.tcd_base.specs.Ranges.{IsInOne};
-ghost use Rattle.elf_image.specs.Images.{segment_data};
+ghost use Rattle.elf_image.specs.Images.{image_byte, segment_data};
 ghost use Rattle.cfg_recover.specs.Finding.{held_bytes, StandIn, FindsInRom, FindsBytes, FindsCode};
 
 use elf_image::{Image, Segment};
@@ -126,6 +126,51 @@ fn four_apart(image: &Image, addr: u32) -> Option<[u8; 4]>
     let third = image.byte(addr + 2)?;
     let fourth = image.byte(addr + 3)?;
     Some([first, second, third, fourth])
+}
+
+/// The byte of the image at an address. The segment with the number `near` is tried first, and
+/// `near` becomes the number of the one that holds the byte.
+#[inline(always)]
+pub(crate) fn byte_at(image: &Image, addr: u32, near: &mut usize) -> Option<u8>
+    ensures { result ≡ image_byte image.now addr }
+{
+    if let Some(segment) = image.segments.get(*near) {
+        if let Some(byte) = byte_of(segment, addr) {
+            return Some(byte);
+        }
+    }
+    byte_anywhere(image, addr, near)
+}
+
+/// The byte of the image at an address. All segments are tried. If one holds the byte, `near`
+/// becomes its number.
+#[inline(never)]
+fn byte_anywhere(image: &Image, addr: u32, near: &mut usize) -> Option<u8>
+    ensures { result ≡ image_byte image.now addr }
+{
+    for (number, segment) in image.segments.iter().enumerate() {
+        if let Some(byte) = byte_of(segment, addr) {
+            *near = number;
+            return Some(byte);
+        }
+    }
+    image.byte(addr)
+}
+
+/// The byte of a segment at an address, if it holds it.
+#[inline(always)]
+fn byte_of(segment: &Segment, addr: u32) -> Option<u8>
+    ensures { IfSome result (λ b. StandIn (segment_data segment.now) addr (b ∷ [])) }
+{
+    if addr < segment.at {
+        return None;
+    }
+    let at = (addr - segment.at) as usize;
+    let bytes = segment.bytes.as_slice();
+    if bytes.len() <= at {
+        return None;
+    }
+    Some(bytes[at])
 }
 
 /// Two bytes of the image, if segments hold them.

@@ -1,12 +1,13 @@
 // Instructions that were decoded lately, by their words.
-ghost use Rattle.std.specs.Prelude.{◌≡◌, ◌<◌, ◌^◌, ℕ, IfSome, slice_index};
+ghost use Rattle.std.specs.Prelude.{◌≡◌, ◌<◌, ◌^◌, ◌↔◌, ℕ, Some, IsTrue, IfSome, slice_index};
 ghost use Rattle.std.specs.Coded.{Coded-set};
+ghost use Rattle.elf_image.specs.Images.{image_byte};
 ghost use Rattle.tc_isa.specs.Bounded.{IsShape};
 ghost use Rattle.tc_encode.specs.Decoding.{decoded_of};
 ghost use Rattle.cfg_recover.specs.Finding.{LocatesCode};
 ghost use Rattle.cfg_recover.specs.KnownCodes.{located_of, located_in, IsKnown};
 
-use crate::code::{code_at, four_in_rom};
+use crate::code::{byte_at, code_at, four_in_rom};
 use crate::local::Located;
 use elf_image::Image;
 use tc_encode::decode;
@@ -18,7 +19,7 @@ use tcd_plan::Plan;
 #[derive(Drop)]
 pub struct KnownCodes {
     codes: [KnownCode; 256],
-    /// The number of the segment that held the last word.
+    /// The number of the segment that held the last word or byte.
     near: usize,
 }
 
@@ -62,6 +63,23 @@ impl KnownCodes {
         let code = known_code(word);
         self.codes[place] = code;
         code.found
+    }
+
+    /// The byte of the image at an address. The segment that held the last word or byte is tried
+    /// first.
+    #[inline(always)]
+    pub fn byte(&mut self, image: &Image, addr: u32) -> Option<u8>
+        ensures byte { result ≡ image_byte image.now addr }
+    {
+        byte_at(image, addr, &mut self.near)
+    }
+
+    /// Returns true if the image holds this byte at this address.
+    #[inline(always)]
+    pub fn has_byte(&mut self, image: &Image, addr: u32, byte: u8) -> bool
+        ensures { IsTrue result ↔ (image_byte image.now addr ≡ Some byte) }
+    {
+        self.byte(image, addr) == Some(byte)
     }
 }
 

@@ -38,9 +38,9 @@ pub(crate) fn idle_next(at: &PointCheck<'_, '_>, codes: &mut KnownCodes) -> Opti
     }
     let image = at.image;
     let addr = at.point.addr;
-    let first = image.byte(addr);
+    let first = codes.byte(image, addr);
     if first == Some(0) {
-        return if is_nop16(image, at.plan, addr) {
+        return if is_nop16(image, at.plan, addr, codes) {
             Some(addr.wrapping_add(2))
         } else {
             None
@@ -63,7 +63,7 @@ pub(crate) fn idle_next(at: &PointCheck<'_, '_>, codes: &mut KnownCodes) -> Opti
 /// Whether the instruction is nop16, at an address with byte 00: the bytes are 00 00, the address
 /// is even, and one ROM range holds both. By its word in `KnownCodes` it takes 30 more instructions
 /// of the host.
-fn is_nop16(image: &Image, plan: &Plan, addr: u32) -> bool
+fn is_nop16(image: &Image, plan: &Plan, addr: u32, codes: &mut KnownCodes) -> bool
     requires { image_byte image.now addr ≡ Some 0 }
     ensures { IsTrue result → IsCode image.now plan.now addr Nothing 2 }
 {
@@ -73,7 +73,7 @@ fn is_nop16(image: &Image, plan: &Plan, addr: u32) -> bool
     if !any_holds(plan.rom.as_slice(), addr, 2) {
         return false;
     }
-    image.has_byte(addr + 1, 0)
+    codes.has_byte(image, addr + 1, 0)
 }
 
 /// The least rule that fails at a point whose instruction only passes the state on to `next`.

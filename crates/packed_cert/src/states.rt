@@ -68,7 +68,7 @@ impl<'a> StateAt<'a> {
         self.bytes[self.place + 1]
     }
 
-    /// Returns true if the lower context was saved.
+    /// Returns true if the lower registers are those of the frame's entry.
     pub fn lower(&self) -> bool
         ensures { result ≡ self.now.lower }
     {
