@@ -4,10 +4,10 @@ ghost use Rattle.cfg_recover.specs.FrameLaws.{EdgesAre, FramesAre, HeldFramesSay
 ghost use Rattle.cfg_recover.specs.Moves.{CallsOwed, InterruptsOwed, MovesInFrame, StoresHeld, SystemCallsOwed, TrapsOwed};
 ghost use Rattle.cfg_recover.specs.RefusalLaws.{RefusalsSay};
 
-/// The laws of a machine at a point whose instruction breaks no rule by itself and whose state holds
-/// the machine. If the machine stays in its frame, it goes where the point owes a jump, and the
-/// jump's state holds it then. If it calls, makes a system call, or takes an interrupt or the trap
-/// of misaligned accesses, the point owes that entry. Its stores are in range.
+/// The laws of a machine at a point whose instruction breaks no rule by itself and whose state
+/// holds the machine. If the machine stays in its frame, it goes where the point owes a jump, and
+/// the jump's state holds it then. If it calls, makes a system call, or takes an interrupt or the
+/// trap of misaligned accesses, the point owes that entry. Its stores are in range.
 pub fn move_laws()
     ensures moves { MovesInFrame }
     ensures traps { TrapsOwed }

@@ -16,9 +16,10 @@ use Rattle.depth_cert.proofs.FindLaws.{non_decreasing, found}
 use Rattle.cfg_recover.specs.Accepting.{HasPoint}
 use Rattle.packed_cert.specs.Walks.{WalkData, RepeatsAt, KeepsOthers}
 use Rattle.packed_cert.proofs.NodeFinds.{covers_same}
+use Rattle.packed_cert.proofs.WalkedPoints.{split_more}
 use Rattle.depth_check.specs.Finding.{StandsAt}
 use Rattle.depth_check.specs.Points.{LooksAhead}
-use Rattle.depth_check.proofs.WalkLaws.{stands_behind, split_more}
+use Rattle.depth_check.proofs.WalkLaws.{stands_behind}
 
 -- ---- an element of a list that rises by a number is found by its number
 number_at : {A : Type 0} (f : A → ℕ) (xs : List A) (k : ℕ) (d : A) → k < length xs → get_or (map f xs) k 0 ≡ f (get_or xs k d)

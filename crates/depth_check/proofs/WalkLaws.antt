@@ -1,5 +1,5 @@
 -- A walk over the points of a node, one after another.
-use Rattle.std.proofs.Common.{◌≡◌, ◌<◌, List, [], ◌∷◌, ◌++◌, length, get_or, take, sym, ap, ◌∙◌, arith, append_assoc, length-append}
+use Rattle.std.proofs.Common.{◌≡◌, ◌<◌, List, [], ◌∷◌, ◌++◌, length, get_or, take, sym, ap, ◌∙◌, arith, length-append}
 use Rattle.std.proofs.Math.Seq.{get_or-append_seam, take-append_seam}
 use Rattle.depth_cert.specs.declared.points.Point.{Point}
 
@@ -15,7 +15,3 @@ stands_behind points done left p e = record {
   here = sym (ap (λ (l : List Point). get_or l (length done) p) e ∙ get_or-append_seam done p left p);
   before = ap (take (length done)) e ∙ take-append_seam done (p ∷ left);
 }
-
--- a single step
-pub split_more : (points done left after : List Point) (p : Point) → points ≡ done ++ left → left ≡ p ∷ after → points ≡ (done ++ p ∷ []) ++ after
-split_more points done left after p e f = e ∙ ap (λ (l : List Point). done ++ l) f ∙ sym (append_assoc done (p ∷ []) after)

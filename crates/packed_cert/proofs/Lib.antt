@@ -14,3 +14,4 @@ pub mod SameWords
 pub mod StateShapes
 pub mod ValueShapes
 pub mod WalkSteps
+pub mod WalkedPoints

@@ -19,7 +19,7 @@ use Rattle.cfg_recover.proofs.FirstFault.{all_done, least_point, in_cert, least_
 use Rattle.task_chains.specs.Tasks.{TasksData}
 use Rattle.task_chains.specs.Apart.{StaysApart, HoldsApart, KeepsApart, FailsApart, at_point, IsTaskFault}
 use Rattle.task_chains.specs.Faults.{HoldsApartIn, IsNodeFault}
-use Rattle.task_chains.proofs.WalkedPoints.{met}
+use Rattle.packed_cert.proofs.WalkedPoints.{met}
 
 -- ---- a point
 module _ (b : Limits) (view : ImageData) (plan : PlanData) (tasks : TasksData) (key : Key) (point : Point) where

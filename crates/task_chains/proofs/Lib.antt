@@ -41,7 +41,6 @@ pub mod ReadingLaws
 pub mod RoutineBytes
 pub mod MissLaws
 pub mod ViewBytes
-pub mod WalkedPoints
 pub mod FaultLaws
 pub mod ApartLaws
 pub mod GrowthLaws

@@ -1,6 +1,5 @@
 -- Lemmas on graphs, reports and generated images, and those that graphs and reports share.
 pub mod JudgedPoints
-pub mod WalkedPoints
 pub mod GraphLemmas
 pub mod ReportLemmas
 pub mod ImageLemmas

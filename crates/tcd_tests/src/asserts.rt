@@ -1,4 +1,5 @@
-//! Assertions. Each `assert_eq!` costs the prover some two seconds where it stands, a call of one of these a fraction of it.
+//! Assertions. Each `assert_eq!` costs the prover some two seconds where it stands, a call of one
+//! of these a fraction of it.
 use std::fmt::Debug;
 use std::process::Abort;
 

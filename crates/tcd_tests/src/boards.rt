@@ -1,4 +1,5 @@
-//! Plans of a small board: rom from 80000000 on and ram from D0008000 on, 4096 bytes each, and four save areas at D0000000.
+//! Plans of a small board: rom from 80000000 on and ram from D0008000 on, 4096 bytes each, and four
+//! save areas at D0000000.
 use std::alloc::AllocGlobal;
 use std::process::Abort;
 use std::test::Fail;

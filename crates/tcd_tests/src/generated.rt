@@ -1,4 +1,5 @@
-//! Generated images, read back: main, the table, vectors, the system call, n functions 32 bytes apart.
+//! Generated images, read back: main, the table, vectors, the system call, n functions 32 bytes
+//! apart.
 use crate::asserts::same;
 use elf_image::Image;
 use std::test::Fail;

@@ -56,7 +56,8 @@ fn computes_worked_words(rt: HostRuntime) {
 
 #[test]
 fn shapes_worked_instructions(rt: HostRuntime) {
-    // addi d1, d2, -1; ld.w.l d1, [a2]-4; ld.a a2, [a3+]-1; loop a4, .-2; calla 0xa0000004; sub16.a a10, 8.
+    // addi d1, d2, -1; ld.w.l d1, [a2]-4; ld.a a2, [a3+]-1; loop a4, .-2; calla 0xa0000004; sub16.a
+    // a10, 8.
     for (fields, result, written) in [
         (
             (0, 1, 2, 0, 0, 0xffff),

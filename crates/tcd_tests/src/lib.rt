@@ -1,4 +1,5 @@
-//! Tests of the libraries, by public calls alone: forms, tables, words, files in memory, values, states, points and runs.
+//! Tests of the libraries, by public calls alone: forms, tables, words, files in memory, values,
+//! states, points and runs.
 #![tactic(auto)]
 
 #[cfg(test)]

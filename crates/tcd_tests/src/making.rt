@@ -36,7 +36,8 @@ fn has_needs<R: Abort + AllocGlobal>(
     Ok(())
 }
 
-// NESTED's frames: main, its three functions, of which the third runs at priority 10, and the handlers of 10 and 20.
+// NESTED's frames: main, its three functions, of which the third runs at priority 10, and the
+// handlers of 10 and 20.
 #[test]
 fn certificates_have_the_least_needs(rt: HostRuntime) -> Result<(), Fail> {
     for version in [1u8, 2] {

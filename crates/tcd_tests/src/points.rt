@@ -14,7 +14,8 @@ use value_domain::{Bounds, State, Val};
 
 const BUSY: [Edit; 2] = [BOTH_TRAPS, TWO_INTERRUPTS];
 
-// A10 is D0009000, A4 is D0008002 or D0008004, A15 is 80000000, 80000001 or 80000010; interrupts are on at CCPN 10.
+// A10 is D0009000, A4 is D0008002 or D0008004, A15 is 80000000, 80000001 or 80000010; interrupts
+// are on at CCPN 10.
 fn state(b: &Bounds) -> State
     ensures { AreValues b.now result.regs }
 {
@@ -134,7 +135,8 @@ fn leavings(rt: HostRuntime) -> Result<(), Fail> {
     Ok(())
 }
 
-// After a call the exit's IE and CCPN hold, after a system call the caller's; the lower registers are the exit's.
+// After a call the exit's IE and CCPN hold, after a system call the caller's; the lower registers
+// are the exit's.
 #[test]
 fn coming_back(rt: HostRuntime) -> Result<(), Fail> {
     let plan = board(&rt, &[(r#""ccpn":0"#, r#""ccpn":7"#)])?;

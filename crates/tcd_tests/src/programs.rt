@@ -65,7 +65,8 @@ pub static LIMIT_TO_ZERO: Program<'static> = Program {
     layout: "entry main\nplace text 80000000 00000400\n",
 };
 
-/// A main that calls functions, and handlers of interrupts 10 and 20, of which the first one calls a function, too.
+/// A main that calls functions, and handlers of interrupts 10 and 20, of which the first one calls
+/// a function, too.
 pub static NESTED: Program<'static> = Program {
     source: ".section text\n\
         .global main\n\
@@ -88,7 +89,8 @@ pub static NESTED: Program<'static> = Program {
         place handler20 80000680 00000020\n",
 };
 
-/// Loads halfwords at F0000000, the last one from an odd address, and makes a system call; a handler of interrupt 10.
+/// Loads halfwords at F0000000, the last one from an odd address, and makes a system call; a
+/// handler of interrupt 10.
 pub static LOADS: Program<'static> = Program {
     source: ".section text\n\
         .global main\n\

@@ -52,7 +52,8 @@ fn standard_output_takes_a_text(rt: HostRuntime) -> Result<(), Fail> {
     Ok(())
 }
 
-// A file of more bytes than one call of the system gives, none of whose blocks is like another, and one of exactly two such blocks.
+// A file of more bytes than one call of the system gives, none of whose blocks is like another, and
+// one of exactly two such blocks.
 #[test]
 fn a_long_file_is_read_back(rt: HostRuntime) -> Result<(), Fail> {
     let name = "tcd_adapter_long_test";

@@ -30,7 +30,8 @@ pub fn open(b: &Bounds) -> State
     }
 }
 
-/// A state of which a register holds one of the words. A2 to A7 are 16 to 21, A10 is 22, and A12 to A15 are 23 to 26.
+/// A state of which a register holds one of the words. A2 to A7 are 16 to 21, A10 is 22, and A12 to
+/// A15 are 23 to 26.
 pub fn with(b: &Bounds, s: State, place: usize, words: &[u32]) -> State
     requires place { place < 27 }
     requires some { 1 ≤ length words.now }

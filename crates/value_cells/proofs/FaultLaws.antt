@@ -18,7 +18,7 @@ use Rattle.cfg_recover.proofs.CodeLaws.{IsCode-one}
 use Rattle.cfg_recover.proofs.FirstFault.{all_done, least_point, in_cert, least_place, address_small}
 use Rattle.value_cells.specs.declared.cells.Cell.{Cell}
 use Rattle.value_cells.specs.Cells.{AreCells}
-use Rattle.value_cells.proofs.WalkedPoints.{met}
+use Rattle.packed_cert.proofs.WalkedPoints.{met}
 use Rattle.value_cells.specs.Keeping.{KeepsCellsAt, KeepsCellsAtPoint, KeepsCells, BreaksCells, breaks_at, place_number, IsFirstBreak, IsNodeBreak}
 
 -- ---- a point

@@ -11,7 +11,6 @@ pub mod CellPlan
 pub mod KeepingLaws
 pub mod LineForms
 pub mod ReadLaws
-pub mod WalkedPoints
 pub mod FaultLaws
 pub mod GrowthLaws
 pub mod PlainWords

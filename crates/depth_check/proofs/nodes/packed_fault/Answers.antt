@@ -19,7 +19,8 @@ use Rattle.depth_check.proofs.CallLaws.{HoldsNext, next_holds, holds_next}
 use Rattle.depth_check.proofs.Deciding.{refuted}
 use Rattle.depth_check.proofs.RepeatLaws.{looks_ahead, repeats_stand, known_values}
 use Rattle.depth_check.proofs.NodeLaws.{fault_at, none_at, entry_alone}
-use Rattle.depth_check.proofs.WalkLaws.{stands_behind, split_more}
+use Rattle.packed_cert.proofs.WalkedPoints.{split_more}
+use Rattle.depth_check.proofs.WalkLaws.{stands_behind}
 use Rattle.depth_check.proofs.nodes.packed_fault.Goals as goal
 use Rattle.depth_check.proofs.nodes.packed_fault.Goals.{then-known, else-known}
 

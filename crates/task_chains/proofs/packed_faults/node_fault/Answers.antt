@@ -8,7 +8,7 @@ use Rattle.depth_cert.specs.Nodes.{NodeData}
 use Rattle.task_chains.specs.Faults.{HoldsApartIn}
 use Rattle.cfg_recover.proofs.FirstFault.{broken}
 use Rattle.task_chains.proofs.FaultLaws.{walked_fails}
-use Rattle.task_chains.proofs.WalkedPoints.{split_again, split_more, walked, walked_all}
+use Rattle.packed_cert.proofs.WalkedPoints.{split_again, split_more, walked, walked_all}
 use Rattle.task_chains.proofs.packed_faults.node_fault.Goals as goal
 
 pub holds_apart-requires : goal.holds_apart-requires

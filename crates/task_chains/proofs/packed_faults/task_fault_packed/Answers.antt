@@ -10,7 +10,7 @@ use Rattle.task_chains.specs.Apart.{HoldsApart, IsTaskFault}
 use Rattle.task_chains.specs.Faults.{HoldsApartIn, IsNodeFault}
 use Rattle.cfg_recover.proofs.FirstFault.{all_more, accepted_values}
 use Rattle.task_chains.proofs.FaultLaws.{all_apart, first_fails}
-use Rattle.task_chains.proofs.WalkedPoints.{never_none, got}
+use Rattle.packed_cert.proofs.WalkedPoints.{never_none, got}
 use Rattle.task_chains.proofs.packed_faults.task_fault_packed.Goals as goal
 
 pub unreachable-requires : goal.unreachable-requires

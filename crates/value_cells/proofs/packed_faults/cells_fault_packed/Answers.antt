@@ -12,7 +12,7 @@ use Rattle.value_cells.specs.Cells.{with_cells}
 use Rattle.value_cells.specs.Keeping.{KeepsCells, IsFirstBreak, IsNodeBreak, KeepsCellsAtPoint}
 use Rattle.cfg_recover.proofs.FirstFault.{all_more, accepted_values}
 use Rattle.value_cells.proofs.FaultLaws.{all_keep, first_breaks, cells_fit}
-use Rattle.value_cells.proofs.WalkedPoints.{never_none, got}
+use Rattle.packed_cert.proofs.WalkedPoints.{never_none, got}
 use Rattle.value_cells.proofs.packed_faults.cells_fault_packed.Goals as goal
 
 pub unreachable-requires : goal.unreachable-requires

@@ -6,7 +6,7 @@ use Rattle.depth_cert.specs.declared.points.Point.{Point}
 use Rattle.value_cells.specs.Keeping.{KeepsCellsAtPoint}
 use Rattle.cfg_recover.proofs.FirstFault.{broken}
 use Rattle.value_cells.proofs.FaultLaws.{walked_breaks}
-use Rattle.value_cells.proofs.WalkedPoints.{split_again, split_more, walked, walked_all}
+use Rattle.packed_cert.proofs.WalkedPoints.{split_again, split_more, walked, walked_all}
 use Rattle.value_cells.proofs.packed_faults.node_break.Goals as goal
 
 pub keeps_point-requires-clause-values : goal.keeps_point-requires-clause-values

@@ -9,7 +9,7 @@ use Rattle.tcd_report.specs.Graphs.{ArePointLines, AreJoined}
 use Rattle.tcd_report.specs.Judging.{point_of, GrowsBy}
 use Rattle.tcd_report.proofs.GraphLemmas.Joining.{grown_push}
 use Rattle.tcd_report.proofs.JudgedPoints.{point_values, point_faultless}
-use Rattle.tcd_report.proofs.WalkedPoints.{split_more, walked, walked_all}
+use Rattle.packed_cert.proofs.WalkedPoints.{split_more, walked, walked_all}
 use Rattle.tcd_report.proofs.graphs.graph_text.append_node.Goals as goal
 
 pub append_point-requires-clause-values : goal.append_point-requires-clause-values

@@ -2,14 +2,14 @@ use Rattle.std.proofs.Common.{◌<◌, ◌≡◌, [], length, sym, arith, string
 use Rattle.std.proofs.lemmas.Option.{slice_get_within, get_or_from_slice_get}
 use Rattle.tcd_report.specs.Graphs.{AreNodeLines}
 use Rattle.tcd_report.proofs.GraphLemmas.Joining.{grown_more, grown_all}
-use Rattle.tcd_report.proofs.WalkedPoints.{never_none, got}
+use Rattle.packed_cert.proofs.WalkedPoints.{never_none, got}
 use Rattle.tcd_report.proofs.graphs.graph_text.graph_packed.Goals as goal
 
 pub unreachable-requires : goal.unreachable-requires
 unreachable-requires c = never_none (c.args.cert.now).nodes c.loop-i.i (omega (arith, c.loop-i-test.true, c.len-i-end.ensures)) c.in_default.ensures
 
 pub append_node-requires-clause-stands : goal.append_node-requires-clause-stands
-append_node-requires-clause-stands c = got (c.args.cert.now).nodes c.loop-i.i c.in-Some.node c.in-Some.ensures
+append_node-requires-clause-stands c = (got (c.args.cert.now).nodes c.loop-i.i c.in-Some.node c.in-Some.ensures).2
 
 pub loop-i-preserved : goal.loop-i-preserved
 loop-i-preserved c =

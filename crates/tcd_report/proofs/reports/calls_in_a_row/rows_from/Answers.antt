@@ -8,7 +8,7 @@ use Rattle.tcd_report.specs.Reports.Heights.{IsMost, IsMostOf, HasRowAt}
 use Rattle.tcd_report.specs.Judging.{point_of}
 use Rattle.tcd_report.proofs.ReportLemmas.MostLaws.{most_with}
 use Rattle.tcd_report.proofs.JudgedPoints.{point_faultless}
-use Rattle.tcd_report.proofs.WalkedPoints.{split_more, walked, walked_all}
+use Rattle.packed_cert.proofs.WalkedPoints.{split_more, walked, walked_all}
 use Rattle.tcd_report.proofs.reports.calls_in_a_row.rows_from.Goals as goal
 
 pub rows_at-requires-clause-faultless : goal.rows_at-requires-clause-faultless

@@ -7,7 +7,7 @@ use Rattle.depth_cert.specs.Nodes.{NodeData}
 use Rattle.tcd_report.specs.Reports.Heights.{key_eq}
 use Rattle.tcd_report.specs.Reports.Longest.{greater}
 use Rattle.tcd_report.proofs.ReportLemmas.LongestLaws.{longest_more, longest_all}
-use Rattle.tcd_report.proofs.WalkedPoints.{never_none, got}
+use Rattle.packed_cert.proofs.WalkedPoints.{never_none, got}
 use Rattle.tcd_report.proofs.reports.longest.longest_by_priority.Goals as goal
 
 pub unreachable-requires : goal.unreachable-requires
@@ -15,7 +15,7 @@ unreachable-requires c = never_none (c.args.cert.now).nodes c.loop-i.i (omega (a
 
 pub unreachable-requires-in_default-get : goal.unreachable-requires-in_default-get
 unreachable-requires-in_default-get c =
-    let known = c.requires c.in-Some.node (got (c.args.cert.now).nodes c.loop-i.i c.in-Some.node c.in-Some.ensures) in
+    let known = c.requires c.in-Some.node (got (c.args.cert.now).nodes c.loop-i.i c.in-Some.node c.in-Some.ensures).2 in
     let key_is = ap (λ (n : NodeData). n.key) c.node.view_is in
     let f : None ≡ Some known.0 = c.in_default-get.ensures.value ∙ ap (get key_eq c.args.heights.now) key_is ∙ known.1 in
     cc

@@ -3,7 +3,7 @@ use Rattle.std.proofs.lemmas.List.{take_all}
 use Rattle.std.proofs.lemmas.List.{map-append}
 use Rattle.serde_json.specs.View.{view}
 use Rattle.tcd_report.specs.Reports.{node_data}
-use Rattle.tcd_report.proofs.WalkedPoints.{never_none, mapped_more}
+use Rattle.packed_cert.proofs.WalkedPoints.{never_none, mapped_more}
 use Rattle.tcd_report.proofs.reports.report_text.nodes_value.Goals as goal
 
 pub unreachable-requires : goal.unreachable-requires
