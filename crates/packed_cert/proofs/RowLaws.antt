@@ -99,8 +99,8 @@ moves_push version bytes ps p moves one k d s lt before =
           subst (λ (q : PackedPoint). IsMoved version bytes s q) (sym here) (one s front)
     ]
 
--- what is read behind the points keeps what it says of any state that stands before it; a first point says of all values
--- that they were read
+-- what is read behind the points keeps what it says of any state that stands before it; a first
+-- point says of all values that they were read
 pub moved_next : (version : ℕ) (bytes : List ℕ) (ps : List PackedPoint) (t before after : State) (p : PackedPoint) (x e i : ℕ) → Small bytes → state_in version bytes p.place ≡ after → HasState version bytes p.place
     → x ≤ length bytes → Stand version bytes x after.regs e → IsFrom bytes x p.row → (i ≡ 0 → IsWhole 27 p.row × (p.same ≡ false)) → (1 ≤ i → ChangesRow before.regs after.regs p.row) → (1 ≤ i → IsTrue p.same → after ≡ before)
     → length ps ≡ i → ((j : ℕ) (d : PackedPoint) → j + 1 ≡ i → before ≡ state_in version bytes (get_or ps j d).place) → StandsBefore version bytes ps (length ps) t → IsMoved version bytes t p

@@ -72,7 +72,8 @@ pub record AreApart (b : BuildData) : Type 0 where
   pub sources : All (λ p. All (λ q. (p.names).object ≢ (q.names).source) b.parts) b.parts
   pub layout : All (λ p. (p.names).object ≢ b.layout) b.parts
 
--- The sources and the layout are held, the objects can be linked by the layout, and their image isn't longer than what `dis` reads.
+-- The sources and the layout are held, the objects can be linked by the layout, and their image
+-- isn't longer than what `dis` reads.
 pub record IsBuild (held : Option Map) (b : BuildData) : Type 0 where
   pub parts : All (IsPart held) b.parts
   pub apart : AreApart b

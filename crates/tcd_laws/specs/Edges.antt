@@ -12,8 +12,9 @@ use Rattle.tcd_report.specs.Graphs.EdgeLaws.{EdgesStand}
 abbrev pub printed_lines : List ℕ → List (List ℕ)
 printed_lines text = map (λ l. l ++ 10 ∷ []) (lines_of text)
 
--- The graph of a certificate that is accepted: the edge of each step of each run that starts as the plan says, after any events
--- that fit, stands on a line of its text, with the key of its frame and its address.
+-- The graph of a certificate that is accepted: the edge of each step of each run that starts as the
+-- plan says, after any events that fit, stands on a line of its text, with the key of its frame and
+-- its address.
 abbrev pub AcceptedEdgesStand : Type 0
 AcceptedEdgesStand =
     (image : ImageData) (plan : PlanData) (cert : CertData) (text : List ℕ) → image.entry < 2 ^ 32 → IsPlan plan → IsCert cert

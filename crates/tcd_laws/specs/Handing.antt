@@ -30,12 +30,14 @@ HoldEach form place held [] (x ∷ xs) = ⊥
 HoldEach form place held (name ∷ names) [] = ⊥
 HoldEach form place held (name ∷ names) (x ∷ xs) = HoldsInput (form place) held name x × HoldEach form (place + 1) held names xs
 
--- what these names hold are bytes: the map that files tell is of lists of numbers, which doesn't say so
+-- what these names hold are bytes: the map that files tell is of lists of numbers, which doesn't
+-- say so
 abbrev pub HoldBytes : Option Map → List (List ℕ) → Type 0
 HoldBytes held names = IfSome held (λ m. All (λ name. IfSome (get m name) (All IsByte)) names)
 
 -- ---- an object
--- the source's object was written, which holds bytes, and is read as exactly this object, unless it is too long to be read
+-- the source's object was written, which holds bytes, and is read as exactly this object, unless it
+-- is too long to be read
 pub record IsAssembled (names : AsmNames) (held held' : Option Map) : Type 0 where
   pub object : ObjectData
   pub source : HoldsInput source_form held names.source object
@@ -50,7 +52,8 @@ AsmHandsOver =
     → Ends (asm_reading names) files files' sink sink' Done → IsAssembled names files.held files'.held
 
 -- ---- an executable
--- the image of the objects by the layout was written, and is read as exactly this image, unless it is too long to be read
+-- the image of the objects by the layout was written, and is read as exactly this image, unless it
+-- is too long to be read
 pub record IsLinkedTo (names : LinkNames) (held held' : Option Map) : Type 0 where
   pub layout : LayoutData
   pub layout_is : HoldsInput layout_form held names.layout layout
@@ -61,8 +64,8 @@ pub record IsLinkedTo (names : LinkNames) (held held' : Option Map) : Type 0 whe
   pub written : held' ≡ with_file held names.image (file_of image)
   pub read : length (file_of image) ≤ 2 ^ 24 → IsExactly elf_form held' names.image image
 
--- So after each `link` that is done, over files that tell what they hold, and whose objects are of bytes: those that `asm` wrote
--- are, and so is all that a file system holds.
+-- So after each `link` that is done, over files that tell what they hold, and whose objects are of
+-- bytes: those that `asm` wrote are, and so is all that a file system holds.
 abbrev pub LinkHandsOver : Type 0
 LinkHandsOver =
     (names : LinkNames) (files files' : FilesSeen) (sink sink' : SinkSeen) → IsSome files.held → HoldBytes files.held names.objects

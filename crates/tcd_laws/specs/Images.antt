@@ -1,4 +1,5 @@
--- What sources, layouts and links keep: objects, layouts and images have the limits that those who read them promise.
+-- What sources, layouts and links keep: objects, layouts and images have the limits that those who
+-- read them promise.
 use Rattle.std.specs.Prelude.{◌≡◌, ◌<◌, ◌^◌, ℕ, List, length, All, Ok}
 use Rattle.elf_image.specs.Images.{ImageData, IsImage}
 use Rattle.tc_object.specs.Objects.{SectionData, ObjectData, IsObject}

@@ -1,4 +1,5 @@
--- Commands that are called one after another, each on the files and the sink that the one before it left.
+-- Commands that are called one after another, each on the files and the sink that the one before it
+-- left.
 use Rattle.std.specs.Prelude.{◌≡◌, ◌≢◌, ◌-◌, ◌⊎◌, ℕ, List, [], ◌∷◌, ◌++◌, length, Option, IsTrue}
 use Rattle.std.specs.List.{flat_map}
 use Rattle.std.specs.Option.{option_map}
@@ -25,7 +26,8 @@ pub record GoesOn (c : Command) (Rest : FilesSeen → FilesSeen → SinkSeen →
   pub ended : Ends (reading_of c) files files_between sink sink_between Done
   pub rest : Rest files_between files' sink_between sink' result
 
--- commands one after another, up to the first that isn't done, as a shell's `&&` calls them; where there is none they are done
+-- commands one after another, up to the first that isn't done, as a shell's `&&` calls them; where
+-- there is none they are done
 abbrev pub EndInSequence : List Command → FilesSeen → FilesSeen → SinkSeen → SinkSeen → Status → Type 0
 EndInSequence [] files files' sink sink' result = IsQuiet files files' sink sink' × (result ≡ Done)
 EndInSequence (c ∷ cs) files files' sink sink' result = IsLast c files files' sink sink' result ⊎ GoesOn c (EndInSequence cs) files files' sink sink' result
@@ -60,8 +62,8 @@ pub record IsWhole (reports : List Report) (files files' : FilesSeen) (sink sink
   pub written : sink'.written ≡ with_appended sink.written (all_text reports)
   pub room : sink'.room ≡ option_map (λ n. n - length (all_text reports)) sink.room
 
--- Memory ran out in one of them: those before it wrote and printed all that they were to; it printed nothing, and if it wrote
--- one of its files may hold anything.
+-- Memory ran out in one of them: those before it wrote and printed all that they were to; it
+-- printed nothing, and if it wrote one of its files may hold anything.
 pub record RanOut (reports : List Report) (files files' : FilesSeen) (sink sink' : SinkSeen) : Type 0 where
   pub before : List Report
   pub at : Report
@@ -71,7 +73,8 @@ pub record RanOut (reports : List Report) (files files' : FilesSeen) (sink sink'
   pub written : sink'.written ≡ with_appended sink.written (all_text before)
   pub room : sink'.room ≡ option_map (λ n. n - length (all_text before)) sink.room
 
--- Done or want of memory, and no fault of the files or the sink; where it is Done, all was written and printed.
+-- Done or want of memory, and no fault of the files or the sink; where it is Done, all was written
+-- and printed.
 pub record EndsSurely (reports : List Report) (files files' : FilesSeen) (sink sink' : SinkSeen) (result : Status) : Type 0 where
   pub status : (result ≡ Done) ⊎ (result ≡ NoMemory)
   pub steady : files'.steady ≡ files.steady

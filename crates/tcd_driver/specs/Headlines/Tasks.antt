@@ -104,8 +104,8 @@ pub data IsTasksFault (image : ImageData) (plan : PlanData) (list : TasksData) (
       → plan.areas - plan.reserve < sum_of image plan list certs → line ≡ sum_words (sum_of image plan list certs) (plan.areas - plan.reserve)
       → IsTasksFault image plan list certs line
 
--- `tasks` refuses the image, a certificate, or the sum of the needs. There is a certificate for each
--- task.
+-- `tasks` refuses the image, a certificate, or the sum of the needs. There is a certificate for
+-- each task.
 pub record RefusalByTasks (elf_name plan_name tasks_name : List ℕ) (cert_names : List (List ℕ)) (before after : Map) (printed : List ℕ) : Type 0 where
   pub image : ImageData
   pub plan : PlanData
