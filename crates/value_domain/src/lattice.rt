@@ -112,17 +112,6 @@ pub fn span(b: &Bounds, least: u32, greatest: u32, step: u8) -> Val
     }
 }
 
-/// Returns the least value that holds `v` and the word.
-pub fn with_word(b: &Bounds, v: Val, x: u32) -> Val
-    requires { IsValue b.now v }
-    ensures cover { result ≡ cover b.now (x ∷ members v) }
-    ensures value { IsValue b.now result }
-{
-    let mut out = v;
-    add_word(b, &mut out, x);
-    out
-}
-
 /// Widens a value to the least one that holds the word too.
 pub fn add_word(b: &Bounds, v: &mut Val, x: u32)
     requires { IsValue b.now v.old }

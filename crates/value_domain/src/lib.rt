@@ -11,7 +11,7 @@ mod values;
 
 pub use lattice::{
     Extent, add_word, add_words, alignment_log2, count_of, cover, cover_words, extent_of,
-    extent_with, is_set, is_value, join, leq, member, span, with_word, write_any,
+    extent_with, is_set, is_value, join, leq, member, span, write_any,
 };
 pub use laws::{state_laws, value_laws};
 pub use limits::Bounds;

@@ -5,7 +5,7 @@ ghost use Rattle.value_domain.specs.Values.{IsValue, IsWell, members, range};
 ghost use Rattle.value_domain.specs.Meets as spec;
 ghost use Rattle.value_domain.specs.Meets.{cover_some, in_span, is_member};
 
-use crate::lattice::{alignment_log2, count_of, cover, join, with_word};
+use crate::lattice::{add_word, alignment_log2, count_of, cover, join};
 use crate::{Bounds, Val};
 
 /// Adds a word to a value, if there is one; else returns the value of the word alone.
@@ -18,7 +18,11 @@ fn add(b: &Bounds, v: Option<Val>, x: u32) -> Option<Val>
     let _most_words = b.most_words();
     match v {
         None => Some(Val::one(x)),
-        Some(v) => Some(with_word(b, v, x)),
+        Some(v) => {
+            let mut wider = v;
+            add_word(b, &mut wider, x);
+            Some(wider)
+        }
     }
 }
 

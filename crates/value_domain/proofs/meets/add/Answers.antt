@@ -9,4 +9,4 @@ pub returns-in-None-clause-value : goal.returns-in-None-clause-value
 returns-in-None-clause-value c = rw c.one.ensures (one_value c.args.b.now c.args.x c.most_words-most_words.ensures.limits c.ranges.x.fits)
 
 pub returns-in-Some-clause-more : goal.returns-in-Some-clause-more
-returns-in-Some-clause-more c = λ xs e. rw c.with_word.ensures.cover (add_more c.args.b.now c.in-Some.v c.args.x xs (rw c.in-Some.is at e))
+returns-in-Some-clause-more c = λ xs e. rw c.add_word.ensures.cover (add_more c.args.b.now c.in-Some.v c.args.x xs (rw c.in-Some.is at e))
