@@ -12,10 +12,7 @@ use arrayvec::ArrayVec;
 use depth_cert::Key;
 use tcd_plan::Plan;
 use value_domain::{Bounds, State, Val};
-use vd_transfer::{Base, Change, put_register, reg, unchanged};
-
-/// The number of A10, the stack pointer, among registers.
-const A10: u8 = 26;
+use vd_transfer::{A10, Base, Change, put_register, reg, unchanged};
 
 /// The number of D15, which has a trap's identification number at the entry of its handler.
 const D15: u8 = 15;

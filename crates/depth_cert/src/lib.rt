@@ -24,5 +24,5 @@ pub use nodes::Node;
 pub use point_fields::{read_locals, read_point_count, read_state};
 pub use points::{Exit, Point};
 pub use tcd_base::{fault, put_u16};
-pub use value_fields::{read_flag, read_value, read_values};
+pub use value_fields::{SPAN, read_flag, read_value, read_values};
 pub use writing::{write_exit, write_key, write_state, write_value, write_values};

@@ -10,7 +10,7 @@ use tcd_base::{BAD_VALUE, Cursor, FormErr, fault, read_u8, read_u32};
 use value_domain::{Val, Words, count_of, write_any};
 
 /// The first byte of a Span is this plus its step.
-pub(crate) const SPAN: u8 = 240;
+pub const SPAN: u8 = 240;
 
 /// The first byte of a Span of the greatest step, which is 2.
 const LAST_SPAN: u8 = 242;

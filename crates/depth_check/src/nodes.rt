@@ -23,10 +23,7 @@ use elf_image::Image;
 use packed_cert::{PackedNode, PointWalk};
 use tcd_plan::Plan;
 use value_domain::{A10_SLOT, Bounds, Val};
-use vd_transfer::{Base, put_register, unchanged};
-
-/// The register A10.
-const A10: u8 = 26;
+use vd_transfer::{A10, Base, put_register, unchanged};
 
 /// A rule that fails in a node, and the address where it fails.
 #[derive(Clone, Copy)]

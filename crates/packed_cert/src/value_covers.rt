@@ -12,10 +12,8 @@ ghost use Rattle.packed_cert.specs.Standing.{at};
 ghost use Rattle.depth_cert.specs.Grammar.{value_at};
 
 use crate::value_reader::{MOST_WORDS, length_by};
+use depth_cert::SPAN;
 use value_domain::{Bounds, Val, extent_of, is_value, leq, set_span, set_words, write_any};
-
-/// The first byte of a Span is this plus its step.
-const SPAN: u8 = 240;
 
 /// Returns true if a value is below the one at a place.
 pub(crate) fn is_below_at(v: &Val, bytes: &[u8], version: u8, place: usize) -> bool

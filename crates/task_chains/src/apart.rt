@@ -12,19 +12,10 @@ use crate::Tasks;
 use crate::routine::ROUTINE_BYTES;
 use crate::rule::Rule;
 use depth_cert::{CALL, Key};
-use tc_isa::Shape;
+use tc_isa::{FCX, LCX, PCXI, Shape};
 use tcd_plan::Plan;
 use value_domain::{Bounds, State, Val};
 use vd_transfer::address_by;
-
-/// The number of PCXI, the link to the newest context in use.
-const PCXI: u16 = 0xfe00;
-
-/// The number of FCX, the link to the first free context.
-const FCX: u16 = 0xfe38;
-
-/// The number of LCX, the link at which few contexts are left.
-const LCX: u16 = 0xfe3c;
 
 fn is_between(x: u32, low: u32, high: u32) -> bool
     ensures { IsTrue result ↔ (low ≤ x) × (x ≤ high) }

@@ -20,4 +20,4 @@ pub use change::{Base, Change, Put, put_register, unchanged};
 pub use cover::{changed_value, covers_changed};
 pub use effect::change_of;
 pub use laws::{effect_laws, operation_laws, refinement_laws};
-pub use registers::{is_lower_slot, only_word, reg};
+pub use registers::{A10, is_lower_slot, only_word, reg};

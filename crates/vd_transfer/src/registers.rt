@@ -10,6 +10,9 @@ use tc_isa::Arg;
 use tcd_plan::Plan;
 use value_domain::{A10_SLOT, Bounds, State, Val};
 
+/// The number of A10, the stack pointer, among registers.
+pub const A10: u8 = 26;
+
 /// Returns the place of a register's value in a state, if a state has one.
 #[tactic(auto, unfolding(crate::specs::Registers::slot))]
 #[inline(always)]
@@ -21,7 +24,7 @@ pub(crate) fn slot_of(r: u8) -> Option<usize>
         Some(r as usize)
     } else if 18 <= r && r <= 23 {
         Some(r as usize - 2)
-    } else if r == 26 {
+    } else if r == A10 {
         Some(A10_SLOT)
     } else if 28 <= r && r <= 31 {
         Some(r as usize - 5)
