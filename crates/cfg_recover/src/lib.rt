@@ -33,6 +33,6 @@ pub use flows::{Enter, Flow, Jump, Leave};
 pub use keys::{aln_key, entered_key, irq_key, start_key, sys_key};
 pub use known_codes::KnownCodes;
 pub use laws::{fault_laws, frame_laws, move_laws, refusal_laws};
-pub use local::{Located, check_located, local_check};
+pub use local::{Located, check_located, local_check, unless};
 pub use operation_cache::OperationCache;
 pub use start::start_state;

@@ -142,9 +142,9 @@ pub(crate) fn local_fault(b: &Bounds, plan: &Plan, key: &Key, s: &State, inst: &
     first_fault(b, plan, key, s, &shape(inst))
 }
 
-/// The rule, unless what it asks holds.
+/// Returns a rule, or `None` if its condition holds.
 #[inline(always)]
-fn unless(holds: bool, rule: u8) -> Option<u8>
+pub fn unless(holds: bool, rule: u8) -> Option<u8>
     ensures { result ≡ (if holds then None else Some rule) }
 {
     if holds { None } else { Some(rule) }

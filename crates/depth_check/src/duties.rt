@@ -28,7 +28,7 @@ use crate::rules::{
 use crate::successors::broken_by_successors;
 use cfg_recover::{
     Located, aln_key, call_change, direct_target, entered_key, handler_change, interrupts, irq_key,
-    is_aligned, misaligned_change, sys_key, system_change, targets,
+    is_aligned, misaligned_change, sys_key, system_change, targets, unless,
 };
 use depth_cert::{CALL, Key, SYS};
 use tc_isa::{Shape, Target};
@@ -109,13 +109,6 @@ pub(crate) fn least(a: Option<u8>, b: Option<u8>) -> Option<u8>
         (found, None) => found,
         (Some(a), Some(b)) => Some(a.min(b)),
     }
-}
-
-/// The rule, unless its condition holds.
-pub(crate) fn unless(holds: bool, rule: u8) -> Option<u8>
-    ensures { result ≡ finding.unless holds rule }
-{
-    if holds { None } else { Some(rule) }
 }
 
 /// The least rule that the entries of a call or a system call break.

@@ -17,11 +17,11 @@ ghost use Rattle.value_domain.specs.declared.states.State.{State};
 ghost use Rattle.value_domain.specs.Limits.{Limits};
 ghost use Rattle.vd_transfer.specs.Branches.{refine_of};
 
-use crate::duties::{broken_by_interrupts, least, unless};
+use crate::duties::{broken_by_interrupts, least};
 use crate::points::{PointCheck, has_own_need};
 use crate::rules::SMALL_NEED;
 use crate::successors::broken_by_pass;
-use cfg_recover::{KnownCodes, direct_target};
+use cfg_recover::{KnownCodes, direct_target, unless};
 use elf_image::Image;
 use tc_isa::Shape;
 use tcd_base::any_holds;

@@ -14,11 +14,11 @@ ghost use Rattle.vd_transfer.specs.Registers.{reg_of};
 ghost use Rattle.vd_transfer.specs.Branches.{refine_of};
 
 use crate::covers::{has_changed_next, has_kept_next, has_next, has_points};
-use crate::duties::{least, unless};
+use crate::duties::least;
 use crate::fast_paths::{keeps_state, only_narrows};
 use crate::points::{PointCheck, PointScratch};
 use crate::rules::NO_POINT;
-use cfg_recover::{Located, step_change, targets};
+use cfg_recover::{Located, step_change, targets, unless};
 use tc_isa::{Shape, Target};
 use vd_transfer::{Change, change_on};
 
