@@ -55,15 +55,6 @@ impl PackedCert {
         })
     }
 
-    /// Returns the bytes that spell the certificate.
-    pub fn bytes(&self) -> &[u8]
-        ensures spelled { result.now ≡ bytes_of self.now }
-        ensures back { certificate_of result.now ≡ Ok self.now }
-        ensures short { length result.now ≤ 2 ^ 30 }
-    {
-        self.bytes.as_slice()
-    }
-
     /// Gives up the certificate for the bytes that spell it.
     pub fn into_bytes(self) -> Vec<u8>
         ensures { result.items ≡ bytes_of self }
@@ -81,17 +72,6 @@ impl PackedCert {
         };
         match PackedCert::read(alloc, bytes) {
             Ok(packed) => Ok(packed),
-            Err(CertErr::NoMemory) => Err(NoMemory),
-            Err(CertErr::Bad(_)) => unreachable!(),
-        }
-    }
-
-    /// Returns the same certificate in memory, where each point takes some 14 KB.
-    pub fn unpack(&self, alloc: Global) -> Result<Cert, NoMemory>
-        ensures { IfOk result (λ c. c ≡ self.now) }
-    {
-        match Cert::read(alloc, self.bytes()) {
-            Ok(cert) => Ok(cert),
             Err(CertErr::NoMemory) => Err(NoMemory),
             Err(CertErr::Bad(_)) => unreachable!(),
         }
