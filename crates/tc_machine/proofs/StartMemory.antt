@@ -14,8 +14,9 @@ use Rattle.tc_machine.specs.Safe.{IsLinkedUp}
 use Rattle.tc_machine.specs.Starting.{with_images, next_link, with_links, mapped_ranges_of, IsFilled}
 use Rattle.tc_machine.proofs.Filled.{images_put, images_mapped, images_none, images_outside, links_mapped, links_bytes, links_outside}
 use Rattle.tc_machine.proofs.PlanLaws.{link_address-area, link_lt}
-use Rattle.tc_machine.proofs.Zeros.{is_in-one, IsInOne-parts, zero_at}
+use Rattle.tc_machine.proofs.Zeros.{is_in-one, zero_at}
 use Rattle.tcd_plan.specs.Regions.{IsInAreas, IsMappedBy}
+use Rattle.tcd_plan.proofs.CutLaws.{IsInOne-parts}
 use Rattle.tc_machine.specs.PlanAreas.{first_link}
 use Rattle.csa_chain.specs.MemoryChanges.{HasBytes}
 use Rattle.tc_mem.specs.PlanMemory.{HoldsRom, IsPlanMemory}

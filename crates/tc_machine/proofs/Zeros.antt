@@ -1,5 +1,5 @@
 -- What is mapped in ranges of zeros.
-use Rattle.std.proofs.Common.{◌≡◌, ℕ, ◌+◌, ◌^◌, ◌<◌, ◌⊎◌, inl, inr, Bool, true, false, ◌||◌, ◌&&◌, cond, List, [], ◌∷◌, ◌++◌, Some, None, refl, sym, ap, ◌∙◌, arith, nat_le, nat_lt}
+use Rattle.std.proofs.Common.{◌≡◌, ℕ, ◌+◌, ◌^◌, ◌<◌, inl, inr, Bool, true, false, ◌&&◌, cond, List, [], ◌∷◌, Some, None, sym, ap, ◌∙◌, arith, nat_le, nat_lt}
 use Rattle.std.proofs.lemmas.Bool.{and_parts, and_from, or_cases, le-leb, leb-true, lt-ltb, ltb-true, or_right, or_left}
 use Rattle.std.specs.FinMap as map
 use Rattle.csa_chain.specs.Memory.{Memory}
@@ -24,11 +24,6 @@ is_in-one q (r ∷ rs) e =
           inl (low, omega arith)
       | inr rest ↦ inr (is_in-one q rs rest)
     ]
-
-pub IsInOne-parts : (q n : ℕ) (rs ss : List Range) → IsInOne q n (rs ++ ss) → IsInOne q n rs ⊎ IsInOne q n ss
-IsInOne-parts q n [] ss h = inr h
-IsInOne-parts q n (r ∷ rs) ss (inl h) = inl (inl h)
-IsInOne-parts q n (r ∷ rs) ss (inr h) = elim (IsInOne-parts q n rs ss h) [ inl a ↦ inl (inr a) | inr b ↦ inr b ]
 
 byte_zero : (t : Bool) (b : ℕ) → cond t (Some 0) None ≡ Some b → b < 2 ^ 8
 byte_zero true b e = let z : 0 ≡ b = cc in omega arith
