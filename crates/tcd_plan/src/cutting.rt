@@ -36,7 +36,8 @@ fn push_without(ranges: &mut ArrayVec<Range, 32>, r: &Range, x: u32, n: u32)
     push_between(ranges, (block + u64::from(n)).max(start), end);
 }
 
-/// Returns the parts of ranges below and above the `n` bytes from `x` on, at most two of each range.
+/// Returns the parts of ranges below and above the `n` bytes from `x` on, at most two of each
+/// range.
 pub fn ranges_without(ranges: &[Range], x: u32, n: u32) -> ArrayVec<Range, 32>
     requires few { length ranges.now ≤ 16 }
     requires fit { All (λ r. r.at + r.len ≤ 2 ^ 32) ranges.now }
