@@ -22,7 +22,7 @@ use Rattle.tc_machine.specs.Safe.{Fits}
 use Rattle.tc_mem.specs.PlanMemory.{IsPlanMemory}
 use Rattle.tcd_plan.specs.Regions.{IsStoreInRange, AnswersAt, AnswersLoad}
 use Rattle.tcd_base.proofs.RangeLaws.{in_one, IsInOne-front, IsInOne-behind}
-use Rattle.tcd_plan.proofs.ApartLaws.{IsInOne-fits, all_apart-before}
+use Rattle.tcd_plan.proofs.ApartLaws.{device_ranges, IsInOne-fits, all_apart-before}
 use Rattle.tc_machine.proofs.ShapeWords.{IsSize, IsShape}
 use Rattle.tc_machine.proofs.Words.{load_lt}
 use Rattle.value_domain.specs.declared.states.State.{State}
@@ -34,7 +34,7 @@ use Rattle.task_chains.specs.Views.{any_device, view_devices, view_plan_of, FitP
 use Rattle.task_chains.proofs.Alike.{seen_as}
 use Rattle.task_chains.proofs.Plain.{address-same}
 use Rattle.task_chains.proofs.Accesses.{store_gone}
-use Rattle.task_chains.proofs.ViewPlan.{device_ranges, ranges_of, view_store, left, rest_apart, behind_rom, behind_ram, all_left, in_devices}
+use Rattle.task_chains.proofs.ViewPlan.{ranges_of, view_store, left, rest_apart, behind_rom, behind_ram, all_left, in_devices}
 use Rattle.task_chains.proofs.Outside.{Both, AtPoint, input_for, event_for}
 
 -- a byte in rom, or in the block

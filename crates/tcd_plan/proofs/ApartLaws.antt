@@ -1,22 +1,52 @@
 -- The ranges of a plan fit in memory and share no address.
-use Rattle.std.proofs.Common.{◌≡◌, ℕ, ◌+◌, ◌≤◌, ◌^◌, inl, inr, true, ◌&&◌, List, [], ◌∷◌, ◌++◌, map, sym, ◌∙◌, arith, nat_le, nat_lt, ◌==◌, ◌%◌}
-use Rattle.std.proofs.lemmas.Bool.{and_parts, or_cases, leb-true}
+use Rattle.std.proofs.Common.{◌≡◌, ℕ, ◌+◌, ◌<◌, ◌≤◌, ◌^◌, inl, inr, true, ◌&&◌, ◌||◌, List, [], ◌∷◌, ◌++◌, map, max, refl, sym, ap, ◌∙◌, arith, nat_le, nat_lt, ◌==◌, ◌%◌}
+use Rattle.std.proofs.lemmas.Bool.{cases_lt, and_parts, and_from, or_cases, or_right, leb-true, le-leb, ltb-true, lt-ltb, eqb-true, eq-eqb}
 use Rattle.std.proofs.lemmas.List.Folds.{list_all-append}
 use Rattle.std.specs.List.{list_all}
 use Rattle.tcd_base.specs.declared.range.Range.{Range}
 use Rattle.tcd_base.specs.Ranges.{IsWithin, IsInOne}
 use Rattle.tcd_base.proofs.RangeLaws.{IsInOne-front}
-use Rattle.tcd_plan.specs.PlanData.{PlanData, IsPlan, is_range, ranges_apart, all_apart, areas_range}
+use Rattle.tcd_plan.specs.declared.plans.Device.{Device}
+use Rattle.tcd_plan.specs.PlanData.{PlanData, IsPlan, is_range, is_device, ranges_apart, all_apart, areas_range}
 use Rattle.tcd_plan.specs.Regions.{IsInAreas}
 
-range_fits : (r : Range) → is_range r ≡ true → r.at + r.len ≤ 2 ^ 32
-range_fits r h =
-    leb-true (r.at + r.len) (2 ^ 32) (and_parts ((r.at % 4 == 0) && (r.len % 4 == 0) && nat_lt 0 r.len) (nat_le (r.at + r.len) (2 ^ 32)) h).1
+-- ---- ranges of whole words
+pub range_parts : (r : Range) → is_range r ≡ true → (r.at % 4 ≡ 0) × (r.len % 4 ≡ 0) × (0 < r.len) × (r.at + r.len ≤ 2 ^ 32)
+range_parts r h =
+    let a = and_parts ((r.at % 4 == 0) && (r.len % 4 == 0) && nat_lt 0 r.len) (nat_le (r.at + r.len) (2 ^ 32)) h in
+    let c = and_parts ((r.at % 4 == 0) && (r.len % 4 == 0)) (nat_lt 0 r.len) a.0 in
+    let d = and_parts (r.at % 4 == 0) (r.len % 4 == 0) c.0 in
+    (eqb-true _ _ d.0, eqb-true _ _ d.1, ltb-true 0 r.len c.1, leb-true (r.at + r.len) (2 ^ 32) a.1)
 
+pub is_range-from : (r : Range) → r.at % 4 ≡ 0 → r.len % 4 ≡ 0 → 0 < r.len → r.at + r.len ≤ 2 ^ 32 → is_range r ≡ true
+is_range-from r a l some fits = and_from _ _ (and_from _ _ (and_from _ _ (eq-eqb _ _ a) (eq-eqb _ _ l)) (lt-ltb 0 r.len some)) (le-leb (r.at + r.len) (2 ^ 32) fits)
+
+-- the ranges of devices
+pub device_ranges : (ds : List Device) → list_all is_device ds ≡ true → list_all is_range (map (λ (d : Device). d.range) ds) ≡ true
+device_ranges [] h = refl
+device_ranges (d ∷ ds) h =
+    let p = and_parts (is_device d) (list_all is_device ds) h in
+    let q = and_parts (is_range d.range && nat_le d.lo d.hi) (nat_lt d.hi (2 ^ 32)) p.0 in
+    and_from _ _ (and_parts (is_range d.range) (nat_le d.lo d.hi) q.0).0 (device_ranges ds p.1)
+
+-- each range of the list has a byte
+abbrev pub HaveBytes : List Range → Type 0
+HaveBytes [] = Unit {0}
+HaveBytes (r ∷ rs) = (0 < r.len) × HaveBytes rs
+
+pub HaveBytes-ranges : (rs : List Range) → list_all is_range rs ≡ true → HaveBytes rs
+HaveBytes-ranges [] h = tt
+HaveBytes-ranges (r ∷ rs) h = let p = and_parts (is_range r) (list_all is_range rs) h in ((range_parts r p.0).2, HaveBytes-ranges rs p.1)
+
+pub HaveBytes-append : (rs ss : List Range) → HaveBytes rs → HaveBytes ss → HaveBytes (rs ++ ss)
+HaveBytes-append [] ss a b = b
+HaveBytes-append (r ∷ rs) ss a b = (a.0, HaveBytes-append rs ss a.1 b)
+
+-- ---- ranges that share no byte
 -- addresses inside a range don't pass 2^32
 pub IsInOne-fits : (x n : ℕ) (rs : List Range) → list_all is_range rs ≡ true → IsInOne x n rs → x + n ≤ 2 ^ 32
 IsInOne-fits x n [] all h = absurd h
-IsInOne-fits x n (r ∷ rs) all (inl h) = let fits = range_fits r (and_parts _ _ all).0 in omega arith
+IsInOne-fits x n (r ∷ rs) all (inl h) = let fits = (range_parts r (and_parts _ _ all).0).3 in omega arith
 IsInOne-fits x n (r ∷ rs) all (inr h) = IsInOne-fits x n rs (and_parts _ _ all).1 h
 
 apart_one : (x : ℕ) (r s : Range) → ranges_apart r s ≡ true → IsWithin x 1 r → IsWithin x 1 s → ⊥
@@ -42,6 +72,34 @@ all_apart-before x (r ∷ rs) ss e (inr h) g = all_apart-before x rs ss (and_par
 pub all_apart-behind : (rs ss : List Range) → all_apart (rs ++ ss) ≡ true → all_apart ss ≡ true
 all_apart-behind [] ss e = e
 all_apart-behind (r ∷ rs) ss e = all_apart-behind rs ss (and_parts _ _ e).1
+
+pub all_apart-front : (rs ss : List Range) → all_apart (rs ++ ss) ≡ true → all_apart rs ≡ true
+all_apart-front [] ss e = refl
+all_apart-front (r ∷ rs) ss e =
+    let p = and_parts (list_all (ranges_apart r) (rs ++ ss)) (all_apart (rs ++ ss)) e in
+    and_from _ _ (and_parts _ _ (sym (list_all-append (ranges_apart r) rs ss) ∙ p.0)).0 (all_apart-front rs ss p.1)
+
+apart_from : (r s : Range) → 0 < r.len → 0 < s.len → ((x : ℕ) → IsWithin x 1 r → IsWithin x 1 s → ⊥) → ranges_apart r s ≡ true
+apart_from r s some other none =
+    elim (cases_lt s.at (r.at + r.len)) [
+      | inr before ↦ ap (λ t. t || nat_le (s.at + s.len) r.at) (le-leb (r.at + r.len) s.at before)
+      | inl low ↦ elim (cases_lt r.at (s.at + s.len)) [
+        | inr behind ↦ or_right (nat_le (r.at + r.len) s.at) (nat_le (s.at + s.len) r.at) (le-leb (s.at + s.len) r.at behind)
+        | inl high ↦ absurd (none (max r.at s.at) (omega arith, omega arith) (omega arith, omega arith))
+      ]
+    ]
+
+pub each_apart : (r : Range) (ss : List Range) → 0 < r.len → HaveBytes ss → ((x : ℕ) → IsWithin x 1 r → IsInOne x 1 ss → ⊥) → list_all (ranges_apart r) ss ≡ true
+each_apart r [] some have none = refl
+each_apart r (s ∷ ss) some have none =
+    and_from _ _ (apart_from r s some have.0 (λ x a b. none x a (inl b))) (each_apart r ss some have.1 (λ x a b. none x a (inr b)))
+
+-- two lists of ranges that are apart, and share no byte
+pub all_apart-append : (rs ss : List Range) → HaveBytes rs → HaveBytes ss → all_apart rs ≡ true → all_apart ss ≡ true → ((x : ℕ) → IsInOne x 1 rs → IsInOne x 1 ss → ⊥) → all_apart (rs ++ ss) ≡ true
+all_apart-append [] ss have have2 a b none = b
+all_apart-append (r ∷ rs) ss have have2 a b none =
+    let p = and_parts (list_all (ranges_apart r) rs) (all_apart rs) a in
+    and_from _ _ (list_all-append (ranges_apart r) rs ss ∙ and_from _ _ p.0 (each_apart r ss have.0 have2 (λ x h g. none x (inl h) g))) (all_apart-append rs ss have.1 have2 p.1 b (λ x h g. none x (inr h) g))
 
 -- ---- rom
 pub rom_fits : {plan : PlanData} → IsPlan plan → (x n : ℕ) → IsInOne x n plan.rom → x + n ≤ 2 ^ 32

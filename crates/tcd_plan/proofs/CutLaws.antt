@@ -1,11 +1,17 @@
 -- Laws of ranges without a block of bytes.
-use Rattle.std.proofs.Common.{◌≡◌, ℕ, ◌+◌, ◌-◌, ◌<◌, ◌≤◌, ◌⊎◌, inl, inr, Bool, true, false, cond, List, [], ◌∷◌, ◌++◌, length, min, max, refl, sym, subst, ap, arith, nat_lt}
-use Rattle.std.proofs.lemmas.Bool.{lt-ltb, le-ltb, ltb-true}
+use Rattle.std.proofs.Common.{◌≡◌, ℕ, ◌+◌, ◌-◌, ◌%◌, ◌^◌, ◌<◌, ◌≤◌, ◌⊎◌, inl, inr, Bool, true, false, cond, List, [], ◌∷◌, ◌++◌, length, min, max, refl, sym, subst, ap, ◌∙◌, arith, nat_lt}
+use Rattle.std.proofs.lemmas.Bool.{and_parts, and_from, lt-ltb, le-ltb, ltb-true, ltb-false}
 use Rattle.std.proofs.lemmas.List.{length-append}
+use Rattle.std.proofs.lemmas.List.Folds.{list_all-append}
+use Rattle.std.proofs.lemmas.List.Sums.{sum_by-append}
+use Rattle.std.specs.List.{list_all}
+use Rattle.std.specs.Prelude.{sum_by}
 use Rattle.tcd_base.specs.declared.range.Range.{Range}
 use Rattle.tcd_base.specs.Ranges.{IsWithin, IsInOne}
 use Rattle.tcd_base.proofs.RangeLaws.{IsInOne-front, IsInOne-behind}
+use Rattle.tcd_plan.specs.PlanData.{is_range, ranges_apart, all_apart}
 use Rattle.tcd_plan.specs.Cutting.{between, without, ranges_without}
+use Rattle.tcd_plan.proofs.ApartLaws.{range_parts, is_range-from, HaveBytes-ranges, all_apart-before, all_apart-append}
 
 -- what is inside one of two lists of ranges
 pub IsInOne-parts : (x n : ℕ) (rs ss : List Range) → IsInOne x n (rs ++ ss) → IsInOne x n rs ⊎ IsInOne x n ss
@@ -35,6 +41,37 @@ one_between from upto = by_test (nat_lt from upto)
 
 pub none_between : (from upto : ℕ) → upto ≤ from → length (between from upto) ≡ 0
 none_between from upto le = ap (λ t. length {A = Range} (cond t (record { at = from; len = upto - from } ∷ []) [])) (le-ltb from upto le)
+
+between_range : (from upto : ℕ) → from % 4 ≡ 0 → upto % 4 ≡ 0 → upto ≤ 2 ^ 32 → list_all is_range (between from upto) ≡ true
+between_range from upto a b fits = by_test (nat_lt from upto) refl
+  where
+    by_test : (t : Bool) → nat_lt from upto ≡ t → list_all is_range (cond t (record { at = from; len = upto - from } ∷ []) []) ≡ true
+    by_test true lt = let less = ltb-true from upto lt in and_from _ true (is_range-from (record { at = from; len = upto - from }) a (omega arith) (omega arith) (omega arith)) refl
+    by_test false lt = refl
+
+between_apart : (from upto : ℕ) → all_apart (between from upto) ≡ true
+between_apart from upto = by_test (nat_lt from upto)
+  where
+    by_test : (t : Bool) → all_apart (cond t (record { at = from; len = upto - from } ∷ []) []) ≡ true
+    by_test true = refl
+    by_test false = refl
+
+-- the number of bytes in ranges
+abbrev size : List Range → ℕ
+size rs = sum_by (λ (r : Range). r.len) rs
+
+between_size : (from upto : ℕ) → size (between from upto) ≡ upto - from
+between_size from upto = by_test (nat_lt from upto) refl
+  where
+    by_test : (t : Bool) → nat_lt from upto ≡ t → size (cond t (record { at = from; len = upto - from } ∷ []) []) ≡ upto - from
+    by_test true lt = omega arith
+    by_test false lt = let le = ltb-false from upto lt in omega arith
+
+min_four : (a b : ℕ) → a % 4 ≡ 0 → b % 4 ≡ 0 → min a b % 4 ≡ 0
+min_four a b h g = omega arith
+
+max_four : (a b : ℕ) → a % 4 ≡ 0 → b % 4 ≡ 0 → max a b % 4 ≡ 0
+max_four a b h g = omega arith
 
 min_left : (a b x : ℕ) → x ≤ min a b → x ≤ a
 min_left a b x h = omega arith
@@ -109,3 +146,61 @@ module _ (x n : ℕ) where
       let a = none_between r.at (min x (r.at + r.len)) (omega arith) in
       let b = one_between (max (x + n) r.at) (r.at + r.len) in
       omega (arith, length-append (below r) (above r))
+
+  -- ---- the number of bytes
+  part_size : (r : Range) → size (without x n r) ≤ r.len
+  part_size r =
+      let a = between_size r.at (min x (r.at + r.len)) in
+      let b = between_size (max (x + n) r.at) (r.at + r.len) in
+      let both : size (without x n r) ≡ size (below r) + size (above r) = sum_by-append (λ (s : Range). s.len) (below r) (above r) in
+      omega arith
+
+  pub ranges_without_size : (rs : List Range) → sum_by (λ (r : Range). r.len) (ranges_without x n rs) ≤ sum_by (λ (r : Range). r.len) rs
+  ranges_without_size [] = omega arith
+  ranges_without_size (r ∷ rs) =
+      let a = part_size r in
+      let b = ranges_without_size rs in
+      let parts : size (ranges_without x n (r ∷ rs)) ≡ size (without x n r) + size (ranges_without x n rs) = sum_by-append (λ (s : Range). s.len) (without x n r) (ranges_without x n rs) in
+      let one : size (r ∷ []) ≡ r.len = omega arith in
+      let whole : size (r ∷ rs) ≡ size (r ∷ []) + size rs = sum_by-append (λ (s : Range). s.len) (r ∷ []) rs in
+      omega arith
+
+-- ---- parts of ranges of whole words, without a block of whole words
+module _ (x n : ℕ) (first : x % 4 ≡ 0) (whole : n % 4 ≡ 0) where
+  parts_range : (r : Range) → is_range r ≡ true → list_all is_range (without x n r) ≡ true
+  parts_range r is =
+      let p = range_parts r is in
+      let a = p.0 in
+      let l = p.1 in
+      let fits = p.3 in
+      let upto : (r.at + r.len) % 4 ≡ 0 = omega arith in
+      let last : (x + n) % 4 ≡ 0 = omega arith in
+      list_all-append is_range (below x n r) (above x n r)
+      ∙ and_from _ _ (between_range r.at (min x (r.at + r.len)) a (min_four x (r.at + r.len) first upto) (omega arith)) (between_range (max (x + n) r.at) (r.at + r.len) (max_four (x + n) r.at last a) upto fits)
+
+  -- the parts are ranges
+  pub ranges_without_ranges : (rs : List Range) → list_all is_range rs ≡ true → list_all is_range (ranges_without x n rs) ≡ true
+  ranges_without_ranges [] h = refl
+  ranges_without_ranges (r ∷ rs) h =
+      let p = and_parts (is_range r) (list_all is_range rs) h in
+      list_all-append is_range (without x n r) (ranges_without x n rs) ∙ and_from _ _ (parts_range r p.0) (ranges_without_ranges rs p.1)
+
+  parts_apart : (r : Range) → is_range r ≡ true → all_apart (without x n r) ≡ true
+  parts_apart r is =
+      let split = and_parts _ _ (sym (list_all-append is_range (below x n r) (above x n r)) ∙ parts_range r is) in
+      all_apart-append (below x n r) (above x n r) (HaveBytes-ranges _ split.0) (HaveBytes-ranges _ split.1) (between_apart _ _) (between_apart _ _)
+      (λ y low high.
+      let p = in_between r.at (min x (r.at + r.len)) y 1 low in
+      let q = in_between (max (x + n) r.at) (r.at + r.len) y 1 high in
+      let under = min_left x (r.at + r.len) (y + 1) p.1 in
+      let over = max_left (x + n) r.at y q.0 in
+      absurd (omega arith))
+
+  -- the parts are apart from each other
+  pub ranges_without_apart : (rs : List Range) → list_all is_range rs ≡ true → all_apart rs ≡ true → all_apart (ranges_without x n rs) ≡ true
+  ranges_without_apart [] h a = refl
+  ranges_without_apart (r ∷ rs) h a =
+      let p = and_parts (is_range r) (list_all is_range rs) h in
+      let q = and_parts (list_all (ranges_apart r) rs) (all_apart rs) a in
+      all_apart-append (without x n r) (ranges_without x n rs) (HaveBytes-ranges _ (parts_range r p.0)) (HaveBytes-ranges _ (ranges_without_ranges rs p.1)) (parts_apart r p.0) (ranges_without_apart rs p.1 q.1)
+      (λ y here there. all_apart-before y (r ∷ []) rs a (inl (in_part x n r y 1 here).0) (in_ranges_without x n rs y 1 there).0)

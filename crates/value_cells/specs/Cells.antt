@@ -1,32 +1,19 @@
 -- Cells, and the plan in which they are devices. The rules of certificates know devices but no
 -- memory; so they can speak of words of ram.
-use Rattle.std.specs.Prelude.{◌≡◌, ◌≢◌, ◌<◌, ◌≤◌, ◌+◌, ◌-◌, ◌%◌, ◌^◌, ◌&&◌, ◌||◌, ℕ, Bool, false, nat_lt, nat_le, if◌then◌else◌, List, [], ◌∷◌, ◌++◌, length, map, take, min, max, All, AllPairs}
+use Rattle.std.specs.Prelude.{◌≡◌, ◌≢◌, ◌<◌, ◌≤◌, ◌+◌, ◌%◌, ◌^◌, ◌&&◌, ◌||◌, ℕ, Bool, false, nat_lt, nat_le, List, [], ◌∷◌, ◌++◌, length, map, take, All, AllPairs}
 use Rattle.csa_chain.specs.Memory.{Memory, word_at}
 use Rattle.tcd_base.specs.declared.range.Range.{Range}
 use Rattle.tcd_plan.specs.declared.plans.Device.{Device}
 use Rattle.tcd_plan.specs.PlanData.{PlanData, IsPlan}
+use Rattle.tcd_plan.specs.Cutting.{ranges_without}
 use Rattle.tcd_base.specs.Ranges.{IsInOne}
 use Rattle.value_cells.specs.declared.cells.Cell.{Cell}
 
 -- ---- the plan
--- what is left of a range below the word at an address
-abbrev pub part_below : ℕ → Range → List Range
-part_below at r = if nat_lt r.at at then record { at = r.at; len = min r.len (at - r.at) } ∷ [] else []
-
--- what is left of a range above the word at an address
-abbrev pub part_above : ℕ → Range → List Range
-part_above at r = if nat_lt (max r.at (at + 4)) (r.at + r.len) then record { at = max r.at (at + 4); len = r.at + r.len - max r.at (at + 4) } ∷ [] else []
-
--- the ranges without the word at an address: each range is replaced by its parts that are left,
--- ascending
-abbrev pub ranges_without : ℕ → List Range → List Range
-ranges_without at [] = []
-ranges_without at (r ∷ rs) = part_below at r ++ part_above at r ++ ranges_without at rs
-
--- the ranges without the words of all cells
+-- the ranges without the words of all cells: each range is replaced by its parts that are left
 abbrev pub ram_without : List Cell → List Range → List Range
 ram_without [] rs = rs
-ram_without (c ∷ cs) rs = ram_without cs (ranges_without c.at rs)
+ram_without (c ∷ cs) rs = ram_without cs (ranges_without c.at 4 rs)
 
 -- the device of a cell: it answers inside the cell's bounds
 abbrev pub cell_device : Cell → Device

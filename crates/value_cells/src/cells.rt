@@ -1,8 +1,7 @@
 // Cells, and their reading from a text.
 use crate::CellsErr;
-use crate::cutting::count_without;
 use crate::lines::cell_in;
-use crate::plans::{is_in_ram, ram_without};
+use crate::plans::{count_without, is_in_ram, ram_without};
 use arrayvec::ArrayVec;
 use std::marker::Model;
 use tcd_plan::Plan;
@@ -91,6 +90,7 @@ impl Cells {
         requires cell { IsCell plan.now cell.now }
         ensures { IsTrue result ↔ HasRoom plan.now self.now cell.now }
     {
+        let _areas = plan.areas;
         let ram = ram_without(plan, self.list());
         count_without(ram.as_slice(), cell.at) <= MOST
             && plan.devices.len() + self.list.len() < MOST

@@ -2,7 +2,6 @@
 #![tactic(auto)]
 
 mod cells;
-mod cutting;
 mod errors;
 mod faults;
 mod keeping;

@@ -1,20 +1,40 @@
 // The plan in which the cells are devices.
-ghost use Rattle.std.specs.Prelude.{◌≡◌, ◌≤◌, ◌++◌, ◌↔◌, IsTrue, map, length};
+ghost use Rattle.std.specs.Prelude.{◌≡◌, ◌≤◌, ◌+◌, ◌^◌, ◌++◌, ◌↔◌, All, IsTrue, map, length};
 ghost use Rattle.tcd_base.specs.Ranges.{IsInOne};
+ghost use Rattle.tcd_plan.specs.Cutting as cutting;
 ghost use Rattle.value_cells.specs.Cells as spec;
 ghost use Rattle.value_cells.specs.Cells.{AreCells, cell_device};
 
 use crate::cells::{Cell, Cells};
-use crate::cutting::ranges_without;
 use arrayvec::ArrayVec;
 use tcd_base::{Range, any_holds};
-use tcd_plan::{Device, Plan};
+use tcd_plan::{Device, Plan, ranges_without};
 
 /// Returns whether the word at an address is inside one range of ram.
 pub(crate) fn is_in_ram(plan: &Plan, at: u32) -> bool
     ensures { IsTrue result ↔ IsInOne at 4 plan.now.ram }
 {
     any_holds(plan.ram.as_slice(), at, 4)
+}
+
+/// Returns the number of ranges that are left without the word at an address.
+pub(crate) fn count_without(ranges: &[Range], at: u32) -> usize
+    requires few { length ranges.now ≤ 16 }
+    requires fit { All (λ r. r.at + r.len ≤ 2 ^ 32) ranges.now }
+    ensures { result ≡ length (cutting.ranges_without at 4 ranges.now) }
+{
+    ranges_without(ranges, at, 4).len()
+}
+
+/// Returns the ranges without the word at an address.
+fn without_word(ranges: &[Range], at: u32) -> ArrayVec<Range, 16>
+    requires few { length ranges.now ≤ 16 }
+    requires fit { All (λ r. r.at + r.len ≤ 2 ^ 32) ranges.now }
+    requires room { length (cutting.ranges_without at 4 ranges.now) ≤ 16 }
+    ensures { result.items ≡ cutting.ranges_without at 4 ranges.now }
+{
+    let left = ranges_without(ranges, at, 4);
+    ArrayVec::try_from(left.as_slice()).unwrap()
 }
 
 /// Returns the ranges of ram without the words of all cells.
@@ -24,7 +44,7 @@ pub(crate) fn ram_without(plan: &Plan, cells: &[Cell]) -> ArrayVec<Range, 16>
 {
     let mut ram = ArrayVec::try_from(plan.ram.as_slice()).unwrap();
     for cell in cells {
-        ram = ranges_without(ram.as_slice(), cell.at);
+        ram = without_word(ram.as_slice(), cell.at);
     }
     ram
 }
