@@ -82,6 +82,10 @@ module _ (plan : PlanData) (ok : IsPlan plan) where
       (λ x h g. apart_from c cs x is.aligned rest (λ k e lt. once 0 (suc k) e (omega arith) (omega arith)) h g)) (cells_apart cs rest (λ i j e lt within. once (suc i) (suc j) e (omega arith) (omega arith)))
 
 -- ---- the plan
+pub take_whole : (cells : List Cell) → take (length cells) cells ≡ cells
+take_whole [] = refl
+take_whole (c ∷ cs) = ap (λ l. c ∷ l) (take_whole cs)
+
 module _ {plan : PlanData} (ok : IsPlan plan) (cells : List Cell) (are : AreCells plan cells) where
   abbrev ram : List Range
   ram = ram_without cells plan.ram
@@ -152,18 +156,14 @@ module _ {plan : PlanData} (ok : IsPlan plan) (cells : List Cell) (are : AreCell
       there : HaveBytes (old_devices ++ cell_ranges cells)
       there = HaveBytes-append old_devices (cell_ranges cells) (HaveBytes-ranges _ (old_is)) (HaveBytes-ranges _ (new_is))
 
-  take_all : {X : Type 0} (xs : List X) → take (length xs) xs ≡ xs
-  take_all [] = refl
-  take_all (x ∷ xs) = ap (λ ys. x ∷ ys) (take_all xs)
-
   -- The plan in which the cells are devices is a plan.
   pub IsPlan-with_cells : IsPlan (with_cells plan cells)
   IsPlan-with_cells = record {
     ranges = record {
       some = (ok.ranges).some;
       few_rom = (ok.ranges).few_rom;
-      few_ram = subst (λ cs. length (with_cells plan cs).ram ≤ 16) (take_all cells) (are.few_ram (length cells) (omega arith));
-      few_devices = subst (λ cs. length (with_cells plan cs).devices ≤ 16) (take_all cells) (are.few_devices (length cells) (omega arith));
+      few_ram = subst (λ cs. length (with_cells plan cs).ram ≤ 16) (take_whole cells) (are.few_ram (length cells) (omega arith));
+      few_devices = subst (λ cs. length (with_cells plan cs).devices ≤ 16) (take_whole cells) (are.few_devices (length cells) (omega arith));
       rom = (ok.ranges).rom;
       ram = ram_is;
       devices = device_all plan.devices (map cell_device cells) (ok.ranges).devices (cell_devices plan ok cells are.each);
@@ -209,10 +209,6 @@ take_more (c ∷ cs) (suc i) d lt = let e : suc i + 1 ≡ suc (i + 1) = omega ar
 -- the ranges without one more cell
 pub ram_more : (cells : List Cell) (rs : List Range) (i : ℕ) (d : Cell) → i < length cells → ranges_without (get_or cells i d).at 4 (ram_without (take i cells) rs) ≡ ram_without (take (i + 1) cells) rs
 ram_more cells rs i d lt = sym (ap (λ cs. ram_without cs rs) (take_more cells i d lt) ∙ ram_behind (take i cells) (get_or cells i d ∷ []) rs)
-
-pub take_whole : (cells : List Cell) → take (length cells) cells ≡ cells
-take_whole [] = refl
-take_whole (c ∷ cs) = ap (λ l. c ∷ l) (take_whole cs)
 
 pub take_cells : (plan : PlanData) (cells : List Cell) (i : ℕ) → All (IsCell plan) cells → All (IsCell plan) (take i cells)
 take_cells plan [] zero each k d lt = absurd (omega arith)
