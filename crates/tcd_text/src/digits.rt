@@ -46,7 +46,7 @@ pub fn append_ascii(text: &mut String, bytes: &[u8]) -> Result<(), NoMemory>
     ensures { OnOk result (string_bytes text.new ≡ string_bytes text.old ++ bytes.now) }
 {
     // ASCII is UTF-8, which the checker proves of the clause above. `from_utf8` would look at each
-    // byte again: a tenth of the instructions of `dis`.
+    // byte again: 15 % of the instructions of `dis`.
     let more = unsafe { std::str::from_utf8_unchecked(bytes) };
     text.push_str(more)?;
     Ok(())
