@@ -7,7 +7,7 @@
 The tables: the rows as a definition (tc_isa/specs/Rows.antt), the fields that each row names (tc_isa/src/row_uses.rt), the
 index by codes (tc_encode/src/index.rt), the operands of each row (tc_stmt/src/row_wants.rt), and the index by names
 (tc_stmt/src/row_index.rt). The number of rows is written to ROW_COUNT (tc_isa/src/table.rt), which all else cites. What a
-row does is written by hand, in tc_isa/specs/Shapes.antt and tc_isa/src/row_meanings.rt. Both ways of calling it print too
+row does is written by hand, in tc_isa/specs/Meanings.antt and tc_isa/src/row_meanings.rt. Both ways of calling it print too
 which rows the table of operands in docs/formats.md lacks, or has and shouldn't: that one is written by hand.
 Nothing here is trusted: the checks of tc_isa, tc_encode and tc_stmt prove that each table is that of the rows.
 """
@@ -18,7 +18,7 @@ import sys
 
 CRATES = os.path.join(os.path.dirname(os.path.abspath(__file__)), "..", "crates")
 
-# the fields that a form has (tc_isa/specs/Words.antt, `bounds`)
+# the fields that a form has (tc_isa/specs/Forms.antt, `bounds`)
 FORMS = {
     "Rlc": "c s1 k", "Rr": "c s1 s2 n", "Rc": "c s1 k", "Bol": "s1 s2 k", "Bo": "s1 s2 k", "Brr": "s1 s2 k", "Brc": "s1 s2 k",
     "B": "k", "Abs": "s1 k", "Sys": "", "Sr": "s1", "Sc": "k", "Sb": "k", "Sbr": "s2 k", "Src": "s1 k", "Srr": "s1 s2",

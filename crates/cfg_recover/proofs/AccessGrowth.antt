@@ -10,7 +10,7 @@ use Rattle.value_domain.specs.Limits.{Limits}
 use Rattle.value_domain.specs.Values.{IsBelow}
 use Rattle.value_domain.specs.State.{Covers}
 use Rattle.vd_transfer.specs.Registers.{slot, arg_of, value_at}
-use Rattle.vd_transfer.specs.Effects.{access_of}
+use Rattle.vd_transfer.specs.EffectsOnStates.{access_of}
 use Rattle.vd_transfer.specs.Soundness.{IsSetting}
 use Rattle.vd_transfer.proofs.SlotLaws.{slot_is}
 use Rattle.vd_transfer.proofs.HoldLaws.{arg_value}

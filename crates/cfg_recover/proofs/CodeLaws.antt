@@ -7,7 +7,7 @@ use Rattle.elf_image.specs.Images.{ImageData, image_byte}
 use Rattle.tcd_plan.specs.PlanData.{PlanData}
 use Rattle.tc_isa.specs.Insts.{InstData}
 use Rattle.tc_isa.specs.Spelling.{Spells}
-use Rattle.tc_isa.specs.Shapes.{shape_of}
+use Rattle.tc_isa.specs.Meanings.{shape_of}
 use Rattle.tc_isa.specs.Bounded.{IsShape}
 use Rattle.tc_isa.specs.declared.shapes.Shape.{Shape}
 use Rattle.tc_isa.proofs.ShapeBounds.{shape_is}
@@ -18,8 +18,8 @@ use Rattle.tcd_base.specs.declared.range.Range.{Range}
 use Rattle.tcd_base.specs.Ranges.{IsInOne}
 use Rattle.tc_machine.specs.Safe.{SpellsAt}
 use Rattle.tc_machine.proofs.ShapeWords as machine
-use Rattle.cfg_recover.specs.Code.{IsCode, HasCode}
-use Rattle.cfg_recover.specs.Finding.{held_bytes, FindsInRom, FindsBytes, FindsCode}
+use Rattle.cfg_recover.specs.Code.{IsCode, HasCode, FindsBytes, FindsCode}
+use Rattle.cfg_recover.specs.HeldBytes.{held_bytes, FindsInRom}
 
 -- the bytes from x on are these
 abbrev Holds : ImageData → ℕ → List ℕ → Type 0

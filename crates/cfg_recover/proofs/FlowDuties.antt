@@ -3,15 +3,15 @@ use Rattle.std.proofs.Common.{◌≡◌, ℕ, Bool, true, false, List, ap, refl,
 use Rattle.elf_image.specs.Images.{ImageData}
 use Rattle.tcd_plan.specs.PlanData.{PlanData}
 use Rattle.tc_isa.specs.Insts.{InstData}
-use Rattle.tc_isa.specs.Shapes.{shape_of}
+use Rattle.tc_isa.specs.Meanings.{shape_of}
 use Rattle.value_domain.specs.Limits.{Limits}
-use Rattle.vd_transfer.specs.Effects.{HasRoom}
+use Rattle.vd_transfer.specs.EffectsOnStates.{HasRoom}
 use Rattle.cfg_recover.specs.LocalFaults.{FindsFaultless}
 use Rattle.value_domain.specs.declared.states.State.{State}
 use Rattle.vd_transfer.specs.Registers.{slot}
 use Rattle.depth_cert.specs.declared.keys.Key.{Key}
-use Rattle.cfg_recover.specs.Entries.{irq_entry}
-use Rattle.cfg_recover.specs.Duties.{irqs_of, interrupts_of}
+use Rattle.cfg_recover.specs.Entries.{irq_entry, irqs_of}
+use Rattle.cfg_recover.specs.Duties.{interrupts_of}
 use Rattle.cfg_recover.specs.Flows.{told_irqs}
 
 -- the state at an interrupt's entry is that of priority 0 with another priority

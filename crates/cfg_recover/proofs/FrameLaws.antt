@@ -20,8 +20,10 @@ use Rattle.depth_cert.proofs.KeyLaws.{found_in}
 use Rattle.cfg_recover.specs.Entries.{start_key}
 use Rattle.cfg_recover.specs.Duties.{Owed, duties_of}
 use Rattle.cfg_recover.specs.Accepting.{limits_in}
-use Rattle.cfg_recover.specs.Moves.{InState, traps}
-use Rattle.cfg_recover.specs.Frames.{Way, to, call, irq, sys, aln, ret, rfe, way_of_shape, way_by, way_in, way_of_step, Standing, frames_by, frames_after, frames_from, frames, size_in, AreHeld, HoldFrames, IsReturn, IsOwed, EdgeOwed}
+use Rattle.cfg_recover.specs.OwedMoves.{InState, traps}
+use Rattle.cfg_recover.specs.Frames.{Standing, frames_by, frames_after, frames_from, frames, size_in, AreHeld, HoldFrames}
+use Rattle.cfg_recover.specs.OwedEdges.{IsReturn, IsOwed, EdgeOwed}
+use Rattle.cfg_recover.specs.Edges.{Way, to, call, irq, sys, aln, ret, rfe, way_of_shape, way_by, way_in, way_of_step}
 use Rattle.cfg_recover.specs.FrameLaws.{Meets, KeepsFrame, EdgeIs, EdgesAre, FramesNext, FramesAre, FramesSay, HeldFramesSay, GoesBack, StepOwed, EdgeSays, OwedEdgesSay}
 
 -- ---- edges

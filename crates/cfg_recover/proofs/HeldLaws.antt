@@ -4,9 +4,9 @@ use Rattle.std.specs.Prelude.{slice_get, nat_lt, nat_le}
 use Rattle.std.specs.List.{list_all}
 use Rattle.std.proofs.lemmas.Bool.{ltb-true, leb-true, lt-ltb, le-leb, and_parts}
 use Rattle.std.proofs.lemmas.Option.{slice_get_within}
-use Rattle.elf_image.specs.declared.segment.Segment.{Segment}
+use Rattle.elf_image.specs.declared.segments.Segment.{Segment}
 use Rattle.elf_image.specs.Images.{ImageData, SegmentData, segment_data, holds, byte_in, image_byte, are_apart, all_apart}
-use Rattle.cfg_recover.specs.Finding.{held_bytes, StandIn}
+use Rattle.cfg_recover.specs.HeldBytes.{held_bytes, StandIn}
 
 or_cases : (a b : Bool) → (a || b) ≡ true → (a ≡ true) ⊎ (b ≡ true)
 or_cases true b e = inl refl

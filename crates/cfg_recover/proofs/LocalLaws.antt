@@ -6,7 +6,7 @@ use Rattle.std.proofs.lemmas.Bool.{eqb-true, eq-eqb, and_parts, and_from}
 use Rattle.elf_image.specs.Images.{ImageData}
 use Rattle.tcd_plan.specs.PlanData.{PlanData}
 use Rattle.tc_isa.specs.Insts.{InstData}
-use Rattle.tc_isa.specs.Shapes.{shape_of}
+use Rattle.tc_isa.specs.Meanings.{shape_of}
 use Rattle.tc_isa.specs.declared.shapes.Shape.{Shape}
 use Rattle.tc_isa.specs.declared.shapes.Shape.TheVariants.{Load, Store}
 use Rattle.value_domain.specs.declared.values.Val.{Val}
@@ -15,12 +15,12 @@ use Rattle.value_domain.specs.Limits.{Limits}
 use Rattle.value_domain.specs.Sets.{Among}
 use Rattle.value_domain.specs.Values.{members, IsWell}
 use Rattle.value_domain.proofs.CoverLaws.{member_same}
-use Rattle.vd_transfer.specs.Effects.{address_of}
-use Rattle.store_ranges.specs.Stores.{AreAligned}
+use Rattle.vd_transfer.specs.EffectsOnStates.{address_of}
+use Rattle.store_ranges.specs.Accesses.{AreAligned}
 use Rattle.depth_cert.specs.declared.keys.Key.{Key}
 use Rattle.cfg_recover.specs.Code.{IsCode}
-use Rattle.cfg_recover.specs.Local.{are_aligned, StoresInRange, MayAccess, LocalRule, LocalHolds, IsLocalFault}
-use Rattle.cfg_recover.specs.LocalFaults.{IsLeastBroken, FindsFaultless, StoresInRangeAt, MayAccessAt}
+use Rattle.cfg_recover.specs.LocalRules.{are_aligned, StoresInRange, MayAccess, LocalRule, LocalHolds}
+use Rattle.cfg_recover.specs.LocalFaults.{IsLocalFault, IsLeastBroken, FindsFaultless, StoresInRangeAt, MayAccessAt}
 use Rattle.cfg_recover.proofs.CodeLaws.{IsCode-one}
 
 -- ---- alignment

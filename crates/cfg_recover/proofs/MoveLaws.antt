@@ -37,20 +37,21 @@ use Rattle.value_domain.proofs.CoverLaws.{among_member, has_step}
 use Rattle.value_domain.proofs.RangeLaws.{one_value}
 use Rattle.value_domain.proofs.SetLaws.{distinct_has}
 use Rattle.vd_transfer.specs.Registers.{slot, reg_of, arg_of, word_val, set_reg}
-use Rattle.vd_transfer.specs.Effects.{access_of, address_of, transfer_of}
+use Rattle.vd_transfer.specs.EffectsOnStates.{access_of, address_of, transfer_of}
 use Rattle.vd_transfer.specs.Branches.{refine_of}
-use Rattle.vd_transfer.specs.Holding.{Holds, word_of, words_after, ie_after, ccpn_after, ReadsMember}
-use Rattle.vd_transfer.specs.Soundness.{IsSetting}
+use Rattle.vd_transfer.specs.Holding.{Holds}
+use Rattle.vd_transfer.specs.EffectsOnWords.{word_of, words_after, ie_after, ccpn_after}
+use Rattle.vd_transfer.specs.Soundness.{ReadsMember, IsSetting}
 use Rattle.vd_transfer.proofs.HoldLaws.{same_length, reg_of-other, reg_of-here, transfer_holds, branch_holds, address_holds, arg_value}
 use Rattle.vd_transfer.proofs.ValueLaws.{value_of_value}
 use Rattle.store_ranges.specs.Loads.{HoldsLoads, loaded_of}
 use Rattle.store_ranges.proofs.Covers.{map_has}
 use Rattle.store_ranges.proofs.Sound.{set_sound, span_sound}
 use Rattle.depth_cert.specs.declared.keys.Key.{Key}
-use Rattle.cfg_recover.specs.Entries.{aln_key, aln_entry, irq_key, irq_entry, call_key, call_entry, stack_of, sys_entry}
-use Rattle.cfg_recover.specs.Local.{named_by, targets_of, are_aligned}
-use Rattle.cfg_recover.specs.Duties.{owed, jump, enter, entered_and_back, loaded_at, successors_of, jump_on, misaligned_at, irqs_of, duties_of}
-use Rattle.cfg_recover.specs.Moves.{InState, IsAtPoint, MovesTo, traps, Moved, MovesInFrame, TrapsOwed, CallsOwed, SystemCallsOwed, InterruptsOwed, StoresHeld}
+use Rattle.cfg_recover.specs.Entries.{aln_key, aln_entry, irq_key, irq_entry, call_key, call_entry, stack_of, sys_entry, irqs_of}
+use Rattle.cfg_recover.specs.LocalRules.{named_by, targets_of, are_aligned}
+use Rattle.cfg_recover.specs.Duties.{owed, jump, enter, entered_and_back, loaded_at, successors_of, jump_on, misaligned_at, duties_of}
+use Rattle.cfg_recover.specs.OwedMoves.{InState, IsAtPoint, MovesTo, traps, Moved, MovesInFrame, TrapsOwed, CallsOwed, SystemCallsOwed, InterruptsOwed, StoresHeld}
 use Rattle.cfg_recover.proofs.EntryLaws.{reg_lt}
 use Rattle.cfg_recover.proofs.Points.{setting, bounded, writes, fetched_at}
 use Rattle.cfg_recover.proofs.Members.{contains_first, contains_among, contains_map, contains_flat, contains_filter, passes_each, contains_jump, owes_successor, owes_entry, owes_misaligned, owes_interrupt}

@@ -19,8 +19,8 @@ use Rattle.value_domain.specs.State.{AreValues}
 use Rattle.vd_transfer.specs.declared.change.Change.{Change}
 use Rattle.vd_transfer.specs.Operations.{value_of}
 use Rattle.vd_transfer.specs.Registers.{slot, is_lower, value_at, arg_of, set_at, write_reg}
-use Rattle.vd_transfer.specs.Effects.{transfer_of, HasRoom}
-use Rattle.vd_transfer.specs.Changes.{HasLoaded, state_after, reg_put, kept_in}
+use Rattle.vd_transfer.specs.EffectsOnStates.{transfer_of, HasRoom, HasLoaded}
+use Rattle.vd_transfer.specs.Changes.{state_after, reg_put, kept_in}
 use Rattle.vd_transfer.proofs.ChangeLaws.{written-is, written-values, value-second, length-changed}
 use Rattle.cfg_recover.specs.declared.operation_cache.SetOperation.{SetOperation}
 use Rattle.cfg_recover.specs.declared.operation_cache.CachedOperation.{CachedOperation}

@@ -18,7 +18,8 @@ use Rattle.depth_cert.specs.Certs.{CertData, IsCert, find_node}
 use Rattle.depth_cert.proofs.KeyLaws.{found_in, one_number}
 use Rattle.cfg_recover.specs.Code.{IsCode, HasCode}
 use Rattle.cfg_recover.specs.Entries.{start_key}
-use Rattle.cfg_recover.specs.Local.{LocalRule, IsFaultless}
+use Rattle.cfg_recover.specs.LocalRules.{LocalRule}
+use Rattle.cfg_recover.specs.LocalFaults.{IsFaultless}
 use Rattle.cfg_recover.specs.Duties.{Owed, duties_of}
 use Rattle.cfg_recover.specs.Accepting.{limits_in, IsMet, IsNeedAbove, RuleHolds, HasNeed, HoldsAtNode, Accepts}
 

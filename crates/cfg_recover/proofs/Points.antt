@@ -20,7 +20,7 @@ use Rattle.value_domain.specs.Limits.{Limits}
 use Rattle.vd_transfer.specs.Holding.{WritesNoFixedRegister}
 use Rattle.vd_transfer.specs.Soundness.{IsSetting}
 use Rattle.depth_cert.specs.declared.keys.Key.{Key}
-use Rattle.cfg_recover.specs.Moves.{IsAtPoint, traps}
+use Rattle.cfg_recover.specs.OwedMoves.{IsAtPoint, traps}
 
 module _ {b : Limits} {image : ImageData} {plan : PlanData} {key : Key} {m : Machine} {s : State} {shape : Shape} {n : ℕ} (at : IsAtPoint b image plan key m s shape n) where
   -- the premises of the laws of effects

@@ -9,8 +9,7 @@ use Rattle.value_domain.specs.declared.values.Val.{Val}
 use Rattle.value_domain.specs.declared.states.State.{State}
 use Rattle.value_domain.specs.Limits.{Limits}
 use Rattle.value_domain.specs.Values.{IsValue, any_val}
-use Rattle.vd_transfer.specs.Changes.{HasLoaded}
-use Rattle.vd_transfer.specs.Effects.{transfer_of}
+use Rattle.vd_transfer.specs.EffectsOnStates.{HasLoaded, transfer_of}
 use Rattle.cfg_recover.specs.Duties.{loaded_at}
 
 -- any value will do, unless the instruction is a load

@@ -15,7 +15,7 @@ use Rattle.tc_machine.specs.declared.state.Machine.{Machine}
 use Rattle.tc_machine.specs.Machine.{reg, with_reg, arg, moved, advanced}
 use Rattle.tc_machine.specs.Instructions.{access_address, with_base, traps_at, core_register, lowered, target_of, does}
 use Rattle.tc_machine.specs.Safe.{IsMachine}
-use Rattle.vd_transfer.specs.Holding.{set_word, word_of, access_word, with_base_word, words_after}
+use Rattle.vd_transfer.specs.EffectsOnWords.{set_word, word_of, access_word, with_base_word, words_after}
 
 -- ---- registers
 -- the word of a register, in the two lists of registers

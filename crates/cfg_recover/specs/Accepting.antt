@@ -16,7 +16,8 @@ use Rattle.depth_cert.specs.Certs.{CertData, find_node}
 use Rattle.cfg_recover.specs.Code.{IsCode}
 use Rattle.cfg_recover.specs.Entries.{start_key, start_state}
 use Rattle.depth_cert.specs.Exits.{after_of, ExitCovers}
-use Rattle.cfg_recover.specs.Local.{LocalHolds, IsFaultless}
+use Rattle.cfg_recover.specs.LocalRules.{LocalHolds}
+use Rattle.cfg_recover.specs.LocalFaults.{IsFaultless}
 use Rattle.cfg_recover.specs.Duties.{Duty, jump, enter, resume, leave, Owed, duties_of}
 
 -- the limits of values in a certificate

@@ -14,7 +14,7 @@ use Rattle.vd_transfer.specs.Changes.{kept_of, no_put, reg_put}
 use Rattle.depth_cert.specs.declared.keys.Key.{Key}
 use Rattle.cfg_recover.specs.declared.local.Located.{Located}
 use Rattle.cfg_recover.specs.Code.{IsCode}
-use Rattle.cfg_recover.specs.Local.{IsFaultless}
+use Rattle.cfg_recover.specs.LocalFaults.{IsFaultless}
 
 -- a called function begins with its caller's values and without locals
 abbrev pub call_change : State → Change

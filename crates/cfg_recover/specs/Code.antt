@@ -1,11 +1,15 @@
--- The instruction at an address of an image.
-use Rattle.std.specs.Prelude.{◌≡◌, ◌%◌, ℕ, List, length}
+-- The instruction at an address of an image, and what is found there.
+use Rattle.std.specs.Prelude.{◌≡◌, ◌%◌, ℕ, List, length, Option, Some, None, Ok, Result, Err}
 use Rattle.elf_image.specs.Images.{ImageData}
 use Rattle.tcd_plan.specs.PlanData.{PlanData}
 use Rattle.tc_isa.specs.Insts.{InstData}
-use Rattle.tc_isa.specs.Shapes.{shape_of}
+use Rattle.tc_isa.specs.Meanings.{shape_of}
 use Rattle.tc_isa.specs.declared.shapes.Shape.{Shape}
 use Rattle.tc_machine.specs.Safe.{SpellsAt}
+use Rattle.tc_encode.specs.Decoding.{decoded_of}
+use Rattle.cfg_recover.specs.declared.local.Located.{Located}
+use Rattle.tcd_base.specs.Bytes.{bytes_of_word}
+use Rattle.tc_encode.specs.declared.errors.DecodeErr.{DecodeErr}
 
 -- An instruction of this shape and of n bytes is at p: p is even, and the bytes are in one rom
 -- range and in segments of the image.
@@ -22,3 +26,27 @@ pub record HasCode (image : ImageData) (plan : PlanData) (p : ℕ) : Type 0 wher
   pub shape : Shape
   pub size : ℕ
   pub code : IsCode image plan p shape size
+
+-- the instruction that bytes begin with, and its length, or none
+abbrev pub FindsBytes : List ℕ → Option (InstData × ℕ) → Type 0
+FindsBytes bytes (Some (inst, n)) = decoded_of bytes ≡ Ok (inst, n)
+FindsBytes bytes None = (inst : InstData) (n : ℕ) → decoded_of bytes ≡ Ok (inst, n) → ⊥
+
+-- the instruction at an address, and its length, or none
+abbrev pub FindsCode : ImageData → PlanData → ℕ → Option (InstData × ℕ) → Type 0
+FindsCode image plan p (Some (inst, n)) = IsCode image plan p (shape_of inst) n
+FindsCode image plan p None = HasCode image plan p → ⊥
+
+-- the shape and the size of the instruction at an address, or none
+abbrev pub LocatesCode : ImageData → PlanData → ℕ → Option Located → Type 0
+LocatesCode image plan p (Some found) = IsCode image plan p found.shape found.size
+LocatesCode image plan p None = HasCode image plan p → ⊥
+
+-- the shape and the size of an instruction that was decoded, if one was
+abbrev pub located_of : Result (InstData × ℕ) DecodeErr → Option Located
+located_of (Ok (inst, n)) = Some (record { shape = shape_of inst; size = n })
+located_of (Err e) = None
+
+-- the instruction that the four bytes of a word begin with
+abbrev pub located_in : ℕ → Option Located
+located_in w = located_of (decoded_of (bytes_of_word w))

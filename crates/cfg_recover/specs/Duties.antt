@@ -1,6 +1,6 @@
 -- What a point owes: the points, entries and exits that a certificate must have, because the
 -- machine may come there from this point, and the states that they must cover.
-use Rattle.std.specs.Prelude.{◌==◌, ℕ, true, false, nat_lt, if◌then◌else◌, List, [], ◌∷◌, ◌++◌, map, filter, Option, Some, None, unwrap_or}
+use Rattle.std.specs.Prelude.{◌==◌, ℕ, true, false, if◌then◌else◌, List, ◌∷◌, ◌++◌, map, Option, Some, None, unwrap_or, Contains}
 use Rattle.std.specs.List.{flat_map}
 use Rattle.depth_cert.specs.Keys.{sys_kind}
 use Rattle.elf_image.specs.Images.{ImageData}
@@ -12,14 +12,14 @@ use Rattle.value_domain.specs.declared.values.Val.{Val}
 use Rattle.value_domain.specs.declared.states.State.{State}
 use Rattle.value_domain.specs.Limits.{Limits}
 use Rattle.value_domain.specs.Values.{any_val}
-use Rattle.vd_transfer.specs.Effects.{transfer_of, address_of}
+use Rattle.vd_transfer.specs.EffectsOnStates.{transfer_of, address_of}
 use Rattle.vd_transfer.specs.Branches.{refine_of}
 use Rattle.store_ranges.specs.Loads.{loaded_of}
 use Rattle.depth_cert.specs.declared.keys.Key.{Key}
 use Rattle.depth_cert.specs.declared.points.Exit.{Exit}
-use Rattle.cfg_recover.specs.Entries.{call_key, irq_key, sys_key, aln_key, call_entry, irq_entry, sys_entry, aln_entry}
+use Rattle.cfg_recover.specs.Entries.{call_key, irq_key, sys_key, aln_key, call_entry, irq_entry, sys_entry, aln_entry, irqs_of}
 use Rattle.depth_cert.specs.Exits.{exit_of}
-use Rattle.cfg_recover.specs.Local.{targets_of, are_aligned}
+use Rattle.cfg_recover.specs.LocalRules.{targets_of, are_aligned}
 
 -- One duty, met in this way:
 -- - jump: the same node has a point at this address, and its state covers this one
@@ -98,11 +98,6 @@ misaligned_of b plan key s (Load dst base offset size signed after) =
 misaligned_of b plan key s (Store src base offset size after) = misaligned_at plan key s (address_of b plan (Store src base offset size after) s) size
 misaligned_of b plan key s _ = []
 
--- The interrupts that may be taken: if interrupts may be enabled, each interrupt of the plan above
--- the lower bound of CCPN.
-abbrev pub irqs_of : PlanData → State → List ℕ
-irqs_of plan s = if s.ie then filter (λ p. nat_lt s.ccpn p) plan.irqs else []
-
 -- the entries of their handlers (rule 11)
 abbrev pub interrupts_of : PlanData → Key → State → List Owed
 interrupts_of plan key s = map (λ p. owed 11 (enter (irq_key plan p) (irq_entry plan key s p))) (irqs_of plan s)
@@ -118,3 +113,11 @@ leavings_of key s _ = []
 unfoldable pub duties_of : Limits → ImageData → PlanData → Key → ℕ → State → Shape → ℕ → List Owed
 duties_of b image plan key p s shape n =
     successors_of b image plan p s shape n ++ entries_of plan key p s shape n ++ misaligned_of b plan key s shape ++ interrupts_of plan key s ++ leavings_of key s shape
+
+-- a jump to this address is owed, with some state
+abbrev pub OwesJump : List Owed → ℕ → Type 0
+OwesJump ds q = (t : State) × Contains ds (owed 4 (jump q t))
+
+-- this rule asks for an entry of this key, with some state
+abbrev pub OwesEntry : List Owed → ℕ → Key → Type 0
+OwesEntry ds rule key = (t : State) × Contains ds (owed rule (enter key t))

@@ -1,6 +1,6 @@
 -- The frames that an instruction, an interrupt or a trap enters: their keys, and the states at
 -- their entries.
-use Rattle.std.specs.Prelude.{◌*◌, ◌^◌, ℕ, Bool, true, false, if◌then◌else◌, [], replicate, bit_or}
+use Rattle.std.specs.Prelude.{◌*◌, ◌^◌, ℕ, Bool, true, false, if◌then◌else◌, replicate, bit_or, nat_lt, List, filter}
 use Rattle.depth_cert.specs.Keys.{start_kind, call_kind, irq_kind, sys_kind, aln_kind}
 use Rattle.elf_image.specs.Images.{ImageData}
 use Rattle.tcd_plan.specs.PlanData.{PlanData}
@@ -67,3 +67,13 @@ aln_entry plan key s = set_reg (entry_with (stack_of plan key s) false s.ccpn tr
 abbrev pub sys_entry : PlanData → Key → State → ℕ → State
 sys_entry plan key s tin =
     record (set_reg (set_reg s 26 (stack_of plan key s)) 15 (word_val tin)) { ie = false; lower = false; locals = record { items = [] } }
+
+-- ---- handlers
+-- the key of a handler of an interrupt or a trap
+abbrev pub handler_key : ℕ → ℕ → ℕ → Key
+handler_key kind entry prio = record { kind = kind; entry = entry; prio = prio; is = true }
+
+-- The interrupts that may be taken: if interrupts may be enabled, each interrupt of the plan above
+-- the lower bound of CCPN.
+abbrev pub irqs_of : PlanData → State → List ℕ
+irqs_of plan s = if s.ie then filter (λ p. nat_lt s.ccpn p) plan.irqs else []

@@ -23,8 +23,10 @@ use Rattle.depth_cert.specs.Certs.{CertData, find_node}
 use Rattle.cfg_recover.specs.Code.{IsCode}
 use Rattle.cfg_recover.specs.Duties.{Owed, jump, enter, duties_of}
 use Rattle.cfg_recover.specs.Accepting.{limits_in}
-use Rattle.cfg_recover.specs.Moves.{traps}
-use Rattle.cfg_recover.specs.Frames.{Standing, to, call, irq, sys, aln, ret, rfe, way_of_step, edge_of_step, frames, FramesHeld, EdgesOwed}
+use Rattle.cfg_recover.specs.OwedMoves.{traps}
+use Rattle.cfg_recover.specs.Frames.{Standing, frames, FramesHeld}
+use Rattle.cfg_recover.specs.OwedEdges.{EdgesOwed}
+use Rattle.cfg_recover.specs.Edges.{to, call, irq, sys, aln, ret, rfe, way_of_step, edge_of_step}
 
 -- ---- steps
 -- the machine takes no interrupt, and the instruction at its pc has this shape and n bytes

@@ -3,22 +3,31 @@ use Rattle.std.specs.Prelude.{◌≡◌, ◌<◌, ◌⊎◌, ℕ, true, Option, 
 use Rattle.elf_image.specs.Images.{ImageData}
 use Rattle.tcd_plan.specs.PlanData.{PlanData}
 use Rattle.tc_isa.specs.Insts.{InstData}
-use Rattle.tc_isa.specs.Shapes.{shape_of}
+use Rattle.tc_isa.specs.Meanings.{shape_of}
 use Rattle.tc_isa.specs.declared.shapes.Shape.{Shape}
 use Rattle.tc_isa.specs.declared.shapes.Shape.TheVariants.{Load, Store}
 use Rattle.value_domain.specs.declared.values.Val.{Val}
 use Rattle.value_domain.specs.declared.states.State.{State}
 use Rattle.value_domain.specs.Limits.{Limits}
-use Rattle.store_ranges.specs.Stores.{AreStoresInRange}
+use Rattle.store_ranges.specs.Accesses.{AreStoresInRange}
 use Rattle.depth_cert.specs.declared.keys.Key.{Key}
 use Rattle.cfg_recover.specs.Code.{IsCode}
-use Rattle.cfg_recover.specs.Local.{are_aligned, StoresInRange, MayAccess, LocalRule, IsFaultless}
+use Rattle.cfg_recover.specs.LocalRules.{are_aligned, StoresInRange, MayAccess, LocalRule, LocalHolds}
 
 -- The own part of this rule fails for the shape, and that of each lesser one holds; if there is no
 -- such rule, all hold.
 abbrev pub IsLeastBroken : Limits → PlanData → Key → ℕ → State → Shape → Option ℕ → Type 0
 IsLeastBroken b plan key p s shape (Some r) = (LocalRule b plan key p s shape r → ⊥) × ((q : ℕ) → q < r → LocalRule b plan key p s shape q)
 IsLeastBroken b plan key p s shape None = (r : ℕ) → LocalRule b plan key p s shape r
+
+-- r is the least rule whose own part fails there
+pub record IsLocalFault (b : Limits) (image : ImageData) (plan : PlanData) (key : Key) (p : ℕ) (s : State) (r : ℕ) : Type 0 where
+  pub fails : LocalHolds b image plan key p s r → ⊥
+  pub least : (q : ℕ) → q < r → LocalHolds b image plan key p s q
+
+-- no rule's own part fails there
+abbrev pub IsFaultless : Limits → ImageData → PlanData → Key → ℕ → State → Type 0
+IsFaultless b image plan key p s = (r : ℕ) → LocalHolds b image plan key p s r
 
 -- this instruction of so many bytes is at p, and no rule's own part fails there
 pub record FindsFaultless (b : Limits) (image : ImageData) (plan : PlanData) (key : Key) (p : ℕ) (s : State) (found : InstData × ℕ) : Type 0 where

@@ -9,7 +9,7 @@ use Rattle.value_domain.specs.State.{joined_states}
 use Rattle.depth_cert.specs.declared.keys.Key.{Key}
 use Rattle.depth_cert.specs.Known.{state}
 use Rattle.cfg_recover.specs.Entries.{start_key}
-use Rattle.cfg_recover.specs.Local.{IsLocalFault}
+use Rattle.cfg_recover.specs.LocalFaults.{IsLocalFault}
 use Rattle.cfg_recover.specs.Assignments.{point, Assignment, Asks, Joins, Derived}
 use Rattle.cfg_recover.specs.Refusals.{IsTooLarge, IsLeast, Enters, Reaches, Recurs, point_number, MeetsNeeds, IsRefusalWith}
 

@@ -11,7 +11,7 @@ use Rattle.value_domain.specs.Thresholds.{limits_for}
 use Rattle.depth_cert.specs.declared.keys.Key.{Key}
 use Rattle.depth_cert.specs.Keys.{number_of_key, same_key}
 use Rattle.cfg_recover.specs.Entries.{start_key}
-use Rattle.cfg_recover.specs.Local.{IsLocalFault}
+use Rattle.cfg_recover.specs.LocalFaults.{IsLocalFault}
 use Rattle.cfg_recover.specs.Duties.{enter}
 use Rattle.cfg_recover.specs.Assignments.{Place, point, exit, Assignment, same_place, Asks, HasDuty, Joins, Derived, Closed}
 use Rattle.depth_cert.specs.Known.{state}

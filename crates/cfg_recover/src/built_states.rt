@@ -2,8 +2,8 @@
 ghost use Rattle.std.specs.Prelude.{◌≡◌, IfSome};
 ghost use Rattle.value_domain.specs.Values.{IsValue};
 ghost use Rattle.value_domain.specs.State.{AreValues};
-ghost use Rattle.tc_isa.specs.Shapes.{shape_of};
-ghost use Rattle.vd_transfer.specs.Effects.{HasRoom, address_of, transfer_of};
+ghost use Rattle.tc_isa.specs.Meanings.{shape_of};
+ghost use Rattle.vd_transfer.specs.EffectsOnStates.{HasRoom, address_of, transfer_of};
 ghost use Rattle.vd_transfer.specs.Branches.{refine_of};
 ghost use Rattle.vd_transfer.specs.Changes.{state_after};
 

@@ -2,7 +2,8 @@
 ghost use Rattle.std.specs.Prelude.{◌≡◌, ◌≤◌, ◌+◌, ◌^◌, ◌↔◌, [], ◌∷◌, IsTrue, IfSome};
 ghost use Rattle.tcd_base.specs.Ranges.{IsInOne};
 ghost use Rattle.elf_image.specs.Images.{image_byte, segment_data};
-ghost use Rattle.cfg_recover.specs.Finding.{held_bytes, StandIn, FindsInRom, FindsBytes, FindsCode};
+ghost use Rattle.cfg_recover.specs.HeldBytes.{held_bytes, StandIn, FindsInRom};
+ghost use Rattle.cfg_recover.specs.Code.{FindsBytes, FindsCode};
 
 use elf_image::{Image, Segment};
 use tc_encode::decode;

@@ -1,10 +1,10 @@
 // The frames that an instruction itself may enter, and how it leaves its own.
 ghost use Rattle.std.specs.Prelude.{◌≡◌, Some};
-ghost use Rattle.tc_isa.specs.Shapes.{shape_of};
+ghost use Rattle.tc_isa.specs.Meanings.{shape_of};
 ghost use Rattle.value_domain.specs.Values.{IsValue};
 ghost use Rattle.value_domain.specs.State.{AreValues};
 ghost use Rattle.store_ranges.specs.Accesses.{IsSize};
-ghost use Rattle.cfg_recover.specs.Local.{are_aligned};
+ghost use Rattle.cfg_recover.specs.LocalRules.{are_aligned};
 ghost use Rattle.cfg_recover.specs.Duties.{entries_of, misaligned_at, misaligned_of, leavings_of};
 ghost use Rattle.cfg_recover.specs.FlowValues.{EntersWithValues};
 ghost use Rattle.cfg_recover.specs.Flows.{told_entry, rule_of_entry, told_leaving, leave_of};

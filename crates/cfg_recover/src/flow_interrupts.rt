@@ -1,6 +1,6 @@
 // The interrupts that may be taken.
 ghost use Rattle.std.specs.Prelude.{◌≡◌, ◌≤◌, nat_lt, filter, length};
-ghost use Rattle.cfg_recover.specs.Duties.{irqs_of};
+ghost use Rattle.cfg_recover.specs.Entries.{irqs_of};
 
 use arrayvec::ArrayVec;
 use tcd_plan::Plan;

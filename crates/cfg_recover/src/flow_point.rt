@@ -1,13 +1,13 @@
 // What may follow a point.
 ghost use Rattle.std.specs.Prelude.{◌≡◌, IfErr, IfOk};
-ghost use Rattle.tc_isa.specs.Shapes.{shape_of};
+ghost use Rattle.tc_isa.specs.Meanings.{shape_of};
 ghost use Rattle.value_domain.specs.State.{AreValues};
-ghost use Rattle.vd_transfer.specs.Effects.{HasRoom};
+ghost use Rattle.vd_transfer.specs.EffectsOnStates.{HasRoom};
 ghost use Rattle.cfg_recover.specs.Duties.{duties_of};
 ghost use Rattle.cfg_recover.specs.Entries.{irq_entry};
 ghost use Rattle.cfg_recover.specs.FlowValues.{HasValues};
 ghost use Rattle.cfg_recover.specs.Flows.{told_by, leave_of, Tells};
-ghost use Rattle.cfg_recover.specs.Local.{IsLocalFault};
+ghost use Rattle.cfg_recover.specs.LocalFaults.{IsLocalFault};
 
 use crate::Flow;
 use crate::built_states::changed_state;

@@ -1,12 +1,12 @@
 // The successors of a point in its frame.
 ghost use Rattle.std.specs.Prelude.{◌≡◌, All, Some};
 ghost use Rattle.tc_isa.specs.Bounded.{IsShape};
-ghost use Rattle.tc_isa.specs.Shapes.{shape_of};
+ghost use Rattle.tc_isa.specs.Meanings.{shape_of};
 ghost use Rattle.value_domain.specs.declared.states.State.{State};
 ghost use Rattle.value_domain.specs.Values.{IsValue};
 ghost use Rattle.value_domain.specs.State.{AreValues};
 ghost use Rattle.vd_transfer.specs.Changes.{state_after};
-ghost use Rattle.vd_transfer.specs.Effects.{HasRoom, address_of, transfer_of};
+ghost use Rattle.vd_transfer.specs.EffectsOnStates.{HasRoom, address_of, transfer_of};
 ghost use Rattle.vd_transfer.specs.Branches.{refine_of};
 ghost use Rattle.cfg_recover.specs.Duties.{jump_on, loaded_at, next_of, successors_of};
 ghost use Rattle.cfg_recover.specs.FlowValues.{JumpsWithValues};

@@ -5,8 +5,8 @@ ghost use Rattle.tc_isa.specs.Bounded.{IsTarget};
 ghost use Rattle.value_domain.specs.declared.states.State.{State};
 ghost use Rattle.value_domain.specs.Sets.{Among, AreWords, Rising, distinct, sorted_insert};
 ghost use Rattle.vd_transfer.specs.Registers.{reg_of};
-ghost use Rattle.cfg_recover.specs.Local as rules;
-ghost use Rattle.cfg_recover.specs.Local.{named_by, targets_of};
+ghost use Rattle.cfg_recover.specs.LocalRules as rules;
+ghost use Rattle.cfg_recover.specs.LocalRules.{named_by, targets_of};
 
 use arrayvec::ArrayVec;
 use tc_isa::Target;

@@ -4,8 +4,8 @@ ghost use Rattle.std.specs.Coded.{Coded-set};
 ghost use Rattle.elf_image.specs.Images.{image_byte};
 ghost use Rattle.tc_isa.specs.Bounded.{IsShape};
 ghost use Rattle.tc_encode.specs.Decoding.{decoded_of};
-ghost use Rattle.cfg_recover.specs.Finding.{LocatesCode};
-ghost use Rattle.cfg_recover.specs.KnownCodes.{located_of, located_in, IsKnown};
+ghost use Rattle.cfg_recover.specs.Code.{LocatesCode, located_of, located_in};
+ghost use Rattle.cfg_recover.specs.KnownCodes.{IsKnown};
 
 use crate::code::{byte_at, code_at, four_in_rom};
 use crate::local::Located;

@@ -3,12 +3,11 @@
 ghost use Rattle.std.specs.Prelude.{◌≡◌, ℕ, IfErr, IfOk, IfSome, MatchResult, None, Some, if◌then◌else◌};
 ghost use Rattle.elf_image.specs.Images.{ImageData};
 ghost use Rattle.tc_isa.specs.Bounded.{IsShape};
-ghost use Rattle.tc_isa.specs.Shapes.{shape_of};
+ghost use Rattle.tc_isa.specs.Meanings.{shape_of};
 ghost use Rattle.value_domain.specs.State.{AreValues};
-ghost use Rattle.cfg_recover.specs.Local.{IsLocalFault};
+ghost use Rattle.cfg_recover.specs.LocalFaults.{IsLocalFault, IsLeastBroken, IsAccessFault, FindsFaultless};
 ghost use Rattle.cfg_recover.specs.Changes.{StandsFaultless};
-ghost use Rattle.cfg_recover.specs.Finding.{LocatesCode};
-ghost use Rattle.cfg_recover.specs.LocalFaults.{IsLeastBroken, IsAccessFault, FindsFaultless};
+ghost use Rattle.cfg_recover.specs.Code.{LocatesCode};
 
 use crate::code::code_at;
 use crate::local_rules::{

@@ -3,8 +3,9 @@ ghost use Rattle.std.specs.Prelude.{◌≡◌, ◌<◌, ◌≤◌, ◌⊎◌, �
 ghost use Rattle.tc_isa.specs.Bounded.{IsShape, IsSize, IsTarget};
 ghost use Rattle.tc_isa.specs.declared.shapes.Shape.TheVariants.{Ret, Rfe};
 ghost use Rattle.value_domain.specs.Values.{IsWell};
-ghost use Rattle.vd_transfer.specs.Holding.{HasValue, HasBaseValue};
-ghost use Rattle.cfg_recover.specs.Local.{are_aligned, named_by, targets_of, MayReturn, MayReturnFromException};
+ghost use Rattle.vd_transfer.specs.Holding.{HasBaseValue};
+ghost use Rattle.vd_transfer.specs.Registers.{HasValue};
+ghost use Rattle.cfg_recover.specs.LocalRules.{are_aligned, named_by, targets_of, MayReturn, MayReturnFromException};
 ghost use Rattle.cfg_recover.specs.LocalFaults.{StoresInRangeAt, MayAccessAt};
 
 use depth_cert::{ALN, CALL, IRQ, Key, SYS};

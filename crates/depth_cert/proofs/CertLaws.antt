@@ -5,7 +5,7 @@ use Rattle.std.proofs.lemmas.List.Elements.{All-nil, All-push}
 use Rattle.std.specs.List.{All, flat_map}
 use Rattle.tcd_base.specs.Bytes.{bytes_of_word}
 use Rattle.tcd_base.specs.Place.{Place, place_between}
-use Rattle.tcd_base.specs.Reading.{u8_at, u32_at, many_at}
+use Rattle.tcd_base.specs.FieldReaders.{u8_at, u32_at, many_at}
 use Rattle.tcd_base.proofs.FieldReads.{bind_ok}
 use Rattle.value_domain.specs.declared.states.State.{State}
 use Rattle.value_domain.specs.Versions.{most_locals_of}

@@ -6,7 +6,7 @@ use Rattle.std.proofs.lemmas.List.{get_or_append_left, length_push, length-map, 
 use Rattle.std.proofs.Math.Seq.{get_or-append_seam}
 use Rattle.tcd_base.specs.declared.errors.FormErr.{FormErr}
 use Rattle.tcd_base.specs.Place.{Place}
-use Rattle.tcd_base.specs.Reading.{many_at}
+use Rattle.tcd_base.specs.FieldReaders.{many_at}
 use Rattle.tcd_base.proofs.ManyLaws.{many_fail}
 use Rattle.depth_cert.specs.declared.errors.CertErr.{CertErr}
 use Rattle.depth_cert.specs.declared.errors.CertErr.TheVariants.{Bad, NoMemory}

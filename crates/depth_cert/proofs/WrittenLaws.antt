@@ -11,7 +11,7 @@ use Rattle.std.specs.List.Sorted.{IsStrictlyIncreasing}
 use Rattle.tcd_base.specs.declared.errors.FormErr.{FormErr}
 use Rattle.tcd_base.specs.Bytes.{bytes_of_half, bytes_of_word}
 use Rattle.tcd_base.specs.Place.{Place, place_between}
-use Rattle.tcd_base.specs.Reading.{◌>>=◌, u8_at, u16_at, u32_at, many_at}
+use Rattle.tcd_base.specs.FieldReaders.{◌>>=◌, u8_at, u16_at, u32_at, many_at}
 use Rattle.tcd_base.proofs.FieldReads.{u8_at-between, u16_at-between, u32_at-between}
 use Rattle.value_domain.specs.declared.values.Val.{Val}
 use Rattle.value_domain.specs.declared.values.Val.TheVariants.{Set, Span}

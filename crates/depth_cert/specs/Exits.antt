@@ -1,11 +1,12 @@
 -- Exits of frames: the exit of a state, the state after a return by it, and their order.
-use Rattle.std.specs.Prelude.{◌+◌, ◌-◌, ◌==◌, ℕ, false, nat_lt, if◌then◌else◌, List, [], ◌∷◌, ◌++◌, take, drop, slice_index_or, ◌≤◌, IsTrue}
+use Rattle.std.specs.Prelude.{◌+◌, ◌-◌, ◌==◌, ℕ, false, nat_lt, if◌then◌else◌, List, ◌∷◌, ◌++◌, take, drop, slice_index_or, ◌≤◌, IsTrue, ◌||◌, min}
 use Rattle.depth_cert.specs.Keys.{call_kind}
 use Rattle.value_domain.specs.declared.values.Val.{Val}
 use Rattle.value_domain.specs.declared.states.State.{State}
 use Rattle.value_domain.specs.Values.{any_val}
-use Rattle.value_domain.specs.State.{is_lower_slot, AreBelow}
+use Rattle.value_domain.specs.State.{is_lower_slot, AreBelow, joined_regs}
 use Rattle.depth_cert.specs.declared.points.Exit.{Exit}
+use Rattle.value_domain.specs.Limits.{Limits}
 
 -- ---- exits
 -- the values of the lower registers D0..D7 and A2..A7, which have the places 0 to 7 and 16 to 21 in
@@ -38,3 +39,7 @@ pub record ExitCovers (upper x : Exit) : Type 0 where
   pub lower : AreBelow x.lower upper.lower
   pub enabled : IsTrue x.ie → IsTrue upper.ie
   pub priority : upper.ccpn ≤ x.ccpn
+
+-- the least exit that covers both
+abbrev pub joined_exit : Limits → Exit → Exit → Exit
+joined_exit b x y = record { ie = x.ie || y.ie; ccpn = min x.ccpn y.ccpn; lower = joined_regs b x.lower y.lower }

@@ -1,10 +1,10 @@
 -- What is known at a place of a frame (the state of a point, or an exit), its order and joins.
-use Rattle.std.specs.Prelude.{◌||◌, min, Option, Some, None, option_map, ℕ, ◌≡◌, ◌≤◌, length}
+use Rattle.std.specs.Prelude.{Option, Some, None, option_map, ℕ}
 use Rattle.value_domain.specs.declared.states.State.{State}
 use Rattle.value_domain.specs.Limits.{Limits}
-use Rattle.value_domain.specs.State.{Covers, joined_states, joined_regs, AreValues}
+use Rattle.value_domain.specs.State.{Covers, joined_states}
 use Rattle.depth_cert.specs.declared.points.Exit.{Exit}
-use Rattle.depth_cert.specs.Exits.{ExitCovers}
+use Rattle.depth_cert.specs.Exits.{ExitCovers, joined_exit}
 
 -- what is known at a place
 pub data Known : Type 0 where
@@ -18,10 +18,6 @@ CoversKnown (leaving y) (leaving x) = ExitCovers y x
 CoversKnown (state u) (leaving x) = ⊥
 CoversKnown (leaving y) (state s) = ⊥
 
--- the least exit that covers both
-abbrev pub joined_exit : Limits → Exit → Exit → Exit
-joined_exit b x y = record { ie = x.ie || y.ie; ccpn = min x.ccpn y.ccpn; lower = joined_regs b x.lower y.lower }
-
 -- the least that covers both; none for states with different numbers of locals
 abbrev pub joined_known : Limits → Known → Known → Option Known
 joined_known b (state s) (state t) = option_map state (joined_states b s t)
@@ -33,20 +29,3 @@ joined_known b (leaving x) (state t) = None
 abbrev pub priority_of : Known → ℕ
 priority_of (state s) = s.ccpn
 priority_of (leaving x) = x.ccpn
-
--- a state at the limits: 27 values of the plan's lattice, and no more locals than the version
--- allows
-pub record IsProper (b : Limits) (s : State) : Type 0 where
-  pub regs : length s.regs ≡ 27
-  pub values : AreValues b s.regs
-  pub few : length s.locals.items ≤ b.most_locals
-
--- an exit at the limits: 14 values of the plan's lattice
-pub record IsProperExit (b : Limits) (x : Exit) : Type 0 where
-  pub regs : length x.lower ≡ 14
-  pub values : AreValues b x.lower
-
--- what is known is within the limits
-abbrev pub IsProperKnown : Limits → Known → Type 0
-IsProperKnown b (state s) = IsProper b s
-IsProperKnown b (leaving x) = IsProperExit b x

@@ -8,3 +8,4 @@ pub mod Points
 pub mod Spelling
 pub mod Exits
 pub mod Known
+pub mod Proper

@@ -1,6 +1,6 @@
 // Reads the head of a certificate, and its nodes.
 ghost use Rattle.std.specs.Prelude.{◌≡◌, ◌≤◌, ◌+◌, ◌^◌, ◌-◌, ◌⊎◌, [], length, true, Ok, Err, IfOk, IfErr};
-ghost use Rattle.tcd_base.specs.Reading.{Reads, many_at};
+ghost use Rattle.tcd_base.specs.FieldReaders.{Reads, many_at};
 ghost use Rattle.depth_cert.specs.Answers.{IsFaultOf};
 ghost use Rattle.depth_cert.specs.Grammar.{magic_at, version_at, node_count_at, node_after, certificate_of};
 ghost use Rattle.depth_cert.specs.Certs.{count_points};

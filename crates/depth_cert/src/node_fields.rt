@@ -1,6 +1,6 @@
 // Reads the fields of nodes.
 ghost use Rattle.std.specs.Prelude.{◌≡◌, ◌≤◌, ◌<◌, ◌+◌, ◌^◌, ◌-◌, [], length, false, true, Ok, Err, OnOk, IfOk, IfErr};
-ghost use Rattle.tcd_base.specs.Reading.{Reads};
+ghost use Rattle.tcd_base.specs.FieldReaders.{Reads};
 ghost use Rattle.depth_cert.specs.Answers.{IsFaultOf};
 ghost use Rattle.depth_cert.specs.Grammar.{key_after, need_at, has_exit_at, exit_at, exits_at, node_after, is_above};
 ghost use Rattle.depth_cert.specs.Keys.{key_number, number_of_key};

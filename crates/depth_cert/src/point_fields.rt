@@ -1,6 +1,6 @@
 // Reads the fields of points.
 ghost use Rattle.std.specs.Prelude.{◌≡◌, ◌≤◌, ◌+◌, ◌^◌, ◌-◌, [], length, vec_len, true, Ok, Err, OnOk, IfOk, IfErr};
-ghost use Rattle.tcd_base.specs.Reading.{Reads, many_at};
+ghost use Rattle.tcd_base.specs.FieldReaders.{Reads, many_at};
 ghost use Rattle.depth_cert.specs.Grammar.{flag_at, locals_at, state_at, address_after, point_count_at, points_at, is_above};
 ghost use Rattle.depth_cert.specs.Answers.{IsFaultOf};
 ghost use Rattle.depth_cert.specs.Points.{addresses, ArePoints};

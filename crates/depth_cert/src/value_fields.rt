@@ -1,6 +1,6 @@
 // Reads the fields of values.
 ghost use Rattle.std.specs.Prelude.{◌≡◌, ◌≤◌, ◌<◌, ◌^◌, ◌-◌, ◌∷◌, [], IsTrue, ℕ, length, Ok, Err, OnOk, IfOk, IfErr, true};
-ghost use Rattle.tcd_base.specs.Reading.{Reads};
+ghost use Rattle.tcd_base.specs.FieldReaders.{Reads};
 ghost use Rattle.value_domain.specs.declared.values.Val.TheVariants.{Set, Span};
 ghost use Rattle.std.specs.List.Sorted.{IsStrictlyIncreasing};
 ghost use Rattle.depth_cert.specs.Grammar.{flag_at, word_after, set_at, span_at, value_at, values_at, is_above, is_span};

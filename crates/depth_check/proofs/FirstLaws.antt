@@ -14,7 +14,7 @@ use Rattle.depth_cert.specs.Nodes.{NodeData, IsNode}
 use Rattle.depth_cert.proofs.KeyLaws.{found_in, one_number}
 use Rattle.depth_cert.specs.Certs.{CertData, IsCert, find_node}
 use Rattle.value_domain.specs.State.{Covers}
-use Rattle.cfg_recover.specs.Local.{IsFaultless}
+use Rattle.cfg_recover.specs.LocalFaults.{IsFaultless}
 use Rattle.cfg_recover.specs.Entries.{start_key, start_state}
 use Rattle.cfg_recover.specs.Accepting.{limits_in, RuleHolds, HasPoint, HoldsAtStart, HoldsAtEntry, HoldsAtNode, Accepts, Fails, at_start, at_entry, at_point, fault_number, IsFirstFault}
 use Rattle.cfg_recover.proofs.FaultLaws as faults

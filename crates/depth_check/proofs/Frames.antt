@@ -23,7 +23,7 @@ use Rattle.depth_cert.specs.Points.{find_point}
 use Rattle.depth_cert.specs.Nodes.{NodeData}
 use Rattle.depth_cert.specs.Certs.{CertData}
 use Rattle.cfg_recover.specs.Frames.{Standing}
-use Rattle.cfg_recover.specs.Moves.{InState}
+use Rattle.cfg_recover.specs.OwedMoves.{InState}
 use Rattle.cfg_recover.proofs.EntryLaws.{HoldsExit}
 use Rattle.cfg_recover.proofs.PointLaws.{Stands}
 

@@ -15,8 +15,9 @@ use Rattle.tc_machine.proofs.Stays.{stays_run}
 use Rattle.depth_cert.specs.Points.{find_point}
 use Rattle.depth_cert.specs.Certs.{CertData, IsCert, find_node}
 use Rattle.cfg_recover.specs.Accepting.{Accepts, certified_need}
-use Rattle.cfg_recover.specs.Frames.{Standing, LiesAt, HoldFrames, EdgeOwed}
-use Rattle.cfg_recover.specs.Moves.{InState}
+use Rattle.cfg_recover.specs.Frames.{Standing, LiesAt, HoldFrames}
+use Rattle.cfg_recover.specs.OwedEdges.{EdgeOwed}
+use Rattle.cfg_recover.specs.OwedMoves.{InState}
 use Rattle.depth_check.specs.Headline.{AcceptedHoldsFrames, AcceptedOwesEdges}
 use Rattle.cfg_recover.proofs.PointLaws.{Stands}
 use Rattle.depth_check.proofs.Frames.{Frame, standing, Frames, Invariant}

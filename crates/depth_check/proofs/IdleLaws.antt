@@ -11,15 +11,17 @@ use Rattle.tc_isa.specs.declared.shapes.Shape.TheVariants.{Jump, Nothing}
 use Rattle.tc_machine.specs.Machine.{moved}
 use Rattle.value_domain.specs.declared.states.State.{State}
 use Rattle.value_domain.specs.Limits.{Limits}
-use Rattle.vd_transfer.specs.Effects.{transfer_of}
+use Rattle.vd_transfer.specs.EffectsOnStates.{transfer_of}
 use Rattle.depth_cert.specs.declared.keys.Key.{Key}
 use Rattle.depth_cert.specs.Nodes.{NodeData}
 use Rattle.depth_cert.specs.Certs.{CertData}
 use Rattle.cfg_recover.specs.Code.{IsCode}
-use Rattle.cfg_recover.specs.Local.{direct_target, targets_of, IsFaultless, LocalRule}
+use Rattle.cfg_recover.specs.LocalRules.{direct_target, targets_of, LocalRule}
+use Rattle.cfg_recover.specs.LocalFaults.{IsFaultless}
 use Rattle.cfg_recover.specs.Duties.{owed, jump, jumps_to, successors_of, entries_of, misaligned_of, interrupts_of, leavings_of, duties_of}
 use Rattle.cfg_recover.proofs.LocalLaws.{LocalHolds-found}
-use Rattle.depth_check.specs.Finding.{Finds, DutiesHold, least_of}
+use Rattle.depth_check.specs.LeastBroken.{Finds, least_of}
+use Rattle.depth_check.specs.DutyTests.{DutiesHold}
 use Rattle.depth_check.specs.Passing.{Passes, PassesOn}
 use Rattle.depth_check.proofs.DutyLaws.{nothing_found, parts_found}
 

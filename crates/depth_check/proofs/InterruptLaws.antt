@@ -24,16 +24,17 @@ use Rattle.depth_cert.specs.Points.{find_point}
 use Rattle.depth_cert.specs.Nodes.{NodeData}
 use Rattle.depth_cert.specs.Certs.{CertData, find_node}
 use Rattle.cfg_recover.specs.Code.{HasCode}
-use Rattle.cfg_recover.specs.Entries.{irq_key, irq_entry, entry_with, stack_of}
-use Rattle.cfg_recover.specs.Local.{IsFaultless}
-use Rattle.cfg_recover.specs.Duties.{Owed, owed, enter, successors_of, entries_of, misaligned_of, irqs_of, interrupts_of, leavings_of, duties_of}
+use Rattle.cfg_recover.specs.Entries.{irq_key, irq_entry, entry_with, stack_of, irqs_of}
+use Rattle.cfg_recover.specs.LocalFaults.{IsFaultless}
+use Rattle.cfg_recover.specs.Duties.{Owed, owed, enter, successors_of, entries_of, misaligned_of, interrupts_of, leavings_of, duties_of}
 use Rattle.cfg_recover.specs.Flows.{told_irqs}
 use Rattle.cfg_recover.specs.Accepting.{limits_in, HasPoint, RuleHolds}
 use Rattle.cfg_recover.proofs.EntryLaws.{entry_length}
 use Rattle.cfg_recover.proofs.EntryChanges.{handler-is}
 use Rattle.depth_check.specs.declared.last_interrupts.InterruptContext.{InterruptContext}
 use Rattle.depth_check.specs.declared.last_interrupts.LastInterrupts.{LastInterrupts}
-use Rattle.depth_check.specs.Finding.{IsWellNode, Finds, DutyHolds, DutiesHold}
+use Rattle.depth_check.specs.LeastBroken.{IsWellNode, Finds}
+use Rattle.depth_check.specs.DutyTests.{DutyHolds, DutiesHold}
 use Rattle.depth_check.specs.Interrupts.{IsContext, IsBelowContext, InterruptsHold, stack_with, HoldsWith, HoldsInContext, AreWellStacks, LastInterruptsHold}
 use Rattle.depth_check.proofs.AfterLaws.{at_well}
 use Rattle.depth_check.proofs.DutyLaws.{All-left, All-right}

@@ -2,7 +2,7 @@
 use Rattle.std.proofs.Common.{◌≡◌, ℕ, ◌≤◌, Bool, true, false, Option, Some, None, min, arith, inl, inr, refl, subst, sym}
 use Rattle.std.specs.Prelude.{IsTrue, ◌↔◌}
 use Rattle.std.proofs.lemmas.Bool.{cases_lt}
-use Rattle.depth_check.specs.Finding.{Finds, IsLeastBroken, least_of, unless}
+use Rattle.depth_check.specs.LeastBroken.{Finds, IsLeastBroken, least_of, unless}
 
 -- a test decides what a single rule asks
 pub found_by : (b : Bool) (r : ℕ) (X : Type 0) → r ≤ 14 → (IsTrue b ↔ X) → Finds (λ q. r ≡ q → X) (unless b r)

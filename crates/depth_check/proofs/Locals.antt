@@ -21,7 +21,7 @@ use Rattle.tc_machine.proofs.Stays.{stays_restore}
 use Rattle.tc_machine.proofs.Areas.{Areas, HasFree, Areas-saved, Areas-restored, is_freed}
 use Rattle.value_domain.specs.declared.states.State.{State}
 use Rattle.value_domain.specs.State.{ImpliedBy}
-use Rattle.vd_transfer.specs.Effects as effects
+use Rattle.vd_transfer.specs.EffectsOnStates as effects
 use Rattle.vd_transfer.specs.Holding.{Holds}
 use Rattle.vd_transfer.proofs.HoldLaws.{restore_holds}
 use Rattle.vd_transfer.proofs.RegisterLaws.{length-forgotten}

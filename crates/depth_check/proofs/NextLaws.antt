@@ -8,7 +8,7 @@ use Rattle.tc_isa.specs.declared.shapes.Shape.TheVariants.{Compute, Scaled, Load
 use Rattle.value_domain.specs.declared.values.Val.{Val}
 use Rattle.value_domain.specs.declared.states.State.{State}
 use Rattle.value_domain.specs.Limits.{Limits}
-use Rattle.vd_transfer.specs.Effects.{transfer_of}
+use Rattle.vd_transfer.specs.EffectsOnStates.{transfer_of}
 
 -- an instruction that changes nothing
 pub nothing_keeps : (b : Limits) (plan : PlanData) (s : State) (v : Val) → transfer_of b plan Nothing s v ≡ s

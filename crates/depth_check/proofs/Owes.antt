@@ -19,12 +19,12 @@ use Rattle.tc_machine.specs.Instructions.{interrupt, trap, misaligned, does, acc
 use Rattle.tc_machine.proofs.Saves.{then_-running}
 use Rattle.value_domain.specs.declared.states.State.{State}
 use Rattle.value_domain.specs.Limits.{Limits}
-use Rattle.vd_transfer.specs.Effects.{saved_lower, restored_lower, transfer_of}
+use Rattle.vd_transfer.specs.EffectsOnStates.{saved_lower, restored_lower, transfer_of}
 use Rattle.depth_cert.specs.declared.keys.Key.{Key}
 use Rattle.cfg_recover.specs.Entries.{sys_key, sys_entry}
 use Rattle.depth_cert.specs.Exits.{exit_of}
 use Rattle.cfg_recover.specs.Duties.{jump, enter, resume, leave, owed, interrupts_of, duties_of}
-use Rattle.cfg_recover.specs.Moves.{traps}
+use Rattle.cfg_recover.specs.OwedMoves.{traps}
 use Rattle.depth_check.proofs.Enter.{begun}
 use Rattle.depth_check.proofs.Handlers.{handler_a}
 

@@ -16,7 +16,7 @@ use Rattle.value_domain.specs.State.{Covers, ImpliedBy}
 use Rattle.depth_cert.specs.declared.points.Point.{Point}
 use Rattle.depth_cert.specs.Points.{find_point}
 use Rattle.depth_cert.specs.Certs.{CertData}
-use Rattle.cfg_recover.specs.Moves.{MovesTo}
+use Rattle.cfg_recover.specs.OwedMoves.{MovesTo}
 use Rattle.cfg_recover.proofs.EntryLaws.{holds_covered}
 use Rattle.depth_check.proofs.Frames.{Frame, Frames, used_by, Invariant, Frames-same, ImpliedBy-trans}
 use Rattle.tc_machine.specs.PlanAreas.{links_up, first_link, plan_areas}

@@ -17,7 +17,7 @@ use Rattle.cfg_recover.specs.Accepting.{HasPoint}
 use Rattle.packed_cert.specs.Walks.{WalkData, RepeatsAt, KeepsOthers}
 use Rattle.packed_cert.proofs.NodeFinds.{covers_same}
 use Rattle.packed_cert.proofs.WalkedPoints.{split_more}
-use Rattle.depth_check.specs.Finding.{StandsAt}
+use Rattle.depth_check.specs.DutyTests.{StandsAt}
 use Rattle.depth_check.specs.Points.{LooksAhead}
 use Rattle.depth_check.proofs.WalkLaws.{stands_behind}
 

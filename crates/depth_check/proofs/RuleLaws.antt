@@ -14,11 +14,12 @@ use Rattle.depth_cert.specs.declared.points.Point.{Point}
 use Rattle.depth_cert.specs.Nodes.{NodeData}
 use Rattle.depth_cert.specs.Certs.{CertData}
 use Rattle.cfg_recover.specs.Code.{IsCode}
-use Rattle.cfg_recover.specs.Local.{IsLocalFault, IsFaultless}
+use Rattle.cfg_recover.specs.LocalFaults.{IsLocalFault, IsFaultless}
 use Rattle.cfg_recover.specs.Duties.{Owed, duties_of}
 use Rattle.cfg_recover.specs.Accepting.{limits_in, RuleHolds, IsNeedAbove}
 use Rattle.cfg_recover.proofs.CodeLaws.{IsCode-one}
-use Rattle.depth_check.specs.Finding.{Finds, least_of, unless, DutyHolds, DutiesHold, HasOwnNeed}
+use Rattle.depth_check.specs.LeastBroken.{Finds, least_of, unless}
+use Rattle.depth_check.specs.DutyTests.{DutyHolds, DutiesHold, HasOwnNeed}
 use Rattle.depth_check.proofs.LeastLaws.{found_by, found_both, found_same}
 
 -- a property of each element that a list contains

@@ -27,7 +27,7 @@ use Rattle.tc_machine.proofs.ShapeWords.{IsShape, IsTarget, shape_of-suits}
 use Rattle.tc_machine.proofs.Stays.{irq_lt}
 use Rattle.tc_machine.proofs.Steps.{done-is, step-is, with_event}
 use Rattle.value_domain.specs.declared.states.State.{State}
-use Rattle.vd_transfer.specs.Effects.{saved_lower, restored_lower}
+use Rattle.vd_transfer.specs.EffectsOnStates.{saved_lower, restored_lower}
 use Rattle.depth_cert.specs.declared.keys.Key.{Key}
 use Rattle.depth_cert.specs.declared.points.Exit.{Exit}
 use Rattle.depth_cert.specs.Keys.{IsKey}
@@ -35,12 +35,14 @@ use Rattle.depth_cert.specs.Points.{find_point}
 use Rattle.depth_cert.specs.Nodes.{NodeData}
 use Rattle.depth_cert.specs.Certs.{CertData, IsCert, find_node}
 use Rattle.cfg_recover.specs.Code.{IsCode}
-use Rattle.cfg_recover.specs.Entries.{call_key, irq_key, sys_key, aln_key, call_entry, irq_entry, sys_entry, aln_entry}
+use Rattle.cfg_recover.specs.Entries.{call_key, irq_key, sys_key, aln_key, call_entry, irq_entry, sys_entry, aln_entry, handler_key}
 use Rattle.depth_cert.specs.Exits.{exit_of, after_of, ExitCovers}
-use Rattle.cfg_recover.specs.Duties.{Owed, jump, enter, resume, leave, owed}
+use Rattle.cfg_recover.specs.Duties.{Owed, jump, enter, resume, leave, owed, OwesEntry}
 use Rattle.cfg_recover.specs.Accepting.{limits_in, HasPoint, Accepts}
-use Rattle.cfg_recover.specs.Frames.{Way, to, call, irq, sys, aln, Standing, way_of_shape, way_by, way_in, handler_key, frames_at, frames_entered, frames_left, frames_by, size_in, frames_after, IsReturn, OwesEntry, IsOwed}
-use Rattle.cfg_recover.specs.Moves.{IsAtPoint, StaysInFrame, traps}
+use Rattle.cfg_recover.specs.Frames.{Standing, frames_at, frames_entered, frames_left, frames_by, size_in, frames_after}
+use Rattle.cfg_recover.specs.OwedEdges.{IsReturn, IsOwed}
+use Rattle.cfg_recover.specs.Edges.{Way, to, call, irq, sys, aln, way_of_shape, way_by, way_in}
+use Rattle.cfg_recover.specs.OwedMoves.{IsAtPoint, StaysInFrame, traps}
 use Rattle.cfg_recover.proofs.MoveLaws.{moves_in_frame, traps_owed, calls_owed, interrupts_owed}
 use Rattle.cfg_recover.proofs.EntryLaws.{holds_same, holds_exit}
 use Rattle.depth_check.proofs.Frames.{Frame, standing, Leaves, by_return, from_system, from_handler, Invariant, length-ImpliedBy}

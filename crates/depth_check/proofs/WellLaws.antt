@@ -17,7 +17,7 @@ use Rattle.depth_cert.specs.Certs.{CertData, IsCert}
 use Rattle.packed_cert.proofs.ValueShapes.{well_of}
 use Rattle.cfg_recover.specs.Entries.{start_state}
 use Rattle.cfg_recover.proofs.FlowStates.{entry_values}
-use Rattle.depth_check.specs.Finding.{IsWellNode}
+use Rattle.depth_check.specs.LeastBroken.{IsWellNode}
 use Rattle.depth_check.proofs.RuleLaws.{values_well}
 
 -- the limits of any version

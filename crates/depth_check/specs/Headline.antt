@@ -4,7 +4,8 @@ use Rattle.tcd_plan.specs.PlanData.{PlanData, IsPlan}
 use Rattle.tc_machine.specs.Safe.{Safe}
 use Rattle.depth_cert.specs.Certs.{CertData, IsCert}
 use Rattle.cfg_recover.specs.Accepting.{Accepts, certified_need}
-use Rattle.cfg_recover.specs.Frames.{FramesHeld, EdgesOwed}
+use Rattle.cfg_recover.specs.Frames.{FramesHeld}
+use Rattle.cfg_recover.specs.OwedEdges.{EdgesOwed}
 
 -- a promise of every certificate that the rules accept
 abbrev pub OfAccepted : (ImageData → PlanData → CertData → Type 0) → Type 0

@@ -8,12 +8,12 @@ use Rattle.vd_transfer.specs.Registers.{word_val}
 use Rattle.depth_cert.specs.declared.keys.Key.{Key}
 use Rattle.depth_cert.specs.Nodes.{NodeData}
 use Rattle.depth_cert.specs.Certs.{CertData}
-use Rattle.cfg_recover.specs.Entries.{irq_key, entry_with}
-use Rattle.cfg_recover.specs.Duties.{Owed, owed, enter, irqs_of, interrupts_of}
+use Rattle.cfg_recover.specs.Entries.{irq_key, entry_with, irqs_of}
+use Rattle.cfg_recover.specs.Duties.{Owed, owed, enter, interrupts_of}
 use Rattle.cfg_recover.specs.Accepting.{limits_in}
 use Rattle.depth_check.specs.declared.last_interrupts.InterruptContext.{InterruptContext}
 use Rattle.depth_check.specs.declared.last_interrupts.LastInterrupts.{LastInterrupts}
-use Rattle.depth_check.specs.Finding.{DutiesHold}
+use Rattle.depth_check.specs.DutyTests.{DutiesHold}
 
 -- the context of a state of a node's point, apart from A10: the stack in use, IE, CCPN, and the
 -- areas that the node's need leaves beside the locals

@@ -1,6 +1,6 @@
 pub mod AnswerLaws
 pub mod CheckedRegisters
-pub mod Finding
+pub mod LeastBroken
 pub mod FirstFaults
 pub mod Forms
 pub mod Headline
@@ -9,3 +9,4 @@ pub mod Judging
 pub mod NodeFaults
 pub mod Passing
 pub mod Points
+pub mod DutyTests

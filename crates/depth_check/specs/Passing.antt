@@ -6,7 +6,7 @@ use Rattle.tc_isa.specs.declared.shapes.Shape.{Shape}
 use Rattle.tc_isa.specs.declared.shapes.Shape.TheVariants.{Jump, Nothing}
 use Rattle.tc_machine.specs.Machine.{moved}
 use Rattle.cfg_recover.specs.Code.{IsCode}
-use Rattle.cfg_recover.specs.Local.{direct_target}
+use Rattle.cfg_recover.specs.LocalRules.{direct_target}
 
 -- an instruction of this shape and size at p changes nothing, and this address is its only
 -- successor

@@ -7,7 +7,8 @@ use Rattle.packed_cert.specs.Walks.{WalkData, CoversNext}
 use Rattle.cfg_recover.specs.Duties.{Owed}
 use Rattle.cfg_recover.specs.Accepting.{limits_in, HasPoint}
 use Rattle.depth_check.specs.declared.points.PointCheck.{PointCheck}
-use Rattle.depth_check.specs.Finding.{IsWellNode, StandsAt, Finds, DutiesHold}
+use Rattle.depth_check.specs.LeastBroken.{IsWellNode, Finds}
+use Rattle.depth_check.specs.DutyTests.{StandsAt, DutiesHold}
 use Rattle.depth_check.specs.Interrupts.{InterruptsHold}
 
 -- the walk is over the node's points and at this state, and if its next point covers a state, the

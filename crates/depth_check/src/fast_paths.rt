@@ -2,10 +2,10 @@
 // saves.
 ghost use Rattle.std.specs.Prelude.{◌≡◌, IfSome, Some, IsTrue, Bool};
 ghost use Rattle.cfg_recover.specs.Accepting.{RuleHolds};
-ghost use Rattle.depth_check.specs.Finding.{Finds};
+ghost use Rattle.depth_check.specs.LeastBroken.{Finds};
 ghost use Rattle.value_domain.specs.State.{AreValues, Covers};
 ghost use Rattle.depth_check.specs.Points.{IsPointCheck};
-ghost use Rattle.vd_transfer.specs.Effects.{transfer_of};
+ghost use Rattle.vd_transfer.specs.EffectsOnStates.{transfer_of};
 ghost use Rattle.tcd_plan.specs.PlanData.{PlanData};
 ghost use Rattle.elf_image.specs.Images.{image_byte};
 ghost use Rattle.tc_isa.specs.declared.shapes.Shape.TheVariants.{Nothing};
@@ -17,10 +17,10 @@ ghost use Rattle.value_domain.specs.declared.states.State.{State};
 ghost use Rattle.value_domain.specs.Limits.{Limits};
 ghost use Rattle.vd_transfer.specs.Branches.{refine_of};
 
-use crate::duties::{broken_by_interrupts, least};
+use crate::entry_rules::{broken_by_interrupts, least};
 use crate::points::{PointCheck, has_own_need};
 use crate::rules::SMALL_NEED;
-use crate::successors::broken_by_pass;
+use crate::successor_rules::broken_by_pass;
 use cfg_recover::{KnownCodes, direct_target, unless};
 use elf_image::Image;
 use tc_isa::Shape;

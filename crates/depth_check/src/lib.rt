@@ -4,15 +4,15 @@
 mod any_certs;
 mod any_nodes;
 mod certificates;
-mod covers;
-mod duties;
+mod entry_rules;
 mod fast_paths;
 mod last_interrupts;
 mod laws;
+mod node_covers;
 mod nodes;
 mod points;
 mod rules;
-mod successors;
+mod successor_rules;
 mod verdicts;
 
 pub use certificates::{check, check_packed};

@@ -1,7 +1,7 @@
 // The rules of a node, and its first fault.
 ghost use Rattle.std.specs.Prelude.{◌≡◌, All, ◌↔◌, IsTrue, ◌<◌, ◌^◌, Contains, MatchOption};
 ghost use Rattle.cfg_recover.specs.Accepting.{limits_in, HoldsAtEntry, HoldsAtNode};
-ghost use Rattle.depth_check.specs.Finding.{IsWellNode};
+ghost use Rattle.depth_check.specs.LeastBroken.{IsWellNode};
 ghost use Rattle.value_domain.specs.State.{AreValues};
 ghost use Rattle.cfg_recover.specs.SetOperations.{HoldsResults};
 ghost use Rattle.value_domain.specs.Values.{IsValue};
@@ -11,10 +11,10 @@ ghost use Rattle.depth_check.specs.NodeFaults as nodes;
 
 use crate::any_certs::AnyCert;
 use crate::any_nodes::{AnyNode, NodeForm};
-use crate::covers::are_values;
-use crate::duties::broken_by_irqs;
+use crate::entry_rules::broken_by_irqs;
 use crate::fast_paths::{CheckedRegisters, NO_REGISTERS};
 use crate::last_interrupts::LastInterrupts;
+use crate::node_covers::are_values;
 use crate::points::{CurrentPoint, PointCheck, PointScratch, broken_by_point};
 use crate::rules::BAD_VALUES;
 use cfg_recover::interrupts;

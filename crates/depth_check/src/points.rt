@@ -1,7 +1,8 @@
 // The rules at a point of a node.
 ghost use Rattle.std.specs.Prelude.{◌≡◌, All, IfSome, ◌↔◌, IsTrue};
 ghost use Rattle.cfg_recover.specs.Accepting.{limits_in, RuleHolds};
-ghost use Rattle.depth_check.specs.Finding.{IsWellNode, StandsAt, Finds, HasOwnNeed};
+ghost use Rattle.depth_check.specs.LeastBroken.{IsWellNode, Finds};
+ghost use Rattle.depth_check.specs.DutyTests.{StandsAt, HasOwnNeed};
 ghost use Rattle.value_domain.specs.State.{AreValues};
 ghost use Rattle.depth_check.specs.Points.{IsPointCheck, LooksAhead};
 ghost use Rattle.cfg_recover.specs.SetOperations.{HoldsResults};
@@ -11,9 +12,9 @@ ghost use Rattle.depth_check.specs.Forms.{point_here};
 
 use crate::any_certs::AnyCert;
 use crate::any_nodes::AnyNode;
-use crate::covers::are_values;
-use crate::duties::{broken_by_duties, least};
+use crate::entry_rules::{broken_by_duties, least};
 use crate::fast_paths::{CheckedRegisters, broken_by_idle, idle_next};
+use crate::node_covers::are_values;
 use crate::rules::{BAD_VALUES, SMALL_NEED};
 use arrayvec::ArrayVec;
 use cfg_recover::{KnownCodes, OperationCache, check_located, start_key, unless};

@@ -4,8 +4,8 @@ use Rattle.std.specs.Prelude.{filter, if◌then◌else◌, map, nat_lt}
 use Rattle.tcd_plan.specs.PlanData.{PlanData}
 use Rattle.value_domain.specs.declared.states.State.{State}
 use Rattle.depth_cert.specs.declared.keys.Key.{Key}
-use Rattle.cfg_recover.specs.Entries.{irq_key, irq_entry}
-use Rattle.cfg_recover.specs.Duties.{owed, enter, irqs_of, interrupts_of}
+use Rattle.cfg_recover.specs.Entries.{irq_key, irq_entry, irqs_of}
+use Rattle.cfg_recover.specs.Duties.{owed, enter, interrupts_of}
 
 -- without interrupts there is no duty
 pub interrupts_none : (plan : PlanData) (key : Key) (s : State) (irqs : List ℕ) → irqs ≡ irqs_of plan s → length irqs ≡ 0 → [] ≡ interrupts_of plan key s

@@ -23,7 +23,7 @@ use Rattle.vd_transfer.specs.Operations.{value_of}
 use Rattle.vd_transfer.specs.Refinement.{kept_left, kept_right, kept_both, holds}
 use Rattle.value_domain.specs.Meets.{cover_some}
 use Rattle.vd_transfer.specs.Registers.{reg_of, arg_of, set_reg, write_reg, word_val}
-use Rattle.vd_transfer.specs.Effects.{with_base, access_of, forgotten_from, transfer_of, address_of, saved_lower, restored_lower}
+use Rattle.vd_transfer.specs.EffectsOnStates.{with_base, access_of, forgotten_from, transfer_of, address_of, saved_lower, restored_lower}
 use Rattle.vd_transfer.specs.Branches.{is_reg, set_arg, with_one, with_two, state_on_side, with_lowered_counter, refine_of}
 use Rattle.vd_transfer.specs.Soundness.{IsSetting}
 use Rattle.vd_transfer.proofs.HoldLaws.{reg_value, arg_value}

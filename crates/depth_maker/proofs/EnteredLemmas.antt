@@ -16,13 +16,13 @@ use Rattle.value_domain.specs.declared.values.Val.{Val}
 use Rattle.value_domain.specs.declared.states.State.{State}
 use Rattle.value_domain.specs.Limits.{Limits}
 use Rattle.vd_transfer.specs.Branches.{refine_of}
-use Rattle.vd_transfer.specs.Effects.{address_of}
+use Rattle.vd_transfer.specs.EffectsOnStates.{address_of}
 use Rattle.depth_cert.specs.declared.keys.Key.{Key}
 use Rattle.cfg_recover.specs.Entries.{call_key, irq_key, aln_entry, aln_key, irq_entry}
-use Rattle.cfg_recover.specs.Local.{MayAccess, are_aligned, targets_of}
+use Rattle.cfg_recover.specs.LocalRules.{MayAccess, are_aligned, targets_of}
 use Rattle.cfg_recover.specs.Duties.{Duty, jump, enter, resume, leave, Owed, owed, entered_and_back, entries_of, jump_on, jumps_to, leavings_of, misaligned_at, misaligned_of, interrupts_of, successors_of, duties_of}
 use Rattle.cfg_recover.proofs.Members.{contains_flat}
-use Rattle.depth_maker.specs.Entered.{entered_by, entered_in}
+use Rattle.depth_maker.specs.EnteredFrames.{entered_by, entered_in}
 
 pub entered_calls : (key : Key) (s : State) (back : ℕ) (ts : List ℕ) → entered_in (flat_map (λ t. entered_and_back 5 (call_key key t) s back) ts) ≡ map (call_key key) ts
 entered_calls key s back [] = refl

@@ -12,18 +12,19 @@ use Rattle.value_domain.specs.State.{Covers}
 use Rattle.value_domain.specs.Values.{IsBelow, IsWell, any_val}
 use Rattle.vd_transfer.specs.Registers.{slot, word_val}
 use Rattle.depth_cert.specs.declared.keys.Key.{Key}
-use Rattle.depth_cert.specs.Known.{CoversKnown, IsProper, Known, leaving, state}
+use Rattle.depth_cert.specs.Known.{CoversKnown, Known, leaving, state}
+use Rattle.depth_cert.specs.Proper.{IsProper}
 use Rattle.cfg_recover.specs.Assignments.{Assignment, CoversAt, Joins, Place, point}
-use Rattle.cfg_recover.specs.Duties.{Owed, enter, interrupts_of, irqs_of, owed}
-use Rattle.cfg_recover.specs.Entries.{entry_with, irq_entry, irq_key, stack_of}
+use Rattle.cfg_recover.specs.Duties.{Owed, enter, interrupts_of, owed}
+use Rattle.cfg_recover.specs.Entries.{irqs_of, entry_with, irq_entry, irq_key, stack_of}
 use Rattle.cfg_recover.proofs.EntryLaws.{entry_length}
 use Rattle.cfg_recover.proofs.Members.{contains_filter, contains_map}
-use Rattle.depth_maker.specs.Growth.{IsProperDuty}
-use Rattle.depth_maker.specs.Interrupts.{AreEntered, IsWithinContext, ContextsEntered, IsContextOf, IsContextEntered, context_stack}
-use Rattle.depth_maker.specs.Proper.{AllProper, AreLawful}
-use Rattle.depth_maker.specs.Tables.{Settled, TableView}
-use Rattle.depth_maker.specs.declared.interrupts.InterruptContext.{InterruptContext}
-use Rattle.depth_maker.specs.declared.interrupts.LastInterrupts.{LastInterrupts}
+use Rattle.depth_maker.specs.ProperAssignments.{IsProperDuty, AllProper}
+use Rattle.depth_maker.specs.Laws.{AreLawful}
+use Rattle.depth_maker.specs.InterruptHandlers.{AreEntered, IsWithinContext, ContextsEntered, IsContextOf, IsContextEntered, context_stack}
+use Rattle.depth_maker.specs.TableView.{Settled, TableView}
+use Rattle.depth_maker.specs.declared.interrupt_contexts.InterruptContext.{InterruptContext}
+use Rattle.depth_maker.specs.declared.interrupt_contexts.LastInterrupts.{LastInterrupts}
 use Rattle.depth_maker.proofs.DutyGrowth.{contained_filter, contained_map, entry_covers}
 use Rattle.depth_maker.proofs.StateGrowth.{covers_through}
 use Rattle.depth_maker.proofs.TableLaws.{covers_stays}

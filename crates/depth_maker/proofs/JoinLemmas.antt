@@ -11,8 +11,8 @@ use Rattle.cfg_recover.specs.Assignments.{Place, same_place, CoversAt, Asks, rai
 use Rattle.depth_cert.specs.declared.keys.Key.{Key}
 use Rattle.depth_cert.specs.Known.{Known, priority_of, joined_known}
 use Rattle.cfg_recover.specs.Refusals.{derived}
-use Rattle.depth_maker.specs.Proper.{AreLawful}
-use Rattle.depth_maker.specs.Tables.{IsTable, Marks}
+use Rattle.depth_maker.specs.Laws.{AreLawful}
+use Rattle.depth_maker.specs.TableView.{IsTable, Marks}
 use Rattle.depth_maker.proofs.TableLaws.{table_rises, settled_stays, joined_covers, derived_proper}
 use Rattle.depth_maker.proofs.PlaceKinds.{unjoined_fault}
 use Rattle.frame_places.specs.declared.places.Spot.{Spot}
@@ -27,14 +27,16 @@ use Rattle.depth_maker.proofs.Below.{asks_proper}
 use Rattle.depth_maker.proofs.CountedLemmas.{counted_after}
 use Rattle.depth_maker.proofs.LevelLaws.{rank_rises}
 use Rattle.depth_maker.proofs.LevelSteps.{level_rises}
-use Rattle.depth_maker.specs.Interrupts.{ContextsEntered}
+use Rattle.depth_maker.specs.InterruptHandlers.{ContextsEntered}
 use Rattle.depth_maker.specs.Levels.{rank_at}
 use Rattle.depth_maker.proofs.InterruptLaws.{interrupts_stay}
 use Rattle.frame_places.proofs.SpotLemmas.{spot_tells}
 use Rattle.depth_maker.proofs.SpotLemmas.{forth, agrees}
 use Rattle.frame_places.specs.Marks.{AllListed, is_idle, is_queued, mark_for, value_for, AreKnown, Reads, Requeues}
-use Rattle.depth_maker.specs.Counts.{AreFew}
-use Rattle.depth_maker.specs.View.{IsCountedIn, seen, IsFine, Keeps, Joined, JoinedAlone, Answered, AreExitsRead, CellsProper}
+use Rattle.depth_maker.specs.Counts.{AreFew, IsCountedIn}
+use Rattle.depth_maker.specs.Table.{seen, IsFine, Answered, AreExitsRead}
+use Rattle.depth_maker.specs.Joins.{Keeps, Joined, JoinedAlone}
+use Rattle.depth_maker.specs.ProperAssignments.{CellsProper}
 use Rattle.frame_places.proofs.MarkLemmas.{sides}
 use Rattle.frame_places.specs.Work.{all_work}
 

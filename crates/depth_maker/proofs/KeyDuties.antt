@@ -20,7 +20,7 @@ use Rattle.value_domain.specs.Limits.{Limits}
 use Rattle.value_domain.specs.Sets.{Among}
 use Rattle.value_domain.specs.Values.{IsWell}
 use Rattle.value_domain.proofs.SetLaws.{among_distinct}
-use Rattle.vd_transfer.specs.Effects.{address_of}
+use Rattle.vd_transfer.specs.EffectsOnStates.{address_of}
 use Rattle.vd_transfer.specs.Branches.{refine_of}
 use Rattle.vd_transfer.specs.Registers.{reg_of}
 use Rattle.vd_transfer.specs.Soundness.{IsSetting}
@@ -29,7 +29,7 @@ use Rattle.store_ranges.proofs.Covers.{among_map}
 use Rattle.depth_cert.specs.declared.keys.Key.{Key}
 use Rattle.depth_cert.specs.Keys.{IsKey}
 use Rattle.cfg_recover.specs.Entries.{call_key, call_entry, irq_key, sys_key, sys_entry, aln_key}
-use Rattle.cfg_recover.specs.Local.{named_by, targets_of, are_aligned}
+use Rattle.cfg_recover.specs.LocalRules.{named_by, targets_of, are_aligned}
 use Rattle.cfg_recover.specs.Duties.{Duty, enter, resume, Owed, owed, jump_on, successors_of, entered_and_back, entries_of, misaligned_at, misaligned_of, leavings_of, duties_of}
 use Rattle.cfg_recover.proofs.DutyView.{DutyAt, called, called_back, system, system_back, misaligned, interrupt, duty_at}
 use Rattle.depth_maker.proofs.OwnGrowth.{among_contained}

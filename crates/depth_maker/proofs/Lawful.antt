@@ -14,8 +14,9 @@ use Rattle.value_domain.proofs.RegLaws.{get_or-joined, length-joined, length-and
 use Rattle.vd_transfer.specs.Registers.{word_val}
 use Rattle.depth_cert.specs.declared.points.Exit.{Exit}
 use Rattle.cfg_recover.specs.Entries.{start_state}
-use Rattle.depth_cert.specs.Exits.{ExitCovers}
-use Rattle.depth_cert.specs.Known.{Known, state, leaving, CoversKnown, joined_known, joined_exit, IsProper, IsProperExit, IsProperKnown}
+use Rattle.depth_cert.specs.Exits.{ExitCovers, joined_exit}
+use Rattle.depth_cert.specs.Known.{Known, state, leaving, CoversKnown, joined_known}
+use Rattle.depth_cert.specs.Proper.{IsProper, IsProperExit, IsProperKnown}
 use Rattle.cfg_recover.proofs.EntryLaws.{entry_length}
 use Rattle.cfg_recover.proofs.FlowStates.{entry_values}
 use Rattle.depth_maker.specs.Growth.{IsGround}
@@ -24,7 +25,7 @@ use Rattle.depth_maker.proofs.EffectGrowth.{word_value}
 use Rattle.depth_maker.proofs.OwnGrowth.{faults_fall}
 use Rattle.depth_maker.proofs.DutyGrowth.{after_grows, duties_grow}
 use Rattle.depth_maker.proofs.ProperDuties.{after_proper, duties_proper}
-use Rattle.depth_maker.specs.Proper.{AreLawful}
+use Rattle.depth_maker.specs.Laws.{AreLawful}
 
 -- ---- coverings
 known_same : (v : Known) → CoversKnown v v

@@ -18,7 +18,8 @@ use Rattle.depth_maker.specs.declared.table.Table as made
 use Rattle.frame_places.specs.Marks.{AllListed, mark_for, value_for}
 use Rattle.depth_maker.specs.Levels.{level, rank_at, Rises, Steps}
 use Rattle.frame_places.specs.Spots.{spot_eq}
-use Rattle.depth_maker.specs.View.{CellsProper, IsCountedIn}
+use Rattle.depth_maker.specs.ProperAssignments.{CellsProper}
+use Rattle.depth_maker.specs.Counts.{IsCountedIn}
 use Rattle.frame_places.specs.Counting.{frames_after, points_after}
 use Rattle.depth_maker.proofs.CountedLemmas.{few_spots}
 use Rattle.depth_maker.proofs.LevelLaws.{at_most, most_rank}

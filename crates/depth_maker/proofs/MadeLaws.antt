@@ -15,9 +15,8 @@ use Rattle.cfg_recover.specs.Assignments.{Place, point, exit, Assignment, frame_
 use Rattle.depth_cert.specs.Known.{Known, state, leaving, CoversKnown}
 use Rattle.cfg_recover.specs.Refusals.{MeetsNeeds, IsRefusal}
 use Rattle.depth_maker.specs.Growth.{IsGround}
-use Rattle.depth_maker.specs.Laws.{IsSolution}
-use Rattle.depth_maker.specs.Making.{needs_in, IsNoWorse, IsMade, IsWritten, MadeIsLeast, WrittenIsMade, RefusedIsNone}
-use Rattle.depth_maker.specs.Made.{RefusalsHold}
+use Rattle.depth_maker.specs.Laws.{IsSolution, RefusalsHold, WrittenIsMade, RefusedIsNone}
+use Rattle.depth_maker.specs.Made.{needs_in, IsNoWorse, IsMade, IsWritten, MadeIsLeast}
 use Rattle.depth_maker.proofs.Lawful.{lawful}
 use Rattle.depth_maker.proofs.Below.{derived_below}
 use Rattle.depth_maker.proofs.TableLaws.{derived_proper}

@@ -16,15 +16,15 @@ use Rattle.cfg_recover.specs.Entries.{start_key}
 use Rattle.cfg_recover.specs.Assignments.{point, exit}
 use Rattle.cfg_recover.specs.Refusals.{IsFault, IsLeast, IsRefusal, IsRefusalWith, fault, recursion, need}
 use Rattle.depth_maker.specs.Growth.{IsGround}
-use Rattle.depth_maker.specs.Made.{AreMade, AreWritten, IsGroundOf, IsRefused, Refuses}
-use Rattle.depth_maker.specs.Making.{IsMade}
-use Rattle.depth_maker.specs.NeedsBy.{NeedsOn}
+use Rattle.depth_maker.specs.Answers.{AreMade, IsGroundOf, IsRefused, Refuses}
+use Rattle.depth_maker.specs.SpelledCert.{AreWritten}
+use Rattle.depth_maker.specs.Made.{IsMade}
+use Rattle.depth_maker.specs.Needs.{NeedsOn, NeedsAre}
 use Rattle.depth_maker.specs.Recursing.{IsRecursion}
-use Rattle.depth_maker.specs.RowsBy.{IsSource}
-use Rattle.depth_maker.specs.Spelled.{NeedsAre}
+use Rattle.depth_maker.specs.Rows.{IsSource}
 use Rattle.depth_maker.specs.Spots.{place_of}
-use Rattle.depth_maker.specs.View.{AnsweredOn, seen}
-use Rattle.depth_maker.specs.declared.ground.Ground.{Ground}
+use Rattle.depth_maker.specs.Table.{AnsweredOn, seen}
+use Rattle.depth_maker.specs.declared.inputs_and_limits.Ground.{Ground}
 use Rattle.depth_maker.specs.declared.answering.MakeErr.{MakeErr}
 use Rattle.depth_maker.specs.declared.answering.MakeErr.TheVariants.{Refused, NoMemory}
 use Rattle.frame_places.specs.declared.places.Spot.TheVariants.{Point, Exit}

@@ -14,7 +14,8 @@ use Rattle.depth_cert.specs.Known.{Known, state}
 use Rattle.cfg_recover.specs.Refusals.{Enters, MeetsNeeds, Reaches, here, by_entry, Recurs, IsRefusalWith, fault, recursion, need, IsFault}
 use Rattle.depth_maker.specs.Growth.{IsGround, IsDutyBelow}
 use Rattle.depth_maker.proofs.StateGrowth.{same_locals}
-use Rattle.depth_maker.specs.Proper.{AllProper, AllFaultless, AreLawful}
+use Rattle.depth_maker.specs.ProperAssignments.{AllProper, AllFaultless}
+use Rattle.depth_maker.specs.Laws.{AreLawful}
 use Rattle.depth_maker.proofs.PlaceLaws.{over_state}
 use Rattle.depth_maker.proofs.Below.{derived_below, duty_above, fault_refuted}
 use Rattle.depth_maker.proofs.Lawful.{lawful}

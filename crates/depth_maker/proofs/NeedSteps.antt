@@ -7,13 +7,13 @@ use Rattle.depth_cert.specs.declared.keys.Key.{Key}
 use Rattle.cfg_recover.specs.Entries.{start_key}
 use Rattle.cfg_recover.specs.Refusals.{MeetsNeeds}
 use Rattle.frame_places.specs.Numbers.{number_in}
-use Rattle.depth_maker.specs.Proper.{AllProper}
-use Rattle.frame_places.specs.Rows.{IsWithin, LeastNeeds}
-use Rattle.depth_maker.specs.RowsBy.{IsSource, RowsOn}
-use Rattle.depth_maker.specs.NeedsBy.{NeedsOn}
+use Rattle.depth_maker.specs.ProperAssignments.{AllProper}
+use Rattle.frame_places.specs.RowNeeds.{IsWithin, LeastNeeds}
+use Rattle.depth_maker.specs.Rows.{IsSource, RowsOn}
+use Rattle.depth_maker.specs.Needs.{NeedsOn}
 use Rattle.depth_maker.specs.Recursing.{IsRecursion}
 use Rattle.depth_maker.specs.Spots.{place_of}
-use Rattle.depth_maker.specs.View.{seen}
+use Rattle.depth_maker.specs.Table.{seen}
 use Rattle.depth_maker.proofs.Lawful.{lawful}
 use Rattle.depth_maker.proofs.NeedLaws.{no_recursion}
 use Rattle.depth_maker.proofs.TableLaws.{derived_proper}

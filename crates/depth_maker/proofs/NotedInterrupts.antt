@@ -6,16 +6,17 @@ use Rattle.tcd_plan.specs.PlanData.{PlanData}
 use Rattle.value_domain.specs.declared.states.State.{State}
 use Rattle.value_domain.specs.Limits.{Limits}
 use Rattle.depth_cert.specs.declared.keys.Key.{Key}
-use Rattle.depth_cert.specs.Known.{IsProper}
+use Rattle.depth_cert.specs.Proper.{IsProper}
 use Rattle.cfg_recover.specs.Assignments.{point}
 use Rattle.cfg_recover.specs.Duties.{Owed, interrupts_of}
 use Rattle.frame_places.specs.Marks.{is_queued, mark_for}
-use Rattle.depth_maker.specs.Interrupts.{AreEntered, IsWithinContext, IsContextOf}
+use Rattle.depth_maker.specs.InterruptHandlers.{AreEntered, IsWithinContext, IsContextOf}
 use Rattle.depth_maker.specs.Levels.{level}
-use Rattle.depth_maker.specs.Proper.{AreLawful}
+use Rattle.depth_maker.specs.Laws.{AreLawful}
 use Rattle.depth_maker.specs.Spots.{spot_of}
-use Rattle.depth_maker.specs.View.{IsFine, Owes, DutiesJoined, seen}
-use Rattle.depth_maker.specs.declared.interrupts.InterruptContext.{InterruptContext}
+use Rattle.depth_maker.specs.Table.{IsFine, seen}
+use Rattle.depth_maker.specs.VisitDuties.{Owes, DutiesJoined}
+use Rattle.depth_maker.specs.declared.interrupt_contexts.InterruptContext.{InterruptContext}
 use Rattle.depth_maker.specs.declared.table.Table as made
 use Rattle.depth_maker.proofs.InterruptLaws.{interrupts_new, interrupts_settle}
 use Rattle.depth_maker.proofs.PartLemmas.{keeps_all, owed_proper}

@@ -16,19 +16,19 @@ use Rattle.value_domain.specs.Sets.{Among, Within, distinct}
 use Rattle.value_domain.specs.Values.{IsValue, IsBelow}
 use Rattle.value_domain.specs.State.{Covers}
 use Rattle.value_domain.proofs.SetLaws.{among_distinct, distinct_has}
-use Rattle.vd_transfer.specs.Effects.{address_of, HasRoom}
+use Rattle.vd_transfer.specs.EffectsOnStates.{address_of, HasRoom}
 use Rattle.vd_transfer.specs.Registers.{reg_of}
 use Rattle.vd_transfer.specs.Soundness.{IsSetting}
 use Rattle.vd_transfer.proofs.HoldLaws.{reg_value}
 use Rattle.vd_transfer.proofs.OpLaws.{span_not_below}
 use Rattle.store_ranges.proofs.Covers.{map_has, among_map}
 use Rattle.depth_cert.specs.declared.keys.Key.{Key}
-use Rattle.cfg_recover.specs.Local.{named_by, targets_of, are_aligned, KnowsTargets, MayReturn, MayReturnFromException, StoresInRange, MayAccess, LocalRule}
+use Rattle.cfg_recover.specs.LocalRules.{named_by, targets_of, are_aligned, KnowsTargets, MayReturn, MayReturnFromException, StoresInRange, MayAccess, LocalRule}
 use Rattle.cfg_recover.proofs.CodeLaws.{IsCode-bounded}
 use Rattle.cfg_recover.proofs.Members.{contains_among}
 use Rattle.cfg_recover.proofs.LocalLaws.{are_aligned-is}
 use Rattle.depth_maker.specs.Growth.{IsGround, FaultsFall}
-use Rattle.depth_cert.specs.Known.{IsProper}
+use Rattle.depth_cert.specs.Proper.{IsProper}
 use Rattle.depth_maker.proofs.StateGrowth.{same_locals, reg_grows}
 use Rattle.depth_maker.proofs.EffectGrowth.{address_grows, address_value}
 

@@ -17,18 +17,19 @@ use Rattle.depth_cert.specs.declared.keys.Key.{Key}
 use Rattle.depth_cert.specs.declared.points.Exit.{Exit}
 use Rattle.cfg_recover.specs.Code.{IsCode}
 use Rattle.depth_cert.specs.Exits.{after_of}
-use Rattle.cfg_recover.specs.Local.{IsFaultless}
+use Rattle.cfg_recover.specs.LocalFaults.{IsFaultless}
 use Rattle.cfg_recover.specs.Duties.{Duty, jump, enter, resume, leave, Owed, owed, entered_and_back, duties_of}
 use Rattle.cfg_recover.specs.declared.local.Located.{Located}
 use Rattle.cfg_recover.specs.Changes.{StandsFaultless}
 use Rattle.cfg_recover.proofs.Members.{contains_map, contains_flat}
 use Rattle.cfg_recover.specs.Assignments.{Assignment, point, exit, HasDuty, Asks, Derived, raised, resumed}
-use Rattle.depth_cert.specs.Known.{Known, state, leaving, IsProper}
+use Rattle.depth_cert.specs.Known.{Known, state, leaving}
+use Rattle.depth_cert.specs.Proper.{IsProper}
 use Rattle.cfg_recover.proofs.CodeLaws.{IsCode-one}
-use Rattle.depth_maker.specs.Growth.{IsProperDuty}
-use Rattle.depth_maker.specs.Interrupts.{ContextsEntered}
-use Rattle.depth_maker.specs.Proper.{AreLawful}
-use Rattle.depth_maker.specs.Tables.{Settled, IsResumed}
+use Rattle.depth_maker.specs.ProperAssignments.{IsProperDuty}
+use Rattle.depth_maker.specs.Laws.{AreLawful}
+use Rattle.depth_maker.specs.InterruptHandlers.{ContextsEntered}
+use Rattle.depth_maker.specs.TableView.{Settled, IsResumed}
 use Rattle.depth_maker.proofs.PlaceLaws.{one_state}
 use Rattle.depth_maker.proofs.TableLaws.{table_marked, settled_again}
 use Rattle.frame_places.specs.declared.places.Spot.{Spot}
@@ -38,8 +39,8 @@ use Rattle.frame_places.specs.declared.places.Mark.TheVariants.{Queued}
 use Rattle.frame_places.specs.declared.places.Marked.{Marked}
 use Rattle.frame_places.specs.Counting.{frames_after, points_after}
 use Rattle.frame_places.proofs.MarkLemmas.{same_mark, same_number, same_value}
-use Rattle.depth_maker.specs.declared.ground.Ground.{Ground}
-use Rattle.frame_places.specs.Nearby.{StandsAt}
+use Rattle.depth_maker.specs.declared.inputs_and_limits.Ground.{Ground}
+use Rattle.frame_places.specs.Numbers.{StandsAt}
 use Rattle.std.specs.Option.{option_map}
 use Rattle.std.specs.declared.vec.Vec.{Vec}
 use Rattle.std.specs.declared.alloc.Global.{Global}
@@ -50,7 +51,10 @@ use Rattle.depth_maker.proofs.SpotLemmas.{back}
 use Rattle.depth_maker.proofs.CountedLemmas.{counted_again}
 use Rattle.depth_maker.proofs.InterruptLaws.{interrupts_again}
 use Rattle.depth_maker.proofs.LevelSteps.{rises_then, same_level}
-use Rattle.depth_maker.specs.View.{AreExitsRead, seen, IsFine, Keeps, Joined, PointJoined, DutiesJoined, AllSettled, Owes, IsVisited, JoinedAlone, JoinsOn}
+use Rattle.depth_maker.specs.Table.{AreExitsRead, seen, IsFine}
+use Rattle.depth_maker.specs.VisitDuties.{DutiesJoined, Owes}
+use Rattle.depth_maker.specs.Visits.{PointJoined, AllSettled, IsVisited}
+use Rattle.depth_maker.specs.Joins.{Keeps, Joined, JoinedAlone, JoinsOn}
 use Rattle.frame_places.specs.Marks.{is_idle, is_queued, Reads, Registered, mark_for, value_for, AreKnown}
 use Rattle.frame_places.specs.Work.{all_work}
 

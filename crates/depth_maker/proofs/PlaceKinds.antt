@@ -8,10 +8,10 @@ use Rattle.value_domain.specs.Limits.{Limits}
 use Rattle.value_domain.specs.State.{joined_states}
 use Rattle.depth_cert.specs.declared.keys.Key.{Key}
 use Rattle.cfg_recover.specs.Entries.{start_state}
-use Rattle.depth_cert.specs.Exits.{after_of}
+use Rattle.depth_cert.specs.Exits.{after_of, joined_exit}
 use Rattle.cfg_recover.specs.Duties.{Duty, jump, enter, resume, leave}
 use Rattle.cfg_recover.specs.Assignments.{Place, point, exit, Assignment, same_place, raised, asked, Asks, Derived, begins, joins, first_place}
-use Rattle.depth_cert.specs.Known.{Known, state, leaving, joined_known, joined_exit}
+use Rattle.depth_cert.specs.Known.{Known, state, leaving, joined_known}
 use Rattle.cfg_recover.specs.Refusals.{HasFault, locals}
 use Rattle.depth_maker.proofs.PlaceLaws.{place_tells, from_if, resumed_some}
 

@@ -14,19 +14,20 @@ use Rattle.tc_machine.specs.Machine.{moved}
 use Rattle.value_domain.specs.declared.values.Val.{Val}
 use Rattle.value_domain.specs.declared.states.State.{State}
 use Rattle.value_domain.specs.Limits.{Limits}
-use Rattle.vd_transfer.specs.Effects.{address_of}
+use Rattle.vd_transfer.specs.EffectsOnStates.{address_of}
 use Rattle.vd_transfer.specs.Branches.{refine_of}
 use Rattle.depth_cert.specs.declared.keys.Key.{Key}
 use Rattle.depth_cert.specs.Keys.{IsKey}
 use Rattle.cfg_recover.specs.Entries.{start_state, call_key, sys_key, call_entry, sys_entry}
-use Rattle.cfg_recover.specs.Local.{targets_of, are_aligned, LocalRule}
+use Rattle.cfg_recover.specs.LocalRules.{targets_of, are_aligned, LocalRule}
 use Rattle.cfg_recover.specs.Duties.{Duty, jump, enter, resume, leave, Owed, owed, jump_on, successors_of, entered_and_back, entries_of, misaligned_at, misaligned_of, leavings_of, duties_of}
 use Rattle.cfg_recover.specs.Assignments.{Place, point, exit, Assignment, same_place, asked, Asks, Derived, begins, joins, first_place}
-use Rattle.depth_cert.specs.Known.{Known, state, leaving, IsProper}
+use Rattle.depth_cert.specs.Known.{Known, state, leaving}
+use Rattle.depth_cert.specs.Proper.{IsProper}
 use Rattle.cfg_recover.proofs.DutyView.{DutyAt, next, straight, taken, target, called_back, system_back, returns, resumes, duty_at}
 use Rattle.cfg_recover.proofs.CodeLaws.{IsCode-bounded}
 use Rattle.depth_maker.specs.Growth.{IsGround}
-use Rattle.depth_maker.specs.Proper.{AllProper}
+use Rattle.depth_maker.specs.ProperAssignments.{AllProper}
 use Rattle.depth_maker.proofs.PlaceLaws.{place_tells, from_if, resumed_some}
 use Rattle.depth_maker.proofs.OwnGrowth.{setting_of}
 use Rattle.depth_maker.proofs.KeyDuties.{HasKey, duties_keys, target_small}

@@ -21,7 +21,7 @@ use Rattle.value_domain.specs.Values.{IsValue, any_val}
 use Rattle.value_domain.specs.State.{AreValues, is_lower_slot}
 use Rattle.value_domain.proofs.RangeLaws.{any_value}
 use Rattle.vd_transfer.specs.Operations.{value_of}
-use Rattle.vd_transfer.specs.Effects.{address_of, transfer_of, with_base, HasRoom}
+use Rattle.vd_transfer.specs.EffectsOnStates.{address_of, transfer_of, with_base, HasRoom}
 use Rattle.vd_transfer.specs.Branches.{set_arg, with_one, with_two, state_on_side, with_lowered_counter, refine_of, is_reg}
 use Rattle.vd_transfer.specs.Registers.{reg_of, arg_of, set_reg, word_val, slot}
 use Rattle.vd_transfer.specs.Soundness.{IsSetting}
@@ -32,14 +32,15 @@ use Rattle.elf_image.proofs.ReadBytes.{byte_lt}
 use Rattle.depth_cert.specs.declared.keys.Key.{Key}
 use Rattle.cfg_recover.specs.Entries.{call_key, sys_key, stack_of, entry_with, call_entry, aln_entry, sys_entry}
 use Rattle.depth_cert.specs.Exits.{lower_values, exit_of}
-use Rattle.cfg_recover.specs.Local.{targets_of, are_aligned}
+use Rattle.cfg_recover.specs.LocalRules.{targets_of, are_aligned}
 use Rattle.cfg_recover.specs.Duties.{jump, enter, resume, Owed, owed, loaded_at, jump_on, next_of, successors_of, entered_and_back, entries_of, misaligned_at, misaligned_of, leavings_of, duties_of}
 use Rattle.cfg_recover.proofs.CodeLaws.{IsCode-bounded}
 use Rattle.cfg_recover.proofs.EntryLaws.{lower_length, entry_length, sys_length}
 use Rattle.depth_cert.proofs.ExitValues.{after-at, with_lower_length}
 use Rattle.cfg_recover.proofs.FlowStates.{entry_values}
-use Rattle.depth_maker.specs.Growth.{IsGround, IsProperDuty, DutiesAreProper, AfterIsProper}
-use Rattle.depth_cert.specs.Known.{IsProper, IsProperExit}
+use Rattle.depth_maker.specs.Growth.{IsGround}
+use Rattle.depth_maker.specs.ProperAssignments.{IsProperDuty, DutiesAreProper, AfterIsProper}
+use Rattle.depth_cert.specs.Proper.{IsProper, IsProperExit}
 use Rattle.depth_maker.proofs.StateGrowth.{covers_same, setting_write, set_locals}
 use Rattle.depth_maker.proofs.EffectGrowth.{base_setting, address_value, branch_grows, word_value}
 use Rattle.depth_maker.proofs.LoadedValues.{loaded_value}

@@ -19,11 +19,11 @@ use Rattle.cfg_recover.specs.Refusals.{Enters, Reaches, here, by_entry, Recurs, 
 use Rattle.cfg_recover.proofs.CodeLaws.{IsCode-one}
 use Rattle.cfg_recover.proofs.Members.{contains_map}
 use Rattle.depth_maker.specs.Counts.{AreCounted}
-use Rattle.depth_maker.specs.Entered.{entered_in}
+use Rattle.depth_maker.specs.EnteredFrames.{entered_in}
 use Rattle.frame_places.specs.Numbers.{number_in}
-use Rattle.frame_places.specs.Reaching as graph
-use Rattle.frame_places.specs.Reaching.{edge_to, AreEdges, Leads, along, IsRecurring, IsMarked, AreReaching, AreBetween}
-use Rattle.depth_maker.specs.RowsAt.{IsRowAt, AreRows}
+use Rattle.frame_places.specs.NodeGraph as graph
+use Rattle.frame_places.specs.NodeGraph.{edge_to, AreEdges, Leads, along, IsRecurring, IsMarked, AreReaching, AreBetween}
+use Rattle.depth_maker.specs.Rows.{IsRowAt, AreRows}
 use Rattle.frame_places.specs.declared.needs.reach.FrameEdge.{FrameEdge}
 use Rattle.frame_places.specs.declared.needs.row.NeedRow.{NeedRow}
 use Rattle.depth_maker.proofs.DutyGrowth.{contained_map}

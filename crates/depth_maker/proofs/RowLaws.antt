@@ -8,7 +8,7 @@ use Rattle.elf_image.specs.Images.{ImageData}
 use Rattle.tcd_plan.specs.PlanData.{PlanData}
 use Rattle.tc_isa.specs.declared.shapes.Shape.{Shape}
 use Rattle.value_domain.specs.declared.states.State.{State}
-use Rattle.value_domain.specs.Limits.{Limits}
+use Rattle.value_domain.specs.Limits.{Limits, AreLimits}
 use Rattle.depth_cert.specs.declared.keys.Key.{Key}
 use Rattle.cfg_recover.specs.declared.local.Located.{Located}
 use Rattle.cfg_recover.specs.Changes.{StandsFaultless}
@@ -20,12 +20,13 @@ use Rattle.cfg_recover.specs.Refusals.{Enters, MeetsNeeds, AreLeastNeeds}
 use Rattle.cfg_recover.proofs.CodeLaws.{IsCode-one}
 use Rattle.cfg_recover.proofs.Members.{contains_map}
 use Rattle.depth_maker.specs.Counts.{AreCounted}
-use Rattle.depth_maker.specs.Entered.{entered_in}
+use Rattle.depth_maker.specs.EnteredFrames.{entered_in}
 use Rattle.frame_places.specs.Numbers.{number_in}
-use Rattle.value_domain.specs.Limits.{AreLimits}
-use Rattle.depth_maker.specs.Proper.{AllFaultless, AllProper, AreLawful}
-use Rattle.frame_places.specs.Rows.{Meets, IsLow, IsWithin}
-use Rattle.depth_maker.specs.RowsAt.{AreRows, need_by}
+use Rattle.depth_maker.specs.ProperAssignments.{AllFaultless, AllProper}
+use Rattle.depth_maker.specs.Laws.{AreLawful}
+use Rattle.frame_places.specs.RowNeeds.{Meets, IsLow, IsWithin}
+use Rattle.depth_maker.specs.Rows.{AreRows}
+use Rattle.depth_maker.specs.Needs.{need_by}
 use Rattle.frame_places.specs.declared.needs.row.NeedRow.{NeedRow}
 use Rattle.depth_maker.proofs.Reached.{needs_at_most}
 use Rattle.depth_maker.proofs.EnteredLemmas.{entered_owed, owed_entered}

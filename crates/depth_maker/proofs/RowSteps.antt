@@ -18,10 +18,10 @@ use Rattle.frame_places.specs.declared.places.Marked.{Marked}
 use Rattle.value_domain.specs.declared.states.State.{State}
 use Rattle.depth_cert.specs.declared.keys.Key.{Key}
 use Rattle.cfg_recover.specs.Assignments.{point, exit}
-use Rattle.depth_cert.specs.Known.{Known, state, leaving, IsProperKnown}
-use Rattle.depth_maker.specs.RowsAt.{IsRowAt}
-use Rattle.depth_maker.specs.RowsBy.{AddsPoint, AllKnownBy, HaveRows, IsDraft, IsKnownPoint, IsPlainRow, IsPointRow, IsSource, RowsOn}
-use Rattle.depth_maker.specs.View.{seen, IsDone}
+use Rattle.depth_cert.specs.Known.{Known, state, leaving}
+use Rattle.depth_cert.specs.Proper.{IsProperKnown}
+use Rattle.depth_maker.specs.Rows.{IsRowAt, AddsPoint, AllKnownBy, HaveRows, IsDraft, IsKnownPoint, IsPlainRow, IsPointRow, IsSource, RowsOn}
+use Rattle.depth_maker.specs.Table.{seen, IsDone}
 use Rattle.frame_places.specs.Spots.{spot_eq}
 use Rattle.depth_maker.specs.Spots.{place_of}
 use Rattle.depth_maker.proofs.Lawful.{lawful}
@@ -30,8 +30,8 @@ use Rattle.depth_maker.proofs.PlaceLaws.{one_state}
 use Rattle.depth_maker.proofs.PointEntries.{has_entry}
 use Rattle.depth_maker.proofs.RowLaws.{known_frame, enters_of, entered_frame}
 use Rattle.depth_maker.proofs.TableLaws.{derived_proper}
-use Rattle.depth_maker.specs.declared.ground.Ground.{Ground}
-use Rattle.depth_maker.specs.declared.ground.Visit.{Visit}
+use Rattle.depth_maker.specs.declared.inputs_and_limits.Ground.{Ground}
+use Rattle.depth_maker.specs.declared.inputs_and_limits.Visit.{Visit}
 use Rattle.frame_places.specs.declared.places.Spot.{Spot}
 use Rattle.frame_places.specs.declared.places.Spot.TheVariants.{Point, Exit}
 use Rattle.frame_places.specs.declared.needs.row.NeedRow.{NeedRow}

@@ -20,11 +20,12 @@ use Rattle.depth_cert.specs.Certs.{CertData, IsCert, find_node}
 use Rattle.cfg_recover.specs.Code.{IsCode}
 use Rattle.cfg_recover.specs.Entries.{start_key, start_state}
 use Rattle.depth_cert.specs.Exits.{after_of, ExitCovers}
-use Rattle.cfg_recover.specs.Local.{IsFaultless}
+use Rattle.cfg_recover.specs.LocalFaults.{IsFaultless}
 use Rattle.cfg_recover.specs.Duties.{Duty, jump, enter, resume, leave, Owed, duties_of}
 use Rattle.cfg_recover.specs.Accepting.{limits_in, HasPoint, IsMet, IsNeedAbove, HasNeed, RuleHolds, HoldsAtNode, Accepts, need_of}
 use Rattle.cfg_recover.specs.Assignments.{Place, point, exit, known_at, known_in, CoversAt, asked, resumed, HasDuty}
-use Rattle.depth_cert.specs.Known.{Known, state, leaving, CoversKnown, IsProper}
+use Rattle.depth_cert.specs.Known.{Known, state, leaving, CoversKnown}
+use Rattle.depth_cert.specs.Proper.{IsProper}
 use Rattle.cfg_recover.proofs.CodeLaws.{IsCode-bounded}
 use Rattle.depth_maker.specs.Growth.{IsGround}
 use Rattle.depth_maker.specs.Laws.{IsSolution}

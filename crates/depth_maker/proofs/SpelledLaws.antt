@@ -28,15 +28,16 @@ use Rattle.depth_cert.specs.Certs.{CertData, IsCert, count_points}
 use Rattle.cfg_recover.specs.Entries.{start_key}
 use Rattle.cfg_recover.specs.Accepting.{need_of}
 use Rattle.cfg_recover.specs.Assignments.{Place, point, exit, Assignment, same_place, frame_of, known_at, known_in, Closed, Derived}
-use Rattle.depth_cert.specs.Known.{Known, state, leaving, IsProper, IsProperExit, IsProperKnown}
+use Rattle.depth_cert.specs.Known.{Known, state, leaving}
+use Rattle.depth_cert.specs.Proper.{IsProper, IsProperExit, IsProperKnown}
 use Rattle.cfg_recover.specs.Refusals.{AreLeastNeeds}
 use Rattle.cfg_recover.proofs.Members.{contains_map}
 use Rattle.depth_maker.specs.Counts.{AreCounted}
 use Rattle.depth_maker.specs.Growth.{IsGround}
-use Rattle.depth_maker.specs.Proper.{AllFaultless}
-use Rattle.depth_maker.specs.Making.{IsWritten, needs_in}
+use Rattle.depth_maker.specs.ProperAssignments.{AllFaultless}
+use Rattle.depth_maker.specs.Made.{IsWritten, needs_in}
 use Rattle.frame_places.specs.Spots.{AreRanged, is_point_of, spot_address, spot_number}
-use Rattle.depth_maker.specs.Spelled.{HasBytes, addresses_in, cert_with, exit_at, node_at, point_at, state_at}
+use Rattle.depth_maker.specs.SpelledCert.{HasBytes, addresses_in, cert_with, exit_at, node_at, point_at, state_at}
 use Rattle.depth_maker.specs.Spots.{place_of}
 use Rattle.frame_places.specs.declared.places.Spot.{Spot}
 use Rattle.frame_places.specs.declared.places.Spot.TheVariants.{Point, Exit}

@@ -10,11 +10,12 @@ use Rattle.value_domain.specs.declared.states.State.{State}
 use Rattle.value_domain.specs.Limits.{Limits}
 use Rattle.depth_cert.specs.declared.keys.Key.{Key}
 use Rattle.cfg_recover.specs.Entries.{start_key, start_state}
-use Rattle.cfg_recover.specs.Local.{IsFaultless}
+use Rattle.cfg_recover.specs.LocalFaults.{IsFaultless}
 use Rattle.cfg_recover.specs.Assignments.{Assignment, Place, point, exit, same_place, Derived, begins, Closed, first_place}
 use Rattle.depth_cert.specs.Known.{Known, state, leaving}
-use Rattle.depth_maker.specs.Interrupts.{ContextsEntered}
-use Rattle.depth_maker.specs.Proper.{AllFaultless, AreLawful}
+use Rattle.depth_maker.specs.InterruptHandlers.{ContextsEntered}
+use Rattle.depth_maker.specs.ProperAssignments.{AllFaultless}
+use Rattle.depth_maker.specs.Laws.{AreLawful}
 use Rattle.depth_maker.proofs.TableLaws.{derived_proper, table_closed, table_marked, settled_again}
 use Rattle.depth_maker.proofs.PlaceKinds.{IsOfKind, derived_kinds}
 use Rattle.depth_maker.proofs.InterruptLaws.{interrupts_again}
@@ -26,19 +27,21 @@ use Rattle.frame_places.specs.declared.places.Spot.TheVariants.{Point, Exit}
 use Rattle.depth_cert.specs.declared.points.Exit as exits
 use Rattle.frame_places.specs.declared.places.Mark.{Mark}
 use Rattle.frame_places.specs.declared.places.Marked.{Marked}
-use Rattle.frame_places.specs.Nearby.{StandsAt}
+use Rattle.frame_places.specs.Numbers.{StandsAt}
 use Rattle.std.specs.Option.{option_map}
 use Rattle.frame_places.specs.declared.places.Mark.TheVariants.{Idle, Plain, Queued, Open}
 use Rattle.std.specs.declared.vec.Vec.{Vec}
 use Rattle.std.specs.declared.alloc.Global.{Global}
-use Rattle.depth_maker.specs.Entered.{IsPlainIn}
+use Rattle.depth_maker.specs.EnteredFrames.{IsPlainIn}
 use Rattle.depth_maker.specs.declared.table.Table as made
 use Rattle.frame_places.specs.Spots.{spot_eq}
 use Rattle.depth_maker.specs.Spots.{spot_of, place_of}
 use Rattle.depth_maker.proofs.SpotLemmas.{back, forth, agrees}
 use Rattle.frame_places.proofs.SpotLemmas.{spot_tells, spot_refl}
 use Rattle.frame_places.specs.Marks.{idle_mark, is_idle, is_queued, settled_mark, Reads, mark_for, value_for, AllListed, AreKnown, MarksAs}
-use Rattle.depth_maker.specs.View.{AreExitsRead, IsCountedIn, seen, IsFine, IsVisited, IsOpenAt, NoneOpen, AllSettled, PointJoined}
+use Rattle.depth_maker.specs.Table.{AreExitsRead, seen, IsFine}
+use Rattle.depth_maker.specs.Visits.{IsVisited, IsOpenAt, NoneOpen, AllSettled, PointJoined}
+use Rattle.depth_maker.specs.Counts.{IsCountedIn}
 use Rattle.frame_places.proofs.MarkLemmas.{sides}
 use Rattle.frame_places.proofs.NearbyLemmas.{queued_mark}
 use Rattle.frame_places.specs.Work.{Takes, all_work}

@@ -9,7 +9,7 @@ use Rattle.tc_isa.specs.declared.shapes.Shape.TheVariants.{Branch}
 use Rattle.tc_isa.specs.Bounded.{IsShape}
 use Rattle.value_domain.specs.declared.values.Val.{Val}
 use Rattle.value_domain.specs.Values.{IsBelow}
-use Rattle.vd_transfer.specs.Effects.{transfer_of, address_of}
+use Rattle.vd_transfer.specs.EffectsOnStates.{transfer_of, address_of}
 use Rattle.vd_transfer.specs.Branches.{refine_of}
 use Rattle.vd_transfer.specs.Soundness.{IsSetting}
 use Rattle.value_domain.specs.declared.states.State.{State}
@@ -19,16 +19,9 @@ use Rattle.depth_cert.specs.declared.keys.Key.{Key}
 use Rattle.depth_cert.specs.declared.points.Exit.{Exit}
 use Rattle.cfg_recover.specs.Code.{IsCode}
 use Rattle.depth_cert.specs.Exits.{after_of, ExitCovers}
-use Rattle.cfg_recover.specs.Local.{IsFaultless}
+use Rattle.cfg_recover.specs.LocalFaults.{IsFaultless}
 use Rattle.cfg_recover.specs.Duties.{Duty, jump, enter, resume, leave, Owed, duties_of}
-use Rattle.depth_cert.specs.Known.{IsProper, IsProperExit}
-
--- a duty asks for a state or an exit at the limits
-abbrev pub IsProperDuty : Limits → Duty → Type 0
-IsProperDuty b (jump q t) = IsProper b t
-IsProperDuty b (enter k t) = IsProper b t
-IsProperDuty b (resume k q) = Unit {0}
-IsProperDuty b (leave x) = IsProperExit b x
+use Rattle.depth_cert.specs.Proper.{IsProper, IsProperExit}
 
 -- a duty asks for no more than another, at the same place
 abbrev pub IsDutyBelow : Duty → Duty → Type 0
@@ -73,21 +66,11 @@ DutiesGrow =
     → IsProper b s → IsProper b t → Covers t s → IsFaultless b image plan key p t → IsCode image plan p shape n
     → Contains (duties_of b image plan key p s shape n) d → (e : Owed) × Contains (duties_of b image plan key p t shape n) e × IsOwedBelow d e
 
--- the duties of a point are at the limits
-abbrev pub DutiesAreProper : Type 0
-DutiesAreProper =
-    (b : Limits) (image : ImageData) (plan : PlanData) (key : Key) (p : ℕ) (s : State) (shape : Shape) (n : ℕ) (d : Owed) → IsGround b image plan
-    → IsProper b s → IsFaultless b image plan key p s → IsCode image plan p shape n → Contains (duties_of b image plan key p s shape n) d → IsProperDuty b d.duty
-
 -- the state after a return grows with the caller's and the exit
 abbrev pub AfterGrows : Type 0
 AfterGrows =
     (b : Limits) (s t : State) (x y : Exit) (kind : ℕ) → IsProper b s → IsProper b t → IsProperExit b x → IsProperExit b y → Covers t s → ExitCovers y x
     → Covers (after_of t y kind) (after_of s x kind)
-
--- the state after a return is at the limits
-abbrev pub AfterIsProper : Type 0
-AfterIsProper = (b : Limits) (s : State) (x : Exit) (kind : ℕ) → IsProper b s → IsProperExit b x → IsProper b (after_of s x kind)
 
 -- ---- effects
 -- the state after an instruction grows with the one before it and with the loaded value

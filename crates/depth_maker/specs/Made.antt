@@ -1,55 +1,73 @@
--- What the maker's functions return.
-use Rattle.std.specs.Prelude.{◌≡◌, ℕ, List}
+-- What the maker makes: the certificate of the least assignment with the least needs, or why there
+-- is none.
+use Rattle.std.specs.Prelude.{◌≡◌, ◌≤◌, ◌-◌, ℕ, IsSome, Some, Contains, find}
 use Rattle.elf_image.specs.Images.{ImageData}
 use Rattle.tcd_plan.specs.PlanData.{PlanData}
+use Rattle.value_domain.specs.declared.states.State.{State}
+use Rattle.value_domain.specs.State.{Covers}
 use Rattle.value_domain.specs.Thresholds.{limits_for}
 use Rattle.depth_cert.specs.declared.keys.Key.{Key}
+use Rattle.depth_cert.specs.declared.points.Exit.{Exit}
+use Rattle.depth_cert.specs.Exits.{ExitCovers}
+use Rattle.depth_cert.specs.Known.{state, leaving}
+use Rattle.depth_cert.specs.Points.{find_point}
+use Rattle.depth_cert.specs.Nodes.{NodeData}
 use Rattle.depth_cert.specs.Certs.{CertData, IsCert}
-use Rattle.depth_cert.specs.Spelling.{bytes_of}
-use Rattle.cfg_recover.specs.Accepting.{Accepts}
-use Rattle.cfg_recover.specs.Refusals.{IsRefusal, IsRefusalWith}
-use Rattle.depth_maker.specs.Making.{IsMade, IsWritten, NoneAccepted}
-use Rattle.depth_maker.specs.declared.ground.Ground.{Ground}
-use Rattle.depth_maker.specs.declared.answering.MakeErr.{MakeErr}
-use Rattle.depth_maker.specs.declared.answering.MakeErr.TheVariants.{Refused, NoMemory}
+use Rattle.cfg_recover.specs.Entries.{start_key}
+use Rattle.cfg_recover.specs.Accepting.{Accepts, need_of}
+use Rattle.depth_cert.specs.Keys.{same_key}
+use Rattle.cfg_recover.specs.Assignments.{Derived, Closed, IsBelowAt, known_in, point, exit}
+use Rattle.cfg_recover.specs.Refusals.{AreLeastNeeds, IsLeast}
+use Rattle.depth_maker.specs.ProperAssignments.{AllFaultless}
 
--- the bytes spell the certificate that is to be made
-pub record AreMade (image : ImageData) (plan : PlanData) (version : ℕ) (bytes : List ℕ) : Type 0 where
-  pub cert : CertData
-  pub spell : bytes ≡ bytes_of cert
+-- the needs that a certificate states; a frame without a node needs nothing
+abbrev pub needs_in : CertData → Key → ℕ
+needs_in cert k = need_of (find (λ n. same_key n.key k) cert.nodes)
+
+-- the other certificate covers what this one says, and has no lesser need of a frame
+pub record IsNoWorse (image : ImageData) (plan : PlanData) (cert other : CertData) : Type 0 where
+  pub below : IsBelowAt (known_in cert) (known_in other)
+  pub needs : (k : Key) → needs_in cert k ≤ needs_in other k
+
+-- the certificate that is made: accepted, and the least of its version
+pub record IsMade (image : ImageData) (plan : PlanData) (version : ℕ) (cert : CertData) : Type 0 where
+  pub of_version : cert.version ≡ version
+  pub accepted : Accepts image plan cert
+  pub least : IsLeast (limits_for plan version) image plan (known_in cert)
+  pub needs : AreLeastNeeds (limits_for plan version) image plan (known_in cert) (needs_in cert)
+  pub best : (other : CertData) → IsCert other → other.version ≡ version → Accepts image plan other → IsNoWorse image plan cert other
+
+-- A made certificate in plain words. It is accepted, and each accepted certificate of its version
+-- has no lesser need of a frame, at each of its points a state that covers its own, and at each of
+-- its exits an exit that covers its own.
+pub record IsLeastAccepted (image : ImageData) (plan : PlanData) (version : ℕ) (cert : CertData) : Type 0 where
+  pub its_version : cert.version ≡ version
+  pub accepts : Accepts image plan cert
+  pub frames :
+      (other : CertData) (k : Key) → IsCert other → other.version ≡ version → Accepts image plan other
+      → need_of (find (λ n. same_key n.key k) cert.nodes) ≤ need_of (find (λ n. same_key n.key k) other.nodes)
+  pub points :
+      (other : CertData) (k : Key) (p : ℕ) (s : State) → IsCert other → other.version ≡ version → Accepts image plan other
+      → known_in cert (point k p) ≡ Some (state s) → (t : State) × (known_in other (point k p) ≡ Some (state t)) × Covers t s
+  pub exits :
+      (other : CertData) (k : Key) (x : Exit) → IsCert other → other.version ≡ version → Accepts image plan other
+      → known_in cert (exit k) ≡ Some (leaving x) → (y : Exit) × (known_in other (exit k) ≡ Some (leaving y)) × ExitCovers y x
+
+-- each certificate that is made is one
+abbrev pub MadeIsLeast : Type 0
+MadeIsLeast = (image : ImageData) (plan : PlanData) (version : ℕ) (cert : CertData) → IsMade image plan version cert → IsLeastAccepted image plan version cert
+
+-- no certificate of this version is accepted
+abbrev pub NoneAccepted : ImageData → PlanData → ℕ → Type 0
+NoneAccepted image plan version = (cert : CertData) → IsCert cert → cert.version ≡ version → Accepts image plan cert → ⊥
+
+-- what the maker shows of the certificate that it writes
+pub record IsWritten (image : ImageData) (plan : PlanData) (version : ℕ) (cert : CertData) : Type 0 where
   pub is_cert : IsCert cert
-  pub made : IsMade image plan version cert
-
--- a refusal names a fault, or that too many areas are needed, and no certificate of the version is
--- accepted
-abbrev pub IsRefused : ImageData → PlanData → ℕ → MakeErr → Type 0
-IsRefused image plan version (Refused rule key addr) = IsRefusal image plan version rule key addr × NoneAccepted image plan version
-IsRefused image plan version NoMemory = Unit {0}
-
--- if a place is refused, each certificate of the version is refused
-abbrev pub RefusalsHold : Type 0
-RefusalsHold =
-    (image : ImageData) (plan : PlanData) (version rule : ℕ) (key : Key) (addr : ℕ) (cert : CertData) → IsRefused image plan version (Refused rule key addr)
-    → IsCert cert → cert.version ≡ version → Accepts image plan cert → ⊥
-
--- ---- by the types of the code
--- the limits are those of the version
-abbrev pub IsGroundOf : Ground → ℕ → Type 0
-IsGroundOf g version = g.bounds.now ≡ limits_for g.plan.now version
-
--- the refusal holds
-abbrev pub Refuses : Ground → MakeErr → Type 0
-Refuses g (Refused rule key addr) = IsRefusalWith g.bounds.now g.image.now g.plan.now rule key addr
-Refuses g NoMemory = Unit {0}
-
--- the bytes spell the certificate that is to be made
-abbrev pub AreMadeOn : Ground → ℕ → List ℕ → Type 0
-AreMadeOn g version bytes = AreMade g.image.now g.plan.now version bytes
-
--- the refusal holds, and no certificate of the version is accepted
-abbrev pub IsRefusedOn : Ground → ℕ → MakeErr → Type 0
-IsRefusedOn g version e = IsRefused g.image.now g.plan.now version e
-
--- the bytes spell the certificate that is to be written
-abbrev pub AreWritten : Ground → ℕ → List ℕ → Type 0
-AreWritten g version bytes = (cert : CertData) × (bytes ≡ bytes_of cert) × IsWritten g.image.now g.plan.now version cert
+  pub of_version : cert.version ≡ version
+  pub entries : (n : NodeData) → Contains cert.nodes n → IsSome (find_point (n.key).entry n.points)
+  pub derived : Derived (limits_for plan version) image plan (known_in cert)
+  pub closed : Closed (limits_for plan version) image plan (known_in cert)
+  pub faultless : AllFaultless (limits_for plan version) image plan (known_in cert)
+  pub needs : AreLeastNeeds (limits_for plan version) image plan (known_in cert) (needs_in cert)
+  pub start : needs_in cert (start_key image plan) ≤ plan.areas - plan.reserve

@@ -5,9 +5,9 @@ use Rattle.depth_cert.specs.declared.keys.Key.{Key}
 use Rattle.depth_cert.specs.Keys.{number_of_key}
 use Rattle.cfg_recover.specs.Refusals.{Enters, Recurs, RecursFirst}
 use Rattle.frame_places.specs.Numbers.{number_in}
-use Rattle.frame_places.specs.Reaching.{AreEdges, IsMarked}
-use Rattle.depth_maker.specs.RowsBy.{RowsOn}
-use Rattle.depth_maker.specs.View.{seen}
+use Rattle.frame_places.specs.NodeGraph.{AreEdges, IsMarked}
+use Rattle.depth_maker.specs.Rows.{RowsOn}
+use Rattle.depth_maker.specs.Table.{seen}
 use Rattle.frame_places.specs.declared.places.Spot.{Spot}
 use Rattle.frame_places.specs.declared.places.Spot.TheVariants.{Point}
 use Rattle.frame_places.specs.declared.needs.reach.FrameEdge.{FrameEdge}

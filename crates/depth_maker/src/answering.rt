@@ -1,17 +1,18 @@
 // The certificate of an image and a plan, or why there is none.
 ghost use Rattle.std.specs.Prelude.{◌≡◌, ◌⊎◌, IfErr, IfOk, None};
-ghost use Rattle.depth_maker.specs.Made.{AreMade, AreMadeOn, AreWritten, IsGroundOf, IsRefused, IsRefusedOn, Refuses};
-ghost use Rattle.depth_maker.specs.Making.{IsMade};
-ghost use Rattle.depth_maker.specs.NeedsBy.{NeedsOn};
+ghost use Rattle.depth_maker.specs.Answers.{AreMade, AreMadeOn, IsGroundOf, IsRefused, IsRefusedOn, Refuses};
+ghost use Rattle.depth_maker.specs.SpelledCert.{AreWritten};
+ghost use Rattle.depth_maker.specs.Made.{IsMade};
+ghost use Rattle.depth_maker.specs.Needs.{NeedsOn};
 ghost use Rattle.depth_maker.specs.Recursing.{IsRecursion};
-ghost use Rattle.depth_maker.specs.RowsBy.{IsSource};
-ghost use Rattle.depth_maker.specs.View.{AnsweredOn, IsDone};
+ghost use Rattle.depth_maker.specs.Rows.{IsSource};
+ghost use Rattle.depth_maker.specs.Table.{AnsweredOn, IsDone};
 ghost use Rattle.depth_maker.specs.declared.answering.MakeErr.TheVariants.{NoMemory};
 ghost use Rattle.frame_places.specs.declared.refusals.Refusal.TheVariants.{Fault};
 
-use crate::close::close;
-use crate::ground::Ground;
+use crate::fixpoint::close;
 use crate::handlers::handlers;
+use crate::inputs_and_limits::Ground;
 use crate::needs::frame_needs;
 use crate::rows::Source;
 use crate::spelling::cert_bytes;

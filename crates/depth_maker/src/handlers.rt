@@ -2,7 +2,7 @@
 ghost use Rattle.std.specs.Prelude.{◌≡◌, ◌≤◌, ◌<◌, ◌+◌, ◌++◌, ◌∷◌, [], List, IfOk, OnOk, length, vec_len, vec_capacity};
 ghost use Rattle.depth_cert.specs.declared.keys.Key as keys;
 ghost use Rattle.frame_places.specs.Numbers.{AreNumbers};
-ghost use Rattle.depth_maker.specs.Handlers.{AreHandlers, nodes_above, nodes_taken};
+ghost use Rattle.depth_maker.specs.InterruptHandlers.{AreHandlers, nodes_above, nodes_taken};
 
 use cfg_recover::irq_key;
 use depth_cert::Key;

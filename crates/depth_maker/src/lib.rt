@@ -2,20 +2,20 @@
 #![tactic(auto)]
 
 mod answering;
-mod close;
-mod duty;
-mod entered;
-mod entries;
-mod ground;
+mod entered_frames;
+mod fixpoint;
 mod handlers;
-mod interrupts;
-mod join;
+mod inputs_and_limits;
+mod interrupt_contexts;
+mod join_duty;
+mod join_entries;
+mod join_place;
+mod join_successors;
 mod laws;
 mod needs;
 mod recursion;
 mod rows;
 mod spelling;
-mod successors;
 mod table;
 mod visit;
 

@@ -1,7 +1,7 @@
 // The least needs of the frames of a closed table.
 ghost use Rattle.std.specs.Prelude.{◌≡◌, ◌≤◌, ◌-◌, IfOk};
-ghost use Rattle.depth_maker.specs.RowsBy.{IsSource, RowsOn};
-ghost use Rattle.depth_maker.specs.NeedsBy.{NeedsOrPlace};
+ghost use Rattle.depth_maker.specs.Rows.{IsSource, RowsOn};
+ghost use Rattle.depth_maker.specs.Needs.{NeedsOrPlace};
 
 use crate::recursion::recursion;
 use crate::rows::{Source, rows};

@@ -1,8 +1,8 @@
 // The first point that enters a frame from which its own is reached.
 ghost use Rattle.std.specs.Prelude.{◌≡◌, ◌↔◌, IsTrue, IfOk, Some};
-ghost use Rattle.frame_places.specs.Reaching.{IsFirstRecurring};
+ghost use Rattle.frame_places.specs.NodeGraph.{IsFirstRecurring};
 ghost use Rattle.depth_maker.specs.Recursing.{EdgesOn, EntersMarked, IsFirstMarked, IsFirstWith, IsRecursion, orders_in};
-ghost use Rattle.depth_maker.specs.RowsBy.{IsSource};
+ghost use Rattle.depth_maker.specs.Rows.{IsSource};
 ghost use Rattle.frame_places.specs.declared.places.Spot.TheVariants.{Point};
 
 use crate::rows::{KnownPoint, Source, point_row, rows};

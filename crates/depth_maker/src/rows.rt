@@ -2,15 +2,15 @@
 ghost use Rattle.std.specs.Prelude.{◌≡◌, ◌+◌, ◌<◌, List, IfOk, IsTrue, OnOk};
 ghost use Rattle.indexmap.specs.IndexMap.{index_map_len};
 ghost use Rattle.depth_cert.specs.declared.keys.Key as keys;
-ghost use Rattle.depth_cert.specs.Known.{IsProper};
+ghost use Rattle.depth_cert.specs.Proper.{IsProper};
 ghost use Rattle.frame_places.specs.Numbers.{number_in};
-ghost use Rattle.depth_maker.specs.Handlers.{AreNumbered};
-ghost use Rattle.depth_maker.specs.View.{StandsBy};
-ghost use Rattle.depth_maker.specs.RowsBy.{AddsPlain, AddsPoint, AllKnownBy, IsDraft, IsKnownPoint, IsPointRow, IsRowBy, HasRow, IsSource, RowsOn};
+ghost use Rattle.depth_maker.specs.InterruptHandlers.{AreNumbered};
+ghost use Rattle.depth_maker.specs.VisitDuties.{StandsBy};
+ghost use Rattle.depth_maker.specs.Rows.{AddsPlain, AddsPoint, AllKnownBy, IsDraft, IsKnownPoint, IsPointRow, IsRowBy, HasRow, IsSource, RowsOn};
 
-use crate::entered::entered_frames;
-use crate::ground::{Ground, Visit};
+use crate::entered_frames::entered_frames;
 use crate::handlers::{Handler, add_taken};
+use crate::inputs_and_limits::{Ground, Visit};
 use crate::table::Table;
 use cfg_recover::{Located, local_check, start_state};
 use depth_cert::Key;

@@ -1,10 +1,11 @@
 // Writes the certificate of a table, point by point.
 ghost use Rattle.std.specs.Prelude.{◌≡◌, ◌<◌, ◌^◌, ◌⊎◌, OnOk, IfOk};
-ghost use Rattle.frame_places.specs.Entries.{place_at};
+ghost use Rattle.frame_places.specs.PointEntries.{place_at};
 ghost use Rattle.frame_places.specs.Spots.{spot_address};
-ghost use Rattle.depth_maker.specs.RowsAt.{need_by};
-ghost use Rattle.depth_maker.specs.RowsBy.{IsSource};
-ghost use Rattle.depth_maker.specs.Spelled.{AreFrames, ArePointsOf, IsFrameOf, IsOfVersion, IsOrdered, IsPointOf, IsSpelledOn, NeedsAre, WritesCert, WritesExit, WritesNode, WritesNodes, WritesPoint, WritesPoints, spots_on};
+ghost use Rattle.depth_maker.specs.Needs.{need_by, NeedsAre};
+ghost use Rattle.depth_maker.specs.Rows.{IsSource};
+ghost use Rattle.depth_maker.specs.SpelledCert.{AreFrames, ArePointsOf, IsFrameOf, IsOfVersion, IsOrdered, IsPointOf, IsSpelledOn, WritesCert, WritesExit, WritesNode, WritesNodes, WritesPoint, WritesPoints};
+ghost use Rattle.depth_maker.specs.Spots.{spots_on};
 
 use crate::rows::Source;
 use depth_cert::{Key, put_u16, write_exit, write_key};

@@ -1,5 +1,5 @@
 // The table of the worklist algorithm.
-use crate::interrupts::LastInterrupts;
+use crate::interrupt_contexts::LastInterrupts;
 use depth_cert::Key;
 use frame_places::{Marked, Spot, Work};
 use indexmap::IndexMap;

@@ -1,16 +1,13 @@
-// The checks of an ELF file, in their order, and the segments that it loads.
-ghost use Rattle.std.specs.Prelude.{◌≡◌, ◌+◌, ◌≤◌, ◌<◌, ◌⊎◌, length, map, find, All, Option, Some, None, OnOk, IfOk, IfErr, true, false};
+// The checks of an ELF file, in their order.
+ghost use Rattle.std.specs.Prelude.{◌≡◌, ◌+◌, ◌≤◌, ◌<◌, length, find, Option, Some, None, OnOk};
 ghost use Rattle.std.specs.Result.{result_err};
 ghost use Rattle.std.specs.Option.{option_map};
-ghost use Rattle.elf_image.specs.Elf.{e_phnum, header_at, headers_of, is_bad, start_refusal, segment_refusal, meets, loads_of, is_large, overlap_refusal, segment_of};
-ghost use Rattle.elf_image.specs.Images.{segment_data};
+ghost use Rattle.elf_image.specs.Elf.{headers_of, is_bad, start_refusal, segment_refusal, meets, overlap_refusal};
 
+use crate::ImageErr;
 use crate::headers::{
-    E_MACHINE, E_PHENTSIZE, E_PHNUM, E_TYPE, EM_TRICORE, ET_EXEC, Header, half_at, has_bytes,
-    header_at, is_bad, meets,
+    E_MACHINE, E_PHENTSIZE, E_PHNUM, E_TYPE, EM_TRICORE, ET_EXEC, Header, half_at, is_bad, meets,
 };
-use crate::{ImageErr, Segment};
-use std::alloc::Global;
 
 // Checks that the file begins with the header of an executable for this machine.
 #[tactic(auto, unfolding(crate::specs::Elf::start_refusal))]
@@ -85,64 +82,4 @@ pub(crate) fn check_apart(loads: &[Header]) -> Result<(), ImageErr>
         }
     }
     Ok(())
-}
-
-// Collects the headers that load bytes, in order: at most 64, with at most 2^24 bytes together.
-pub(crate) fn loads_of(alloc: Global, bytes: &[u8]) -> Result<Vec<Header>, ImageErr>
-    requires long { 52 ≤ length bytes.now }
-    requires good { segment_refusal bytes.now ≡ None }
-    ensures ok { IfOk result (λ v.
-        (v.items ≡ loads_of bytes.now) × (is_large (loads_of bytes.now) ≡ false)) }
-    ensures err { IfErr result (λ e.
-        (e ≡ ImageErr.NoMemory)
-        ⊎ ((e ≡ ImageErr.TooLarge) × (is_large (loads_of bytes.now) ≡ true))) }
-{
-    let mut loads = Vec::new(alloc);
-    let mut total = 0u32;
-    let count = half_at(bytes, E_PHNUM);
-    for number in 0..count {
-        let header = header_at(bytes, number);
-        if has_bytes(&header) {
-            if loads.len() == 64 || header.file_size > 16_777_216 - total {
-                return Err(ImageErr::TooLarge);
-            }
-            total += header.file_size;
-            loads.push(header)?;
-        }
-    }
-    Ok(loads)
-}
-
-// Copies the bytes that a header loads.
-fn segment_of(alloc: Global, bytes: &[u8], load: &Header) -> Result<Segment, ImageErr>
-    requires { load.now.offset + load.now.file_size ≤ length bytes.now }
-    ensures ok { IfOk result (λ s. segment_data s ≡ segment_of bytes.now load.now) }
-    ensures err { IfErr result (λ e. e ≡ ImageErr.NoMemory) }
-{
-    let start = load.offset as usize;
-    let end = start + load.file_size as usize;
-    let loaded = Vec::from_slice(alloc, &bytes[start..end])?;
-    Ok(Segment {
-        at: load.address,
-        bytes: loaded,
-    })
-}
-
-// Copies the segments of these headers, in order.
-pub(crate) fn segments_of(
-    alloc: Global,
-    bytes: &[u8],
-    loads: &[Header],
-) -> Result<Vec<Segment>, ImageErr>
-    requires { All (λ h. h.offset + h.file_size ≤ length bytes.now) loads.now }
-    ensures ok { IfOk result (λ v.
-        map segment_data v.items ≡ map (segment_of bytes.now) loads.now) }
-    ensures err { IfErr result (λ e. e ≡ ImageErr.NoMemory) }
-{
-    let mut segments = Vec::new(alloc);
-    for load in loads {
-        let segment = segment_of(alloc, bytes, load)?;
-        segments.push(segment)?;
-    }
-    Ok(segments)
 }

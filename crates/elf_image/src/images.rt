@@ -1,9 +1,9 @@
 // An image: the segments of an executable, within limits that always hold.
 use crate::ImageErr;
-use crate::file_bytes::file_of;
-use crate::file_checks::{check_apart, check_segments, check_start, loads_of, segments_of};
+use crate::file_checks::{check_apart, check_segments, check_start};
+use crate::file_writer::file_of;
 use crate::headers::{E_ENTRY, word_at};
-use crate::segment::{Segment, byte_of, is_held};
+use crate::segments::{Segment, byte_of, is_held, loads_of, segments_of};
 use std::alloc::Global;
 use std::marker::Model;
 

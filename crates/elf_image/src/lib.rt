@@ -2,12 +2,12 @@
 #![tactic(auto)]
 
 mod errors;
-mod file_bytes;
 mod file_checks;
+mod file_writer;
 mod headers;
 mod images;
-mod segment;
+mod segments;
 
 pub use errors::ImageErr;
 pub use images::Image;
-pub use segment::{Segment, read_segments};
+pub use segments::{Segment, read_segments};

@@ -10,10 +10,10 @@ use Rattle.frame_places.specs.declared.places.Spot.{Spot}
 use Rattle.frame_places.specs.declared.places.Mark.{Mark}
 use Rattle.frame_places.specs.declared.places.Marked.{Marked}
 use Rattle.frame_places.specs.declared.places.Mark.TheVariants.{Queued}
-use Rattle.frame_places.specs.Nearby.{StandsAt}
+use Rattle.frame_places.specs.Numbers.{StandsAt, KeepsNumbers}
 use Rattle.frame_places.specs.Spots.{spot_eq}
 use Rattle.frame_places.proofs.SpotLemmas.{spot_tells, spot_refl}
-use Rattle.frame_places.specs.Marks.{AllListed, AreKnown, KeepsNumbers, MarksAs, Puts, Requeues, is_queued, mark_for, value_for}
+use Rattle.frame_places.specs.Marks.{AllListed, AreKnown, MarksAs, Puts, Requeues, is_queued, mark_for, value_for}
 
 -- which side of an if
 pub sides : {X : Type 0} (b : Bool) (x y o : X) → o ≡ (if b then x else y) → ((b ≡ true) × (o ≡ x)) ⊎ ((b ≡ false) × (o ≡ y))

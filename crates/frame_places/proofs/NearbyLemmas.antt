@@ -16,7 +16,7 @@ use Rattle.frame_places.specs.declared.places.Mark.{Mark}
 use Rattle.frame_places.specs.declared.places.Mark.TheVariants.{Queued}
 use Rattle.frame_places.specs.Spots.{spot_eq}
 use Rattle.frame_places.specs.Marks.{is_queued}
-use Rattle.frame_places.specs.Nearby.{StandsAt}
+use Rattle.frame_places.specs.Numbers.{StandsAt}
 use Rattle.frame_places.proofs.SpotLemmas.{spot_refl, spot_tells}
 
 turned : (x y : Spot) → spot_eq x y ≡ true → spot_eq y x ≡ true

@@ -10,7 +10,7 @@ use Rattle.std.specs.declared.alloc.Global.{Global}
 use Rattle.indexmap.specs.IndexMap.{IndexMap, get}
 use Rattle.frame_places.specs.declared.needs.reach.FrameEdge.{FrameEdge}
 use Rattle.frame_places.specs.declared.needs.row.NeedRow.{NeedRow}
-use Rattle.frame_places.specs.Reaching.{edge_eq, edge_to, AreEdges, AddsEdges, AreBetween, Leads, here, along, IsRecurring, IsMarked, unmarked, HasSource, AreSources, AreBelow, AddsSource, MarksNodes, IsMarking, AreReaching, IsFirstBefore, IsFirstRecurring}
+use Rattle.frame_places.specs.NodeGraph.{edge_eq, edge_to, AreEdges, AddsEdges, AreBetween, Leads, here, along, IsRecurring, IsMarked, unmarked, HasSource, AreSources, AreBelow, AddsSource, MarksNodes, IsMarking, AreReaching, IsFirstBefore, IsFirstRecurring}
 
 -- ---- one more mark
 marked_set : (marks : List Bool) (i k : ℕ) → IsMarked (set marks i true) k → IsMarked marks k ⊎ (k ≡ i)

@@ -7,7 +7,7 @@ use Rattle.std.proofs.lemmas.Bool.{cases_eq}
 use Rattle.std.proofs.Math.Seq.{take-append_seam}
 use Rattle.std.proofs.lemmas.List.Sums.{sum_by-set, sum_by-le}
 use Rattle.frame_places.specs.declared.needs.row.NeedRow.{NeedRow}
-use Rattle.frame_places.specs.Rows.{MeetsRow, MeetsCapped, PassesRow, PassesRows, IsLow, Meets}
+use Rattle.frame_places.specs.RowNeeds.{MeetsRow, MeetsCapped, PassesRow, PassesRows, IsLow, Meets}
 
 sum-set : (xs : List ℕ) (i y : ℕ) → i < length xs → sum (set xs i y) + slice_index xs i ≡ sum xs + y
 sum-set xs i y lt = sum_by-set (λ (x : ℕ). x) xs i y 0 lt

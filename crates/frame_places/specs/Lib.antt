@@ -1,11 +1,10 @@
 -- Places of frames in a table, rows of needs, and the graph of their entries.
 pub mod Spots
-pub mod Entries
+pub mod PointEntries
 pub mod Hashed
-pub mod Nearby
 pub mod Work
 pub mod Marks
 pub mod Numbers
 pub mod Counting
-pub mod Reaching
-pub mod Rows
+pub mod NodeGraph
+pub mod RowNeeds

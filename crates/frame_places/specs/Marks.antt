@@ -8,7 +8,7 @@ use Rattle.frame_places.specs.declared.places.Spot.{Spot}
 use Rattle.frame_places.specs.declared.places.Mark.{Mark}
 use Rattle.frame_places.specs.declared.places.Marked.{Marked}
 use Rattle.frame_places.specs.declared.places.Mark.TheVariants.{Idle, Plain, Queued, Open}
-use Rattle.frame_places.specs.Nearby.{StandsAt}
+use Rattle.frame_places.specs.Numbers.{StandsAt, KeepsNumbers}
 use Rattle.frame_places.specs.Spots.{spot_eq}
 use Rattle.frame_places.specs.Work.{Lists, all_work}
 
@@ -19,10 +19,6 @@ value_for places q = option_map (λ m. m.value) (get spot_eq places q)
 -- the mark of a known place
 abbrev pub mark_for : {V S : Type 0} → IndexMap Spot (Marked V) S → Spot → Option Mark
 mark_for places q = option_map (λ m. m.mark) (get spot_eq places q)
-
--- each place keeps its number
-abbrev pub KeepsNumbers : {V S : Type 0} → IndexMap Spot (Marked V) S → IndexMap Spot (Marked V) S → Type 0
-KeepsNumbers old new = (number : ℕ) (q : Spot) → StandsAt old number q → StandsAt new number q
 
 -- each of these places is known
 abbrev pub AreKnown : {V S : Type 0} → IndexMap Spot (Marked V) S → (Spot → Type 0) → Type 0

@@ -1,9 +1,12 @@
--- Numbers of frames: their places in a list.
-use Rattle.std.specs.Prelude.{◌≡◌, ◌+◌, ℕ, Bool, List, [], ◌∷◌, Some, Contains, if◌then◌else◌}
-use Rattle.indexmap.specs.IndexMap.{IndexMap, get}
+-- Numbers of frames and of places.
+use Rattle.std.specs.Prelude.{◌≡◌, ◌+◌, ℕ, Bool, List, ◌∷◌, Some, Contains, if◌then◌else◌, slice_get, false}
+use Rattle.indexmap.specs.IndexMap.{IndexMap, get, keys}
 use Rattle.depth_cert.specs.declared.keys.Key.{Key}
 use Rattle.depth_cert.specs.contracts.keys.KeyPartialEq.TheImpl as block
 use Rattle.depth_cert.specs.Keys.{same_key}
+use Rattle.frame_places.specs.declared.places.Spot.{Spot}
+use Rattle.frame_places.specs.declared.places.Marked.{Marked}
+use Rattle.frame_places.specs.declared.places.Spot.TheVariants.{Exit}
 
 -- key equality, as maps compare keys
 abbrev pub key_eq : Key → Key → Bool
@@ -17,3 +20,15 @@ number_in (j ∷ js) k = if same_key j k then 0 else number_in js k + 1
 -- the map has the numbers of these frames
 pub record AreNumbers {S : Type 0} (numbers : IndexMap Key ℕ S) (frames : List Key) (known : List Key) : Type 0 where
   pub each : (k : Key) → Contains known k → get key_eq numbers k ≡ Some (number_in frames k)
+
+-- x is the place with this number
+abbrev pub StandsAt : {X S : Type 0} → IndexMap Spot X S → ℕ → Spot → Type 0
+StandsAt m number x = slice_get (keys m) number ≡ Some x
+
+-- each place keeps its number
+abbrev pub KeepsNumbers : {V S : Type 0} → IndexMap Spot (Marked V) S → IndexMap Spot (Marked V) S → Type 0
+KeepsNumbers old new = (number : ℕ) (q : Spot) → StandsAt old number q → StandsAt new number q
+
+-- a place for numbers that have none
+abbrev pub nowhere : Spot
+nowhere = Exit (record { kind = 0; entry = 0; prio = 0; is = false })

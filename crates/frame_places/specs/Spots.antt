@@ -1,5 +1,5 @@
 -- Places of frames: which are the same, and their order.
-use Rattle.std.specs.Prelude.{◌≡◌, ◌<◌, ◌+◌, ◌*◌, ◌^◌, ◌==◌, ℕ, Bool, false, List, Option, Some, None, Contains}
+use Rattle.std.specs.Prelude.{◌≡◌, ◌<◌, ◌+◌, ◌*◌, ◌^◌, ◌==◌, ℕ, Bool, false, List, Option, Some, None, Contains, true}
 use Rattle.depth_cert.specs.declared.keys.Key.{Key}
 use Rattle.depth_cert.specs.Keys.{IsKey, number_of_key, same_key}
 use Rattle.frame_places.specs.contracts.places.SpotPartialEq.TheImpl as block
@@ -38,3 +38,8 @@ AreRanged ps = (q : Spot) → Contains ps q → (k : Key) × (p : ℕ) × (q ≡
 abbrev pub IsAddressIn : Key → Spot → Option ℕ → Type 0
 IsAddressIn k y None = (p : ℕ) → y ≡ Point k p → ⊥
 IsAddressIn k y (Some p) = y ≡ Point k p
+
+-- a place is a point
+abbrev pub is_point : Spot → Bool
+is_point (Point k p) = true
+is_point (Exit k) = false

@@ -21,10 +21,8 @@ pub use needs::least::{least_needs, soon_needs};
 pub use needs::reach::{FrameEdge, edges_of, first_recurring, has_marked, nodes_reaching};
 pub use needs::row::NeedRow;
 pub use numbers::{number_frames, number_near, number_of, numbers_of};
-pub use ordering::{
-    PointEntry, address_at, address_in, frames_in_order, orders_of, points_in_order, points_of,
-};
-pub use places::{Mark, Marked, Spot};
+pub use ordering::{PointEntry, frames_in_order, orders_of, points_in_order, points_of};
+pub use places::{Mark, Marked, Spot, address_at, address_in};
 pub use readers::register;
 pub use refusals::{LIMITS_RULE, LOCALS_RULE, NEEDS_RULE, Refusal};
 pub use work::Work;

@@ -3,7 +3,7 @@ ghost use Rattle.std.specs.Prelude.{◌≡◌, ◌↔◌, IfOk, IsSome, IsTrue, 
 ghost use Rattle.indexmap.specs.IndexMap.{get};
 ghost use Rattle.frame_places.specs.declared.places.Spot.{Spot};
 ghost use Rattle.frame_places.specs.declared.places.Mark.TheVariants.{Open, Plain, Queued};
-ghost use Rattle.frame_places.specs.Nearby.{StandsAt};
+ghost use Rattle.frame_places.specs.Numbers.{StandsAt};
 ghost use Rattle.frame_places.specs.Spots.{spot_eq};
 ghost use Rattle.frame_places.specs.Work.{PutsAs, PutsNew, all_work};
 ghost use Rattle.frame_places.specs.Marks.{AddsOrFinds, AllListed, AreKnown, MarksAs, Puts, Reads, Requeues, idle_mark, is_queued, mark_for, settled_mark, value_for};

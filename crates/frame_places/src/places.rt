@@ -1,7 +1,7 @@
 // Places of frames, and their marks for the work list.
 ghost use Rattle.std.specs.Prelude.{◌≡◌};
 ghost use Rattle.std.specs.Hash as fed;
-ghost use Rattle.frame_places.specs.Spots.{is_entry_point, spot_number};
+ghost use Rattle.frame_places.specs.Spots.{is_entry_point, spot_number, IsAddressIn, spot_address};
 ghost use Rattle.frame_places.specs.Hashed.{word_of};
 
 use depth_cert::{Key, number_of};
@@ -87,4 +87,24 @@ pub enum Mark {
     Queued,
     /// It is being visited.
     Open,
+}
+
+/// Returns the address of a point, or 0 for an exit.
+pub fn address_at(place: &Spot) -> u32
+    ensures { result ≡ spot_address place.now }
+{
+    match place {
+        Spot::Point(_, addr) => *addr,
+        Spot::Exit(_) => 0,
+    }
+}
+
+/// Returns the address of a place if it is a point of the frame.
+pub fn address_in(key: Key, place: Spot) -> Option<u32>
+    ensures { IsAddressIn key place result }
+{
+    let Spot::Point(other, addr) = place else {
+        return None;
+    };
+    if other == key { Some(addr) } else { None }
 }

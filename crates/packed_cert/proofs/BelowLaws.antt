@@ -6,7 +6,7 @@ use Rattle.tcd_base.specs.Bytes.{word_at}
 use Rattle.value_domain.specs.Sets.{Among, Rising}
 use Rattle.value_domain.proofs.Loops.{among_get}
 use Rattle.value_domain.proofs.WordLaws.{among_place}
-use Rattle.packed_cert.specs.Below.{words_at}
+use Rattle.packed_cert.specs.ValuesInBytes.{words_at}
 
 pub length-words_at : (bytes : List ℕ) (place n : ℕ) → length (words_at bytes place n) ≡ n
 unfolding words_at

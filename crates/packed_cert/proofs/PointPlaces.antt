@@ -9,7 +9,7 @@ use Rattle.value_domain.specs.declared.states.State.{State}
 use Rattle.depth_cert.specs.declared.points.Point.{Point}
 use Rattle.depth_cert.specs.Points.{addresses}
 use Rattle.depth_cert.specs.Grammar.{flag_at, values_at, state_at, address_after, point_after}
-use Rattle.tcd_base.specs.Reading.{u8_at}
+use Rattle.tcd_base.specs.FieldReaders.{u8_at}
 use Rattle.tcd_base.proofs.FieldReads.{bind_ok, u8_at_ok}
 use Rattle.depth_cert.proofs.PointReads.{point_reads}
 use Rattle.packed_cert.specs.declared.places.PackedPoint.{PackedPoint}

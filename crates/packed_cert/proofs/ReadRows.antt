@@ -4,7 +4,7 @@ use Rattle.std.proofs.lemmas.List.{length-set, get_or-set_other}
 use Rattle.value_domain.specs.declared.values.Val.{Val}
 use Rattle.value_domain.specs.Values.{any_val}
 use Rattle.packed_cert.specs.declared.places.ValueRow.{ValueRow}
-use Rattle.packed_cert.specs.Standing.{ChangesRow, IsWhole, IsWithRead}
+use Rattle.packed_cert.specs.ChangedRows.{ChangesRow, IsWhole, IsWithRead}
 
 -- none
 pub row_of_none : (vs : List Val) → ChangesRow vs vs (record { first = 0; behind = 0; from = 0 })

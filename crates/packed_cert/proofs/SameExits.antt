@@ -4,7 +4,7 @@ use Rattle.std.proofs.lemmas.List.{append-nil, take-append-drop, length-take, ge
 use Rattle.std.specs.List.{flat_map}
 use Rattle.tcd_base.specs.declared.errors.FormErr.{FormErr}
 use Rattle.tcd_base.specs.Place.{Place, place_between}
-use Rattle.tcd_base.specs.Reading.{u8_at}
+use Rattle.tcd_base.specs.FieldReaders.{u8_at}
 use Rattle.depth_cert.specs.declared.points.Exit.{Exit}
 use Rattle.depth_cert.specs.Keys.{byte_of}
 use Rattle.depth_cert.specs.Points.{IsExit}

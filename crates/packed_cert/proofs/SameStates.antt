@@ -6,7 +6,7 @@ use Rattle.std.proofs.lemmas.List.{append-nil, take-append-drop, length-take, ge
 use Rattle.std.specs.List.{flat_map}
 use Rattle.tcd_base.specs.declared.errors.FormErr.{FormErr}
 use Rattle.tcd_base.specs.Place.{Place}
-use Rattle.tcd_base.specs.Reading.{u8_at, many_at}
+use Rattle.tcd_base.specs.FieldReaders.{u8_at, many_at}
 use Rattle.value_domain.specs.declared.states.State.{State}
 use Rattle.value_domain.specs.Versions.{most_locals_of}
 use Rattle.depth_cert.specs.Keys.{byte_of}

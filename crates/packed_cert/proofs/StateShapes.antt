@@ -3,7 +3,7 @@ use Rattle.std.proofs.Common.{◌≡◌, ℕ, zero, suc, ◌+◌, ◌≤◌, Lis
 use Rattle.std.proofs.lemmas.Bool.{leb-true}
 use Rattle.std.proofs.lemmas.List.{append-nil}
 use Rattle.tcd_base.specs.Place.{Place}
-use Rattle.tcd_base.specs.Reading.{u8_at, fault_at, many_at}
+use Rattle.tcd_base.specs.FieldReaders.{u8_at, fault_at, many_at}
 use Rattle.tcd_base.proofs.FieldReads.{bind_ok, u8_at_ok}
 use Rattle.value_domain.specs.declared.values.Val.{Val}
 use Rattle.value_domain.specs.declared.states.State.{State}
@@ -15,7 +15,7 @@ use Rattle.tcd_base.proofs.PassedLaws.{ok_pair}
 use Rattle.depth_cert.proofs.GrammarLaws.{checked_passed, most_le}
 use Rattle.packed_cert.specs.Standing.{at, behind, flags_in, Stand}
 use Rattle.packed_cert.specs.Points.{read_or}
-use Rattle.packed_cert.specs.Below.{value_in, values_in, HaveValues}
+use Rattle.packed_cert.specs.ValuesInBytes.{value_in, values_in, HaveValues}
 use Rattle.packed_cert.proofs.SameBytes.{Small, value_stands, values_stand}
 
 -- a flag takes one byte

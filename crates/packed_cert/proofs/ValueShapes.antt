@@ -5,7 +5,7 @@ use Rattle.std.proofs.lemmas.List.{append-nil, drop_more}
 use Rattle.tcd_base.specs.declared.errors.FormErr.{FormErr}
 use Rattle.tcd_base.specs.Bytes.{word_at}
 use Rattle.tcd_base.specs.Place.{Place}
-use Rattle.tcd_base.specs.Reading.{u8_at, u32_at, many_at}
+use Rattle.tcd_base.specs.FieldReaders.{u8_at, u32_at, many_at}
 use Rattle.tcd_base.proofs.FieldReads.{bind_ok, u8_at_ok, u32_at_ok}
 use Rattle.value_domain.specs.declared.values.Val.{Val}
 use Rattle.value_domain.specs.declared.values.Val.TheVariants.{Set, Span}
@@ -19,7 +19,7 @@ use Rattle.tcd_base.proofs.PassedLaws.{ok_pair, passed_test}
 use Rattle.depth_cert.proofs.GrammarLaws.{checked_passed, width_le}
 use Rattle.packed_cert.specs.Standing.{at, length_by, behind}
 use Rattle.packed_cert.specs.Points.{read_or}
-use Rattle.packed_cert.specs.Below.{words_at, value_in, HasValue, values_in, HaveValues}
+use Rattle.packed_cert.specs.ValuesInBytes.{words_at, value_in, HasValue, values_in, HaveValues}
 use Rattle.packed_cert.proofs.SameBytes.{Small, value_stands}
 
 -- which of four comes

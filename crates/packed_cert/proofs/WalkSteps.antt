@@ -9,7 +9,7 @@ use Rattle.value_domain.specs.State.{Covers}
 use Rattle.depth_cert.specs.declared.points.Point.{Point}
 use Rattle.packed_cert.specs.declared.places.PackedPoint.{PackedPoint}
 use Rattle.packed_cert.specs.declared.places.ValueRow.{ValueRow}
-use Rattle.packed_cert.specs.Standing.{ChangesRow}
+use Rattle.packed_cert.specs.ChangedRows.{ChangesRow}
 use Rattle.packed_cert.specs.Points.{state_in, points_in}
 use Rattle.packed_cert.specs.Walks.{KeepsOthers}
 

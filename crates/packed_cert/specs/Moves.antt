@@ -5,9 +5,9 @@ use Rattle.value_domain.specs.Values.{any_val, IsBelow}
 use Rattle.vd_transfer.specs.declared.change.Change.{Change}
 use Rattle.vd_transfer.specs.Changes.{state_after}
 use Rattle.packed_cert.specs.declared.places.PackedPoint.{PackedPoint}
-use Rattle.packed_cert.specs.Standing.{ChangesRow}
+use Rattle.packed_cert.specs.ChangedRows.{ChangesRow}
 use Rattle.packed_cert.specs.Points.{state_in}
-use Rattle.packed_cert.specs.Below.{values_in, HaveValues}
+use Rattle.packed_cert.specs.ValuesInBytes.{values_in, HaveValues}
 
 -- the changed value at a place is below the state's own there
 abbrev pub IsBelowOwn : State → Change → ℕ → Type 0

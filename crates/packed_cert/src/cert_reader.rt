@@ -2,7 +2,7 @@
 ghost use Rattle.std.specs.Prelude.{◌≡◌, ◌≤◌, ◌^◌, [], length, Ok, IfOk, IfErr};
 ghost use Rattle.std.specs.List.{All};
 ghost use Rattle.depth_cert.specs.Answers.{IsFaultOf};
-ghost use Rattle.tcd_base.specs.Reading.{many_at};
+ghost use Rattle.tcd_base.specs.FieldReaders.{many_at};
 ghost use Rattle.depth_cert.specs.Grammar.{node_after, certificate_of};
 ghost use Rattle.packed_cert.specs.Nodes.{nodes_of, cert_of, HasPlaces};
 

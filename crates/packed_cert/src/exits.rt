@@ -3,10 +3,10 @@ ghost use Rattle.std.specs.Prelude.{◌≡◌, ◌≤◌, ◌^◌, ◌↔◌, Is
 ghost use Rattle.packed_cert.specs.Nodes.{exit_in, HasExit};
 
 use crate::certs::are_bytes;
+use crate::covered_values::{ToCover, are_covered_at};
 use crate::places::LOWER_VALUES;
-use crate::return_covers::ValuesAt;
-use crate::state_covers::{ToCover, are_covered_at};
-use crate::value_covers::are_values_at;
+use crate::restored_values::ValuesAt;
+use crate::values_at_places::are_values_at;
 use depth_cert::{Exit, no_exit, read_exit};
 use std::marker::Model;
 use tcd_base::Cursor;
@@ -34,7 +34,7 @@ impl<'a> Model for ExitAt<'a> {
 impl<'a> ExitAt<'a> {
     ghost use Rattle.value_domain.specs.State.{AreValues, AreWell};
     ghost use Rattle.depth_cert.specs.Exits.{exit_of, ExitCovers};
-    ghost use Rattle.packed_cert.specs.Below.{values_in, HaveValues};
+    ghost use Rattle.packed_cert.specs.ValuesInBytes.{values_in, HaveValues};
 
     /// Returns the exit at a place.
     pub(crate) fn at(bytes: &'a [u8], version: u8, place: usize) -> ExitAt<'a>

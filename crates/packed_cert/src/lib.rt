@@ -3,6 +3,7 @@
 
 mod cert_reader;
 mod certs;
+mod covered_values;
 mod exits;
 mod next_covers;
 mod node_reader;
@@ -10,11 +11,10 @@ mod nodes;
 mod places;
 mod point_reader;
 mod repeated_bytes;
-mod return_covers;
-mod state_covers;
+mod restored_values;
 mod states;
-mod value_covers;
 mod value_reader;
+mod values_at_places;
 mod walks;
 
 pub use certs::PackedCert;

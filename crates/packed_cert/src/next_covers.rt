@@ -6,14 +6,14 @@ ghost use Rattle.value_domain.specs.Values.{IsBelow, any_val};
 ghost use Rattle.value_domain.specs.State.{AreBelow, AreWell};
 ghost use Rattle.vd_transfer.specs.Changes.{state_after};
 ghost use Rattle.vd_transfer.specs.declared.change.Base.TheVariants.{Same};
-ghost use Rattle.packed_cert.specs.Below.{values_in, HaveValues};
+ghost use Rattle.packed_cert.specs.ValuesInBytes.{values_in, HaveValues};
 ghost use Rattle.packed_cert.specs.Points.{state_in};
 ghost use Rattle.packed_cert.specs.Moves.{IsMoved, IsBelowOwn};
-ghost use Rattle.packed_cert.specs.Standing.{IsOutside};
+ghost use Rattle.packed_cert.specs.ChangedRows.{IsOutside};
 
 use crate::places::{PackedPoint, VALUES, ValueRow};
-use crate::value_covers::is_below_at;
 use crate::value_reader::length_by;
+use crate::values_at_places::is_below_at;
 use value_domain::{State, Val, leq};
 use vd_transfer::{Change, changed_value};
 

@@ -2,7 +2,7 @@
 ghost use Rattle.std.specs.Prelude.{◌≡◌, ◌≤◌, ◌+◌, ◌^◌, length, map, Ok, Err, OnOk, IfOk, IfErr, IfSome};
 ghost use Rattle.std.specs.Option.{option_map};
 ghost use Rattle.std.specs.List.{All};
-ghost use Rattle.tcd_base.specs.Reading.{Reads};
+ghost use Rattle.tcd_base.specs.FieldReaders.{Reads};
 ghost use Rattle.depth_cert.specs.Answers.{IsFaultOf};
 ghost use Rattle.depth_cert.specs.Grammar.{key_after, exit_at, exits_at, node_after, is_above};
 ghost use Rattle.depth_cert.specs.Keys.{key_number};

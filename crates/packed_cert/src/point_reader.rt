@@ -4,11 +4,12 @@
 // instructions if it comes again, 800 if one value differs, and 9,800 if all do.
 ghost use Rattle.std.specs.Prelude.{◌≡◌, ◌≤◌, ◌<◌, ◌+◌, ◌^◌, ℕ, List, length, map, vec_len, true, false, Ok, Err, OnOk, IfOk, IfErr, IfSome, IsTrue, IsFalse};
 ghost use Rattle.std.specs.List.{All};
-ghost use Rattle.tcd_base.specs.Reading.{Reads};
+ghost use Rattle.tcd_base.specs.FieldReaders.{Reads};
 ghost use Rattle.depth_cert.specs.Grammar.{values_at, state_at, address_after, points_at, is_above};
 ghost use Rattle.depth_cert.specs.Answers.{IsFaultOf};
 ghost use Rattle.std.specs.List.Sorted.{IsStrictlyIncreasing};
-ghost use Rattle.packed_cert.specs.Standing.{StandFrom, ChangesRow, IsFrom, IsWhole};
+ghost use Rattle.packed_cert.specs.Standing.{StandFrom};
+ghost use Rattle.packed_cert.specs.ChangedRows.{ChangesRow, IsFrom, IsWhole};
 ghost use Rattle.packed_cert.specs.Points.{HasState, StandsAt, points_in};
 ghost use Rattle.packed_cert.specs.Moves.{AreMoves};
 

@@ -6,13 +6,13 @@ ghost use Rattle.vd_transfer.specs.Changes.{state_after};
 ghost use Rattle.packed_cert.specs.Moves.{IsMoved};
 ghost use Rattle.packed_cert.specs.Standing.{flags_in};
 ghost use Rattle.packed_cert.specs.Points.{state_in, HasState};
-ghost use Rattle.packed_cert.specs.Below.{values_in, HaveValues};
+ghost use Rattle.packed_cert.specs.ValuesInBytes.{values_in, HaveValues};
 
+use crate::covered_values::{ToCover, are_covered_at};
 use crate::exits::ExitAt;
 use crate::next_covers::{are_puts_below, is_row_below};
 use crate::places::{PackedPoint, VALUES};
-use crate::return_covers::{ValuesAt, are_restored_below};
-use crate::state_covers::{ToCover, are_covered_at};
+use crate::restored_values::{ValuesAt, are_restored_below};
 use arrayvec::ArrayVec;
 use depth_cert::CALL;
 use std::marker::Model;

@@ -1,7 +1,8 @@
 // Reads values over those of the state before.
 // Fast path: a value whose bytes come again isn't read. Bytes are compared for many values at once.
 ghost use Rattle.std.specs.Prelude.{◌≡◌, ◌≤◌, ◌<◌, ◌+◌, ◌^◌, ℕ, List, IsTrue, IsFalse, length, Ok, Err, OnOk, IfOk, IfErr};
-ghost use Rattle.packed_cert.specs.Standing.{StandFrom, MovedOver, ChangesRow, IsFrom, IsWithRead, place_after};
+ghost use Rattle.packed_cert.specs.Standing.{StandFrom, MovedOver};
+ghost use Rattle.packed_cert.specs.ChangedRows.{ChangesRow, IsFrom, IsWithRead, place_after};
 ghost use Rattle.packed_cert.specs.Standing as standing;
 ghost use Rattle.depth_cert.specs.Grammar.{values_at};
 

@@ -2,16 +2,16 @@
 ghost use Rattle.std.specs.Prelude.{◌≡◌, ◌≤◌, ◌<◌, ◌-◌, ◌^◌, ◌↔◌, [], length, drop, map, IfSome, IsTrue};
 ghost use Rattle.std.specs.List.Sorted.{IsStrictlyIncreasing};
 ghost use Rattle.packed_cert.specs.Points.{state_in, HasState};
-ghost use Rattle.packed_cert.specs.Standing.{ChangesRow};
-ghost use Rattle.packed_cert.specs.Below.{values_in, HaveValues};
+ghost use Rattle.packed_cert.specs.ChangedRows.{ChangesRow};
+ghost use Rattle.packed_cert.specs.ValuesInBytes.{values_in, HaveValues};
 ghost use Rattle.packed_cert.specs.Moves.{IsMoved};
 
 use crate::nodes::place_of;
 use crate::places::{PackedPoint, ValueRow};
 use crate::point_reader::blank;
 use crate::states::{StateAt, covers_moved};
-use crate::value_covers::read_at;
 use crate::value_reader::{length_by, no_row};
+use crate::values_at_places::read_at;
 use std::marker::Model;
 use value_domain::{State, Val};
 use vd_transfer::{Base, Change};

@@ -12,8 +12,9 @@ use Rattle.value_domain.proofs.CoverLaws.{among_member, cover-same, has_step, me
 use Rattle.value_domain.proofs.ExtentLaws.{among_append, append_right}
 use Rattle.value_domain.proofs.RegLaws.{implied_length}
 use Rattle.depth_cert.specs.declared.points.Exit.{Exit}
-use Rattle.depth_cert.specs.Exits.{ExitCovers}
-use Rattle.depth_cert.specs.Known.{CoversKnown, IsProper, IsProperExit, IsProperKnown, Known, joined_exit, joined_known, leaving, state}
+use Rattle.depth_cert.specs.Exits.{ExitCovers, joined_exit}
+use Rattle.depth_cert.specs.Known.{CoversKnown, Known, joined_known, leaving, state}
+use Rattle.depth_cert.specs.Proper.{IsProper, IsProperExit, IsProperKnown}
 use Rattle.small_states.proofs.IncomingLemmas.{values_well}
 
 -- ---- values

@@ -11,7 +11,7 @@ use Rattle.value_domain.specs.Values.{any_val}
 use Rattle.depth_cert.specs.Exits.{lower_values, with_lower_from}
 use Rattle.depth_cert.proofs.ExitValues.{after-at, lower_high, lower_low, with_lower_length}
 use Rattle.depth_cert.specs.Known.{Known, state, leaving}
-use Rattle.small_states.specs.Wholes.{values_from}
+use Rattle.small_states.specs.CompactForms.{values_from}
 use Rattle.small_states.proofs.SparseLemmas.{part_joins}
 use Rattle.small_states.specs.Incoming.{incoming_known, exit_with, is_exit, known_by, state_with, incoming_values}
 use Rattle.small_states.specs.declared.incoming.Incoming.{Incoming}

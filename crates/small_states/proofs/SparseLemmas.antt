@@ -12,8 +12,8 @@ use Rattle.value_domain.specs.Values.{IsBelow, IsValue, IsWell, any_val}
 use Rattle.value_domain.proofs.RangeLaws.{below_any}
 use Rattle.value_domain.proofs.RegLaws.{get_or-joined, length-joined}
 use Rattle.depth_cert.specs.Spelling.{bytes_of_value}
-use Rattle.small_states.specs.declared.sparse.SpacedValue.{SpacedValue}
-use Rattle.small_states.specs.Wholes.{front, spaced_values, values_from}
+use Rattle.small_states.specs.declared.values.SpacedValue.{SpacedValue}
+use Rattle.small_states.specs.CompactForms.{front, spaced_values, values_from}
 use Rattle.small_states.proofs.SameValues.{join_all}
 
 -- all values

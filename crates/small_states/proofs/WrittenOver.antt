@@ -3,8 +3,8 @@ use Rattle.std.proofs.Common.{◌≡◌, ◌∙◌, ℕ, ◌+◌, ◌<◌, ◌�
 use Rattle.std.proofs.lemmas.List.{append-nil, append_assoc, drop_all, drop_more, length-append, length-replicate, set_at, take_all, take_more}
 use Rattle.value_domain.specs.declared.values.Val.{Val}
 use Rattle.value_domain.specs.Values.{any_val}
-use Rattle.small_states.specs.declared.sparse.SpacedValue.{SpacedValue}
-use Rattle.small_states.specs.Wholes.{front}
+use Rattle.small_states.specs.declared.values.SpacedValue.{SpacedValue}
+use Rattle.small_states.specs.CompactForms.{front}
 use Rattle.small_states.proofs.SparseLemmas.{all, all_few, all_parts, is_within, length-front}
 
 -- the last values after the first n known ones were written over them

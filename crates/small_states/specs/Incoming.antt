@@ -7,20 +7,13 @@ use Rattle.depth_cert.specs.declared.points.Exit.{Exit}
 use Rattle.depth_cert.specs.Exits.{after_of, exit_of, lower_values}
 use Rattle.depth_cert.specs.Spelling.{bytes_of_state}
 use Rattle.depth_cert.specs.Known.{Known, state, leaving}
-use Rattle.small_states.specs.declared.known.KnownForm.{KnownForm}
-use Rattle.small_states.specs.declared.known.KnownForm.TheVariants.{Point, Leaves}
 use Rattle.small_states.specs.declared.known.Outline.{Outline}
-use Rattle.small_states.specs.Wholes.{exit_in, state_in}
+use Rattle.small_states.specs.CompactForms.{exit_in}
 use Rattle.small_states.specs.declared.incoming.Incoming.{Incoming}
 use Rattle.small_states.specs.declared.incoming.Context.{Context}
 use Rattle.small_states.specs.declared.incoming.Incoming.TheVariants.{Changed, After, Leaving}
 use Rattle.small_states.specs.declared.incoming.Given.{Given}
 use Rattle.small_states.specs.declared.incoming.Given.TheVariants.{Whole, Packed}
-
--- the state or the exit of this form
-abbrev pub known_of : KnownForm → Known
-known_of (Point s) = state (state_in s)
-known_of (Leaves x) = leaving (exit_in x)
 
 -- what flows in
 abbrev pub incoming_known : Incoming → Known

@@ -1,5 +1,4 @@
 -- What compact values, states and exits stand for.
-pub mod Forms
-pub mod Wholes
+pub mod CompactForms
 pub mod Incoming
 pub mod Zeros

@@ -5,7 +5,7 @@ ghost use Rattle.value_domain.specs.declared.values.Val.TheVariants.{Set};
 ghost use Rattle.tcd_base.specs.Bytes.{bytes_of_word};
 ghost use Rattle.depth_cert.specs.Spelling.{bytes_of_value};
 
-use crate::sparse::SpacedValue;
+use crate::values::SpacedValue;
 use std::marker::Model;
 use tcd_base::NoMemory;
 

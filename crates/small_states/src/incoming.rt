@@ -5,7 +5,7 @@ ghost use Rattle.value_domain.specs.State as states;
 ghost use Rattle.depth_cert.specs.Exits.{with_lower_from};
 ghost use Rattle.vd_transfer.specs.Changes.{base_of, state_after};
 ghost use Rattle.small_states.specs.Incoming.{incoming_known, given_of, is_exit, known_by, incoming_values};
-ghost use Rattle.small_states.specs.Wholes.{all_values};
+ghost use Rattle.small_states.specs.CompactForms.{all_values};
 ghost use Rattle.depth_cert.specs.Known.{priority_of};
 
 use crate::{Small, SmallExit};

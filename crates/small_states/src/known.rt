@@ -2,14 +2,15 @@
 ghost use Rattle.std.specs.Prelude.{◌≡◌, ◌↔◌, IsTrue, IfNone, IfOk, IfSome, OnOk, Some, length};
 ghost use Rattle.std.specs.Option.{option_map};
 ghost use Rattle.value_domain.specs.State.{AreValues, AreWell, Covers, joined_states};
-ghost use Rattle.small_states.specs.Wholes.{all_values, exit_in, state_in};
-ghost use Rattle.depth_cert.specs.Exits.{ExitCovers};
-ghost use Rattle.depth_cert.specs.Known.{CoversKnown, joined_exit, joined_known, state, leaving, IsProperKnown};
-ghost use Rattle.small_states.specs.Incoming.{AddsState, IsNoExit, IsOutline, IsStateAt, incoming_known, sender_state, exit_with, known_of, state_with, incoming_values};
+ghost use Rattle.small_states.specs.CompactForms.{all_values, exit_in, state_in, known_of};
+ghost use Rattle.depth_cert.specs.Exits.{ExitCovers, joined_exit};
+ghost use Rattle.depth_cert.specs.Known.{CoversKnown, joined_known, state, leaving};
+ghost use Rattle.depth_cert.specs.Proper.{IsProperKnown};
+ghost use Rattle.small_states.specs.Incoming.{AddsState, IsNoExit, IsOutline, IsStateAt, incoming_known, sender_state, exit_with, state_with, incoming_values};
 
 use crate::incoming::{Context, Given, Incoming, context_of, is_leaving};
+use crate::incoming_values::{are_all_below, are_covered, join_values, pack_for, pack_values};
 use crate::small::{Form, Small};
-use crate::values::{are_all_below, are_covered, join_values, pack_for, pack_values};
 use crate::{ScratchState, SmallExit, SmallState, Values, copy_of, join_locals};
 use std::alloc::{AllocError, Global};
 use std::marker::Model;
@@ -44,7 +45,7 @@ pub struct SmallKnown {
 
 impl Model for SmallKnown {
     ghost use Rattle.depth_cert.specs.Known.{Known};
-    ghost use Rattle.small_states.specs.Incoming.{known_of};
+    ghost use Rattle.small_states.specs.CompactForms.{known_of};
 
     ghost Value = { Known };
 

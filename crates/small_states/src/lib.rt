@@ -3,10 +3,10 @@
 
 mod gathered;
 mod incoming;
+mod incoming_values;
 mod known;
 mod scratch;
 mod small;
-mod sparse;
 mod spelling;
 mod states;
 mod values;
@@ -15,5 +15,5 @@ pub use incoming::{Incoming, priority};
 pub use known::{Outline, SmallKnown};
 pub use scratch::ScratchState;
 pub use small::Small;
-pub use sparse::{SpacedValue, Values};
 pub use states::{SmallExit, SmallState, copy_of, join_locals};
+pub use values::{SpacedValue, Values};

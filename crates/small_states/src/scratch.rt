@@ -1,9 +1,9 @@
 // A state that visits write over.
 ghost use Rattle.std.specs.Prelude.{◌≡◌, IfSome, IsTrue, length};
-ghost use Rattle.small_states.specs.Wholes.{all_values, state_in};
+ghost use Rattle.small_states.specs.CompactForms.{all_values, state_in};
 
-use crate::sparse::Values;
 use crate::states::{SmallState, copy_of};
+use crate::values::Values;
 use std::marker::Model;
 use std::rc::Rc;
 use value_domain::{State, Val};
@@ -19,7 +19,7 @@ pub struct ScratchState {
 impl Model for ScratchState {
     ghost use Rattle.std.specs.Prelude.{◌≡◌, IfSome};
     ghost use Rattle.value_domain.specs.declared.states.State.{State};
-    ghost use Rattle.small_states.specs.Wholes.{all_values};
+    ghost use Rattle.small_states.specs.CompactForms.{all_values};
 
     ghost Value = { State };
 

@@ -4,12 +4,12 @@ ghost use Rattle.std.specs.List.{flat_map};
 ghost use Rattle.value_domain.specs.Values.{IsWell};
 ghost use Rattle.depth_cert.specs.Keys as keys;
 ghost use Rattle.depth_cert.specs.Spelling.{bytes_of_exit, bytes_of_state, bytes_of_value};
-ghost use Rattle.small_states.specs.Wholes.{all_values, exit_in, state_in};
+ghost use Rattle.small_states.specs.CompactForms.{all_values, exit_in, state_in};
 
 use crate::gathered::Gathered;
 use crate::small::{Form, Small};
-use crate::sparse::Values;
 use crate::states::{SmallExit, SmallState};
+use crate::values::Values;
 use tcd_base::NoMemory;
 
 #[inline(always)]

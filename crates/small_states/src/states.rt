@@ -1,9 +1,9 @@
 // States and exits with compact values.
 ghost use Rattle.std.specs.Prelude.{◌≡◌, ◌≤◌, ◌&&◌, ◌↔◌, IsTrue, IfOk, length};
 ghost use Rattle.value_domain.specs.State.{joined_locals};
-ghost use Rattle.small_states.specs.Wholes.{exit_in};
+ghost use Rattle.small_states.specs.CompactForms.{exit_in};
 
-use crate::sparse::Values;
+use crate::values::Values;
 use arrayvec::ArrayVec;
 use std::alloc::AllocError;
 use std::rc::Rc;

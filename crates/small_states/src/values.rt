@@ -1,219 +1,254 @@
-// Lists of compact values: made from what flows in, compared with it, joined with it.
-ghost use Rattle.std.specs.Prelude.{◌≡◌, ◌↔◌, IsTrue, IfOk, OnOk, length};
-ghost use Rattle.value_domain.specs.State.{AreBelow, AreValues, AreWell, joined_regs};
-ghost use Rattle.vd_transfer.specs.Changes.{put_in, state_after};
-ghost use Rattle.small_states.specs.Incoming.{sender_state, incoming_values};
-ghost use Rattle.small_states.specs.Wholes.{all_values};
+// Sparse lists of values: only known values take room. A value is unknown if it holds all words.
+ghost use Rattle.std.specs.Prelude.{◌≡◌, ◌+◌, ◌-◌, ◌^◌, ◌<◌, ◌≤◌, ◌++◌, ◌∷◌, [], IfOk, OnOk, length, replicate, take, slice_index_or, slice_set};
+ghost use Rattle.value_domain.specs.Values.{any_val};
+ghost use Rattle.small_states.specs.Incoming.{given_of};
+ghost use Rattle.small_states.specs.declared.values.SpacedValue as spaced;
+ghost use Rattle.small_states.specs.CompactForms.{IsFoundIn, all_values, front, values_from};
 
-use crate::incoming::{Incoming, count_incoming, incoming_value};
+use crate::incoming::Given;
 use crate::small::{Form, Small};
-use crate::sparse::Values;
 use std::alloc::{AllocError, Global};
-use std::rc::Rc;
-use value_domain::{Bounds, State};
-use vd_transfer::{Base, Change, Put};
+use value_domain::{Val, write_any};
 
-/// Returns the incoming values, place by place. It is a call of its own, since it has room for a
-/// whole value.
-#[inline(never)]
-pub(crate) fn pack_values(alloc: Global, incoming: &Incoming) -> Result<Values, AllocError>
-    ensures { IfOk result (λ values. all_values values ≡ incoming_values incoming.now) }
-{
-    let any = Small { form: Form::Any };
-    let count = count_incoming(incoming);
-    let mut values = Values {
-        known: Vec::with_capacity(alloc, 0)?,
-        rest: 0,
-    };
-    for i in 0..count {
-        let value = Small::of_given(alloc, &incoming_value(&*incoming, &any, i))?;
-        values.add_small(value)?;
-    }
-    Ok(values)
+/// A known value after a number of unknown ones.
+#[derive(Drop)]
+pub struct SpacedValue {
+    /// The number of unknown values before it.
+    pub(crate) anys: u32,
+    pub(crate) value: Small,
 }
 
-/// Returns the incoming values, from a point whose compact values are at hand.
-#[inline(never)]
-fn pack_own(alloc: Global, own: &Values, incoming: &Incoming) -> Result<Values, AllocError>
-    requires { all_values own.now ≡ (sender_state incoming.now).regs }
-    ensures { IfOk result (λ values. all_values values ≡ incoming_values incoming.now) }
-{
-    let mut values = Values {
-        known: Vec::with_capacity(alloc, own.known.len())?,
-        rest: 0,
-    };
-    match incoming {
-        Incoming::Changed(_, _) => pack_values(alloc, incoming),
-        Incoming::After(s, exit, _) => {
-            let _regs = &s.regs[..];
-            let lower = exit.lower.as_ref();
-            values.add_part(lower, 0, 8)?;
-            values.add_part(own, 8, 8)?;
-            values.add_part(lower, 8, 6)?;
-            values.add_part(own, 22, 5)?;
-            Ok(values)
-        }
-        Incoming::Leaving(s) => {
-            let _regs = &s.regs[..];
-            values.add_part(own, 0, 8)?;
-            values.add_part(own, 16, 6)?;
-            Ok(values)
-        }
-    }
+/// A list of values: the known ones, and the number of unknown ones after the last of them.
+#[derive(Drop)]
+pub struct Values {
+    pub(crate) known: Vec<SpacedValue>,
+    /// The number of unknown values at the end.
+    pub(crate) rest: u32,
 }
 
-/// Puts a value of a change over a list, if there is one.
+/// Writes unknown values to the places from `from` to before `to`.
 #[inline(always)]
-fn put_over(alloc: Global, values: &mut Values, put: &Put) -> Result<(), AllocError>
-    ensures { OnOk result (all_values values.new ≡ put_in (all_values values.old) put.now) }
+fn write_anys(out: &mut [Val; 27], from: usize, to: usize)
+    requires ordered { from ≤ to }
+    requires within { to ≤ 27 }
+    ensures written { take to out.new ≡ take from out.old ++ replicate (to - from) any_val }
+    ensures long { length out.new ≡ 27 }
 {
-    let Some(at) = put.at else {
-        return Ok(());
-    };
-    let value = Small::of(alloc, &put.value)?;
-    values.put(at, value)
-}
-
-/// Returns a state's values after a change's values were put over them. If there are none, the list
-/// is shared.
-#[inline(always)]
-fn put_all_over(alloc: Global, own: &Rc<Values>, c: &Change) -> Result<Rc<Values>, AllocError>
-    ensures { IfOk result
-        (λ values. all_values values.value
-        ≡ put_in (put_in (put_in (all_values own.now.value) c.now.first) c.now.second)
-        c.now.third) }
-{
-    if c.first.at.is_none() && c.second.at.is_none() && c.third.at.is_none() {
-        return own.clone();
+    for i in from..to {
+        write_any(&mut out[i]);
     }
-    let mut values = own.as_ref().copy(alloc)?;
-    put_over(alloc, &mut values, &c.first)?;
-    put_over(alloc, &mut values, &c.second)?;
-    put_over(alloc, &mut values, &c.third)?;
-    Ok(Rc::new(alloc, values)?)
 }
 
-/// Returns the values of a changed state, from the state's compact values.
-fn pack_change(
-    alloc: Global,
-    own: &Rc<Values>,
-    s: &State,
-    c: &Change,
-) -> Result<Rc<Values>, AllocError>
-    requires { all_values own.now.value ≡ s.now.regs }
-    ensures { IfOk result (λ values. all_values values.value ≡ (state_after s.now c.now).regs) }
-{
-    match c.base {
-        Base::Same => put_all_over(alloc, own, c),
-        _ => {
-            let values = pack_values(alloc, &Incoming::Changed(s, c))?;
-            Ok(Rc::new(alloc, values)?)
+impl Values {
+    /// Appends `count` unknown values.
+    #[inline(always)]
+    pub(crate) fn add_anys(&mut self, count: u32)
+        requires { length (all_values self.old) + count < 2 ^ 32 }
+        ensures { all_values self.new ≡ all_values self.old ++ replicate count any_val }
+    {
+        self.rest += count;
+    }
+
+    /// Appends a compact value.
+    #[inline(always)]
+    pub(crate) fn add_small(&mut self, value: Small) -> Result<(), AllocError>
+        requires { length (all_values self.old) + 1 < 2 ^ 32 }
+        ensures { OnOk result (all_values self.new ≡ all_values self.old ++ value ∷ []) }
+    {
+        if value.is_any() {
+            self.rest += 1;
+            return Ok(());
         }
+        let anys = self.rest;
+        self.known.push(SpacedValue { anys, value })?;
+        self.rest = 0;
+        Ok(())
     }
-}
 
-/// Returns the incoming values, from a point whose compact values are at hand.
-pub(crate) fn pack_for(
-    alloc: Global,
-    own: &Rc<Values>,
-    incoming: &Incoming,
-) -> Result<Rc<Values>, AllocError>
-    requires { all_values own.now.value ≡ (sender_state incoming.now).regs }
-    ensures { IfOk result (λ values. all_values values.value ≡ incoming_values incoming.now) }
-{
-    match incoming {
-        Incoming::Changed(s, c) => pack_change(alloc, own, s, c),
-        _ => {
-            let values = pack_own(alloc, own.as_ref(), incoming)?;
-            Ok(Rc::new(alloc, values)?)
-        }
+    /// Appends `anys` unknown values and then a value.
+    #[inline(always)]
+    pub(crate) fn add_spaced(&mut self, anys: u32, value: Small) -> Result<(), AllocError>
+        requires { length (all_values self.old) + anys + 1 < 2 ^ 32 }
+        ensures { OnOk result (all_values self.new
+            ≡ (all_values self.old ++ replicate anys any_val) ++ value ∷ []) }
+    {
+        self.add_anys(anys);
+        self.add_small(value)
     }
-}
 
-/// Returns whether each incoming value is below the one at its place. Places of unknown values are
-/// skipped.
-pub(crate) fn are_covered(upper: &Values, incoming: &Incoming) -> bool
-    requires upper { AreWell (all_values upper.now) }
-    requires incoming { AreWell (incoming_values incoming.now) }
-    requires long { length (all_values upper.now) ≡ length (incoming_values incoming.now) }
-    ensures { IsTrue result ↔ AreBelow (incoming_values incoming.now) (all_values upper.now) }
-{
-    let _count = count_incoming(incoming);
-    let any = Small { form: Form::Any };
-    let known = upper.known.as_slice();
-    let mut at = 0;
-    for n in 0..known.len() {
-        let here = &known[n];
-        let place = at + here.anys as usize;
-        if !here
-            .value
-            .covers_given(&incoming_value(&*incoming, &any, place))
-        {
-            return false;
+    /// Finds a place: returns the number of known values before it, and the number of unknown ones
+    /// between.
+    #[inline(always)]
+    fn find(&self, i: usize) -> (usize, usize)
+        ensures { IsFoundIn self.now i result.0 result.1 }
+    {
+        let known = self.known.as_slice();
+        let mut left = i;
+        for n in 0..known.len() {
+            let anys = known[n].anys as usize;
+            if left <= anys {
+                return (n, left);
+            }
+            left = left - anys - 1;
         }
-        at = place + 1;
+        (known.len(), left)
     }
-    true
-}
 
-/// Returns true only if both lists have the same gaps and each value is below the other list's
-/// value at its place.
-pub(crate) fn are_all_below(low: &Values, high: &Values) -> bool
-    requires low { AreWell (all_values low.now) }
-    requires high { AreWell (all_values high.now) }
-    requires long { length (all_values low.now) ≡ length (all_values high.now) }
-    ensures { IsTrue result → AreBelow (all_values low.now) (all_values high.now) }
-{
-    let lows = low.known.as_slice();
-    let highs = high.known.as_slice();
-    if lows.len() != highs.len() {
-        return false;
-    }
-    for n in 0..lows.len() {
-        let here = &lows[n];
-        let above = &highs[n];
-        if here.anys != above.anys {
-            return false;
+    /// Returns the value at a place. `any` is returned for an unknown value.
+    pub(crate) fn given_at<'a>(&'a self, any: &'a Small, i: usize) -> Given<'a>
+        requires { any.now ≡ any_val }
+        ensures { given_of result ≡ slice_index_or (all_values self.now) i any_val }
+    {
+        let (n, anys) = self.find(i);
+        if n < self.known.len() {
+            let here = &self.known[n];
+            if here.anys as usize == anys {
+                return Given::Packed(&here.value);
+            }
         }
-        if !above.value.covers_small(&here.value) {
-            return false;
-        }
+        Given::Packed(any)
     }
-    true
-}
 
-/// Returns the least values with the members of the known and the incoming ones at each place.
-pub(crate) fn join_values(
-    alloc: Global,
-    b: &Bounds,
-    left: &Values,
-    incoming: &Incoming,
-) -> Result<Values, AllocError>
-    requires left { AreValues b.now (all_values left.now) }
-    requires incoming { AreValues b.now (incoming_values incoming.now) }
-    requires long { length (all_values left.now) ≡ length (incoming_values incoming.now) }
-    ensures { IfOk result
-        (λ values. all_values values
-        ≡ joined_regs b.now (all_values left.now) (incoming_values incoming.now)) }
-{
-    let _count = count_incoming(incoming);
-    let any = Small { form: Form::Any };
-    let known = left.known.as_slice();
-    let mut values = Values {
-        known: Vec::with_capacity(alloc, known.len())?,
-        rest: 0,
-    };
-    let mut at = 0;
-    for n in 0..known.len() {
-        let here = &known[n];
-        let anys = here.anys;
-        let place = at + anys as usize;
-        let value = here
-            .value
-            .join_given(alloc, b, &incoming_value(&*incoming, &any, place))?;
-        values.add_spaced(anys, value)?;
-        at = place + 1;
+    /// Puts a value after the last known one and `anys` unknown ones. Nothing changes if there is
+    /// no such place.
+    fn put_behind(&mut self, anys: usize, value: Small) -> Result<(), AllocError>
+        ensures { OnOk result
+            (all_values self.new
+            ≡ slice_set (all_values self.old) (length (front self.old.known.items) + anys) value) }
+    {
+        let rest = self.rest as usize;
+        if rest <= anys || value.is_any() {
+            return Ok(());
+        }
+        self.rest = (rest - anys - 1) as u32;
+        self.known.push(SpacedValue {
+            anys: anys as u32,
+            value,
+        })?;
+        Ok(())
     }
-    values.add_anys(left.rest);
-    Ok(values)
+
+    /// Puts a value after `n` known ones and `anys` unknown ones: over the next known value, or
+    /// before it.
+    fn put_before(&mut self, n: usize, anys: usize, value: Small) -> Result<(), AllocError>
+        requires within { n < length self.old.known.items }
+        requires before { (d : spaced.SpacedValue)
+            → anys ≤ (slice_index_or self.old.known.items n d).anys }
+        ensures { OnOk result
+            (all_values self.new
+            ≡ slice_set (all_values self.old)
+            (length (front (take n self.old.known.items)) + anys) value) }
+    {
+        let past = self.known[n].anys as usize - anys;
+        if past == 0 {
+            self.known[n].value = value;
+            return Ok(());
+        }
+        if value.is_any() {
+            return Ok(());
+        }
+        self.known[n].anys = (past - 1) as u32;
+        self.known.insert(
+            n,
+            SpacedValue {
+                anys: anys as u32,
+                value,
+            },
+        )?;
+        Ok(())
+    }
+
+    /// Puts a value at a place, if there is one.
+    pub(crate) fn put(&mut self, i: usize, value: Small) -> Result<(), AllocError>
+        ensures { OnOk result
+            (all_values self.new ≡ slice_set (all_values self.old) i value) }
+    {
+        let (n, anys) = self.find(i);
+        if n < self.known.len() {
+            return self.put_before(n, anys, value);
+        }
+        self.put_behind(anys, value)
+    }
+
+    /// Writes the values of a state over others.
+    #[inline(never)]
+    pub(crate) fn write(&self, out: &mut [Val; 27])
+        requires { length (all_values self.now) ≡ 27 }
+        ensures { out.new ≡ all_values self.now }
+    {
+        let known = self.known.as_slice();
+        let mut at = 0;
+        for n in 0..known.len() {
+            let here = &known[n];
+            let place = at + here.anys as usize;
+            write_anys(out, at, place);
+            here.value.replace(&mut out[place]);
+            at = place + 1;
+        }
+        write_anys(out, at, 27);
+    }
+
+    /// Returns a copy with room for one more known value.
+    pub(crate) fn copy(&self, alloc: Global) -> Result<Values, AllocError>
+        ensures { IfOk result (λ copy. all_values copy ≡ all_values self.now) }
+    {
+        let own = self.known.as_slice();
+        let mut known = Vec::with_capacity(alloc, own.len() + 1)?;
+
+        // Single words mostly come first. They are copied without a look at the other forms.
+        let mut n = 0;
+        while n < own.len() {
+            let here = &own[n];
+            let anys = here.anys;
+            let Some(x) = here.value.word() else {
+                break;
+            };
+            let value = Small { form: Form::One(x) };
+            known.push(SpacedValue { anys, value })?;
+            n += 1;
+        }
+        for k in n..own.len() {
+            let anys = own[k].anys;
+            let value = own[k].value.copy()?;
+            known.push(SpacedValue { anys, value })?;
+        }
+        let rest = self.rest;
+        Ok(Values { known, rest })
+    }
+
+    /// Appends `count` values of another list, from a place on.
+    #[inline(always)]
+    pub(crate) fn add_part(
+        &mut self,
+        others: &Values,
+        from: usize,
+        count: usize,
+    ) -> Result<(), AllocError>
+        requires few { length (all_values self.old) + count < 2 ^ 32 }
+        requires near { from < 2 ^ 32 }
+        ensures { OnOk result
+            (all_values self.new
+            ≡ all_values self.old ++ values_from (all_values others.now) from count) }
+    {
+        let known = others.known.as_slice();
+        let to = from + count;
+        let mut at = 0;
+        let mut done = from;
+        for n in 0..known.len() {
+            let here = &known[n];
+            let place = at + here.anys as usize;
+            if place >= to {
+                self.add_anys((to - done) as u32);
+                return Ok(());
+            }
+            at = place + 1;
+            if place >= from {
+                let value = here.value.copy()?;
+                self.add_spaced((place - done) as u32, value)?;
+                done = at;
+            }
+        }
+        self.add_anys((to - done) as u32);
+        Ok(())
+    }
 }

@@ -6,13 +6,12 @@ use Rattle.std.specs.List.{find, list_all, list_any, flat_map}
 use Rattle.std.specs.FinMap as map
 use Rattle.std.proofs.lemmas.Bool.{cases_Bool, eqb-true, lt-ltb, le-ltb, cases_lt}
 use Rattle.std.proofs.lemmas.Nat.{pow-add}
-use Rattle.csa_chain.specs.Memory.{Memory, load_number, extend}
+use Rattle.csa_chain.specs.Memory.{Memory, load_number, extend, HasBytes}
 use Rattle.elf_image.specs.Images.{ImageData, image_byte}
 use Rattle.tcd_plan.specs.declared.plans.Device.{Device}
 use Rattle.tcd_plan.specs.PlanData.{PlanData, IsPlan, all_apart, areas_range, is_device}
 use Rattle.tcd_base.specs.Ranges.{IsWithin, IsInOne, is_within}
 use Rattle.tcd_plan.specs.Regions.{IsInDevice, IsMappedBy, AnswersAt}
-use Rattle.csa_chain.specs.MemoryChanges.{HasBytes}
 use Rattle.tc_mem.specs.PlanMemory.{IsPlanMemory, HoldsRom}
 use Rattle.value_domain.specs.declared.values.Val.{Val}
 use Rattle.value_domain.specs.declared.values.Val.TheVariants.{Set}

@@ -15,8 +15,7 @@ use Rattle.value_domain.specs.Values.{IsExtent, IsMember, IsWell, members, range
 use Rattle.value_domain.proofs.CoverLaws.{step_cases, in_units, from_units, among_range, range_among, among_member, member_among, has_step}
 use Rattle.value_domain.proofs.SetLaws.{twos_le}
 use Rattle.value_domain.proofs.Loops.{among_get}
-use Rattle.store_ranges.specs.Accesses.{IsSize}
-use Rattle.store_ranges.specs.Stores.{AreAligned, AreStoresInRange, IsNextMultiple, StaysInRange}
+use Rattle.store_ranges.specs.Accesses.{IsSize, AreAligned, AreStoresInRange, IsNextMultiple, StaysInRange}
 use Rattle.store_ranges.proofs.Finds.{found_true, found_all, found_one, found_device, unfound_one, unfound_device}
 use Rattle.tcd_base.specs.Ranges.{is_within}
 use Rattle.tcd_base.proofs.RangeLaws.{within_true, true_within}

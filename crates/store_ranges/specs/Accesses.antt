@@ -1,6 +1,31 @@
--- Accesses to memory, and the ranges that hold them.
-use Rattle.std.specs.Prelude.{◌≡◌, ◌⊎◌, ℕ}
+-- Accesses to memory, and those from the members of a value: are they in range, are they aligned?
+use Rattle.std.specs.Prelude.{◌≡◌, ◌⊎◌, ℕ, ◌<◌, ◌≤◌, ◌+◌, ◌%◌, ◌^◌}
+use Rattle.tcd_plan.specs.PlanData.{PlanData}
+use Rattle.tcd_plan.specs.Regions.{IsStoreInRange}
+use Rattle.value_domain.specs.declared.values.Val.{Val}
+use Rattle.value_domain.specs.Sets.{alignment_log2}
+use Rattle.value_domain.specs.Values.{IsMember}
 
 -- an access is to 1, 2 or 4 bytes
 abbrev pub IsSize : ℕ → Type 0
 IsSize n = (n ≡ 1) ⊎ (n ≡ 2) ⊎ (n ≡ 4)
+
+-- each access from a member doesn't pass 2^32 and is wholly in one ram range or one device range
+abbrev pub AreStoresInRange : PlanData → Val → ℕ → Type 0
+AreStoresInRange plan v size = (x : ℕ) → IsMember x v → IsStoreInRange plan (x, size)
+
+-- each member is a multiple of the size
+abbrev pub AreAligned : Val → ℕ → Type 0
+AreAligned v size = (x : ℕ) → IsMember x v → x % size ≡ 0
+
+-- the access from x, and each later one that ends at the end or before, is in range
+pub record StaysInRange (plan : PlanData) (size x end : ℕ) : Type 0 where
+  pub here : x + size ≤ end
+  pub within : end ≤ 2 ^ 32
+  pub each : (y : ℕ) → x ≤ y → y + size ≤ end → IsStoreInRange plan (y, size)
+
+-- the least multiple of 2 ^ step above x
+pub record IsNextMultiple (step x next : ℕ) : Type 0 where
+  pub above : x < next
+  pub fits : step ≤ alignment_log2 next
+  pub least : (y : ℕ) → x < y → step ≤ alignment_log2 y → next ≤ y

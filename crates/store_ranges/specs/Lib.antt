@@ -2,4 +2,3 @@
 pub mod Accesses
 pub mod Laws
 pub mod Loads
-pub mod Stores

@@ -4,8 +4,7 @@ ghost use Rattle.tcd_plan.specs.Regions.{IsStoreInRange};
 ghost use Rattle.value_domain.specs.Sets as sets;
 ghost use Rattle.value_domain.specs.Values.{IsWell, IsMember};
 ghost use Rattle.value_domain.specs.declared.values.Val.TheVariants.{Set, Span};
-ghost use Rattle.store_ranges.specs.Accesses.{IsSize};
-ghost use Rattle.store_ranges.specs.Stores.{AreStoresInRange, AreAligned, StaysInRange, IsNextMultiple};
+ghost use Rattle.store_ranges.specs.Accesses.{IsSize, AreStoresInRange, AreAligned, StaysInRange, IsNextMultiple};
 
 use crate::ranges::{device_at, range_at};
 use tcd_plan::Plan;

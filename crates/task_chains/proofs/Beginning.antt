@@ -2,8 +2,7 @@
 use Rattle.std.proofs.Common.{◌≡◌, ◌≢◌, ℕ, zero, suc, ◌+◌, ◌-◌, ◌*◌, ◌/◌, ◌%◌, ◌^◌, ◌<◌, ◌≤◌, inl, inr, Bool, true, false, not, List, [], ◌∷◌, length, get_or, Some, Ok, refl, sym, ap, ◌∙◌, subst, arith, ◌==◌}
 use Rattle.std.proofs.lemmas.Bool.{cases_lt}
 use Rattle.std.specs.FinMap as finite
-use Rattle.csa_chain.specs.Memory.{Memory, is_mapped, with_words}
-use Rattle.csa_chain.specs.MemoryChanges.{HasBytes}
+use Rattle.csa_chain.specs.Memory.{Memory, is_mapped, with_words, HasBytes}
 use Rattle.csa_chain.specs.Chain.{link_in, link_address, is_area, area_word}
 use Rattle.csa_chain.specs.Contexts.{pcxi_word_of, ul_of, with_link}
 use Rattle.csa_chain.specs.SeveralChains.{times, with_chain, with_first}
@@ -16,7 +15,8 @@ use Rattle.elf_image.specs.Images.{ImageData, image_byte}
 use Rattle.tcd_base.specs.Ranges.{IsInOne}
 use Rattle.tcd_plan.specs.PlanData.{PlanData, IsPlan}
 use Rattle.tcd_plan.specs.Regions.{IsInAreas}
-use Rattle.tc_isa.specs.Codec.{spelling_of, word_of, is_long}
+use Rattle.tc_isa.specs.ValidRows.{is_long}
+use Rattle.tc_isa.specs.Spelling.{spelling_of, word_of}
 use Rattle.tc_isa.specs.Insts.{fields_in}
 use Rattle.tc_isa.proofs.TableFacts.{row_at}
 use Rattle.tc_encode.proofs.Bytes.{word-lt, short-lt}

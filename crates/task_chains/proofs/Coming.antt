@@ -27,7 +27,8 @@ use Rattle.tc_machine.proofs.Stays.{stays_step, irq_lt}
 use Rattle.tc_machine.proofs.Steps.{with_event, done-is, step_does, does-nothing, does-ret}
 use Rattle.depth_cert.specs.Certs.{CertData}
 use Rattle.cfg_recover.specs.Code.{IsCode}
-use Rattle.cfg_recover.specs.Frames.{Standing, to, ret, irq, way_by, way_in, frames_left, frames_by, frames_after, size_in}
+use Rattle.cfg_recover.specs.Frames.{Standing, frames_left, frames_by, frames_after, size_in}
+use Rattle.cfg_recover.specs.Edges.{to, ret, irq, way_by, way_in}
 use Rattle.cfg_recover.proofs.EntryLaws.{reg_lt}
 use Rattle.cfg_recover.proofs.Points.{does-rslcx}
 use Rattle.task_chains.specs.Tasks.{TasksData, count}
@@ -43,8 +44,7 @@ use Rattle.task_chains.proofs.Invariant.{after, ViewOf, Waits, ready, paused, Tu
 use Rattle.task_chains.proofs.Joined.{World, block_same, kept, view_few, view_ok, all_from}
 use Rattle.task_chains.proofs.Outside.{fetched_code, done_runs, back_runs}
 use Rattle.task_chains.proofs.RoutineCode.{code_14, code_15, code_16, code_17, view_code_14, view_code_15, view_code_16, view_code_17}
-use Rattle.task_chains.proofs.Switch.{Paused, Shared, Twins-from, Shared-from, Beside, SameLower, SameGlobals, does-mtcr_pcxi, lower_back, view_comes_back, switched_back}
-use Rattle.task_chains.proofs.Switch.{comes_back as restore_stands}
+use Rattle.task_chains.proofs.Switch.{Paused, Shared, Twins-from, Shared-from, Beside, SameLower, SameGlobals, does-mtcr_pcxi, lower_back, view_comes_back, switched_back, comes_back as restore_stands}
 use Rattle.task_chains.proofs.Turning.{after_below, routine_fits}
 use Rattle.task_chains.proofs.Twins.{Twins, SameContexts-length}
 use Rattle.task_chains.proofs.ViewEvents.{IsKept}

@@ -17,8 +17,7 @@ use Rattle.cfg_recover.specs.Accepting.{limits_in}
 use Rattle.cfg_recover.proofs.CodeLaws.{IsCode-one}
 use Rattle.cfg_recover.proofs.FirstFault.{all_done, least_point, in_cert, least_place, address_small}
 use Rattle.task_chains.specs.Tasks.{TasksData}
-use Rattle.task_chains.specs.Apart.{StaysApart, HoldsApart, KeepsApart, FailsApart, at_point, IsTaskFault}
-use Rattle.task_chains.specs.Faults.{HoldsApartIn, IsNodeFault}
+use Rattle.task_chains.specs.Apart.{StaysApart, HoldsApart, KeepsApart, FailsApart, at_point, IsTaskFault, HoldsApartIn, IsNodeFault}
 use Rattle.packed_cert.proofs.WalkedPoints.{met}
 
 -- ---- a point

@@ -17,7 +17,7 @@ use Rattle.tcd_plan.specs.Regions.{IsInAreas}
 use Rattle.tc_machine.specs.Safe.{IsMachine}
 use Rattle.tc_machine.proofs.Saves.{then_-running}
 use Rattle.tc_machine.proofs.Steps.{with_event, step_does}
-use Rattle.cfg_recover.specs.Moves.{traps}
+use Rattle.cfg_recover.specs.OwedMoves.{traps}
 use Rattle.cfg_recover.proofs.Points.{does-svlcx, does-bisr, does-syscall, does-trapped}
 use Rattle.csa_chain.specs.SeveralChains.{sum_below}
 use Rattle.task_chains.proofs.Twins.{Twins}

@@ -30,7 +30,8 @@ use Rattle.value_domain.specs.Limits.{Limits}
 use Rattle.depth_cert.specs.Certs.{CertData}
 use Rattle.cfg_recover.specs.Accepting.{limits_in}
 use Rattle.cfg_recover.specs.Code.{IsCode}
-use Rattle.cfg_recover.specs.Frames.{Standing, to, irq, way_by, way_in, frames_left, frames_by, frames_after, size_in}
+use Rattle.cfg_recover.specs.Frames.{Standing, frames_left, frames_by, frames_after, size_in}
+use Rattle.cfg_recover.specs.Edges.{to, irq, way_by, way_in}
 use Rattle.cfg_recover.proofs.CodeLaws.{IsCode-bounded, IsCode-one, IsCode-sized}
 use Rattle.task_chains.specs.Tasks.{TasksData, count, routine_size}
 use Rattle.task_chains.specs.Views.{view_image_of, view_plan_of}

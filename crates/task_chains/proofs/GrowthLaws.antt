@@ -10,7 +10,7 @@ use Rattle.tc_isa.specs.Bounded.{IsShape}
 use Rattle.value_domain.specs.declared.states.State.{State}
 use Rattle.value_domain.specs.Limits.{Limits}
 use Rattle.value_domain.specs.State.{Covers}
-use Rattle.vd_transfer.specs.Effects.{address_of}
+use Rattle.vd_transfer.specs.EffectsOnStates.{address_of}
 use Rattle.vd_transfer.specs.Soundness.{IsSetting}
 use Rattle.depth_cert.specs.declared.keys.Key.{Key}
 use Rattle.depth_cert.specs.declared.points.Point.{Point}

@@ -23,9 +23,10 @@ use Rattle.tc_machine.proofs.Steps.{with_event, step-is, step_does, done-is, doe
 use Rattle.tc_machine.proofs.Areas.{Areas}
 use Rattle.vd_transfer.specs.Holding.{WritesNoFixedRegister}
 use Rattle.depth_cert.specs.declared.keys.Key.{Key}
-use Rattle.cfg_recover.specs.Entries.{call_key}
-use Rattle.cfg_recover.specs.Frames.{Standing, Way, irq, aln, way_of_shape, way_by, way_in, handler_key, frames_by, frames_after, size_in}
-use Rattle.cfg_recover.specs.Moves.{traps}
+use Rattle.cfg_recover.specs.Entries.{call_key, handler_key}
+use Rattle.cfg_recover.specs.Frames.{Standing, frames_by, frames_after, size_in}
+use Rattle.cfg_recover.specs.Edges.{Way, irq, aln, way_of_shape, way_by, way_in}
+use Rattle.cfg_recover.specs.OwedMoves.{traps}
 use Rattle.cfg_recover.proofs.Points.{does-rfe, does-svlcx, does-rslcx, does-bisr, does-syscall, does-trapped}
 use Rattle.cfg_recover.proofs.Went.{changed}
 use Rattle.task_chains.specs.Apart.{IsNoBisr}

@@ -36,7 +36,7 @@ use Rattle.value_domain.specs.declared.states.State.{State}
 use Rattle.value_domain.specs.Limits.{Limits}
 use Rattle.vd_transfer.specs.Holding.{WritesNoFixedRegister}
 use Rattle.cfg_recover.specs.Code.{IsCode}
-use Rattle.cfg_recover.specs.Moves.{traps}
+use Rattle.cfg_recover.specs.OwedMoves.{traps}
 use Rattle.cfg_recover.proofs.Points.{does-rfe, does-svlcx, does-rslcx, does-bisr, does-syscall, does-trapped}
 use Rattle.cfg_recover.proofs.Writes.{store_keeps_areas}
 use Rattle.csa_chain.proofs.MemoryLaws.{is_mapped-with_bytes}

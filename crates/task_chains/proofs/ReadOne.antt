@@ -9,8 +9,7 @@ use Rattle.task_chains.specs.declared.task_lists.Task.{Task}
 use Rattle.task_chains.specs.declared.task_lists.TasksErr.{TasksErr}
 use Rattle.task_chains.specs.declared.task_lists.TasksErr.TheVariants.{BadLine, TooMany, TooFew, NotRam, NoRoom, OnIsp, Count}
 use Rattle.task_chains.specs.Tasks.{TasksData, count}
-use Rattle.task_chains.specs.Reading.{places_of, task_of, is_written, written, AreSaid, BreaksForm, IsFirstBad, IsBadLine, IsEighth, IsAgainst, IsRefused, Reads}
-use Rattle.task_chains.specs.Guards.{ReadsOne}
+use Rattle.task_chains.specs.Reading.{places_of, task_of, is_written, written, AreSaid, BreaksForm, IsFirstBad, IsBadLine, IsEighth, IsAgainst, IsRefused, Reads, ReadsOne}
 
 abbrev some_task : Task → Option Task
 some_task t = Some t

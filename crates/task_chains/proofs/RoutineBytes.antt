@@ -1,8 +1,8 @@
 -- The bytes of the routine, by its words.
 use Rattle.std.proofs.Common.{◌≡◌, ℕ, ◌+◌, ◌*◌, ◌/◌, ◌%◌, ◌^◌, List, [], ◌∷◌, refl, sym, ap, ◌∙◌, arith}
 use Rattle.std.specs.List.{flat_map}
-use Rattle.tc_isa.specs.Words.{word}
-use Rattle.tc_isa.specs.Codec.{four_bytes}
+use Rattle.tc_isa.specs.Forms.{word}
+use Rattle.tc_isa.specs.Spelling.{four_bytes}
 use Rattle.task_chains.specs.Routine.{hi, lo, routine_of, view_routine_of, bytes_of}
 
 -- the bits of a 16-bit offset

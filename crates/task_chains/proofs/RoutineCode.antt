@@ -9,10 +9,11 @@ use Rattle.tcd_base.specs.declared.range.Range.{Range}
 use Rattle.tcd_plan.specs.PlanData.{PlanData}
 use Rattle.tc_isa.specs.Rows.{RowData, row, listed}
 use Rattle.tc_isa.specs.declared.table.Form.TheVariants.{Rlc, Rr, Bol, Brc, Sys}
-use Rattle.tc_isa.specs.Words.{bounds}
-use Rattle.tc_isa.specs.Codec.{Fits, is_long, word_of, spelling_of, spelling}
+use Rattle.tc_isa.specs.Forms.{bounds}
+use Rattle.tc_isa.specs.ValidRows.{Fits, is_long}
+use Rattle.tc_isa.specs.Spelling.{word_of, spelling_of, spelling}
 use Rattle.tc_isa.specs.Insts.{InstData, fields_in}
-use Rattle.tc_isa.specs.Shapes.{shape_of}
+use Rattle.tc_isa.specs.Meanings.{shape_of}
 use Rattle.tc_isa.specs.Arithmetic.{sign_extended}
 use Rattle.tc_isa.specs.declared.shapes.Arg.TheVariants.{Reg, Word}
 use Rattle.tc_isa.specs.declared.shapes.Op.TheVariants.{Second, Add}

@@ -19,7 +19,7 @@ use Rattle.tc_machine.specs.declared.state.Machine.{Machine}
 use Rattle.tc_machine.specs.PlanAreas.{first_link, plan_areas}
 use Rattle.tc_machine.specs.Stepping.{step, run, stored}
 use Rattle.tc_machine.specs.Safe.{Fits, AllFit}
-use Rattle.tc_machine.specs.Guards.{IsWalk, LiesInRange, first_events}
+use Rattle.tc_machine.specs.MachineLaws.{IsWalk, LiesInRange, first_events}
 use Rattle.tc_machine.proofs.Guards.{every_run}
 use Rattle.tc_machine.proofs.PlanLaws.{length-links_up}
 use Rattle.task_chains.specs.declared.task_lists.Task.{Task}

@@ -34,7 +34,7 @@ use Rattle.task_chains.specs.Safe.{IsInRoutine, IsTaskStore}
 use Rattle.tc_machine.proofs.Words.{load_lt}
 use Rattle.depth_cert.specs.Certs.{CertData}
 use Rattle.cfg_recover.specs.Code.{IsCode}
-use Rattle.cfg_recover.specs.Frames.{to, way_by}
+use Rattle.cfg_recover.specs.Edges.{to, way_by}
 use Rattle.cfg_recover.proofs.Writes.{store_keeps_areas}
 use Rattle.task_chains.specs.Tasks.{TasksData, count, block_size}
 use Rattle.task_chains.specs.Routine.{hi, lo}

@@ -2,7 +2,7 @@
 use Rattle.std.proofs.Common.{◌≡◌, ℕ, ◌≤◌, Bool, false, cond, List, [], length, map, take, ap, ◌∙◌, ◌==◌}
 use Rattle.std.proofs.lemmas.List.{take_all}
 use Rattle.elf_image.specs.Images.{ImageData, SegmentData, segment_data}
-use Rattle.elf_image.specs.declared.segment.Segment.{Segment}
+use Rattle.elf_image.specs.declared.segments.Segment.{Segment}
 use Rattle.tcd_base.specs.declared.range.Range.{Range}
 use Rattle.tcd_plan.specs.declared.plans.Device.{Device}
 use Rattle.tcd_plan.specs.PlanData.{PlanData}

@@ -32,11 +32,12 @@ use Rattle.depth_cert.specs.Certs.{CertData}
 use Rattle.cfg_recover.specs.Accepting.{limits_in, certified_need}
 use Rattle.cfg_recover.specs.Entries.{start_key}
 use Rattle.cfg_recover.specs.Frames.{Standing, frames_left, frames_after}
-use Rattle.cfg_recover.specs.Local.{LocalRule}
+use Rattle.cfg_recover.specs.LocalRules.{LocalRule}
 use Rattle.cfg_recover.proofs.CodeLaws.{IsCode-bounded}
 use Rattle.task_chains.specs.Tasks.{TasksData, AreTasks, count}
 use Rattle.task_chains.specs.Views.{view_image_of, view_plan_of, FitPlan}
-use Rattle.task_chains.specs.Apart.{switch_key, StaysApart}
+use Rattle.task_chains.specs.Apart.{StaysApart}
+use Rattle.task_chains.specs.Routine.{switch_key}
 use Rattle.task_chains.specs.Safe.{IsInRoutine, IsJudged}
 use Rattle.depth_cert.proofs.KeyLaws.{one_number}
 use Rattle.task_chains.proofs.FramesKept.{AreKeys, AreFirst, keys_next}

@@ -1,6 +1,6 @@
 -- Statements of guard laws: plain equations give the premises of the theorem on tasks. If a
 -- definition of a premise asked for more, one of the laws would break.
-use Rattle.std.specs.Prelude.{◌≡◌, ◌↔◌, ℕ, ◌+◌, ◌-◌, ◌*◌, ◌/◌, ◌%◌, ◌^◌, ◌<◌, ◌≤◌, ◌⊎◌, ◌==◌, true, false, List, [], ◌∷◌, length, slice_get, slice_index, All, Contains, Some, Result}
+use Rattle.std.specs.Prelude.{◌≡◌, ◌↔◌, ℕ, ◌+◌, ◌-◌, ◌*◌, ◌/◌, ◌%◌, ◌^◌, ◌<◌, ◌≤◌, ◌⊎◌, ◌==◌, true, false, List, ◌∷◌, length, slice_get, slice_index, All, Contains, Some}
 use Rattle.std.specs.FinMap as bytes
 use Rattle.csa_chain.specs.Memory.{Memory, is_mapped, word_at}
 use Rattle.csa_chain.specs.Chain.{area_word}
@@ -13,10 +13,8 @@ use Rattle.tcd_plan.specs.PlanData.{PlanData, IsPlan}
 use Rattle.tc_machine.specs.declared.events.End.TheVariants.{Running}
 use Rattle.tc_machine.specs.PlanAreas.{first_link}
 use Rattle.task_chains.specs.declared.task_lists.Task.{Task}
-use Rattle.task_chains.specs.declared.task_lists.TasksErr.{TasksErr}
-use Rattle.task_chains.specs.Tasks.{TasksData, AreTasks}
+use Rattle.task_chains.specs.Tasks.{AreTasks}
 use Rattle.task_chains.specs.Views.{FitPlan}
-use Rattle.task_chains.specs.Reading.{Reads}
 use Rattle.task_chains.specs.Starting.{IsReady, TasksStart}
 
 -- Task i + 1 is ready for its first turn if the following holds. Area 2 i has PCXI 0, a PSW whose
@@ -78,7 +76,3 @@ EveryTasksStart =
       end = Running;
       core = plan.core;
     })
-
--- For each plan lines have one answer.
-abbrev pub ReadsOne : Type 0
-ReadsOne = (plan : PlanData) (lines : List (List ℕ)) (r s : Result TasksData TasksErr) → Reads plan lines r → Reads plan lines s → r ≡ s

@@ -1,5 +1,5 @@
 -- The text of tasks: the tasks that its lines name for a plan, or its error.
-use Rattle.std.specs.Prelude.{◌≡◌, ◌≢◌, ◌+◌, ◌%◌, ◌<◌, ◌≤◌, ◌==◌, ◌&&◌, ◌⊎◌, ℕ, Bool, true, false, if◌then◌else◌, List, [], ◌∷◌, ◌++◌, length, codes, map, filter, take, Option, Some, None, Result, Ok, Err}
+use Rattle.std.specs.Prelude.{◌≡◌, ◌≢◌, ◌+◌, ◌%◌, ◌<◌, ◌≤◌, ◌==◌, ◌&&◌, ◌⊎◌, ℕ, Bool, true, false, if◌then◌else◌, List, ◌∷◌, ◌++◌, length, codes, map, filter, take, Option, Some, None, Result, Ok, Err}
 use Rattle.std.specs.Bool.{then_some}
 use Rattle.std.specs.Option.{option_and_then, option_map}
 use Rattle.std.specs.Str.{bytes_eq}
@@ -161,3 +161,8 @@ TakesLine old n line new = (before : List (List ℕ)) → IsDraft before old →
 -- the line of this number is of another form
 abbrev pub IsLineBad : Draft → ℕ → List ℕ → TasksErr → Type 0
 IsLineBad old n line e = (e ≡ BadLine n) × ((before : List (List ℕ)) → IsDraft before old → BreaksForm before line)
+
+-- ---- the law
+-- For each plan lines have one answer.
+abbrev pub ReadsOne : Type 0
+ReadsOne = (plan : PlanData) (lines : List (List ℕ)) (r s : Result TasksData TasksErr) → Reads plan lines r → Reads plan lines s → r ≡ s

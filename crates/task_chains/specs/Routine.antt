@@ -1,12 +1,14 @@
 -- The switch routine: what it does, its bytes, and the bytes that a task's view has instead.
-use Rattle.std.specs.Prelude.{◌≡◌, ◌+◌, ◌*◌, ◌/◌, ◌%◌, ◌^◌, ◌<◌, ℕ, List, [], ◌∷◌, ◌++◌, slice_get, slice_index, Option, Some, None}
+use Rattle.std.specs.Prelude.{◌≡◌, ◌+◌, ◌*◌, ◌/◌, ◌%◌, ◌^◌, ◌<◌, ℕ, List, ◌∷◌, ◌++◌, slice_get, slice_index, Option, Some, None, false}
 use Rattle.elf_image.specs.Images.{ImageData, image_byte}
 use Rattle.tcd_plan.specs.PlanData.{PlanData}
 use Rattle.tc_isa.specs.Rows.{RowData, listed}
-use Rattle.tc_isa.specs.Codec.{spelling}
+use Rattle.tc_isa.specs.Spelling.{spelling}
 use Rattle.tc_isa.specs.Insts.{InstData, fields_in}
 use Rattle.tcd_base.specs.Ranges.{IsInOne}
 use Rattle.task_chains.specs.Tasks.{TasksData, count, routine_size}
+use Rattle.depth_cert.specs.Keys.{call_kind}
+use Rattle.depth_cert.specs.declared.keys.Key.{Key}
 
 -- ---- instructions, by the places of their rows in the table
 -- an instruction: the place of its row in the table, and its operands
@@ -149,3 +151,12 @@ pub record IsRoutineFault (image : ImageData) (plan : PlanData) (tasks : TasksDa
   pub at : x ≡ (tasks.switch + place) % 2 ^ 32
   pub fails : HasRoutineByte image plan tasks place → ⊥
   pub least : (i : ℕ) → i < place → HasRoutineByte image plan tasks i
+
+-- ---- the routine's frame and its points
+-- the address is one of the routine's instructions
+abbrev pub IsRoutineStep : TasksData → ℕ → Type 0
+IsRoutineStep tasks p = (i : ℕ) × (i < 18) × (p ≡ tasks.switch + 4 * i)
+
+-- the routine's frame: called at no priority and not on the interrupt stack
+abbrev pub switch_key : TasksData → Key
+switch_key tasks = record { kind = call_kind; entry = tasks.switch; prio = 0; is = false }

@@ -13,7 +13,7 @@ use Rattle.tc_machine.specs.declared.state.Machine.{Machine}
 use Rattle.tc_machine.specs.PlanAreas.{first_link}
 use Rattle.tc_machine.specs.Stepping.{stored}
 use Rattle.tc_machine.specs.Safe.{Fits}
-use Rattle.tc_machine.specs.Guards.{IsRun, IsWalk, LiesInRange}
+use Rattle.tc_machine.specs.MachineLaws.{IsRun, IsWalk, LiesInRange}
 use Rattle.task_chains.specs.declared.task_lists.Task.{Task}
 use Rattle.task_chains.specs.Starting.{TasksStart}
 use Rattle.task_chains.specs.Safe.{SafeTasks}

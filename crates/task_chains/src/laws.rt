@@ -1,6 +1,7 @@
 // Laws of the views of tasks, and of all tasks together.
 ghost use Rattle.task_chains.specs.Growing.{TaskFaultsGrow, TaskFaultsRefute};
-ghost use Rattle.task_chains.specs.Guards.{EveryTaskIsReady, EveryPlanFits, EveryTasksStart, ReadsOne};
+ghost use Rattle.task_chains.specs.Guards.{EveryTaskIsReady, EveryPlanFits, EveryTasksStart};
+ghost use Rattle.task_chains.specs.Reading.{ReadsOne};
 ghost use Rattle.task_chains.specs.Safe.{TasksAreSafe};
 ghost use Rattle.task_chains.specs.SafeWords.{SafeTasksSay, PartsAreSafe};
 ghost use Rattle.task_chains.specs.ViewLaws.{ViewStoresMiss, ViewsArePlans, ViewsKeepBytes};

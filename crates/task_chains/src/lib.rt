@@ -2,23 +2,20 @@
 //! certificate of its own.
 #![tactic(auto)]
 
-mod apart;
 mod devices;
 mod drafts;
 mod faults;
-mod judging;
 mod laws;
 mod lines;
 mod packed_faults;
-mod reading;
 mod routine;
-mod rule;
+mod rule_17;
 mod task_lists;
 mod views;
 
 pub use faults::task_fault;
-pub use judging::routine_fault;
 pub use laws::{faults_of_tasks, law_of_tasks, laws_of_views, safe_tasks_in_words, tasks_in_words};
 pub use packed_faults::task_fault_packed;
+pub use routine::routine_fault;
 pub use task_lists::{Task, Tasks, TasksErr};
 pub use views::{view_image, view_plan};

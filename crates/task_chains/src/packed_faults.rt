@@ -2,11 +2,10 @@
 ghost use Rattle.std.specs.Prelude.{All, IfNone, IfSome};
 ghost use Rattle.value_domain.specs.State.{AreValues};
 ghost use Rattle.cfg_recover.specs.Accepting.{Accepts};
-ghost use Rattle.task_chains.specs.Apart.{KeepsApart, IsTaskFault};
-ghost use Rattle.task_chains.specs.Faults.{HoldsApartIn, IsNodeFault};
+ghost use Rattle.task_chains.specs.Apart.{KeepsApart, IsTaskFault, HoldsApartIn, IsNodeFault};
 
 use crate::Tasks;
-use crate::rule::{Rule, holds_apart};
+use crate::rule_17::{Rule, holds_apart};
 use cfg_recover::KnownCodes;
 use depth_cert::Key;
 use elf_image::Image;

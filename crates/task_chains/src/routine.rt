@@ -1,11 +1,15 @@
-// The bytes of the switch routine, and those that a view has instead.
-ghost use Rattle.std.specs.Prelude.{◌≡◌, ◌≤◌, ◌<◌, ◌+◌, ◌*◌, ◌/◌, ◌%◌, ◌^◌, length};
+// The bytes of the switch routine and of a view's, and the test that an image has the routine.
+ghost use Rattle.std.specs.Prelude.{◌≡◌, ◌≤◌, ◌<◌, ◌+◌, ◌*◌, ◌/◌, ◌%◌, ◌^◌, length, ◌↔◌, IsTrue, IfNone, IfSome, slice_index};
 ghost use Rattle.std.specs.List.{flat_map};
-ghost use Rattle.tc_isa.specs.Codec.{four_bytes};
-ghost use Rattle.task_chains.specs.Routine.{hi, lo, routine_of, view_routine_of, bytes_of, routine_bytes, view_routine_bytes};
+ghost use Rattle.tc_isa.specs.Spelling.{four_bytes};
+ghost use Rattle.task_chains.specs.Routine.{hi, lo, routine_of, view_routine_of, bytes_of, routine_bytes, view_routine_bytes, HasRoutineByte, HasRoutine, IsRoutineFault};
+ghost use Rattle.tcd_base.specs.Ranges.{IsInOne};
 
 use crate::Tasks;
 use arrayvec::ArrayVec;
+use elf_image::Image;
+use tcd_base::any_holds;
+use tcd_plan::Plan;
 
 /// The number of bytes of the routine: 18 instructions of four bytes.
 pub(crate) const ROUTINE_BYTES: u32 = 72;
@@ -123,4 +127,42 @@ pub(crate) fn view_routine(tasks: &Tasks) -> [u8; 72]
     ensures { result ≡ view_routine_bytes tasks.now }
 {
     bytes_of_words(&view_words(tasks.list.len() as u32, tasks.block))
+}
+
+/// Returns whether the `n` addresses from `x` on are inside one rom range.
+fn is_in_rom(plan: &Plan, x: u32, n: u32) -> bool
+    ensures decides { IsTrue result ↔ IsInOne x n plan.now.rom }
+    ensures fits { IsTrue result → x + n ≤ 2 ^ 32 }
+{
+    any_holds(plan.rom.as_slice(), x, n)
+}
+
+/// Returns whether the image has byte `i` of the routine, `byte`, at its address. The bytes up to
+/// it are to be inside one rom range.
+fn has_byte(image: &Image, plan: &Plan, tasks: &Tasks, i: u32, byte: u8) -> bool
+    requires within { i < 72 }
+    requires byte { slice_index (routine_bytes tasks.now) i ≡ byte }
+    ensures { IsTrue result ↔ HasRoutineByte image.now plan.now tasks.now i }
+{
+    if !is_in_rom(plan, tasks.switch, i + 1) {
+        return false;
+    }
+    image.has_byte(tasks.switch + i, byte)
+}
+
+/// Returns the first address of the switch routine at which the image doesn't have it: its bytes
+/// are to be inside one rom range, and in segments.
+pub fn routine_fault(image: &Image, plan: &Plan, tasks: &Tasks) -> Option<u32>
+    ensures none { IfNone result (HasRoutine image.now plan.now tasks.now) }
+    ensures some { IfSome result (IsRoutineFault image.now plan.now tasks.now) }
+{
+    let bytes = routine(tasks);
+    let mut i = 0u32;
+    while i < ROUTINE_BYTES {
+        if !has_byte(image, plan, tasks, i, bytes[i as usize]) {
+            return Some(tasks.switch.wrapping_add(i));
+        }
+        i += 1;
+    }
+    None
 }

@@ -7,9 +7,9 @@ use Rattle.tc_isa.specs.declared.table.Row.{Row}
 use Rattle.std.specs.Option.{option_map_or}
 use Rattle.tc_isa.specs.declared.fields.Fields.{Fields}
 use Rattle.tc_isa.specs.Rows.{RowData, row_of, listed}
-use Rattle.tc_isa.specs.Codec.{Fits, spelling}
+use Rattle.tc_isa.specs.ValidRows.{Fits}
+use Rattle.tc_isa.specs.Spelling.{spelling, Spells}
 use Rattle.tc_isa.specs.Insts.{InstData, IsInst}
-use Rattle.tc_isa.specs.Spelling.{Spells}
 use Rattle.tc_stmt.specs.RowFields.{ReferenceData}
 use Rattle.tc_asm.specs.Symbols.{SymbolData}
 use Rattle.tc_encode.specs.Decoding.{do_fit}

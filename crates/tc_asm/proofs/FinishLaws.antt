@@ -10,9 +10,9 @@ use Rattle.tc_asm.specs.declared.symbols.Place.{Place}
 use Rattle.tc_asm.specs.declared.sections.Part.{Part}
 use Rattle.tc_asm.specs.declared.sections.Use.{Use}
 use Rattle.tc_asm.specs.Symbols.{SymbolData}
-use Rattle.tc_asm.specs.Drafts.{PartData, DraftData}
+use Rattle.tc_asm.specs.Drafts.{PartData, DraftData, part_names}
 use Rattle.tc_asm.specs.Views.{use_of, part_of}
-use Rattle.tc_asm.specs.Kept.{Each, IsNew, part_names, symbol_names, size_at, IsPlaced, IsSmall, Spaced, IsPart, IsDraft}
+use Rattle.tc_asm.specs.DraftInvariants.{Each, IsNew, symbol_names, size_at, IsPlaced, IsSmall, Spaced, IsPart, IsDraft}
 use Rattle.tc_asm.proofs.ListLaws.{each_weaker, spaced_end, all_from_each}
 
 named : (before : List (List ℕ)) (name : List ℕ) → IsNew before name → is_some (name_of name) ≡ true

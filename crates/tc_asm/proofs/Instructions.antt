@@ -8,11 +8,11 @@ use Rattle.tc_stmt.specs.Items.{ItemData, code}
 use Rattle.tc_stmt.specs.Lines.{lines_in}
 use Rattle.tc_asm.specs.Symbols.{SymbolData}
 use Rattle.tc_asm.specs.Drafts.{DraftData, start, has_section, has_room, resolved, code_bytes, stepped}
-use Rattle.tc_asm.specs.Rules.{section_rule, bytes_room, reference_rule, content_rule, item_rule}
-use Rattle.tc_asm.specs.Sources.{items_rule, symbols_of}
-use Rattle.tc_asm.specs.Kept.{Each}
+use Rattle.tc_asm.specs.Rules.{section_rule, bytes_room, reference_rule, content_rule, item_rule, items_rule}
+use Rattle.tc_asm.specs.Sources.{symbols_of}
+use Rattle.tc_asm.specs.DraftInvariants.{Each}
 use Rattle.tc_asm.specs.Statements.{StatementData, statement, standing, statements_from}
-use Rattle.tc_asm.specs.Spelled.{Spells, InstructionsLaw}
+use Rattle.tc_asm.specs.InstructionLaws.{Spells, InstructionsLaw}
 use Rattle.tc_stmt.proofs.ListItems.{get_behind}
 use Rattle.tc_asm.proofs.Uses.{statements-append, fits, fits_too, then_fifteen}
 use Rattle.tc_asm.specs.Added.{IsCode, IsItem}

@@ -11,8 +11,8 @@ use Rattle.tc_object.specs.Objects.{InTurn}
 use Rattle.tc_stmt.proofs.Cases.{by_test}
 use Rattle.tc_asm.specs.declared.symbols.Entry.{Entry}
 use Rattle.tc_asm.specs.Symbols.{SymbolData, symbol, put_entry}
-use Rattle.tc_asm.specs.Drafts.{UseData, PartData}
-use Rattle.tc_asm.specs.Kept.{Each, is_among, part_names, symbol_names, size_at, Spaced, count_of}
+use Rattle.tc_asm.specs.Drafts.{UseData, PartData, part_names, count_of}
+use Rattle.tc_asm.specs.DraftInvariants.{Each, is_among, symbol_names, size_at, Spaced}
 
 pub each_weaker : {A : Type 0} (P Q : A → Type 0) → ((x : A) → P x → Q x) → (xs : List A) → Each P xs → Each Q xs
 each_weaker P Q f [] h = h

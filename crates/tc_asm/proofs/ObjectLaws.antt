@@ -14,9 +14,9 @@ use Rattle.tc_object.specs.Objects as object
 use Rattle.tc_stmt.specs.RowFields.{ReferenceData}
 use Rattle.tc_asm.specs.declared.symbols.Place.{Place}
 use Rattle.tc_asm.specs.Symbols.{SymbolData}
-use Rattle.tc_asm.specs.Drafts.{UseData, PartData, DraftData}
+use Rattle.tc_asm.specs.Drafts.{UseData, PartData, DraftData, part_names, count_of}
 use Rattle.tc_asm.specs.Objects.{section_of, symbol_at, symbol_of, number_of, addend_of, reloc_of, relocs_from, object_of}
-use Rattle.tc_asm.specs.Kept.{Each, is_among, IsNew, part_names, symbol_names, size_at, IsPlace, IsPlaced, Spaced, IsUse, IsPart, count_of, IsDraft}
+use Rattle.tc_asm.specs.DraftInvariants.{Each, is_among, IsNew, symbol_names, size_at, IsPlace, IsPlaced, Spaced, IsUse, IsPart, IsDraft}
 use Rattle.tc_asm.proofs.FinishLaws.{size_small}
 use Rattle.tc_asm.proofs.ListLaws.{each_weaker, any_first, position_first, spaced_end}
 

@@ -18,8 +18,8 @@ use Rattle.tc_asm.specs.Objects.{object_of}
 use Rattle.tc_asm.proofs.LaidLaws.{lines-items}
 use Rattle.tc_asm.specs.Symbols.{SymbolData}
 use Rattle.tc_asm.specs.Drafts.{DraftData, start, stepped}
-use Rattle.tc_asm.specs.Rules.{item_rule}
-use Rattle.tc_asm.specs.Sources.{items_rule, with_line, line_rule, drafted, rule_in, symbols_of, KeepsRules, IsLeast}
+use Rattle.tc_asm.specs.Rules.{item_rule, items_rule, line_rule}
+use Rattle.tc_asm.specs.Sources.{with_line, drafted, rule_in, symbols_of, KeepsRules, IsLeast}
 
 -- the line at a place, with the lines after it
 module _ (ls : List LineData) (i : ℕ) (x : LineData) (zs : List LineData) (here : drop i ls ≡ x ∷ zs) where

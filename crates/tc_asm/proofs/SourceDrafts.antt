@@ -6,14 +6,13 @@ use Rattle.tc_stmt.specs.Items.{ItemData}
 use Rattle.tc_stmt.specs.Lines.{LineData, lines_in, items_in}
 use Rattle.tc_asm.specs.Symbols.{SymbolData}
 use Rattle.tc_asm.specs.Drafts.{DraftData, start, stepped}
-use Rattle.tc_asm.specs.Rules.{item_rule}
-use Rattle.tc_asm.specs.Sources.{items_rule, with_line, line_rule, drafted, symbols_of, KeepsRules}
-use Rattle.tc_asm.specs.Kept.{IsDraft}
+use Rattle.tc_asm.specs.Rules.{item_rule, items_rule, line_rule}
+use Rattle.tc_asm.specs.Sources.{with_line, drafted, symbols_of, KeepsRules, draft_in}
+use Rattle.tc_asm.specs.DraftInvariants.{IsDraft}
 use Rattle.tc_asm.proofs.KeptLaws.{IsDraft-start, IsDraft-line}
 use Rattle.tc_object.specs.Objects.{IsObject}
 use Rattle.tc_asm.specs.Objects.{object_of}
 use Rattle.tc_asm.proofs.ObjectLaws.{IsObject-draft}
-use Rattle.tc_asm.specs.Contents.{draft_in}
 
 -- ---- lines after others break no rule
 abbrev pub KeepsFrom : List SymbolData → DraftData → List LineData → Type 0

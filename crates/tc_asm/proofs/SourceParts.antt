@@ -5,14 +5,13 @@ use Rattle.tc_object.specs.Objects.{SectionData}
 use Rattle.tc_stmt.specs.Items.{ItemData, code, bytes, zeros}
 use Rattle.tc_stmt.specs.Lines.{lines_in, items_in}
 use Rattle.tc_asm.specs.Symbols.{SymbolData}
-use Rattle.tc_asm.specs.Drafts.{PartData, DraftData, start, stepped}
-use Rattle.tc_asm.specs.Sources.{symbols_of, items_rule}
+use Rattle.tc_asm.specs.Drafts.{PartData, DraftData, start, stepped, part_names}
+use Rattle.tc_asm.specs.Sources.{symbols_of, draft_in}
+use Rattle.tc_asm.specs.Rules.{items_rule}
 use Rattle.tc_asm.specs.Objects.{section_of}
-use Rattle.tc_asm.specs.Statements.{StatementData, content_of, standing, statements_from, section_bytes, bytes_at}
+use Rattle.tc_asm.specs.Statements.{StatementData, content_of, standing, statements_from, section_bytes, bytes_at, statements_in, sections_from, sections_in}
 use Rattle.tc_asm.proofs.LaidLaws.{drafted-bytes, lines-items}
-use Rattle.tc_asm.specs.Contents.{draft_in, statements_in, sections_from, sections_in}
 use Rattle.tc_asm.proofs.Uses.{HasField, HaveFields, uses_from, uses_in, GoodItems, GoodItem, all_uses}
-use Rattle.tc_asm.specs.Kept.{part_names}
 
 -- ---- a single part
 pub part_bytes : (ps : List PartData) (s : ℕ) (q : PartData) → slice_get ps s ≡ Some q → bytes_at ps s ≡ q.bytes

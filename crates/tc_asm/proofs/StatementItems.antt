@@ -4,9 +4,8 @@ use Rattle.std.specs.Prelude.{slice_get, fold}
 use Rattle.tc_stmt.specs.Items.{ItemData}
 use Rattle.tc_asm.specs.Symbols.{SymbolData}
 use Rattle.tc_asm.specs.Drafts.{DraftData, has_section, has_room, start, stepped, place_of}
-use Rattle.tc_asm.specs.Rules.{item_rule}
-use Rattle.tc_asm.specs.Sources.{items_rule}
-use Rattle.tc_asm.specs.Kept.{Each}
+use Rattle.tc_asm.specs.Rules.{item_rule, items_rule}
+use Rattle.tc_asm.specs.DraftInvariants.{Each}
 use Rattle.tc_asm.specs.Statements.{StatementData, content_of, standing, statements_from, section_bytes, bytes_at, offset_of}
 use Rattle.tc_stmt.proofs.ListItems.{InRest, in_front_or_rest, take_behind}
 use Rattle.tc_asm.proofs.Uses.{place_bytes, items_bytes, fits, fits_too}

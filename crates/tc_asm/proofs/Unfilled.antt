@@ -5,7 +5,7 @@ use Rattle.std.specs.Option.{option_map_or}
 use Rattle.std.proofs.lemmas.Bool.Decides.{nat_tests}
 use Rattle.tc_isa.specs.declared.fields.Fields.{Fields}
 use Rattle.tc_isa.specs.Rows.{RowData, listed}
-use Rattle.tc_isa.specs.Codec.{spelling}
+use Rattle.tc_isa.specs.Spelling.{spelling}
 use Rattle.tc_isa.specs.Relocations.{is_reloc}
 use Rattle.tc_reloc.specs.Fields.{room_of, rest_of, spread_of}
 use Rattle.tc_reloc.specs.Applied.{with_field}
@@ -17,10 +17,10 @@ use Rattle.tc_stmt.specs.Lines.{lines_in, items_in}
 use Rattle.tc_asm.specs.Symbols.{SymbolData}
 use Rattle.tc_asm.specs.Drafts.{DraftData, start, found, targeted, jumped, spelled_code, resolved, code_bytes, stepped}
 use Rattle.tc_asm.specs.Sources.{symbols_of}
-use Rattle.tc_asm.specs.Kept.{Each}
+use Rattle.tc_asm.specs.DraftInvariants.{Each}
 use Rattle.tc_asm.specs.Statements.{StatementData, statement, content_of}
-use Rattle.tc_asm.specs.Relocations.{UnfilledLaw}
-use Rattle.tc_asm.specs.Spelled.{is_resolved}
+use Rattle.tc_asm.specs.RelocationLaws.{UnfilledLaw}
+use Rattle.tc_asm.specs.InstructionLaws.{is_resolved}
 use Rattle.tc_asm.specs.Added.{IsCode, IsItem}
 use Rattle.tc_asm.proofs.SourceItems.{source_are}
 use Rattle.tc_asm.proofs.CodeSizes.{fits_true, resolved_fits}

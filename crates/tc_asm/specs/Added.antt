@@ -2,13 +2,13 @@
 use Rattle.std.specs.Prelude.{◌≡◌, ℕ, true, List, [], ◌∷◌, length, slice_get, Option, Some}
 use Rattle.tc_isa.specs.declared.fields.Fields.{Fields}
 use Rattle.tc_isa.specs.Rows.{RowData, listed}
-use Rattle.tc_isa.specs.Codec.{Fits}
+use Rattle.tc_isa.specs.ValidRows.{Fits}
 use Rattle.tc_isa.specs.Relocations.{is_reloc}
 use Rattle.tc_stmt.specs.Names.{is_name}
 use Rattle.tc_stmt.specs.RowFields.{ReferenceData}
 use Rattle.tc_stmt.specs.Stated.{Symbols}
 use Rattle.tc_stmt.specs.Items.{ItemData, label, section, global, code, bytes, zeros}
-use Rattle.tc_asm.specs.Contents.{is_open}
+use Rattle.tc_asm.specs.Statements.{is_open}
 
 -- the symbol of these bytes has a name, and if it waits for its address, there are four bytes
 pub record IsGood (bs : List ℕ) (o : Option ReferenceData) : Type 0 where

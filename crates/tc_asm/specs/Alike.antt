@@ -2,7 +2,7 @@
 use Rattle.std.specs.Prelude.{◌≡◌, ℕ, if◌then◌else◌, List, length, map, slice_get}
 use Rattle.std.specs.Option.{option_map_or}
 use Rattle.tc_isa.specs.Rows.{listed}
-use Rattle.tc_isa.specs.Codec.{is_long}
+use Rattle.tc_isa.specs.ValidRows.{is_long}
 use Rattle.tc_asm.specs.Drafts.{PartData, DraftData}
 
 -- the name and the size in bytes of a section

@@ -1,15 +1,16 @@
 -- The draft of an object, as the lines of a source build it.
-use Rattle.std.specs.Prelude.{ℕ, ◌+◌, ◌-◌, ◌^◌, ◌==◌, ◌&&◌, not, nat_lt, nat_le, Bool, true, false, if◌then◌else◌, List, [], ◌∷◌, ◌++◌, length, replicate, slice_get, slice_set, Option, Some, None, position, unwrap_or}
+use Rattle.std.specs.Prelude.{ℕ, ◌+◌, ◌-◌, ◌^◌, ◌==◌, ◌&&◌, not, nat_lt, nat_le, Bool, true, false, if◌then◌else◌, List, ◌∷◌, ◌++◌, length, replicate, slice_get, slice_set, Option, Some, None, position, unwrap_or, map, sum_by}
 use Rattle.std.specs.Option.{option_map_or}
 use Rattle.std.specs.Str.{bytes_eq}
 use Rattle.tc_stmt.specs.SourceRules.{no_rule, misplaced_symbol}
 use Rattle.tc_isa.specs.declared.fields.Fields.{Fields}
 use Rattle.tc_isa.specs.Rows.{RowData, listed}
-use Rattle.tc_isa.specs.Codec.{spelling}
+use Rattle.tc_isa.specs.Spelling.{spelling}
 use Rattle.tc_isa.specs.Relocations.{is_reloc}
 use Rattle.tc_encode.specs.Decoding.{do_fit}
 use Rattle.tc_stmt.specs.Names.{is_name}
-use Rattle.tc_stmt.specs.RowFields.{ReferenceData, RowFieldsData, with_displacement, with_rule}
+use Rattle.tc_stmt.specs.RowFields.{ReferenceData, RowFieldsData, with_rule}
+use Rattle.tc_stmt.specs.Displacements.{with_displacement}
 use Rattle.tc_asm.specs.declared.symbols.Place.{Place}
 use Rattle.tc_stmt.specs.Items.{ItemData, label, section, global, code, bytes, zeros}
 use Rattle.tc_asm.specs.Symbols.{SymbolData, place_in, seen, labelled, made_global}
@@ -163,3 +164,12 @@ stepped labels d (global name) = with_global d name
 stepped labels d (code k f r) = with_content d (code_bytes labels d k f r) r
 stepped labels d (bytes bs r) = with_content d bs r
 stepped labels d (zeros n) = with_bytes d (replicate n 0)
+
+-- ---- names and counts
+-- the names of sections
+abbrev pub part_names : List PartData → List (List ℕ)
+part_names parts = map (λ (p : PartData). p.name) parts
+
+-- the number of uses of symbols in the sections
+abbrev pub count_of : List PartData → ℕ
+count_of parts = sum_by (λ (p : PartData). length p.uses) parts

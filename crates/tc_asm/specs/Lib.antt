@@ -5,11 +5,11 @@ pub mod Views
 pub mod Rules
 pub mod Sources
 pub mod Objects
-pub mod Kept
+pub mod DraftInvariants
 pub mod Errors
 pub mod Statements
-pub mod Contents
-pub mod Relocations
-pub mod Spelled
+pub mod RelocationLaws
+pub mod InstructionLaws
 pub mod Added
 pub mod Alike
+pub mod ShortJumps

@@ -1,12 +1,13 @@
 -- The rules that depend on the earlier lines or on the whole source; 15 is none.
-use Rattle.std.specs.Prelude.{ℕ, ◌&&◌, ◌||◌, not, nat_lt, min, if◌then◌else◌, List, length, Option, Some, None, is_some}
+use Rattle.std.specs.Prelude.{ℕ, ◌&&◌, ◌||◌, not, nat_lt, min, if◌then◌else◌, List, length, Option, Some, None, is_some, ◌∷◌}
 use Rattle.tc_stmt.specs.SourceRules.{label_twice, no_rule, no_section, bad_name, past_limits, undefined_global}
 use Rattle.tc_stmt.specs.Names.{is_name}
 use Rattle.tc_stmt.specs.RowFields.{ReferenceData}
 use Rattle.tc_stmt.specs.Items.{ItemData, label, section, global, code, bytes, zeros}
 use Rattle.tc_asm.specs.Symbols.{SymbolData, entry_in, place_in}
 use Rattle.tc_isa.specs.Relocations.{is_reloc}
-use Rattle.tc_asm.specs.Drafts.{DraftData, has_section, has_room, number_of_part, resolved, code_bytes}
+use Rattle.tc_asm.specs.Drafts.{DraftData, has_section, has_room, number_of_part, resolved, code_bytes, stepped}
+use Rattle.tc_stmt.specs.Lines.{LineData}
 
 -- 7: a label twice
 abbrev pub label_rule : DraftData → List ℕ → ℕ
@@ -58,3 +59,12 @@ item_rule labels d (global name) = min (name_rule name) (min (symbol_room d name
 item_rule labels d (code k f r) = min (resolved labels d k f r).rule (content_rule d (length (code_bytes labels d k f r)) r)
 item_rule labels d (bytes bs r) = content_rule d (length bs) r
 item_rule labels d (zeros n) = min (section_rule d) (bytes_room d n)
+
+-- the least rule that these items break, each after the one before it
+abbrev pub items_rule : List SymbolData → DraftData → List ItemData → ℕ
+items_rule labels d [] = no_rule
+items_rule labels d (i ∷ is) = min (item_rule labels d i) (items_rule labels (stepped labels d i) is)
+
+-- the least rule that a line breaks after this draft
+unfoldable pub line_rule : List SymbolData → DraftData → LineData → ℕ
+line_rule labels d l = min l.rule (items_rule labels d l.items)

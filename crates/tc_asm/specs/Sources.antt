@@ -1,24 +1,14 @@
 -- The draft of a source, and the rules that its lines break.
-use Rattle.std.specs.Prelude.{◌≡◌, ◌≢◌, ℕ, ◌+◌, ◌<◌, min, List, [], ◌∷◌, length, take, slice_index_or, fold}
+use Rattle.std.specs.Prelude.{◌≡◌, ◌≢◌, ℕ, ◌+◌, ◌<◌, List, length, take, slice_index_or, fold}
 use Rattle.tc_stmt.specs.SourceRules.{no_rule}
-use Rattle.tc_stmt.specs.Items.{ItemData}
-use Rattle.tc_stmt.specs.Lines.{LineData}
+use Rattle.tc_stmt.specs.Lines.{LineData, lines_in}
 use Rattle.tc_asm.specs.Symbols.{SymbolData}
-use Rattle.tc_asm.specs.Drafts.{DraftData, start, stepped}
-use Rattle.tc_asm.specs.Rules.{item_rule}
-
--- the least rule that these items break, each after the one before it
-abbrev pub items_rule : List SymbolData → DraftData → List ItemData → ℕ
-items_rule labels d [] = no_rule
-items_rule labels d (i ∷ is) = min (item_rule labels d i) (items_rule labels (stepped labels d i) is)
+use Rattle.tc_asm.specs.Drafts.{DraftData, start, stepped, part_names}
+use Rattle.tc_asm.specs.Rules.{line_rule}
 
 -- the draft after a further line
 unfoldable pub with_line : List SymbolData → DraftData → LineData → DraftData
 with_line labels d l = fold (stepped labels) d l.items
-
--- the least rule that a line breaks after this draft
-unfoldable pub line_rule : List SymbolData → DraftData → LineData → ℕ
-line_rule labels d l = min l.rule (items_rule labels d l.items)
 
 -- the draft of these lines, given the symbols of the whole source
 abbrev pub drafted : List SymbolData → List LineData → DraftData
@@ -44,3 +34,15 @@ pub record IsLeast (lines : List LineData) (line rule : ℕ) : Type 0 where
   pub broken : (d : LineData) → rule_in lines place (slice_index_or lines place d) ≡ rule
   pub some : rule ≢ no_rule
   pub before : KeepsRules lines place
+
+-- the draft of all lines of a source
+abbrev pub draft_in : List ℕ → DraftData
+draft_in source = drafted (symbols_of (lines_in source)) (lines_in source)
+
+-- the symbols of a source, with the places of their labels
+abbrev pub symbols_in : List ℕ → List SymbolData
+symbols_in source = (draft_in source).symbols
+
+-- the names of its sections, in the order of their first line
+abbrev pub names_in : List ℕ → List (List ℕ)
+names_in source = part_names (draft_in source).parts

@@ -1,12 +1,14 @@
--- The statements of a source that have bytes, and their offsets.
-use Rattle.std.specs.Prelude.{◌≡◌, ℕ, ◌==◌, ◌&&◌, if◌then◌else◌, zero, suc, List, [], ◌∷◌, ◌++◌, length, take, drop, replicate, slice_get, Option, Some, None}
+-- The statements of a source that have bytes, their offsets, and the sections that they make.
+use Rattle.std.specs.Prelude.{◌≡◌, ℕ, ◌==◌, ◌&&◌, if◌then◌else◌, zero, suc, List, ◌∷◌, ◌++◌, length, take, drop, replicate, slice_get, Option, Some, None, ◌+◌, Bool, false}
 use Rattle.std.specs.List.{flat_map}
 use Rattle.tc_stmt.specs.RowFields.{ReferenceData}
 use Rattle.tc_stmt.specs.Items.{ItemData, label, section, global, code, bytes, zeros}
-use Rattle.tc_stmt.specs.Lines.{LineData, items_in}
+use Rattle.tc_stmt.specs.Lines.{LineData, items_in, lines_in}
 use Rattle.tc_asm.specs.Symbols.{SymbolData}
 use Rattle.tc_asm.specs.Drafts.{PartData, DraftData, start, has_section, has_room, code_bytes, stepped}
-use Rattle.tc_asm.specs.Sources.{drafted}
+use Rattle.tc_asm.specs.Sources.{drafted, symbols_of, names_in}
+use Rattle.tc_isa.specs.Relocations.{is_reloc}
+use Rattle.tc_object.specs.Objects.{SectionData}
 
 -- a statement: its section, its bytes, in which the field of a symbol is zero, and its symbol
 pub record StatementData : Type 0 where
@@ -63,3 +65,21 @@ SectionLaw = (labels : List SymbolData) (lines : List LineData) (s : ℕ) → by
 abbrev pub OffsetLaw : Type 0
 OffsetLaw = (ts : List StatementData) (place : ℕ) (t : StatementData) → slice_get ts place ≡ Some t
     → take (length t.bytes) (drop (offset_of ts place t.section) (section_bytes t.section ts)) ≡ t.bytes
+
+-- the statements of a source that have bytes, in order
+abbrev pub statements_in : List ℕ → List StatementData
+statements_in source = statements (symbols_of (lines_in source)) (lines_in source)
+
+-- sections with these names, numbered from this number on, with the bytes of their statements
+abbrev pub sections_from : List StatementData → ℕ → List (List ℕ) → List SectionData
+sections_from ts number [] = []
+sections_from ts number (name ∷ names) = record { name = name; bytes = section_bytes number ts } ∷ sections_from ts (number + 1) names
+
+-- the sections of a source
+unfoldable pub sections_in : List ℕ → List SectionData
+sections_in source = sections_from (statements_in source) 0 (names_in source)
+
+-- the symbol of a statement waits for its address
+abbrev pub is_open : Option ReferenceData → Bool
+is_open None = false
+is_open (Some r) = is_reloc r.kind

@@ -4,10 +4,11 @@ ghost use Rattle.tc_stmt.specs.Items.{item_of};
 ghost use Rattle.tc_stmt.specs.Lines.{line_data, lines_in};
 ghost use Rattle.tc_asm.specs.Added.{IsItem};
 ghost use Rattle.tc_asm.specs.Drafts.{start, stepped};
-ghost use Rattle.tc_asm.specs.Sources.{items_rule, with_line, line_rule, drafted, symbols_of as symbols_in, KeepsRules, IsLeast};
+ghost use Rattle.tc_asm.specs.Sources.{with_line, drafted, symbols_of as symbols_in, KeepsRules, IsLeast};
+ghost use Rattle.tc_asm.specs.Rules.{items_rule, line_rule};
 ghost use Rattle.tc_asm.specs.Objects.{object_of};
 ghost use Rattle.tc_asm.specs.Errors.{IfBad};
-ghost use Rattle.tc_asm.specs.Kept.{IsDraft};
+ghost use Rattle.tc_asm.specs.DraftInvariants.{IsDraft};
 ghost use Rattle.tc_stmt.specs.Readings.{lines_of};
 
 use crate::AsmErr;

@@ -5,7 +5,7 @@ ghost use Rattle.tc_stmt.specs.RowFields.{reference_of};
 ghost use Rattle.tc_asm.specs.Views.{use_of, part_of};
 ghost use Rattle.tc_asm.specs.Objects.{section_of, symbol_of, addend_of, reloc_of, relocs_from, object_of};
 ghost use Rattle.tc_asm.specs.Symbols.{symbol as known_as};
-ghost use Rattle.tc_asm.specs.Kept.{IsDraft, IsSmall};
+ghost use Rattle.tc_asm.specs.DraftInvariants.{IsDraft, IsSmall};
 
 use crate::draft::Draft;
 use crate::sections::{Part, Use};

@@ -1,6 +1,6 @@
 // The bytes of an instruction, with a target in the same section resolved at once.
 ghost use Rattle.std.specs.Prelude.{◌≡◌, take, if◌then◌else◌};
-ghost use Rattle.tc_isa.specs.Codec.{is_long};
+ghost use Rattle.tc_isa.specs.ValidRows.{is_long};
 ghost use Rattle.tc_isa.specs.Rows.{row_of};
 ghost use Rattle.tc_stmt.specs.RowFields.{row_fields_of};
 ghost use Rattle.tc_asm.specs.Alike.{code_size as size_of_code};

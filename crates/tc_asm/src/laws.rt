@@ -1,6 +1,7 @@
 // Public laws of sources and of their objects.
-ghost use Rattle.tc_asm.specs.Relocations.{ObjectSectionsLaw, RelocationsLaw, UnfilledLaw};
-ghost use Rattle.tc_asm.specs.Spelled.{InstructionsLaw, ShortJumpsLaw};
+ghost use Rattle.tc_asm.specs.RelocationLaws.{ObjectSectionsLaw, RelocationsLaw, UnfilledLaw};
+ghost use Rattle.tc_asm.specs.InstructionLaws.{InstructionsLaw};
+ghost use Rattle.tc_asm.specs.ShortJumps.{ShortJumpsLaw};
 ghost use Rattle.tc_asm.specs.Statements.{OffsetLaw, SectionLaw};
 
 /// A section is the bytes of its statements in order. The offset of a statement is the total size

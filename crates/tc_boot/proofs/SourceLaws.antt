@@ -1,7 +1,7 @@
 -- The boot sequence as the one segment of an image.
 use Rattle.std.proofs.Common.{◌≡◌, ℕ, List, [], ◌∷◌, ◌++◌, map, ap, ◌∙◌}
 use Rattle.elf_image.specs.Images.{ImageData, SegmentData, segment_data}
-use Rattle.elf_image.specs.declared.segment.Segment.{Segment}
+use Rattle.elf_image.specs.declared.segments.Segment.{Segment}
 use Rattle.tcd_plan.specs.PlanData.{PlanData}
 use Rattle.tc_boot.specs.Sequence.{boot_bytes_of, boot_image_of}
 

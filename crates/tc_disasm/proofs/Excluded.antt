@@ -4,16 +4,20 @@ use Rattle.std.specs.Prelude.{codes, not, nat_le, ◌*◌, ◌^◌, if◌then◌
 use Rattle.std.specs.Str.{bytes_eq}
 use Rattle.std.proofs.lemmas.Bool.{false≢true}
 use Rattle.tc_isa.specs.Rows.{RowData}
-use Rattle.tc_isa.specs.Codec.{same_test}
-use Rattle.tc_isa.specs.Words.{form_index}
+use Rattle.tc_isa.specs.ValidRows.{same_test}
+use Rattle.tc_isa.specs.Forms.{form_index}
 use Rattle.tc_stmt.specs.declared.want.Field.{Field}
 use Rattle.tc_stmt.specs.declared.want.Field.TheVariants.{S2, K}
 use Rattle.tc_stmt.specs.declared.want.Want.{Want}
 use Rattle.tc_stmt.specs.declared.want.Want.TheVariants.{Reg, A10, Number, Target, Absolute, Memory}
 use Rattle.tc_lex.specs.Operands.{OperandData, ValueData, memory}
-use Rattle.tc_stmt.specs.RowFields.{target_kind, reference, RowFieldsData, fill, fill_plain, fill_register, fill_a10, fill_value, fill_memory, fill_target, fill_absolute, put_register, put_number, put_absolute, with_displacement, with_symbol, with_misplaced, with_rule, with_value, shape_index, half_kind, register_of, symbol_rule, is_symbol, is_half}
+use Rattle.tc_stmt.specs.RowFields.{RowFieldsData, with_rule, with_value}
+use Rattle.tc_stmt.specs.Filling.{reference, fill, fill_plain, fill_register, fill_a10, fill_value, fill_memory, fill_target, fill_absolute, put_register, put_number, put_absolute, with_symbol, with_misplaced, half_kind, symbol_rule}
+use Rattle.tc_stmt.specs.Displacements.{target_kind, with_displacement}
+use Rattle.tc_stmt.specs.Values.{shape_index, register_of, is_symbol, is_half}
 use Rattle.tc_disasm.specs.Texts.{register_text}
-use Rattle.tc_disasm.specs.Refused.{Prints, IsRefused, Falls}
+use Rattle.tc_disasm.specs.Refused.{IsRefused, Falls}
+use Rattle.tc_disasm.specs.Printable.{Prints}
 use Rattle.tc_disasm.specs.Apart.{excludes}
 use Rattle.tc_disasm.proofs.Registers.{register_of-text}
 

@@ -6,14 +6,16 @@ use Rattle.std.specs.Str.{bytes_eq}
 use Rattle.std.proofs.lemmas.Bool.{false≢true}
 use Rattle.std.proofs.lemmas.Bool.Decides.{nat_tests}
 use Rattle.tc_isa.specs.Rows.{RowData}
-use Rattle.tc_isa.specs.Codec.{is_apart}
+use Rattle.tc_isa.specs.ValidRows.{is_apart}
 use Rattle.tc_stmt.specs.declared.tally.Tally.{Tally}
 use Rattle.tc_stmt.specs.declared.want.Want.{Want}
 use Rattle.tc_stmt.specs.Wants.{wants_of}
 use Rattle.tc_lex.specs.Operands.{OperandData}
-use Rattle.tc_stmt.specs.RowFields.{RowFieldsData, fill, fill_all, fields_of_row, no_fields, kept_apart, with_rule}
+use Rattle.tc_stmt.specs.RowFields.{RowFieldsData, no_fields, with_rule}
+use Rattle.tc_stmt.specs.Filling.{fill, fill_all, fields_of_row, kept_apart}
 use Rattle.tc_stmt.specs.StatementRow.{after_row}
-use Rattle.tc_disasm.specs.Refused.{AllPrint, IsRefused, falls_by}
+use Rattle.tc_disasm.specs.Refused.{IsRefused, falls_by}
+use Rattle.tc_disasm.specs.Printable.{AllPrint}
 use Rattle.tc_disasm.specs.Apart.{excludes, differ}
 use Rattle.tc_disasm.proofs.Excluded.{falls, refused-there}
 

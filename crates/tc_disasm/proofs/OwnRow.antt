@@ -10,9 +10,10 @@ use Rattle.tc_isa.specs.Rows.{RowData, listed}
 use Rattle.tc_stmt.specs.declared.tally.Tally.{Tally}
 use Rattle.tc_stmt.specs.Wants.{wants_of}
 use Rattle.tc_lex.specs.Operands.{OperandData}
-use Rattle.tc_stmt.specs.RowFields.{RowFieldsData, fields_of_row}
+use Rattle.tc_stmt.specs.RowFields.{RowFieldsData}
+use Rattle.tc_stmt.specs.Filling.{fields_of_row}
 use Rattle.tc_stmt.specs.StatementRow.{after_row, outcome, or_next, start, statement}
-use Rattle.tc_disasm.specs.Refused.{AllPrint}
+use Rattle.tc_disasm.specs.Printable.{AllPrint}
 use Rattle.tc_disasm.specs.Apart.{differ, entry, Entry, apart_from, all_apart}
 use Rattle.tc_disasm.proofs.Decimals.{some_is}
 use Rattle.tc_disasm.proofs.Found.{refused-judged, goes_on}

@@ -3,15 +3,15 @@ use Rattle.std.proofs.Common.{◌≡◌, ◌<◌, ℕ, zero, suc, Bool, true, fa
 use Rattle.std.specs.Prelude.{min, fold}
 use Rattle.std.specs.Option.{option_map_or}
 use Rattle.std.proofs.lemmas.List.Sums.{fold-append}
-use Rattle.tc_isa.specs.Codec.{spelling}
+use Rattle.tc_isa.specs.Spelling.{spelling}
 use Rattle.tc_isa.specs.Insts.{InstData, IsInst, fields_in}
 use Rattle.tc_encode.proofs.Spelled.{fits_true}
 use Rattle.tc_stmt.specs.Items.{ItemData, code, bytes}
 use Rattle.tc_stmt.specs.Lines.{LineData, line_data}
 use Rattle.tc_asm.specs.Symbols.{SymbolData}
 use Rattle.tc_asm.specs.Drafts.{DraftData, has_section, has_room, with_bytes, with_reference, found, targeted, spelled_code, resolved, bytes_of, code_bytes, stepped}
-use Rattle.tc_asm.specs.Rules.{content_rule, item_rule}
-use Rattle.tc_asm.specs.Sources.{with_line, line_rule}
+use Rattle.tc_asm.specs.Rules.{content_rule, item_rule, line_rule}
+use Rattle.tc_asm.specs.Sources.{with_line}
 use Rattle.tc_asm.proofs.SourceDrafts.{KeepsFrom as Keeps}
 
 -- ---- lines one after another

@@ -1,7 +1,7 @@
 -- By computation over the table.
 use Rattle.std.proofs.Common.{◌≡◌, true, map, refl}
 use Rattle.tc_isa.specs.Rows.{listed}
-use Rattle.tc_isa.specs.Codec.{uses_of}
+use Rattle.tc_isa.specs.ValidRows.{uses_of}
 use Rattle.tc_stmt.specs.Wants.{wants_of, want_of}
 use Rattle.tc_disasm.specs.Apart.{entry, all_apart, excludes, differ, uses_by, names}
 

@@ -14,7 +14,8 @@ use Rattle.tc_asm.specs.declared.errors.AsmErr.{AsmErr}
 use Rattle.tc_asm.specs.declared.errors.AsmErr.TheVariants.{Bad, NoMemory}
 use Rattle.tc_asm.specs.Errors.{IfBad}
 use Rattle.tc_asm.specs.Objects.{section_of, relocs_from, object_of}
-use Rattle.tc_asm.specs.Sources.{with_line, line_rule, drafted, symbols_of, KeepsRules, IsLeast}
+use Rattle.tc_asm.specs.Sources.{with_line, drafted, symbols_of, KeepsRules, IsLeast}
+use Rattle.tc_asm.specs.Rules.{line_rule}
 use Rattle.tc_disasm.specs.Listing.{by_address, sections_from, listing_of}
 use Rattle.tc_disasm.specs.Assembled.{section_name, HoldsSegments, ReadsBack}
 use Rattle.tc_disasm.proofs.LineTokens.{reads-tokens, lexes-end}

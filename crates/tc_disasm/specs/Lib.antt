@@ -8,3 +8,4 @@ pub mod Apart
 pub mod Puts
 pub mod Refused
 pub mod Assembled
+pub mod Printable

@@ -1,7 +1,7 @@
 -- The fields that printed operands set, want by want.
 use Rattle.std.specs.Prelude.{true, false, List, fold}
 use Rattle.tc_isa.specs.declared.fields.Fields.{Fields}
-use Rattle.tc_isa.specs.Words.{fields}
+use Rattle.tc_isa.specs.Forms.{fields}
 use Rattle.tc_stmt.specs.declared.want.Field.TheVariants.{S2, K}
 use Rattle.tc_stmt.specs.declared.want.Want.{Want}
 use Rattle.tc_stmt.specs.declared.want.Want.TheVariants.{Reg, A10, Number, Target, Absolute, Memory}

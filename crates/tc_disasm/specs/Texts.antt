@@ -6,10 +6,10 @@ use Rattle.std.specs.Option.{option_map_or}
 use Rattle.tcd_text.specs.Digits.{hex_word}
 use Rattle.tc_isa.specs.declared.table.Form.{Form}
 use Rattle.tc_isa.specs.declared.fields.Fields.{Fields}
-use Rattle.tc_isa.specs.Words.{bounds, is_sbr, is_abs}
+use Rattle.tc_isa.specs.Forms.{bounds, is_sbr, is_abs}
 use Rattle.tc_isa.specs.Rows.{RowData, listed}
 use Rattle.tc_isa.specs.Insts.{InstData, fields_in}
-use Rattle.tc_isa.specs.Shapes.{place, code_place}
+use Rattle.tc_isa.specs.Meanings.{place, code_place}
 use Rattle.tc_stmt.specs.declared.want.Want.{Want}
 use Rattle.tc_stmt.specs.declared.want.Want.TheVariants.{Reg, A10, Number, Target, Absolute, Memory}
 use Rattle.tc_stmt.specs.Wants.{wants_of}

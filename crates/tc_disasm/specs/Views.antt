@@ -1,6 +1,6 @@
 -- Borrowed segments as plain data.
 use Rattle.std.specs.Borrow.{Bor}
-use Rattle.elf_image.specs.declared.segment.Segment.{Segment}
+use Rattle.elf_image.specs.declared.segments.Segment.{Segment}
 use Rattle.elf_image.specs.Images.{SegmentData, segment_data}
 
 -- the plain data of a borrowed segment

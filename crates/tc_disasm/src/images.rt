@@ -5,10 +5,9 @@ ghost use Rattle.elf_image.specs.Images.{segment_data, is_segment};
 ghost use Rattle.tc_disasm.specs.Listing.{section_line, section_text, sections_from, listing_of};
 ghost use Rattle.tc_disasm.specs.Views.{lent_data};
 
-use crate::operands::append_decimal;
+use crate::lines::append_lines;
 use crate::ordering::by_address;
-use crate::pieces::append_lines;
-use crate::texts::append;
+use crate::texts::{append, append_decimal};
 use elf_image::{Image, Segment};
 use std::alloc::Global;
 use tcd_base::NoMemory;

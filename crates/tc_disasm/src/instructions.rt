@@ -1,9 +1,9 @@
 // Appends the text of an instruction.
 ghost use Rattle.std.specs.Prelude.{◌≡◌, ◌++◌, OnOk, string_bytes, codes};
 ghost use Rattle.std.specs.List.{flat_map};
-ghost use Rattle.tc_isa.specs.Words.{IsBelow, bounds};
+ghost use Rattle.tc_isa.specs.Forms.{IsBelow, bounds};
 ghost use Rattle.tc_isa.specs.Rows.{row_of};
-ghost use Rattle.tc_isa.specs.Codec.{Fits};
+ghost use Rattle.tc_isa.specs.ValidRows.{Fits};
 ghost use Rattle.tc_stmt.specs.Wants.{wants_of};
 ghost use Rattle.tc_disasm.specs.Texts.{operand_text, operands_text, row_text, text_of};
 

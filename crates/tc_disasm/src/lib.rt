@@ -4,9 +4,9 @@
 mod images;
 mod instructions;
 mod laws;
+mod lines;
 mod operands;
 mod ordering;
-mod pieces;
 mod reassembling;
 mod texts;
 

@@ -1,45 +1,16 @@
 // Appends the text of an operand.
 ghost use Rattle.std.specs.Prelude.{◌≡◌, ◌≤◌, ◌*◌, ◌++◌, OnOk, string_bytes, ◌<◌, ◌^◌};
-ghost use Rattle.std.specs.Fmt.{decimal};
-ghost use Rattle.tc_isa.specs.Words.{IsBelow, bounds};
-ghost use Rattle.tc_isa.specs.Shapes.{code_place};
+ghost use Rattle.tc_isa.specs.Forms.{IsBelow, bounds};
+ghost use Rattle.tc_isa.specs.Meanings.{code_place};
 ghost use Rattle.tc_stmt.specs.declared.want.Want.TheVariants.{Memory};
 ghost use Rattle.tc_stmt.specs.RowFields.{field_of};
 ghost use Rattle.tc_disasm.specs.Texts.{register_text, number_text, is_two_way, target_text, address_in, absolute_text, base_text, operand_text};
 
-use crate::texts::{append, append_digit};
+use crate::texts::{append, append_decimal};
 use tc_isa::{Fields, Form, bounds_of};
 use tc_stmt::{Field, Want, field_of};
 use tcd_base::NoMemory;
 use tcd_text::append_hex_word;
-
-// Appends a number below 100, digit by digit.
-#[tactic(auto, using(crate::proofs::SmallNumbers::one_digit))]
-fn append_small(text: &mut String, n: u32) -> Result<(), NoMemory>
-    requires { n < 100 }
-    ensures { OnOk result (string_bytes text.new ≡ string_bytes text.old ++ decimal n) }
-{
-    if n < 10 {
-        return append_digit(text, n);
-    }
-    append_digit(text, n / 10)?;
-    append_digit(text, n % 10)
-}
-
-/// Appends a number in decimal.
-pub(crate) fn append_decimal(text: &mut String, n: u32) -> Result<(), NoMemory>
-    ensures { OnOk result (string_bytes text.new ≡ string_bytes text.old ++ decimal n) }
-{
-    if n < 100 {
-        return append_small(text, n);
-    }
-    if n < 1000 {
-        append_small(text, n / 10)?;
-        return append_digit(text, n % 10);
-    }
-    write!(text, "{n}")?;
-    Ok(())
-}
 
 #[tactic(auto, unfolding(crate::specs::Texts::register_text))]
 fn append_register(text: &mut String, is_address: bool, n: u32) -> Result<(), NoMemory>

@@ -1,7 +1,9 @@
 // Appends short texts and addresses.
 ghost use Rattle.std.specs.Prelude.{◌≡◌, ◌<◌, ◌+◌, ◌++◌, ◌∷◌, [], OnOk, string_bytes, codes};
 ghost use Rattle.tcd_text.specs.Digits.{hex_word};
+ghost use Rattle.std.specs.Fmt.{decimal};
 
+use tc_isa::Form;
 use tcd_base::NoMemory;
 use tcd_text::{append_ascii, hex_word};
 
@@ -32,4 +34,32 @@ pub(crate) fn append_address(text: &mut String, address: u32) -> Result<(), NoMe
         b' ', b'#', b' ', w[0], w[1], w[2], w[3], w[4], w[5], w[6], w[7], b' ',
     ];
     append_ascii(text, &line)
+}
+
+// Appends a number below 100, digit by digit.
+#[tactic(auto, using(crate::proofs::SmallNumbers::one_digit))]
+fn append_small(text: &mut String, n: u32) -> Result<(), NoMemory>
+    requires { n < 100 }
+    ensures { OnOk result (string_bytes text.new ≡ string_bytes text.old ++ decimal n) }
+{
+    if n < 10 {
+        return append_digit(text, n);
+    }
+    append_digit(text, n / 10)?;
+    append_digit(text, n % 10)
+}
+
+/// Appends a number in decimal.
+pub(crate) fn append_decimal(text: &mut String, n: u32) -> Result<(), NoMemory>
+    ensures { OnOk result (string_bytes text.new ≡ string_bytes text.old ++ decimal n) }
+{
+    if n < 100 {
+        return append_small(text, n);
+    }
+    if n < 1000 {
+        append_small(text, n / 10)?;
+        return append_digit(text, n % 10);
+    }
+    write!(text, "{n}")?;
+    Ok(())
 }

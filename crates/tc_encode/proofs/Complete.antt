@@ -4,9 +4,10 @@ use Rattle.std.proofs.lemmas.Bool.{eqb-true, and_from, and_parts}
 use Rattle.tc_isa.specs.Rows.{RowData}
 use Rattle.tc_isa.specs.declared.fields.Fields.{Fields}
 use Rattle.tc_isa.specs.declared.fields.Uses.{Uses}
-use Rattle.tc_isa.specs.Words.{fields_of}
+use Rattle.tc_isa.specs.Forms.{fields_of}
 use Rattle.tc_encode.specs.WordSearch.{mix, span}
-use Rattle.tc_isa.specs.Codec.{Fits, IsRow, word_of, uses_of, rest_is_zero, is_apart, least}
+use Rattle.tc_isa.specs.ValidRows.{Fits, IsRow, uses_of, rest_is_zero, is_apart, least}
+use Rattle.tc_isa.specs.Spelling.{word_of}
 use Rattle.tc_encode.proofs.Mixed.{Mixed, mixed1, mixed2, mixed3}
 
 mixed : (r : RowData) (n : ℕ) (f : Fields) → IsRow r → Fits r f → 1 ≤ n → n ≤ 3 → Mixed r.form r.op1 r.op2 f (least r) (mix n (word_of r f) (word_of r (least r)))

@@ -6,8 +6,8 @@ use Rattle.std.proofs.lemmas.Bool.{cases_Bool, cond-true, cond-false, both_ways,
 use Rattle.std.proofs.lemmas.List.{take_all, take-append-drop, append-nil, length-take-le}
 use Rattle.tc_isa.specs.Rows.{RowData, listed}
 use Rattle.tc_isa.specs.Insts.{InstData, fields_in}
-use Rattle.tc_isa.specs.Codec.{word_of, is_long, least, spelling}
-use Rattle.tc_isa.specs.Spelling.{Spells, Begins, IsFront}
+use Rattle.tc_isa.specs.ValidRows.{is_long, least}
+use Rattle.tc_isa.specs.Spelling.{word_of, spelling, Spells, Begins, IsFront}
 use Rattle.tc_encode.specs.declared.errors.DecodeErr.{DecodeErr}
 use Rattle.tc_encode.specs.declared.errors.DecodeErr.TheVariants.{Short, NotListed}
 use Rattle.tc_encode.specs.Decoding.{size_of, goes_on_as, fields_at, instruction, first_of, answer_of, decoded_of}

@@ -6,7 +6,8 @@ use Rattle.std.proofs.lemmas.List.{take_at, append-nil}
 use Rattle.tc_isa.specs.declared.fields.Fields.{Fields}
 use Rattle.tc_isa.specs.Rows.{RowData}
 use Rattle.tc_encode.specs.WordSearch.{mix}
-use Rattle.tc_isa.specs.Codec.{Fits, IsRow, word_of, is_long, least, spelling_of, spelling}
+use Rattle.tc_isa.specs.ValidRows.{Fits, IsRow, is_long, least}
+use Rattle.tc_isa.specs.Spelling.{word_of, spelling_of, spelling}
 use Rattle.tc_encode.specs.Decoding.{size_of, begins_with, goes_on_as}
 use Rattle.tc_encode.proofs.Complete.{completed}
 use Rattle.tc_encode.proofs.Spelled.{begins_here, size_spelling}

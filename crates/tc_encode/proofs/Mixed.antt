@@ -3,7 +3,7 @@ use Rattle.std.proofs.Common.{◌≡◌, ◌⊎◌, inl, inr, ◌<◌, ℕ, arit
 use Rattle.tc_isa.specs.declared.fields.Fields.{Fields}
 use Rattle.tc_isa.specs.declared.table.Form.{Form}
 use Rattle.tc_isa.specs.declared.table.Form.TheVariants.{Rlc}
-use Rattle.tc_isa.specs.Words.{IsBelow, bounds, second_bound, word, fields_of}
+use Rattle.tc_isa.specs.Forms.{IsBelow, bounds, second_bound, word, fields_of}
 use Rattle.tc_encode.specs.WordSearch.{mix1, mix2, mix3}
 
 pub record Mixed (form : Form) (op1 op2 : ℕ) (f g : Fields) (m : ℕ) : Type 0 where

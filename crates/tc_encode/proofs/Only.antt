@@ -2,8 +2,9 @@
 use Rattle.std.proofs.Common.{◌≡◌, ℕ, ap, sym, ◌∙◌}
 use Rattle.tc_isa.specs.Rows.{RowData}
 use Rattle.tc_isa.specs.declared.fields.Fields.{Fields}
-use Rattle.tc_isa.specs.Words.{fields_of}
-use Rattle.tc_isa.specs.Codec.{Fits, IsRow, word_of}
+use Rattle.tc_isa.specs.Forms.{fields_of}
+use Rattle.tc_isa.specs.ValidRows.{Fits, IsRow}
+use Rattle.tc_isa.specs.Spelling.{word_of}
 use Rattle.tc_encode.proofs.Inverse.{fields-word}
 
 -- a row's word has one list of fields

@@ -6,8 +6,9 @@ use Rattle.std.proofs.lemmas.Slice.Eq.{bytes_eq-Decides}
 use Rattle.std.proofs.lemmas.List.{take_at}
 use Rattle.tc_isa.specs.declared.fields.Fields.{Fields}
 use Rattle.tc_isa.specs.Rows.{RowData}
-use Rattle.tc_isa.specs.Words.{bounds, fields_of, IsBelow}
-use Rattle.tc_isa.specs.Codec.{Fits, IsRow, word_of, is_below_test, is_long, spelling_of, spelling, two_bytes, four_bytes}
+use Rattle.tc_isa.specs.Forms.{bounds, fields_of, IsBelow}
+use Rattle.tc_isa.specs.ValidRows.{Fits, IsRow, is_below_test, is_long}
+use Rattle.tc_isa.specs.Spelling.{word_of, spelling_of, spelling, two_bytes, four_bytes}
 use Rattle.tc_encode.specs.Decoding.{number_of, size_of, do_fit, fields_at, begins_with}
 use Rattle.tc_encode.proofs.Inverse.{fields-word}
 use Rattle.tc_encode.proofs.Bytes.{word-lt}

@@ -4,8 +4,9 @@ use Rattle.std.specs.List.{list_any}
 use Rattle.std.specs.Str.{bytes_eq}
 use Rattle.tc_isa.specs.declared.fields.Fields.{Fields}
 use Rattle.tc_isa.specs.Rows.{RowData, listed}
-use Rattle.tc_isa.specs.Words.{bounds, fields_of}
-use Rattle.tc_isa.specs.Codec.{uses_of, rest_is_zero, is_apart, is_below_test, least, spelling}
+use Rattle.tc_isa.specs.Forms.{bounds, fields_of}
+use Rattle.tc_isa.specs.ValidRows.{uses_of, rest_is_zero, is_apart, is_below_test, least}
+use Rattle.tc_isa.specs.Spelling.{spelling}
 use Rattle.tc_isa.specs.Insts.{InstData}
 use Rattle.tc_encode.specs.declared.errors.DecodeErr.{DecodeErr}
 use Rattle.tc_encode.specs.declared.errors.DecodeErr.TheVariants.{Short, NotListed}

@@ -5,8 +5,9 @@ use Rattle.tc_isa.specs.declared.table.Form.TheVariants.{Rlc, Rr, Rc, Bol, Bo, B
 use Rattle.tc_isa.specs.Rows.{RowData, listed}
 use Rattle.tc_isa.specs.declared.fields.Fields.{Fields}
 use Rattle.tc_isa.specs.declared.fields.Uses.{Uses}
-use Rattle.tc_isa.specs.Words.{form_index, bounds}
-use Rattle.tc_isa.specs.Codec.{word_of, uses_of}
+use Rattle.tc_isa.specs.Forms.{form_index, bounds}
+use Rattle.tc_isa.specs.ValidRows.{uses_of}
+use Rattle.tc_isa.specs.Spelling.{word_of}
 use Rattle.tc_isa.specs.Insts.{InstData, IsInst, fields_in}
 use Rattle.tc_encode.specs.Decoding.{size_of}
 

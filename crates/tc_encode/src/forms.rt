@@ -1,6 +1,6 @@
 // The words of instructions, form by form.
 ghost use Rattle.std.specs.Prelude.{◌≡◌, ◌<◌, ◌^◌, ◌↔◌, IsTrue};
-ghost use Rattle.tc_isa.specs.Words.{IsBelow, bounds, second_bound, word, fields_of, second_of};
+ghost use Rattle.tc_isa.specs.Forms.{IsBelow, bounds, second_bound, word, fields_of, second_of};
 
 use tc_isa::{Fields, Form};
 

@@ -1,16 +1,16 @@
 //! Instructions as bytes: encoded and decoded.
 #![tactic(auto)]
 
-mod code;
+mod completions;
+mod decoding;
+mod encoding;
 mod errors;
-mod first_instruction;
 mod forms;
-mod fronts;
 mod index;
 mod laws;
 mod word_search;
 
-pub use code::{Code, encode};
+pub use decoding::decode;
+pub use encoding::{Code, encode};
 pub use errors::DecodeErr;
-pub use first_instruction::decode;
 pub use laws::{decoding_laws, spelling_laws};

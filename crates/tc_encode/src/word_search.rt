@@ -1,8 +1,8 @@
 // Finds the instruction of a word by the index of codes.
 ghost use Rattle.std.specs.Prelude.{◌≡◌, ◌<◌, ◌%◌, ◌^◌, ℕ, IfSome, IfNone, slice_get, Some};
 ghost use Rattle.tc_isa.specs.Rows.{RowData, row_of, listed};
-ghost use Rattle.tc_isa.specs.Words.{second_of, form_index, IsBelow, bounds};
-ghost use Rattle.tc_isa.specs.Codec.{uses_of, rest_is_zero};
+ghost use Rattle.tc_isa.specs.Forms.{second_of, form_index, IsBelow, bounds};
+ghost use Rattle.tc_isa.specs.ValidRows.{uses_of, rest_is_zero};
 ghost use Rattle.tc_isa.specs.Insts.{InstData};
 ghost use Rattle.tc_encode.specs.WordSearch.{Makes, has_no_gap};
 

@@ -6,7 +6,7 @@ use Rattle.std.proofs.lemmas.Option.{slice_get_within}
 use Rattle.tc_isa.specs.Rows.{RowData, row_of, listed}
 use Rattle.tc_isa.specs.declared.table.Row.{Row}
 use Rattle.tc_isa.specs.declared.fields.Uses.{Uses}
-use Rattle.tc_isa.specs.Codec.{Fits, uses_of}
+use Rattle.tc_isa.specs.ValidRows.{Fits, uses_of}
 use Rattle.tc_isa.specs.Insts.{InstData, IsInst, fields_in}
 use Rattle.tc_isa.proofs.Places.{at_here, uses_here}
 

@@ -4,7 +4,7 @@ use Rattle.std.specs.Prelude.{◌||◌}
 use Rattle.std.specs.List.{list_all}
 use Rattle.std.proofs.lemmas.Bool.{cases_lt, lt-ltb, le-ltb, or_cases, eqb-true}
 use Rattle.std.proofs.lemmas.List.Sums.{AllPass-from_list_all}
-use Rattle.tcd_base.specs.Fields.{sext_of}
+use Rattle.tcd_base.specs.BitFields.{sext_of}
 use Rattle.tc_isa.specs.declared.fields.Fields.{Fields}
 use Rattle.tc_isa.specs.declared.meaning.RegField.{RegField}
 use Rattle.tc_isa.specs.declared.meaning.RegField.TheVariants.{Dc}
@@ -24,9 +24,9 @@ use Rattle.tc_isa.specs.declared.shapes.Shape.{Shape}
 use Rattle.tc_isa.specs.declared.shapes.Shape.TheVariants.{Ret, Rfe, Svlcx, Rslcx, Enable, Disable, Nothing}
 use Rattle.tc_isa.specs.Insts.{InstData, IsInst, fields_in}
 use Rattle.tc_isa.specs.Rows.{listed}
-use Rattle.tc_isa.specs.Shapes.{meanings, shape_of}
-use Rattle.tc_isa.specs.Bounded.{IsRegister, IsWord, IsArg, IsTarget, IsSize, IsShape}
-use Rattle.tc_isa.specs.Meanings.{AreSmall, register_of, word_at, operand_of, distance_of, goal_of, meant}
+use Rattle.tc_isa.specs.Meanings.{meanings, shape_of}
+use Rattle.tc_isa.specs.Bounded.{IsRegister, IsWord, IsArg, IsTarget, IsSize, IsShape, AreSmall}
+use Rattle.tc_isa.specs.FromFields.{register_of, word_at, operand_of, distance_of, goal_of, meant}
 use Rattle.tc_isa.proofs.Shaped.{small, row_below, shaped}
 
 sext_lt : (x n : ℕ) → x < 2 ^ n → x < 2 ^ 32 → sext_of x n < 2 ^ 32

@@ -6,8 +6,8 @@ use Rattle.std.specs.List.{list_all}
 use Rattle.std.proofs.lemmas.Bool.{ltb-true, and_parts}
 use Rattle.std.proofs.lemmas.List.Sums.{AllPass-from_list_all}
 use Rattle.tc_isa.specs.Rows.{RowData, listed}
-use Rattle.tc_isa.specs.Words.{second_bound, bounds, is_long_form, form_index}
-use Rattle.tc_isa.specs.Codec.{IsRow, is_row, same_test, none_clash}
+use Rattle.tc_isa.specs.Forms.{second_bound, bounds, is_long_form, form_index}
+use Rattle.tc_isa.specs.ValidRows.{IsRow, is_row, same_test, none_clash}
 
 same_tested : (a b : Bool) → same_test a b ≡ true → a ≡ b
 same_tested true true e = refl

@@ -6,6 +6,7 @@ use Rattle.tc_isa.specs.declared.shapes.Target.{Target}
 use Rattle.tc_isa.specs.declared.shapes.Target.TheVariants as target
 use Rattle.tc_isa.specs.declared.shapes.Shape.{Shape}
 use Rattle.tc_isa.specs.declared.shapes.Shape.TheVariants.{Compute, Scaled, Load, Store, Branch, Jump, Call, Ret, Rfe, Svlcx, Rslcx, Bisr, Enable, Disable, Syscall, Mfcr, Mtcr, Nothing}
+use Rattle.tc_isa.specs.declared.fields.Fields.{Fields}
 
 -- one of the 32 registers
 abbrev pub IsRegister : ℕ → Type 0
@@ -50,3 +51,11 @@ IsShape (Syscall tin) = tin < 256
 IsShape (Mfcr dst number) = IsRegister dst × (number < 2 ^ 16)
 IsShape (Mtcr src number) = IsRegister src × (number < 2 ^ 16)
 IsShape Nothing = Unit {0}
+
+-- register fields have four bits, n two, and k at most 24
+pub record AreSmall (f : Fields) : Type 0 where
+  pub c : f.c < 16
+  pub s1 : f.s1 < 16
+  pub s2 : f.s2 < 16
+  pub n : f.n < 4
+  pub k : f.k < 2 ^ 24

@@ -1,12 +1,12 @@
 -- Definitions of the instruction table: rows, forms, fields, spelling, and what instructions do.
 pub mod Rows
-pub mod Words
-pub mod Codec
+pub mod Forms
+pub mod ValidRows
 pub mod Insts
 pub mod Spelling
 pub mod Arithmetic
-pub mod Shapes
-pub mod Writes
 pub mod Meanings
+pub mod Writes
+pub mod FromFields
 pub mod Bounded
 pub mod Relocations

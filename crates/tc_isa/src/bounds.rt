@@ -1,6 +1,6 @@
 // The bounds of the operand fields, form by form.
 ghost use Rattle.std.specs.Prelude.{◌≡◌, ◌↔◌, IsTrue};
-ghost use Rattle.tc_isa.specs.Words.{IsBelow, bounds};
+ghost use Rattle.tc_isa.specs.Forms.{IsBelow, bounds};
 
 use crate::{Fields, Form};
 

@@ -1,7 +1,7 @@
 // Builds instructions from the number of a row and the row's fields.
 ghost use Rattle.std.specs.Prelude.{◌≡◌, ◌↔◌, IsTrue, IsSome, IfSome};
 ghost use Rattle.tc_isa.specs.Rows.{row_of};
-ghost use Rattle.tc_isa.specs.Codec.{Fits, uses_of, rest_is_zero, is_apart};
+ghost use Rattle.tc_isa.specs.ValidRows.{Fits, uses_of, rest_is_zero, is_apart};
 ghost use Rattle.tc_isa.specs.Insts.{IsInst};
 
 use crate::bounds::{bounds_of, is_below};

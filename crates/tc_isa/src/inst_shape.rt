@@ -2,9 +2,9 @@
 ghost use Rattle.std.specs.Prelude.{◌≡◌, map};
 ghost use Rattle.tc_isa.specs.Insts.{InstData, IsInst};
 ghost use Rattle.tc_isa.specs.Rows.{listed};
-ghost use Rattle.tc_isa.specs.Shapes.{shape_of, meanings};
-ghost use Rattle.tc_isa.specs.Bounded.{IsShape};
-ghost use Rattle.tc_isa.specs.Meanings.{AreSmall, register_of, word_at, operand_of, distance_of, goal_of, meant};
+ghost use Rattle.tc_isa.specs.Meanings.{shape_of, meanings};
+ghost use Rattle.tc_isa.specs.Bounded.{IsShape, AreSmall};
+ghost use Rattle.tc_isa.specs.FromFields.{register_of, word_at, operand_of, distance_of, goal_of, meant};
 
 use crate::meaning::{Destination, Displacement, Immediate, Meaning, Operand, RegField};
 use crate::row_meanings::row_meanings;

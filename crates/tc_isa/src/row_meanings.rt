@@ -1,7 +1,7 @@
 // What each row of the instruction table does.
 ghost use Rattle.std.specs.Prelude.{◌≡◌, map};
-ghost use Rattle.tc_isa.specs.Shapes.{meanings};
-ghost use Rattle.tc_isa.specs.Meanings.{meant};
+ghost use Rattle.tc_isa.specs.Meanings.{meanings};
+ghost use Rattle.tc_isa.specs.FromFields.{meant};
 
 use crate::meaning::Destination::{By, Code, In};
 use crate::meaning::Displacement::{Ahead8, Ahead15, Ahead24, AheadOnly};

@@ -1,7 +1,7 @@
 // The fields that each row has, as its operands say. Printed by tools/rows.py.
 ghost use Rattle.std.specs.Prelude.{◌≡◌, map};
 ghost use Rattle.tc_isa.specs.Rows.{listed};
-ghost use Rattle.tc_isa.specs.Codec.{uses_of};
+ghost use Rattle.tc_isa.specs.ValidRows.{uses_of};
 
 use crate::ROW_COUNT;
 use crate::fields::Uses;

@@ -12,10 +12,8 @@ use Rattle.tc_lex.specs.declared.kinds.TokenKind.TheVariants.{Comma, Colon, Open
 use Rattle.tc_lex.specs.declared.kinds.Front.{Front}
 use Rattle.tc_lex.specs.declared.kinds.Front.TheVariants as front
 use Rattle.tcd_base.specs.NameBytes.{is_name_first}
-use Rattle.tc_lex.specs.Bytes.{is_digit}
-use Rattle.tc_lex.specs.Cut.{cut, front_at, follow, with_front, token, tokens_of}
-use Rattle.tc_lex.specs.Texts.{IsLongest, BeginsNone}
-use Rattle.tc_lex.specs.Lines.{is_blank, AreBlanks, IsNext, AreTokens, IsCut, IsStray, IsPast, IsFault}
+use Rattle.tc_lex.specs.Bytes.{is_digit, is_blank}
+use Rattle.tc_lex.specs.Cut.{cut, front_at, follow, with_front, token, tokens_of, IsLongest, BeginsNone, AreBlanks, IsNext, AreTokens, IsCut, IsStray, IsPast, IsFault}
 use Rattle.tc_lex.proofs.TextLaws.{empty_none}
 use Rattle.tc_lex.proofs.LongestLaws.{comma_longest, colon_longest, open_longest, close_longest, plus_longest, minus_longest, word_longest, number_longest, begins_none}
 

@@ -11,8 +11,8 @@ use Rattle.tc_lex.specs.declared.kinds.TokenKind.{TokenKind}
 use Rattle.tc_lex.specs.declared.kinds.TokenKind.TheVariants.{Word, Number, Comma, Colon, Open, Close, Plus, Minus}
 use Rattle.tcd_base.specs.NameBytes.{is_name_byte, is_name_first}
 use Rattle.tc_lex.specs.Bytes.{is_digit, is_hex}
-use Rattle.tc_lex.specs.Cut.{number_len, has_hex_front}
-use Rattle.tc_lex.specs.Texts.{is_run, is_hex_text, is_token, IsLongest, BeginsNone}
+use Rattle.tc_lex.specs.Cut.{number_len, has_hex_front, IsLongest, BeginsNone}
+use Rattle.tc_lex.specs.Texts.{is_run, is_hex_text, is_token}
 use Rattle.tc_lex.proofs.FrontLaws.{prefix_len_some}
 use Rattle.tc_lex.proofs.TextLaws.{run_taken, run_past, is_run-take, digit_of_name, starts, not_begun, past_one, hex_text}
 

@@ -1,5 +1,5 @@
 -- Tests of single bytes: digits and hex digits.
-use Rattle.std.specs.Prelude.{ℕ, Bool, nat_le, ◌&&◌, ◌||◌}
+use Rattle.std.specs.Prelude.{ℕ, Bool, nat_le, ◌&&◌, ◌||◌, ◌==◌}
 
 -- 0 to 9
 unfoldable pub is_digit : ℕ → Bool
@@ -8,3 +8,7 @@ is_digit c = nat_le 48 c && nat_le c 57
 -- a digit, A to F, a to f
 unfoldable pub is_hex : ℕ → Bool
 is_hex c = is_digit c || (nat_le 65 c && nat_le c 70) || (nat_le 97 c && nat_le c 102)
+
+-- a blank or a tab
+abbrev pub is_blank : ℕ → Bool
+is_blank c = c == 32 || c == 9

@@ -2,7 +2,6 @@
 pub mod Bytes
 pub mod Cut
 pub mod Texts
-pub mod Lines
 pub mod Numbers
 pub mod Operands
 pub mod Pieces

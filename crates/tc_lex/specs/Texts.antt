@@ -1,5 +1,5 @@
 -- What a token is, apart from how a line is cut.
-use Rattle.std.specs.Prelude.{◌≡◌, ◌<◌, ◌≤◌, ◌==◌, ◌&&◌, ◌||◌, ℕ, Bool, true, false, List, [], ◌∷◌, length, take, codes}
+use Rattle.std.specs.Prelude.{◌==◌, ◌&&◌, ◌||◌, ℕ, Bool, false, List, ◌∷◌, codes}
 use Rattle.std.specs.List.{list_all}
 use Rattle.std.specs.Str.{bytes_eq}
 use Rattle.tc_lex.specs.declared.kinds.TokenKind.{TokenKind}
@@ -27,13 +27,3 @@ is_token Open text = bytes_eq text (codes "[")
 is_token Close text = bytes_eq text (codes "]")
 is_token Plus text = bytes_eq text (codes "+")
 is_token Minus text = bytes_eq text (codes "-")
-
--- the first `len` bytes are a token, and no longer start of the text is a token of any kind
-pub record IsLongest (kind : TokenKind) (len : ℕ) (text : List ℕ) : Type 0 where
-  pub within : len ≤ length text
-  pub stands : is_token kind (take len text) ≡ true
-  pub longest : (other : TokenKind) (n : ℕ) → len < n → n ≤ length text → is_token other (take n text) ≡ false
-
--- no start of the text is a token
-abbrev pub BeginsNone : List ℕ → Type 0
-BeginsNone text = (kind : TokenKind) (n : ℕ) → n ≤ length text → is_token kind (take n text) ≡ false

@@ -1,10 +1,9 @@
 // Cuts a line into tokens.
 ghost use Rattle.std.specs.Prelude.{◌≡◌, ◌<◌, ◌≤◌, length};
-ghost use Rattle.tc_lex.specs.Cut.{tokens_of, Cuts, CutsInto};
-ghost use Rattle.tc_lex.specs.Lines.{Reads};
+ghost use Rattle.tc_lex.specs.Cut.{tokens_of, Cuts, CutsInto, Reads};
 
-use crate::fronts::front;
 use crate::kinds::{Front, Token};
+use crate::longest_token::front;
 use arrayvec::ArrayVec;
 
 /// Replaces the contents of `out` by the tokens of a line. The error is the byte offset of the

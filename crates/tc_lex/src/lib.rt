@@ -3,21 +3,21 @@
 
 mod bytes;
 mod cutting;
-mod fronts;
 mod kinds;
 mod line_pieces;
+mod longest_token;
 mod numbers;
 mod operand;
-mod operand_list;
-mod operand_tokens;
 mod pieces;
+mod read_operand;
 mod same_bytes;
+mod split_operands;
 
 pub use bytes::is_hex;
 pub use cutting::{cut_into, tokens};
 pub use kinds::{Front, Token, TokenKind};
 pub use line_pieces::cut_pieces;
 pub use operand::{Operand, Shape, Value};
-pub use operand_list::operands;
 pub use pieces::{Piece, is_kind, is_text, text_at};
 pub use same_bytes::is_same;
+pub use split_operands::operands;

@@ -3,8 +3,8 @@ ghost use Rattle.std.specs.Prelude.{◌≡◌, ◌<◌, ◌≤◌, ◌+◌, leng
 ghost use Rattle.tc_lex.specs.Cut.{tokens_of, token};
 ghost use Rattle.tc_lex.specs.Pieces.{piece_of, piece_in, pieces_of, CutsPieces};
 
-use crate::fronts::front;
 use crate::kinds::{Front, TokenKind};
+use crate::longest_token::front;
 use crate::pieces::Piece;
 use arrayvec::ArrayVec;
 

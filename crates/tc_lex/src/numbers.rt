@@ -2,7 +2,7 @@
 ghost use Rattle.std.specs.Prelude.{◌≡◌, ◌<◌, Some, length, true};
 ghost use Rattle.tc_lex.specs.Numbers.{digit_of, add_digit, digits_of, number_of};
 
-use crate::fronts::has_hex_front;
+use crate::longest_token::has_hex_front;
 
 // The value of a digit of base 10 or 16.
 #[tactic(auto, unfolding(crate::specs::Numbers::digit_of, crate::specs::Bytes::is_digit))]

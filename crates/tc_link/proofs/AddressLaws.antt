@@ -3,7 +3,8 @@ use Rattle.std.proofs.Common.{◌≡◌, ◌<◌, ◌+◌, ◌∷◌, ◌++◌, 
 use Rattle.std.specs.Prelude.{slice_get}
 use Rattle.std.specs.Option.{option_map_or}
 use Rattle.std.proofs.lemmas.List.{map_more}
-use Rattle.tc_link.specs.Placing.{GlobalData, PlacedData, symbol_address, symbol_addresses}
+use Rattle.tc_link.specs.Placing.{GlobalData, PlacedData}
+use Rattle.tc_link.specs.Relocated.{symbol_address, symbol_addresses}
 
 -- a further item
 pub map_next : {A B : Type 0} (f : A → B) (xs : List A) (i : ℕ) (x : A) (ys : List B) (y : B) → i < length xs → x ≡ get_or xs i x

@@ -1,7 +1,7 @@
 -- Lines of too many words.
 use Rattle.std.proofs.Common.{◌≡◌, ◌<◌, ℕ, List, length, None, refl}
 use Rattle.tcd_text.proofs.LineLaws.{more_words}
-use Rattle.tc_link.specs.Lines.{line_in}
+use Rattle.tc_link.specs.LayoutLines.{line_in}
 
 -- a line of more than four words has no form
 pub more : (words : List (List ℕ)) → 4 < length words → line_in words ≡ None

@@ -7,11 +7,11 @@ use Rattle.tc_link.specs.declared.layout_errors.LayoutErr.{LayoutErr}
 use Rattle.tc_link.specs.declared.layout_errors.LayoutErr.TheVariants.{BadLine, Twice, TooMany, Overlap, NoMemory}
 use Rattle.tc_link.specs.Layouts.{PlaceData}
 use Rattle.tcd_text.specs.Lines.{lines_of}
-use Rattle.tc_link.specs.Lines.{LineData, line_of}
+use Rattle.tc_link.specs.LayoutLines.{LineData, line_of, entry_in, region_in, entries_of, places_of}
 use Rattle.std.specs.List.{filter_map, cons_option}
 use Rattle.tcd_base.specs.Refusing.{unless}
-use Rattle.tc_link.specs.Faults.{entry_in, region_in, entries_of, places_of, fault_of, first_fault, layout_in, with_entry, IsFault, IsFaultOf}
-use Rattle.tc_link.specs.Seen.{DraftData, with_line}
+use Rattle.tc_link.specs.LayoutFaults.{fault_of, first_fault, layout_in, with_entry, IsFault, IsFaultOf}
+use Rattle.tc_link.specs.LayoutDrafts.{DraftData, with_line}
 
 -- the first n lines have no fault and lead to the draft; the text is the rest
 pub record Reached (all : List (List ℕ)) (n : ℕ) (rest : List ℕ) (d : DraftData) : Type 0 where

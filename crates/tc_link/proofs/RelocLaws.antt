@@ -14,7 +14,7 @@ use Rattle.tc_link.specs.Placing.{GlobalData, PlacedData, sections_of, bases_aft
 use Rattle.tc_link.specs.Relocated.{field_at, with_filled_field, with_relocation, with_item, with_reloc, field_place, value_of, reloc_refusal, relocated_sections}
 use Rattle.tc_reloc.specs.declared.refusals.RelocErr.{RelocErr}
 use Rattle.tc_reloc.specs.Refusals.{refusal_of}
-use Rattle.tc_link.specs.Linked.{reloc, refusal_at}
+use Rattle.tc_link.specs.Refusals.{reloc, refusal_at}
 use Rattle.tc_link.specs.Shapes.{Shape, shape_of}
 use Rattle.tc_link.proofs.ShapeLaws.{filled_shape}
 use Rattle.tc_link.proofs.ItemLaws.{same_item}

@@ -14,9 +14,9 @@ use Rattle.std.proofs.lemmas.List.Folds.{find_at}
 use Rattle.std.proofs.lemmas.List.Quantifiers.{position-Some}
 use Rattle.tc_object.specs.Objects.{SectionData, ObjectData}
 use Rattle.tc_link.specs.Layouts.{PlaceData}
-use Rattle.tc_link.specs.Placing.{PlacedData, sections_of, round_up, with_size, taken_bytes, base_of, bases_after, placed_after}
-use Rattle.tc_link.specs.PlaceSizes.{AreTaken}
-use Rattle.tc_link.specs.Linked.{Refusal, no_room, is_over, total, no_room_of, no_room_after}
+use Rattle.tc_link.specs.Placing.{PlacedData, sections_of, base_of, bases_after, placed_after}
+use Rattle.tc_link.specs.PlaceSizes.{round_up, with_size, taken_bytes, AreTaken}
+use Rattle.tc_link.specs.Refusals.{Refusal, no_room, is_over, total, no_room_of, no_room_after}
 use Rattle.std.specs.Bool.{then_some}
 use Rattle.std.proofs.lemmas.Bool.Decides.{nat_tests}
 

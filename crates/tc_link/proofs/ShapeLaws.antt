@@ -5,9 +5,10 @@ use Rattle.std.specs.Str.{bytes_eq}
 use Rattle.std.proofs.lemmas.List.{length-take-le, length-replicate}
 use Rattle.tc_object.specs.declared.relocs.Reloc.{Reloc}
 use Rattle.tc_object.specs.Objects.{SectionData}
-use Rattle.tc_link.specs.Placing.{round_up, with_size, taken_bytes}
+use Rattle.tc_link.specs.PlaceSizes.{round_up, with_size, taken_bytes}
 use Rattle.tc_link.specs.Shapes.{Shape, shape_of}
-use Rattle.tc_link.specs.Relocated.{with_field_at, with_filled_field, with_padding, with_section, joined_sections}
+use Rattle.tc_link.specs.Relocated.{with_field_at, with_filled_field}
+use Rattle.tc_link.specs.Segments.{with_padding, with_section, joined_sections}
 
 -- ---- lengths of joined sections
 pub padded_length : (bytes : List ℕ) → length (with_padding bytes) ≡ round_up (length bytes)

@@ -2,7 +2,7 @@
 use Rattle.std.specs.Prelude.{◌≡◌, Option, Some, None, string_bytes, IfSome}
 use Rattle.tc_link.specs.declared.errors.LinkErr.{LinkErr}
 use Rattle.tc_link.specs.declared.errors.LinkErr.TheVariants.{Twice, Missing, NoPlace, NoRoom, Reloc, NoEntry, NoMemory}
-use Rattle.tc_link.specs.Linked.{Refusal, twice, missing, no_place, no_room, reloc, no_entry}
+use Rattle.tc_link.specs.Refusals.{Refusal, twice, missing, no_place, no_room, reloc, no_entry}
 
 -- the refusal in an error; None for out of memory
 abbrev pub refusal_of : LinkErr → Option Refusal

@@ -1,8 +1,8 @@
 -- Layouts, and the image or refusal of linking objects.
 pub mod Layouts
-pub mod Lines
-pub mod Faults
-pub mod Seen
+pub mod LayoutLines
+pub mod LayoutFaults
+pub mod LayoutDrafts
 pub mod Placing
 pub mod Relocated
 pub mod Linked
@@ -10,3 +10,5 @@ pub mod Errors
 pub mod Names
 pub mod PlaceSizes
 pub mod Shapes
+pub mod Segments
+pub mod Refusals

@@ -1,13 +1,13 @@
--- Views of the map of global symbols, for contracts.
-use Rattle.std.specs.Prelude.{◌≡◌, ◌==◌, nat_lt, if◌then◌else◌, ℕ, Bool, List, map, slice_get, Option, Some, None}
+-- Global symbols by their names: how many have one, and the map that knows it.
+use Rattle.std.specs.Prelude.{◌≡◌, ◌==◌, nat_lt, if◌then◌else◌, ℕ, Bool, List, map, slice_get, Option, Some, None, ◌&&◌, count_by}
 use Rattle.std.specs.Borrow.{Bor}
 use Rattle.std.specs.HashMap.{HashMap, get_by}
 use Rattle.std.specs.Option.{option_map, option_map_or}
 use Rattle.std.specs.Str.{bytes_eq}
-use Rattle.tc_object.specs.Objects.{ObjectData}
+use Rattle.tc_object.specs.Objects.{ObjectData, SymbolData}
 use Rattle.tc_link.specs.declared.definitions.Definition.{Definition}
-use Rattle.tc_link.specs.Placing.{PlacedData, GlobalData, address_in, globals_of, global_address}
-use Rattle.tc_link.specs.Linked.{globals_named}
+use Rattle.tc_link.specs.Placing.{PlacedData, GlobalData, address_in, globals_of, global_address, is_global}
+use Rattle.std.specs.List.{flat_map}
 
 -- the value of the map at a name
 abbrev pub at_name : {X S : Type 0} → HashMap (Bor (List ℕ)) X S → List ℕ → Option X
@@ -21,6 +21,19 @@ twice_at names q = option_map (λ d. d.is_twice) (at_name names q)
 -- for a name that n symbols have: None if there are none, else whether there are several
 abbrev pub twice_of_count : ℕ → Option Bool
 twice_of_count n = if n == 0 then None else Some (nat_lt 1 n)
+
+-- the symbol is global and has the name
+abbrev pub has_global_name : List ℕ → SymbolData → Bool
+has_global_name name s = is_global s && bytes_eq name s.name
+
+-- the symbols of all objects, in order
+abbrev pub symbols_of : List ObjectData → List SymbolData
+symbols_of objects = flat_map (λ o. o.symbols) objects
+
+-- the number of global symbols of these objects with this name; those of one object have distinct
+-- names
+unfoldable pub globals_named : List ObjectData → List ℕ → ℕ
+globals_named objects name = count_by (has_global_name name) (symbols_of objects)
 
 -- for each name, the map knows whether several objects define it as a global symbol
 abbrev pub CountsGlobals : {S : Type 0} → HashMap (Bor (List ℕ)) Definition S → List ObjectData → Type 0

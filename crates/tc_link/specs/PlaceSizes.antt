@@ -1,8 +1,20 @@
--- Views of the numbers of used bytes, for contracts.
-use Rattle.std.specs.Prelude.{◌≡◌, ◌≤◌, ◌<◌, ◌^◌, ℕ, List, length, slice_index, slice_index_or}
+-- The numbers of bytes of their places that sections use.
+use Rattle.std.specs.Prelude.{◌≡◌, ◌≤◌, ◌<◌, ◌^◌, ℕ, List, length, slice_index, slice_index_or, ◌+◌, ◌*◌, ◌/◌, if◌then◌else◌, fold}
 use Rattle.tc_object.specs.Objects.{SectionData}
 use Rattle.tc_link.specs.Layouts.{PlaceData}
-use Rattle.tc_link.specs.Placing.{taken_bytes}
+use Rattle.std.specs.Str.{bytes_eq}
+
+-- the least multiple of 4 that isn't below n
+abbrev pub round_up : ℕ → ℕ
+round_up n = (n + 3) / 4 * 4
+
+-- the number of used bytes of the place for this name after a further section
+abbrev pub with_size : List ℕ → ℕ → SectionData → ℕ
+with_size name n s = if bytes_eq name s.name then round_up n + length s.bytes else n
+
+-- the number of bytes of their place that the sections of this name use, each at a multiple of 4
+unfoldable pub taken_bytes : List ℕ → List SectionData → ℕ
+taken_bytes name sections = fold (with_size name) 0 sections
 
 -- for each place, the number of bytes that these sections use of it
 abbrev pub AreTaken : List PlaceData → List SectionData → List ℕ → Type 0

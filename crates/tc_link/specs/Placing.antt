@@ -1,31 +1,16 @@
 -- The addresses of the sections and symbols of objects.
-use Rattle.std.specs.Prelude.{◌+◌, ◌*◌, ◌/◌, ◌%◌, ◌^◌, ◌==◌, if◌then◌else◌, ℕ, Bool, List, [], ◌∷◌, ◌++◌, length, map, filter, fold, find, slice_index, Option}
+use Rattle.std.specs.Prelude.{◌+◌, ◌%◌, ◌^◌, ◌==◌, ℕ, Bool, List, ◌∷◌, ◌++◌, map, filter, find, slice_index, Option}
 use Rattle.std.specs.Option.{option_map, option_map_or}
 use Rattle.std.specs.List.{flat_map}
 use Rattle.std.specs.Str.{bytes_eq}
-use Rattle.tc_object.specs.Objects.{global_symbol, undefined_symbol, SectionData, SymbolData, ObjectData}
-use Rattle.tc_link.specs.Layouts.{PlaceData}
+use Rattle.tc_object.specs.Objects.{global_symbol, SectionData, SymbolData, ObjectData}
+use Rattle.tc_link.specs.Layouts.{PlaceData, place_of}
+use Rattle.tc_link.specs.PlaceSizes.{round_up, taken_bytes}
 
 -- ---- sections
 -- the sections of all objects, in order
 abbrev pub sections_of : List ObjectData → List SectionData
 sections_of objects = flat_map (λ o. o.sections) objects
-
--- the least multiple of 4 that isn't below n
-abbrev pub round_up : ℕ → ℕ
-round_up n = (n + 3) / 4 * 4
-
--- the number of used bytes of the place for this name after a further section
-abbrev pub with_size : List ℕ → ℕ → SectionData → ℕ
-with_size name n s = if bytes_eq name s.name then round_up n + length s.bytes else n
-
--- the number of bytes of their place that the sections of this name use, each at a multiple of 4
-unfoldable pub taken_bytes : List ℕ → List SectionData → ℕ
-taken_bytes name sections = fold (with_size name) 0 sections
-
--- the place for the sections of this name
-abbrev pub place_of : List PlaceData → List ℕ → Option PlaceData
-place_of places name = find (λ p. bytes_eq name p.section) places
 
 -- the address of a section after these sections, and 0 if it has no place
 abbrev pub base_of : List PlaceData → List SectionData → SectionData → ℕ
@@ -71,12 +56,3 @@ globals_of placed = flat_map (λ p. map (global_data p.bases) (filter is_global 
 -- the address of a global symbol, if one has the name
 abbrev pub global_address : List GlobalData → List ℕ → Option ℕ
 global_address globals name = option_map (λ g. g.address) (find (λ g. bytes_eq name g.name) globals)
-
--- The address of a symbol of a placed object. A defined symbol has its own address, an undefined
--- one that of the global symbol with its name, or 0 if there is none.
-abbrev pub symbol_address : List GlobalData → List ℕ → SymbolData → ℕ
-symbol_address globals bases s = if s.kind == undefined_symbol then option_map_or (λ a. a) (global_address globals s.name) 0 else address_in bases s.section s.offset
-
--- the addresses of the symbols of a placed object, by their numbers
-unfoldable pub symbol_addresses : List GlobalData → PlacedData → List ℕ
-symbol_addresses globals p = map (symbol_address globals p.bases) p.object.symbols

@@ -1,21 +1,26 @@
--- The bytes of sections with their relocations written, and the bytes of places.
-use Rattle.std.specs.Prelude.{◌+◌, ◌-◌, ◌%◌, ◌^◌, nat_lt, if◌then◌else◌, ℕ, List, [], ◌++◌, length, map, filter, fold, take, drop, slice_get, slice_set, replicate, Option}
+-- The bytes of sections with their relocations written, and the addresses of symbols.
+use Rattle.std.specs.Prelude.{◌+◌, ◌%◌, ◌^◌, ℕ, List, ◌++◌, fold, take, drop, slice_get, slice_set, Option, ◌==◌, if◌then◌else◌, map}
 use Rattle.std.specs.Option.{option_map_or}
-use Rattle.std.specs.Str.{bytes_eq}
-use Rattle.elf_image.specs.Images.{SegmentData}
 use Rattle.tc_object.specs.declared.relocs.Reloc.{Reloc}
-use Rattle.tc_object.specs.Objects.{SectionData}
+use Rattle.tc_object.specs.Objects.{SectionData, undefined_symbol, SymbolData}
 use Rattle.tc_reloc.specs.declared.refusals.RelocErr.{RelocErr}
 use Rattle.tc_reloc.specs.Refusals.{refusal_of}
 use Rattle.tc_reloc.specs.Fields.{content_of}
 use Rattle.tc_reloc.specs.Applied.{with_field}
-use Rattle.tc_link.specs.Layouts.{PlaceData}
-use Rattle.tc_link.specs.Placing.{GlobalData, PlacedData, round_up, address_in, symbol_address}
+use Rattle.tc_link.specs.Placing.{GlobalData, PlacedData, address_in, global_address}
 
--- ---- relocations
 -- the address of a relocation's field
 abbrev pub field_place : PlacedData → Reloc → ℕ
 field_place p r = address_in p.bases r.section r.offset
+
+-- The address of a symbol of a placed object. A defined symbol has its own address, an undefined
+-- one that of the global symbol with its name, or 0 if there is none.
+abbrev pub symbol_address : List GlobalData → List ℕ → SymbolData → ℕ
+symbol_address globals bases s = if s.kind == undefined_symbol then option_map_or (λ a. a) (global_address globals s.name) 0 else address_in bases s.section s.offset
+
+-- the addresses of the symbols of a placed object, by their numbers
+unfoldable pub symbol_addresses : List GlobalData → PlacedData → List ℕ
+symbol_addresses globals p = map (symbol_address globals p.bases) p.object.symbols
 
 -- the value of a relocation: the address of its symbol plus the addend
 abbrev pub value_of : List GlobalData → PlacedData → Reloc → ℕ
@@ -55,24 +60,3 @@ with_reloc globals p sections r = with_item (with_relocation globals p r) r.sect
 -- the sections of a placed object after all its relocations are written, in order
 unfoldable pub relocated_sections : List GlobalData → PlacedData → List SectionData
 relocated_sections globals p = fold (with_reloc globals p) p.object.sections p.object.relocs
-
--- ---- places
--- zeros up to a multiple of 4
-abbrev pub with_padding : List ℕ → List ℕ
-with_padding bytes = bytes ++ replicate (round_up (length bytes) - length bytes) 0
-
--- the bytes of a place after a further section, if it has the place's name
-abbrev pub with_section : List ℕ → List ℕ → SectionData → List ℕ
-with_section name bytes s = if bytes_eq name s.name then with_padding bytes ++ s.bytes else bytes
-
--- the sections of one name, each at a multiple of 4, the gaps zero
-unfoldable pub joined_sections : List ℕ → List SectionData → List ℕ
-joined_sections name sections = fold (with_section name) [] sections
-
--- the segment of a place: the sections with its name
-abbrev pub segment_of : List SectionData → PlaceData → SegmentData
-segment_of sections p = record { at = p.at; bytes = joined_sections p.section sections }
-
--- the segments: one for each place with bytes
-unfoldable pub segments_of : List PlaceData → List SectionData → List SegmentData
-segments_of places sections = filter (λ s. nat_lt 0 (length s.bytes)) (map (segment_of sections) places)

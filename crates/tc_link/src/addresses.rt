@@ -1,7 +1,7 @@
 // Computes the addresses of symbols.
 ghost use Rattle.std.specs.Prelude.{◌≡◌, List, slice_index, map, IfOk, IfErr};
-ghost use Rattle.tc_link.specs.Placing.{GlobalData, PlacedData, address_in, symbol_address, symbol_addresses};
-ghost use Rattle.tc_link.specs.Relocated.{value_of};
+ghost use Rattle.tc_link.specs.Placing.{GlobalData, PlacedData, address_in};
+ghost use Rattle.tc_link.specs.Relocated.{symbol_address, symbol_addresses, value_of};
 ghost use Rattle.tc_link.specs.Names.{address_of, address_named, AreGlobals};
 ghost use Rattle.tc_link.specs.declared.errors.LinkErr.TheVariants.{NoMemory};
 

@@ -20,7 +20,7 @@ pub(crate) struct Draft {
 impl Model for Draft {
     ghost use Rattle.std.specs.Prelude.{string_bytes};
     ghost use Rattle.std.specs.Option.{option_map, option_to_list};
-    ghost use Rattle.tc_link.specs.Seen.{DraftData, IsDraft};
+    ghost use Rattle.tc_link.specs.LayoutDrafts.{DraftData, IsDraft};
 
     ghost Value = { DraftData };
 
@@ -35,9 +35,9 @@ impl Draft {
     ghost use Rattle.std.specs.List.{list_any};
     ghost use Rattle.tc_object.specs.Names.{name_of};
     ghost use Rattle.tc_link.specs.Layouts.{IsPlace, IsPlaceAfter, is_placed, shares_at};
-    ghost use Rattle.tc_link.specs.Lines.{line_of, place};
-    ghost use Rattle.tc_link.specs.Faults.{fault_of, with_entry, IsFaultOf, IsFault};
-    ghost use Rattle.tc_link.specs.Seen.{with_line, line_data, IsGood};
+    ghost use Rattle.tc_link.specs.LayoutLines.{line_of, place};
+    ghost use Rattle.tc_link.specs.LayoutFaults.{fault_of, with_entry, IsFaultOf, IsFault};
+    ghost use Rattle.tc_link.specs.LayoutDrafts.{with_line, line_data, IsGood};
     ghost use Rattle.tc_link.specs.declared.layout_errors.LayoutErr.TheVariants.{Twice, TooMany, Overlap, NoMemory};
 
     /// A draft without lines.

@@ -51,7 +51,7 @@ impl Model for Layout {
 
 impl Layout {
     ghost use Rattle.std.specs.Prelude.{◌≡◌, ◌≤◌, ◌^◌, length, Ok, IfOk, IfErr};
-    ghost use Rattle.tc_link.specs.Faults.{layout_of, IsFaultOf};
+    ghost use Rattle.tc_link.specs.LayoutFaults.{layout_of, IsFaultOf};
 
     /// The layout in a text, or its first fault. The lines are `entry NAME` and `place SECTION AT
     /// MOST`, with numbers of eight upper-case hex digits. One space separates two words. Empty

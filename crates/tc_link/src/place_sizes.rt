@@ -2,9 +2,9 @@
 ghost use Rattle.std.specs.Prelude.{◌≡◌, ◌≤◌, ◌<◌, ◌+◌, ◌++◌, ◌∷◌, [], ◌*◌, ◌^◌, ℕ, List, length, slice_index, position, IfSome, OnOk, IfOk, IfErr, None, false};
 ghost use Rattle.tc_object.specs.Objects.{SectionData};
 ghost use Rattle.std.specs.Str.{bytes_eq};
-ghost use Rattle.tc_link.specs.Placing.{round_up, with_size, base_of, bases_after};
-ghost use Rattle.tc_link.specs.Linked.{is_over, no_room_after};
-ghost use Rattle.tc_link.specs.PlaceSizes.{AreTaken, AreSmall};
+ghost use Rattle.tc_link.specs.Placing.{base_of, bases_after};
+ghost use Rattle.tc_link.specs.PlaceSizes.{round_up, with_size, AreTaken, AreSmall};
+ghost use Rattle.tc_link.specs.Refusals.{is_over, no_room_after};
 ghost use Rattle.tc_link.specs.Errors.{IsRefusal};
 
 use crate::{LinkErr, Place};

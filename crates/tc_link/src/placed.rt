@@ -2,7 +2,7 @@
 ghost use Rattle.std.specs.Prelude.{◌≡◌, ◌≤◌, ◌<◌, [], ℕ, IfOk, IfErr, length, slice_index, slice_index_or, None};
 ghost use Rattle.tc_object.specs.Objects.{ObjectData, IsObject};
 ghost use Rattle.tc_link.specs.Placing.{placed_after, sections_of};
-ghost use Rattle.tc_link.specs.Linked.{no_room_after};
+ghost use Rattle.tc_link.specs.Refusals.{no_room_after};
 ghost use Rattle.tc_link.specs.PlaceSizes.{AreTaken, AreSmall};
 ghost use Rattle.tc_link.specs.Errors.{IsRefusal};
 ghost use Rattle.tc_link.specs.declared.errors.LinkErr.TheVariants.{NoMemory};

@@ -3,7 +3,7 @@ ghost use Rattle.std.specs.Prelude.{◌≡◌, ◌<◌, ◌==◌, ◌&&◌, ◌|
 ghost use Rattle.std.specs.Option.{option_map};
 ghost use Rattle.tc_object.specs.Objects.{SymbolData};
 ghost use Rattle.tc_link.specs.Layouts.{is_placed};
-ghost use Rattle.tc_link.specs.Linked.{no_place, no_place_of, no_place_in, first_some, has_symbol};
+ghost use Rattle.tc_link.specs.Refusals.{no_place, no_place_of, no_place_in, first_some, has_symbol};
 ghost use Rattle.tc_link.specs.Errors.{IsRefusal};
 ghost use Rattle.tc_link.specs.declared.errors.LinkErr.TheVariants.{NoMemory};
 

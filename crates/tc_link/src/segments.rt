@@ -1,8 +1,8 @@
 // Joins sections to the segments of an image.
 ghost use Rattle.std.specs.Prelude.{◌≡◌, ◌≤◌, ◌<◌, ◌-◌, ◌++◌, ◌∷◌, length, nat_lt, map, filter, [], OnOk, IfOk, IfErr, replicate};
 ghost use Rattle.elf_image.specs.Images.{segment_data};
-ghost use Rattle.tc_link.specs.Placing.{round_up};
-ghost use Rattle.tc_link.specs.Relocated.{with_padding, joined_sections, segments_of, with_section};
+ghost use Rattle.tc_link.specs.PlaceSizes.{round_up};
+ghost use Rattle.tc_link.specs.Segments.{with_padding, joined_sections, segments_of, with_section};
 ghost use Rattle.tc_link.specs.declared.errors.LinkErr.TheVariants.{NoMemory};
 
 use crate::written_sections::WrittenSection;

@@ -6,7 +6,7 @@ use Rattle.csa_chain.specs.Memory.{Memory}
 use Rattle.elf_image.specs.Images.{ImageData}
 use Rattle.tcd_plan.specs.PlanData.{PlanData, IsPlan}
 use Rattle.tc_isa.specs.Insts.{InstData}
-use Rattle.tc_isa.specs.Shapes.{shape_of}
+use Rattle.tc_isa.specs.Meanings.{shape_of}
 use Rattle.tc_encode.specs.Decoding.{decoded_of}
 use Rattle.tc_encode.proofs.DecodeProofs.{decode_laws}
 use Rattle.tc_machine.specs.declared.events.Cause.TheVariants.{NoCode}

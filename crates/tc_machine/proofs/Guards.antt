@@ -18,7 +18,7 @@ use Rattle.tc_machine.specs.PlanAreas.{first_link, plan_areas}
 use Rattle.tc_machine.specs.Instructions.{access_address}
 use Rattle.tc_machine.specs.Stepping.{load_at_pc, run, stored}
 use Rattle.tc_machine.specs.Safe.{Fits, AllFit, IsSafeAt}
-use Rattle.tc_machine.specs.Guards.{EveryEventFits, first_events, EveryRunFits, EveryStartStarts, IsWalk, LiesInRange, HasFiveParts, SafeSays, StoresTold}
+use Rattle.tc_machine.specs.MachineLaws.{EveryEventFits, first_events, EveryRunFits, EveryStartStarts, IsWalk, LiesInRange, HasFiveParts, SafeSays, StoresTold}
 use Rattle.tc_machine.proofs.PlanLaws.{link_lt, length-links_up, length-reverse_onto, get_or-links_up}
 use Rattle.tc_machine.proofs.Steps.{stored-is}
 

@@ -19,7 +19,8 @@ use Rattle.tc_machine.specs.declared.state.Machine.{Machine}
 use Rattle.tc_machine.specs.Machine.{with_reg, with_status, then_, goes_on}
 use Rattle.tc_machine.specs.Fetching.{fetched, mapped_bytes, shaped}
 use Rattle.tc_machine.specs.Instructions.{does, with_base, lowered, access_address}
-use Rattle.tc_machine.specs.Stepping.{is_taken, executed, done, step, keeps_of, used_of}
+use Rattle.tc_machine.specs.Stepping.{is_taken, executed, done, step, used_of}
+use Rattle.tc_machine.specs.Kinds.{keeps_of}
 
 -- two states with equal memory and PCXI
 pub record Same (m n : Machine) : Type 0 where

@@ -7,7 +7,7 @@ use Rattle.tc_isa.specs.declared.shapes.Target.TheVariants as target
 use Rattle.tc_isa.specs.declared.shapes.Shape.{Shape}
 use Rattle.tc_isa.specs.declared.shapes.Shape.TheVariants.{Compute, Load, Jump, Call, Bisr, Syscall}
 use Rattle.tc_isa.specs.Insts.{InstData, IsInst}
-use Rattle.tc_isa.specs.Shapes.{shape_of}
+use Rattle.tc_isa.specs.Meanings.{shape_of}
 use Rattle.tc_isa.specs.Bounded as bounded
 use Rattle.tc_isa.proofs.ShapeBounds.{shape_is}
 

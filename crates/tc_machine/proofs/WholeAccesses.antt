@@ -5,8 +5,7 @@ use Rattle.std.specs.Bool.{MatchBool}
 use Rattle.std.proofs.lemmas.Bool.{and_parts, leb-true}
 use Rattle.std.proofs.lemmas.Option.{cond_some}
 use Rattle.std.specs.FinMap as map
-use Rattle.csa_chain.specs.Memory.{Memory, is_mapped, byte_at, are_mapped, word_at, with_word, load_number, with_bytes}
-use Rattle.csa_chain.specs.MemoryChanges.{HasBytes}
+use Rattle.csa_chain.specs.Memory.{Memory, is_mapped, byte_at, are_mapped, word_at, with_word, load_number, with_bytes, HasBytes}
 use Rattle.csa_chain.specs.Chain.{link_address, is_area, area_word}
 use Rattle.csa_chain.proofs.ChainLaws.{are_mapped_each}
 use Rattle.tcd_base.specs.Bytes.{bytes_of_word}

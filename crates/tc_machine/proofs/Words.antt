@@ -6,12 +6,11 @@ use Rattle.std.proofs.lemmas.List.Elements.{All-set}
 use Rattle.std.proofs.Math.Nat.{div-le_self}
 use Rattle.std.proofs.lemmas.Nat.{or_lt, and_le_l, xor_lt}
 use Rattle.std.specs.FinMap as map
-use Rattle.csa_chain.specs.Memory.{Memory, with_byte, load_number, with_bytes, extend}
+use Rattle.csa_chain.specs.Memory.{Memory, with_byte, load_number, with_bytes, extend, HasBytes}
 use Rattle.csa_chain.proofs.WordLaws.{HasBytes-with_byte}
 use Rattle.tc_isa.specs.declared.shapes.Op.{Op}
 use Rattle.tc_isa.specs.declared.shapes.Op.TheVariants as op
 use Rattle.tc_isa.specs.Arithmetic.{signed_place, complement, one_if, shift_by, shifted_signed, alu_of}
-use Rattle.csa_chain.specs.MemoryChanges.{HasBytes}
 use Rattle.tc_machine.specs.Safe.{AreRegisters}
 use Rattle.tc_machine.proofs.ShapeWords.{IsSize, extended_lt}
 

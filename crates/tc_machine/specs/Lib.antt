@@ -2,7 +2,6 @@
 pub mod Machine
 pub mod Contexts
 pub mod Fetching
-pub mod Guards
 pub mod Instructions
 pub mod Kinds
 pub mod Stepping

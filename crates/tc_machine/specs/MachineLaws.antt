@@ -1,10 +1,11 @@
--- The laws of machines, for all programs: their statements.
-use Rattle.std.specs.Prelude.{◌≡◌, ◌≢◌, ℕ, ◌%◌, ◌^◌, ◌<◌, Bool, true, false, List, length, Ok}
-use Rattle.csa_chain.specs.Chain.{link_in, is_area}
-use Rattle.elf_image.specs.Images.{ImageData}
+-- The laws of machines, for all programs, and the guard laws, which say in plain equations what the
+-- definitions under the headline say: a definition that requires more would break one of them.
+use Rattle.std.specs.Prelude.{◌≡◌, ◌≢◌, ℕ, ◌%◌, ◌^◌, ◌<◌, Bool, true, false, List, length, Ok, ◌↔◌, zero, suc, ◌+◌, ◌-◌, ◌*◌, ◌/◌, ◌≤◌, ◌⊎◌, ◌==◌, ◌∷◌, ◌++◌, reverse, map, slice_get, slice_index, All, Contains, Some}
+use Rattle.csa_chain.specs.Chain.{link_in, is_area, link_address, area_word}
+use Rattle.elf_image.specs.Images.{ImageData, IsImage, image_byte}
 use Rattle.tcd_plan.specs.PlanData.{PlanData, IsPlan}
 use Rattle.tc_isa.specs.Insts.{InstData}
-use Rattle.tc_isa.specs.Shapes.{shape_of}
+use Rattle.tc_isa.specs.Meanings.{shape_of}
 use Rattle.tc_isa.specs.declared.shapes.Shape.{Shape}
 use Rattle.tc_machine.specs.declared.events.Cause.{Cause}
 use Rattle.tc_machine.specs.declared.events.Cause.TheVariants.{Fcd}
@@ -14,10 +15,19 @@ use Rattle.tc_machine.specs.declared.state.Machine.{Machine}
 use Rattle.tc_machine.specs.Machine.{with_status}
 use Rattle.tc_machine.specs.Contexts.{saved, save, has_kind, restored, restore}
 use Rattle.tc_machine.specs.Fetching.{fetched}
-use Rattle.tc_machine.specs.Instructions.{does}
-use Rattle.tc_machine.specs.Stepping.{is_taken, step, run}
-use Rattle.tc_machine.specs.Safe.{IsMachine, Starts, AllFit, SpellsAt, ChainsAreWhole}
+use Rattle.tc_machine.specs.Instructions.{does, access_address}
+use Rattle.tc_machine.specs.Stepping.{is_taken, step, run, load_at_pc, stored}
+use Rattle.tc_machine.specs.Safe.{IsMachine, Starts, AllFit, SpellsAt, ChainsAreWhole, Fits, Safe}
 use Rattle.tc_mem.specs.PlanMemory.{HoldsRom}
+use Rattle.csa_chain.specs.Memory.{Memory, is_mapped}
+use Rattle.tcd_base.specs.declared.range.Range.{Range}
+use Rattle.tcd_base.specs.Ranges.{IsInOne}
+use Rattle.tcd_plan.specs.declared.plans.Device.{Device}
+use Rattle.tc_isa.specs.Spelling.{Spells}
+use Rattle.tc_isa.specs.declared.shapes.Arg.{Arg}
+use Rattle.tc_isa.specs.declared.shapes.Shape.TheVariants.{Store}
+use Rattle.tc_machine.specs.PlanAreas.{first_link}
+use Rattle.std.specs.FinMap as bytes
 
 -- in a start state all areas are free
 abbrev pub StartsWhole : Type 0
@@ -57,3 +67,114 @@ StepStays = (m : Machine) (e : Event) → IsMachine m → e.irq < 2 ^ 8 → e.in
 -- every run from a start state, under events that fit, keeps them too
 abbrev pub RunStays : Type 0
 RunStays = (image : ImageData) (plan : PlanData) (m : Machine) (es : List Event) → IsPlan plan → Starts image plan m → AllFit plan m es → IsMachine (run m es)
+
+-- ---- guard laws: what the definitions under the headline say, in plain equations
+-- An event fits if its interrupt is none or one of the plan's, and its input is within bounds. If
+-- no interrupt is taken, these are the bounds of the device that has the loaded word. The status is
+-- any byte, and a misaligned access may trap or not.
+abbrev pub EveryEventFits : Type 0
+EveryEventFits =
+    (plan : PlanData) (m : Machine) (irq input status : ℕ) (aln : Bool) → (irq ≡ 0) ⊎ Contains plan.irqs irq → input < 2 ^ 32 → status < 2 ^ 8
+    → ((m.ie ≡ true → irq ≤ m.ccpn) → (x k : ℕ) (d : Device) → load_at_pc m ≡ Some (x, 4) → slice_get plan.devices k ≡ Some d
+    → d.range.at ≤ x → x + 4 ≤ d.range.at + d.range.len → (d.lo ≤ input) × (input ≤ d.hi))
+    → Fits plan m (record { irq = irq; input = input; status = status; aln = aln })
+
+-- a run, state by state: each state is the step of the one before
+abbrev pub IsRun : (ℕ → Machine) → (ℕ → Event) → Type 0
+IsRun states events = (k : ℕ) → states (suc k) ≡ step (states k) (events k)
+
+-- the first n events
+abbrev pub first_events : ℕ → (ℕ → Event) → List Event
+first_events zero events = []
+first_events (suc n) events = events 0 ∷ first_events n (λ k. events (suc k))
+
+-- If each of the first n events fits the state before it, they all fit, and their run ends in state
+-- n.
+abbrev pub EveryRunFits : Type 0
+EveryRunFits =
+    (plan : PlanData) (states : ℕ → Machine) (events : ℕ → Event) (n : ℕ) → IsRun states events → ((k : ℕ) → k < n → Fits plan (states k) (events k))
+    → AllFit plan (states 0) (first_events n events) × (run (states 0) (first_events n events) ≡ states n)
+
+-- A machine starts the image under the plan if its fields are the stated ones. All other registers,
+-- bits of PSW and bytes can be anything.
+abbrev pub EveryStartStarts : Type 0
+EveryStartStarts =
+    (image : ImageData) (plan : PlanData) (d a : List ℕ) (psw : ℕ) (mem : Memory) → IsImage image → IsPlan plan
+    → length d ≡ 16 → All (λ w. w < 2 ^ 32) d → length a ≡ 16 → All (λ w. w < 2 ^ 32) a → psw < 2 ^ 32
+    → ((x b : ℕ) → bytes.get mem x ≡ Some b → b < 2 ^ 8)
+    → ((x : ℕ) → (is_mapped mem x ≡ true) ↔ (IsInOne x 1 plan.rom ⊎ IsInOne x 1 plan.ram ⊎ ((plan.csa_at ≤ x) × (x < plan.csa_at + 64 * plan.areas))))
+    → ((x b : ℕ) → IsInOne x 1 plan.rom → image_byte image x ≡ Some b → bytes.get mem x ≡ Some b)
+    → ((i : ℕ) → i + 1 < plan.areas → area_word mem (first_link plan + i) 0 ≡ first_link plan + (i + 1))
+    → ((i : ℕ) → i + 1 ≡ plan.areas → area_word mem (first_link plan + i) 0 ≡ 0)
+    → slice_index a 10 ≡ plan.sp → slice_index a 0 ∷ slice_index a 1 ∷ slice_index a 8 ∷ slice_index a 9 ∷ [] ≡ plan.globals
+    → (psw / 2 ^ 9 % 2 == 1) ≡ plan.start_is → psw / 2 ^ 10 % 4 ≡ 2
+    → Starts image plan (record {
+      pc = image.entry;
+      d = d;
+      a = a;
+      psw = psw;
+      pcxi = 0;
+      fcx = first_link plan;
+      lcx = first_link plan + (plan.areas - plan.reserve);
+      ccpn = plan.start_ccpn;
+      ie = plan.start_ie;
+      biv = plan.biv;
+      btv = plan.btv;
+      isp = plan.isp;
+      mem = mem;
+      end = Running;
+      core = plan.core;
+    })
+
+-- ---- what is safe
+-- The links that a word leads to: its low 20 bits name a mapped area of 64 bytes, whose word 0
+-- leads to the next one. The last area has 0 there.
+abbrev pub IsWalk : Memory → ℕ → List ℕ → Type 0
+IsWalk mem word [] = word % 2 ^ 20 ≡ 0
+IsWalk mem word (l ∷ ls) =
+    (l ≢ 0) × (word % 2 ^ 20 ≡ l) × ((i : ℕ) → i < 64 → is_mapped mem (link_address l + i) ≡ true) × IsWalk mem (area_word mem l 0) ls
+
+-- the n addresses from x on are inside one of the ranges
+pub record LiesInRange (ranges : List Range) (x n : ℕ) : Type 0 where
+  pub place : ℕ
+  pub range : Range
+  pub there : slice_get ranges place ≡ Some range
+  pub from : range.at ≤ x
+  pub to : x + n ≤ range.at + range.len
+
+-- What is safe, in five parts. The machine runs. PCXI and FCX lead to two lists of areas: the used
+-- ones in reverse and then the free ones are the areas of the plan, each in its place. At most
+-- `most` are used. The bytes at pc, in memory and in the image, spell an instruction in one rom
+-- range. What the next event stores at is in one range of ram or of a device.
+pub record HasFiveParts (image : ImageData) (plan : PlanData) (most : ℕ) (m : Machine) (e : Event) : Type 0 where
+  pub running : m.end ≡ Running
+  pub used : List ℕ
+  pub free : List ℕ
+  pub used_walk : IsWalk m.mem m.pcxi used
+  pub free_walk : IsWalk m.mem m.fcx free
+  pub count : length used + length free ≡ plan.areas
+  pub places : (k : ℕ) → k < plan.areas → slice_index (reverse used ++ free) k ≡ first_link plan + k
+  pub within_need : length used ≤ most
+  pub code : List ℕ
+  pub inst : InstData
+  pub spelled : Spells code inst
+  pub in_rom : LiesInRange plan.rom m.pc (length code)
+  pub held : (i : ℕ) → i < length code → image_byte image (m.pc + i) ≡ Some (slice_index code i)
+  pub there : (i : ℕ) → i < length code → bytes.get m.mem (m.pc + i) ≡ Some (slice_index code i)
+  pub store : (x n : ℕ) → stored m e ≡ Some (x, n) → (x + n ≤ 2 ^ 32) × (LiesInRange plan.ram x n ⊎ LiesInRange (map (λ d. d.range) plan.devices) x n)
+
+-- in each state of each run that is written out, and for each next event that fits, what is safe
+-- has these five parts
+abbrev pub SafeSays : Type 0
+SafeSays =
+    (image : ImageData) (plan : PlanData) (most : ℕ) (states : ℕ → Machine) (events : ℕ → Event) (n : ℕ) (e : Event) → Safe image plan most
+    → IsRun states events → Starts image plan (states 0) → ((k : ℕ) → k < n → Fits plan (states k) (events k)) → Fits plan (states n) e
+    → HasFiveParts image plan most (states n) e
+
+-- if no interrupt is taken, and the access is aligned or doesn't trap, a store instruction stores
+-- at its address
+abbrev pub StoresTold : Type 0
+StoresTold =
+    (m : Machine) (e : Event) (src : ℕ) (base : Arg) (offset size : ℕ) (after : Bool) (n : ℕ) → m.end ≡ Running → is_taken m e ≡ false
+    → fetched m ≡ Ok (Store src base offset size after, n) → (e.aln ≡ true → access_address m base offset after % size ≡ 0)
+    → stored m e ≡ Some (access_address m base offset after, size)

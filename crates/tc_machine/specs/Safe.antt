@@ -1,9 +1,8 @@
 -- Start states, events that fit, and what safe means: the definitions under the headline.
 use Rattle.std.specs.Prelude.{◌≡◌, ℕ, ◌+◌, ◌-◌, ◌/◌, ◌%◌, ◌^◌, ◌<◌, ◌≤◌, ◌⊎◌, false, nat_lt, if◌then◌else◌, List, [], ◌∷◌, ◌++◌, length, reverse, slice_index, Some, IfSome, All, Contains}
 use Rattle.std.specs.FinMap as map
-use Rattle.csa_chain.specs.Memory.{Memory}
+use Rattle.csa_chain.specs.Memory.{Memory, HasBytes}
 use Rattle.csa_chain.specs.Chain.{chain, area_word}
-use Rattle.csa_chain.specs.MemoryChanges.{HasBytes}
 use Rattle.elf_image.specs.Images.{ImageData, image_byte}
 use Rattle.tcd_plan.specs.PlanData.{PlanData}
 use Rattle.tc_isa.specs.Insts.{InstData}

@@ -1,7 +1,7 @@
 -- The state that a machine starts in, and how its memory is filled.
 use Rattle.std.specs.Prelude.{◌≡◌, ℕ, zero, suc, ◌+◌, ◌*◌, ◌/◌, ◌%◌, ◌^◌, ◌<◌, ◌≤◌, ◌⊎◌, Bool, true, nat_lt, if◌then◌else◌, List, [], ◌∷◌, ◌++◌, slice_index, Option, Some, None}
 use Rattle.std.specs.FinMap as map
-use Rattle.csa_chain.specs.Memory.{Memory, is_mapped, with_byte, with_words}
+use Rattle.csa_chain.specs.Memory.{Memory, is_mapped, with_byte, with_words, HasBytes}
 use Rattle.csa_chain.specs.Chain.{area_word}
 use Rattle.elf_image.specs.Images.{ImageData, SegmentData, byte_in, image_byte}
 use Rattle.tcd_base.specs.declared.range.Range.{Range}
@@ -11,7 +11,6 @@ use Rattle.tc_machine.specs.declared.state.Machine.{Machine}
 use Rattle.tcd_base.specs.Ranges.{IsInOne}
 use Rattle.tc_machine.specs.Safe.{Starts}
 use Rattle.tc_machine.specs.PlanAreas.{first_link}
-use Rattle.csa_chain.specs.MemoryChanges.{HasBytes}
 
 -- ---- the memory is filled
 -- the memory with a byte at x, if there is one

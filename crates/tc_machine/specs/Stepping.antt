@@ -1,10 +1,10 @@
 -- Steps and runs.
-use Rattle.std.specs.Prelude.{ℕ, Bool, true, false, not, ◌&&◌, nat_lt, if◌then◌else◌, List, [], ◌∷◌, length, Option, Some, None, Result, Ok, Err}
+use Rattle.std.specs.Prelude.{ℕ, Bool, ◌&&◌, nat_lt, if◌then◌else◌, List, ◌∷◌, length, Option, Some, None, Result, Ok, Err}
 use Rattle.std.specs.Option.{option_map}
 use Rattle.csa_chain.specs.Chain.{chain}
 use Rattle.tc_encode.specs.Decoding.{decoded_of}
 use Rattle.tc_isa.specs.declared.shapes.Shape.{Shape}
-use Rattle.tc_isa.specs.declared.shapes.Shape.TheVariants.{Compute, Scaled, Load, Store, Branch, Jump, Enable, Disable, Mfcr, Nothing}
+use Rattle.tc_isa.specs.declared.shapes.Shape.TheVariants.{Load, Store}
 use Rattle.tc_machine.specs.declared.events.Cause.{Cause}
 use Rattle.tc_machine.specs.declared.events.Event.{Event}
 use Rattle.tc_machine.specs.declared.events.End.{End}
@@ -60,29 +60,6 @@ next_load_of m = where_running m.end (load_in m (shaped (decoded_of (mapped_byte
 -- area that isn't mapped
 abbrev pub used_of : Machine → Option ℕ
 used_of m = option_map length (chain m.mem m.pcxi)
-
--- an instruction never changes the memory or PCXI: it is no store, saves and restores no context,
--- writes no core register, and can't trap
-abbrev pub keeps_of : Event → Shape → Bool
-keeps_of e (Load dst base offset size signed after) = not e.aln
-keeps_of e (Compute op dst x y) = true
-keeps_of e (Scaled dst base index k) = true
-keeps_of e (Branch cond x y by lowers) = true
-keeps_of e (Jump to) = true
-keeps_of e (Mfcr dst number) = true
-keeps_of e Enable = true
-keeps_of e Disable = true
-keeps_of e Nothing = true
-keeps_of e _ = false
-
--- what was found is an instruction that never changes them
-abbrev pub keeps_found : Event → Result (Shape × ℕ) Cause → Bool
-keeps_found e (Ok found) = keeps_of e found.0
-keeps_found e (Err cause) = false
-
--- no interrupt is taken, and what was found at pc never changes the memory or PCXI
-abbrev pub keeps_at : Machine → Event → Result (Shape × ℕ) Cause → Bool
-keeps_at m e found = not (is_taken m e) && keeps_found e found
 
 -- the address and the size that this instruction stores at, if the access doesn't trap
 abbrev pub store_in : Machine → Event → Result (Shape × ℕ) Cause → Option (ℕ × ℕ)

@@ -5,7 +5,8 @@ ghost use Rattle.csa_chain.specs.Chain.{link_in, is_area, area_word};
 ghost use Rattle.tc_isa.specs.Bounded.{IsShape};
 ghost use Rattle.tc_encode.specs.Decoding.{decoded_of};
 ghost use Rattle.tc_machine.specs.Fetching.{mapped_bytes, shaped};
-ghost use Rattle.tc_machine.specs.Stepping.{load_in, next_load_of, used_of, step, keeps_of, keeps_at};
+ghost use Rattle.tc_machine.specs.Stepping.{load_in, next_load_of, used_of, step};
+ghost use Rattle.tc_machine.specs.Kinds.{keeps_of, keeps_at};
 
 use crate::contexts::link;
 use crate::{Cause, End, Event, Machine};

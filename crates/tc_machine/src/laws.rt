@@ -1,7 +1,6 @@
 // Laws of the machine for all programs, and laws that pin the definitions under the headline.
 
-ghost use Rattle.tc_machine.specs.Guards.{EveryEventFits, EveryRunFits, EveryStartStarts, SafeSays, StoresTold};
-ghost use Rattle.tc_machine.specs.MachineLaws.{StartsWhole, FetchesSpelled, SaveStands, RestoreStands, StepDoes, DeathChanges, StepStays, RunStays};
+ghost use Rattle.tc_machine.specs.MachineLaws.{EveryEventFits, EveryRunFits, EveryStartStarts, SafeSays, StoresTold, StartsWhole, FetchesSpelled, SaveStands, RestoreStands, StepDoes, DeathChanges, StepStays, RunStays};
 
 /// The laws of the machine: its areas at the start, what it fetches, saves, restores, steps and
 /// deaths.

@@ -2,7 +2,7 @@
 ghost use Rattle.std.specs.Prelude.{◌≡◌, IfOk};
 ghost use Rattle.tc_machine.specs.Starting.{psw_at_start, StartsInZeros};
 
-use crate::filling::{area_link, start_memory};
+use crate::start_memory::{area_link, start_memory};
 use crate::{End, Machine};
 use elf_image::Image;
 use std::alloc::Global;

@@ -1,8 +1,8 @@
 //! A memory: bytes at addresses, in pages of 4,096 bytes.
 #![tactic(auto)]
 
-mod mem;
+mod memory;
 mod page;
-mod page_table;
+mod page_numbers;
 
-pub use mem::Mem;
+pub use memory::Mem;

@@ -2,7 +2,7 @@
 use Rattle.std.proofs.Common.{◌≡◌, ℕ, ◌-◌, ◌<◌, List, [], Result}
 use Rattle.tcd_base.specs.declared.errors.FormErr.{FormErr}
 use Rattle.tcd_base.specs.Place.{Place}
-use Rattle.tcd_base.specs.Reading.{many_at}
+use Rattle.tcd_base.specs.FieldReaders.{many_at}
 use Rattle.tcd_base.proofs.ManyLaws.{many_fail}
 use Rattle.tc_object.specs.declared.errors.ObjErr.{ObjErr}
 use Rattle.tc_object.specs.declared.errors.ObjErr.TheVariants.{Bad, NoMemory}

@@ -3,7 +3,7 @@
 use Rattle.std.specs.Prelude.{◌+◌, ◌==◌, ◌&&◌, not, nat_lt, nat_le, if◌then◌else◌, ℕ, Bool, List, [], length, Result, Ok}
 use Rattle.tcd_base.specs.declared.errors.FormErr.{FormErr}
 use Rattle.tcd_base.specs.Place.{Place}
-use Rattle.tcd_base.specs.Reading.{◌>>=◌, fault_at, u8_at, u16_at, u32_at, bytes_at, many_at}
+use Rattle.tcd_base.specs.FieldReaders.{◌>>=◌, fault_at, u8_at, u16_at, u32_at, bytes_at, many_at}
 use Rattle.tc_object.specs.declared.relocs.Reloc.{Reloc}
 use Rattle.tc_object.specs.Names.{is_length, is_name}
 use Rattle.tc_object.specs.Objects.{SectionData, SymbolData, ObjectData, is_section_name, is_symbol_name, size_at, is_section_of, is_offset_of, last_of, is_not_below, is_behind}

@@ -1,6 +1,6 @@
 // Readers of single fields of an object file.
 ghost use Rattle.std.specs.Prelude.{◌≡◌, ◌≤◌, ◌^◌, ◌&&◌, nat_le, length};
-ghost use Rattle.tcd_base.specs.Reading.{Reads};
+ghost use Rattle.tcd_base.specs.FieldReaders.{Reads};
 ghost use Rattle.tc_object.specs.Grammar.{magic_at, section_count_at, kind_at};
 
 use tcd_base::{

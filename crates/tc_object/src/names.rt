@@ -1,6 +1,6 @@
 // Names of sections and symbols: which bytes are one, and readers of them.
 ghost use Rattle.std.specs.Prelude.{◌≡◌, ◌≤◌, ◌^◌, length, true, Err, IfOk, IfErr, MatchResult};
-ghost use Rattle.tcd_base.specs.Reading.{Reads};
+ghost use Rattle.tcd_base.specs.FieldReaders.{Reads};
 ghost use Rattle.std.specs.Option.{option_copied};
 ghost use Rattle.tc_object.specs.Names.{is_name, name_of};
 ghost use Rattle.tc_object.specs.Grammar.{name_length_at, name_bytes_at};

@@ -4,9 +4,9 @@ ghost use Rattle.tc_object.specs.Answers.{IsFaultOf};
 ghost use Rattle.tc_object.specs.Grammar.{object_of};
 
 use crate::fields::{read_magic, read_section_count};
-use crate::reloc_fields::read_relocs;
-use crate::section_fields::read_sections;
-use crate::symbol_fields::read_symbols;
+use crate::reloc_reader::read_relocs;
+use crate::section_reader::read_sections;
+use crate::symbol_reader::read_symbols;
 use crate::{ObjErr, Reloc, SectionRef, SymbolRef};
 use std::alloc::Global;
 use tcd_base::{Cursor, TRAILING, fault, read_u16};

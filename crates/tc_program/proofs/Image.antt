@@ -10,13 +10,12 @@ use Rattle.std.proofs.lemmas.Option.{slice_get_within}
 use Rattle.std.proofs.lemmas.Slice.Eq.{bytes_eq-Decides}
 use Rattle.elf_image.specs.Images.{SegmentData, holds, byte_in, are_apart, all_apart}
 use Rattle.tc_object.specs.Objects.{SectionData, InTurn}
-use Rattle.tc_link.specs.Layouts.{PlaceData, IsPlaceAfter, is_placed}
-use Rattle.tc_link.specs.Placing.{round_up, taken_bytes, place_of}
-use Rattle.tc_link.specs.Relocated.{with_padding, with_section, joined_sections}
+use Rattle.tc_link.specs.Layouts.{PlaceData, IsPlaceAfter, is_placed, place_of}
+use Rattle.tc_link.specs.PlaceSizes.{round_up, taken_bytes}
+use Rattle.tc_link.specs.Segments.{with_padding, with_section, joined_sections}
 use Rattle.tc_link.specs.Shapes.{Shape, shape_of}
-use Rattle.tc_link.proofs.ShapeLaws.{length-joined, taken-shapes}
+use Rattle.tc_link.proofs.ShapeLaws.{length-joined, taken-shapes, padded_length}
 use Rattle.tc_stmt.proofs.ListItems.{get_short, in_front_or_rest, InRest, map_get, map_at, map_take}
-use Rattle.tc_link.proofs.ShapeLaws.{padded_length}
 
 -- ---- the bytes of a place
 -- the bytes so far remain at the start

@@ -4,15 +4,17 @@ use Rattle.std.specs.Prelude.{slice_get}
 use Rattle.std.specs.List.{flat_map}
 use Rattle.elf_image.specs.Images.{ImageData}
 use Rattle.tc_object.specs.Objects.{ObjectData, IsObject}
-use Rattle.tc_asm.specs.Kept.{IsDraft}
+use Rattle.tc_asm.specs.DraftInvariants.{IsDraft}
 use Rattle.tc_link.specs.Layouts.{LayoutData}
 use Rattle.tc_link.specs.Placing.{globals_of, global_address}
-use Rattle.tc_link.specs.Relocated.{relocated_sections, segments_of}
+use Rattle.tc_link.specs.Relocated.{relocated_sections}
+use Rattle.tc_link.specs.Segments.{segments_of}
 use Rattle.tcd_base.specs.Refusing.{unless}
-use Rattle.tc_link.specs.Linked.{Refusal, no_place_in, reloc_in, placed_of, contents_of, entry_of, made_of, refused_early, image_of_objects}
+use Rattle.tc_link.specs.Linked.{placed_of, contents_of, entry_of, made_of, refused_early, image_of_objects}
+use Rattle.tc_link.specs.Refusals.{Refusal, no_place_in, reloc_in}
 use Rattle.tc_link.specs.Shapes.{shape_of}
 use Rattle.tc_link.proofs.RelocLaws.{contents_shapes}
-use Rattle.tc_asm.specs.Contents.{draft_in}
+use Rattle.tc_asm.specs.Sources.{draft_in}
 use Rattle.tc_program.specs.Addresses.{sections_of}
 use Rattle.tc_program.specs.Placed.{span_of}
 use Rattle.tc_program.specs.Laws.{AreAssembled, SegmentsLaw, EntryLaw}

@@ -3,8 +3,8 @@ use Rattle.std.proofs.Common.{◌≡◌, Bool, true, false, cond, List, [], ◌�
 use Rattle.std.specs.Prelude.{filter, nat_lt}
 use Rattle.tc_object.specs.Objects.{SectionData}
 use Rattle.tc_link.specs.Layouts.{PlaceData}
-use Rattle.tc_link.specs.Placing.{taken_bytes}
-use Rattle.tc_link.specs.Relocated.{joined_sections, segment_of, segments_of}
+use Rattle.tc_link.specs.PlaceSizes.{taken_bytes}
+use Rattle.tc_link.specs.Segments.{joined_sections, segment_of, segments_of}
 use Rattle.tc_link.specs.Shapes.{shape_of}
 use Rattle.tc_link.proofs.ShapeLaws.{length-joined, taken-shapes}
 use Rattle.tc_program.specs.Placed.{SpanData, span_of, place_span}

@@ -4,7 +4,7 @@ use Rattle.std.specs.Prelude.{slice_get}
 use Rattle.std.specs.Option.{option_map_or}
 use Rattle.tc_isa.specs.declared.fields.Fields.{Fields}
 use Rattle.tc_isa.specs.Rows.{RowData}
-use Rattle.tc_isa.specs.Codec.{spelling}
+use Rattle.tc_isa.specs.Spelling.{spelling}
 use Rattle.tc_isa.proofs.TableFacts.{row_at}
 use Rattle.tc_stmt.specs.RowFields.{ReferenceData}
 use Rattle.tc_reloc.specs.Applied.{with_field}
@@ -14,7 +14,7 @@ use Rattle.tc_asm.specs.Symbols.{SymbolData}
 use Rattle.tc_asm.specs.Drafts.{DraftData, start, spelled_code, resolved, code_bytes, stepped}
 use Rattle.tc_isa.specs.Relocations.{is_reloc}
 use Rattle.tc_asm.specs.Sources.{symbols_of}
-use Rattle.tc_asm.specs.Kept.{Each}
+use Rattle.tc_asm.specs.DraftInvariants.{Each}
 use Rattle.tc_asm.specs.Statements.{StatementData, content_of, standing, statements_from}
 use Rattle.tc_program.specs.Laws.{FillsRow, FieldsLaw}
 use Rattle.tc_stmt.proofs.ListItems.{InRest, in_front_or_rest}

@@ -22,23 +22,26 @@ use Rattle.tc_stmt.specs.Lines.{lines_in, items_in}
 use Rattle.tc_asm.specs.Symbols.{SymbolData}
 use Rattle.tc_asm.specs.Drafts.{UseData, PartData, start}
 use Rattle.tc_isa.specs.Relocations.{is_reloc}
-use Rattle.tc_asm.specs.Sources.{KeepsRules, symbols_of, items_rule}
-use Rattle.tc_asm.specs.Kept.{is_among, symbol_names, IsUse, IsPart}
+use Rattle.tc_asm.specs.Sources.{KeepsRules, symbols_of, draft_in}
+use Rattle.tc_asm.specs.Rules.{items_rule}
+use Rattle.tc_asm.specs.DraftInvariants.{is_among, symbol_names, IsUse, IsPart}
 use Rattle.tc_asm.specs.Objects.{section_of, symbol_of, number_of, addend_of, reloc_of, relocs_from, object_of}
-use Rattle.tc_asm.specs.Statements.{StatementData, section_bytes, offset_of, bytes_at}
+use Rattle.tc_asm.specs.Statements.{StatementData, section_bytes, offset_of, bytes_at, statements_in, is_open}
 use Rattle.tc_asm.proofs.LaidLaws.{drafted-bytes, stands}
 use Rattle.tc_asm.proofs.ListLaws.{position_first}
-use Rattle.tc_link.specs.Layouts.{PlaceData, LayoutData, IsLayout}
-use Rattle.tc_link.specs.Placing.{PlacedData, GlobalData, round_up, taken_bytes, place_of, bases_after, globals_of, symbol_address}
+use Rattle.tc_link.specs.Layouts.{PlaceData, LayoutData, IsLayout, place_of}
+use Rattle.tc_link.specs.Placing.{PlacedData, GlobalData, bases_after, globals_of}
+use Rattle.tc_link.specs.PlaceSizes.{round_up, taken_bytes}
+use Rattle.tc_link.specs.Relocated.{symbol_address, relocated_sections, field_place, value_of, reloc_refusal}
 use Rattle.tc_link.specs.Placing as placing
-use Rattle.tc_link.specs.Relocated.{relocated_sections, field_place, value_of, reloc_refusal, joined_sections, segment_of, segments_of}
-use Rattle.tc_link.specs.Linked.{Refusal, reloc, missing_in, is_used, has_symbol, refusal_at, reloc_in, first_at, placed_of, contents_of, refused_early}
+use Rattle.tc_link.specs.Segments.{joined_sections, segment_of, segments_of}
+use Rattle.tc_link.specs.Linked.{placed_of, contents_of, refused_early}
+use Rattle.tc_link.specs.Refusals.{Refusal, reloc, missing_in, is_used, has_symbol, refusal_at, reloc_in, first_at}
 use Rattle.tc_link.specs.Shapes.{Shape, shape_of}
 use Rattle.tc_link.proofs.ShapeLaws.{taken-shapes}
 use Rattle.tc_link.proofs.RelocLaws.{relocated_shapes, contents_shapes}
 use Rattle.tc_link.proofs.ImageLaws.{KeepsLimits}
 use Rattle.tc_link.proofs.LinkLaws.{linked_image}
-use Rattle.tc_asm.specs.Contents.{draft_in, statements_in, is_open}
 use Rattle.tc_program.specs.Addresses.{Begins, Means}
 use Rattle.tc_program.specs.Placed.{value_at, plain, filled, HoldsFrom, StandsAt}
 use Rattle.tc_program.specs.Laws.{AreAssembled}

@@ -3,18 +3,19 @@ use Rattle.std.specs.Prelude.{◌≡◌, ◌<◌, ◌+◌, ◌%◌, ◌^◌, ◌
 use Rattle.elf_image.specs.Images.{ImageData}
 use Rattle.tc_isa.specs.declared.fields.Fields.{Fields}
 use Rattle.tc_isa.specs.Rows.{RowData, listed}
-use Rattle.tc_isa.specs.Codec.{Fits, spelling}
+use Rattle.tc_isa.specs.ValidRows.{Fits}
+use Rattle.tc_isa.specs.Spelling.{spelling}
 use Rattle.tc_isa.specs.Relocations.{is_reloc}
 use Rattle.tc_reloc.specs.Fields.{room_of}
 use Rattle.tc_reloc.specs.Applied.{with_field}
 use Rattle.tc_stmt.specs.RowFields.{ReferenceData}
 use Rattle.tc_object.specs.Objects.{ObjectData}
 use Rattle.tc_stmt.specs.Lines.{lines_in}
-use Rattle.tc_asm.specs.Sources.{symbols_of, KeepsRules}
+use Rattle.tc_asm.specs.Sources.{symbols_of, KeepsRules, draft_in, symbols_in}
 use Rattle.tc_asm.specs.Objects.{object_of}
-use Rattle.tc_asm.specs.Statements.{StatementData, offset_of}
-use Rattle.tc_asm.specs.Spelled.{Spells, displacement}
-use Rattle.tc_asm.specs.Contents.{draft_in, symbols_in, statements_in}
+use Rattle.tc_asm.specs.Statements.{StatementData, offset_of, statements_in}
+use Rattle.tc_asm.specs.InstructionLaws.{Spells}
+use Rattle.tc_asm.specs.ShortJumps.{displacement}
 use Rattle.tc_link.specs.Layouts.{PlaceData, LayoutData, IsLayout}
 use Rattle.tc_link.specs.Linked.{image_of_objects}
 use Rattle.tc_program.specs.Addresses.{sections_of, Begins, HasGlobal, Means}

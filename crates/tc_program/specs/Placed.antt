@@ -8,10 +8,9 @@ use Rattle.tc_reloc.specs.Applied.{with_field}
 use Rattle.tc_stmt.specs.RowFields.{ReferenceData}
 use Rattle.tc_object.specs.Objects.{SectionData}
 use Rattle.tc_asm.specs.Objects.{addend_of}
-use Rattle.tc_asm.specs.Statements.{StatementData, offset_of}
-use Rattle.tc_asm.specs.Contents.{statements_in, is_open}
+use Rattle.tc_asm.specs.Statements.{StatementData, offset_of, statements_in, is_open}
 use Rattle.tc_link.specs.Layouts.{PlaceData, LayoutData}
-use Rattle.tc_link.specs.Placing.{taken_bytes}
+use Rattle.tc_link.specs.PlaceSizes.{taken_bytes}
 use Rattle.tc_program.specs.Addresses.{sections_of, Begins, HasGlobal, Means}
 
 -- ---- bytes

@@ -9,15 +9,15 @@ use Rattle.tc_isa.specs.declared.fields.Fields.{Fields}
 use Rattle.tc_isa.specs.declared.table.Form.{Form}
 use Rattle.tc_isa.specs.declared.table.Form.TheVariants.{Rlc, Bol, Brr, Brc, B}
 use Rattle.tc_isa.specs.Rows.{RowData, listed}
-use Rattle.tc_isa.specs.Words.{IsBelow, bounds, second_bound, word}
+use Rattle.tc_isa.specs.Forms.{IsBelow, bounds, second_bound, word}
 use Rattle.tc_isa.specs.declared.fields.Uses.{Uses}
-use Rattle.tc_isa.specs.Codec.{uses_of, rest_is_zero, Fits, IsRow, is_long, four_bytes, spelling_of, spelling, word_of}
+use Rattle.tc_isa.specs.ValidRows.{uses_of, rest_is_zero, Fits, IsRow, is_long}
+use Rattle.tc_isa.specs.Spelling.{four_bytes, spelling_of, spelling, word_of}
 use Rattle.tc_isa.proofs.TableFacts.{row_at}
 use Rattle.tc_reloc.specs.Fields.{room_of, spread_of, rest_of}
 use Rattle.tc_reloc.specs.Applied.{with_field}
 use Rattle.tc_isa.specs.Relocations.{fills}
-use Rattle.tc_reloc.specs.Forms.{FitsLaw, WrittenLaw}
-use Rattle.tc_isa.specs.Relocations.{fills}
+use Rattle.tc_reloc.specs.FillingLaws.{FitsLaw, WrittenLaw}
 
 -- ---- words
 jump_word : (kind op1 op2 n : ℕ) (f : Fields) → op1 < 2 ^ 8 → (kind ≡ 1) ⊎ (kind ≡ 2) → rest_of kind (word B op1 op2 f) + spread_of kind n ≡ word B op1 op2 (record f { k = n })

@@ -1,7 +1,7 @@
 -- The address that the instruction reaches by a written field.
 use Rattle.std.specs.Prelude.{◌+◌, ◌*◌, ◌/◌, ◌%◌, ◌^◌, ◌==◌, ◌||◌, if◌then◌else◌, ℕ}
 use Rattle.tc_isa.specs.Relocations.{rel24, abs24, rel15, hi16, lo16, offset16}
-use Rattle.tcd_base.specs.Fields.{sext_of}
+use Rattle.tcd_base.specs.BitFields.{sext_of}
 use Rattle.tc_reloc.specs.Fields.{content_of}
 
 -- the number in the field of a word

@@ -3,4 +3,4 @@ pub mod Refusals
 pub mod Fields
 pub mod Applied
 pub mod Held
-pub mod Forms
+pub mod FillingLaws

@@ -1,5 +1,5 @@
 // Public laws of relocations and of the instructions whose constants they fill.
-ghost use Rattle.tc_reloc.specs.Forms.{FitsLaw, WrittenLaw};
+ghost use Rattle.tc_reloc.specs.FillingLaws.{FitsLaw, WrittenLaw};
 
 /// If the field of a relocation can hold a number, that number fits the constant of each
 /// instruction whose constant the relocation fills. Writing it into the field gives the spelling of

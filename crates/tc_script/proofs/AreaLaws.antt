@@ -26,12 +26,13 @@ use Rattle.tc_machine.specs.Machine.{reg, with_reg, with_status, advanced, died,
 use Rattle.tc_machine.specs.Contexts.{context_of, saved, save, has_kind, restored, restore}
 use Rattle.tc_machine.specs.Fetching.{fetched, mapped_bytes, shaped}
 use Rattle.tc_machine.specs.Instructions.{does, interrupt, misaligned, with_base, access_address, traps_at}
-use Rattle.tc_machine.specs.Stepping.{is_taken, executed, done, step, keeps_of, used_of}
+use Rattle.tc_machine.specs.Stepping.{is_taken, executed, done, step, used_of}
+use Rattle.tc_machine.specs.Kinds.{keeps_of}
 use Rattle.tc_machine.proofs.Kept.{Same, same_does}
 use Rattle.tc_machine.proofs.Saves.{then_-running, length-context_of}
-use Rattle.tc_script.specs.declared.counting.AreasUsed.{AreasUsed}
-use Rattle.tc_script.specs.declared.counting.Effect.{Effect}
-use Rattle.tc_script.specs.declared.counting.Effect.TheVariants.{Stays, Saves, Restores, Unknown}
+use Rattle.tc_script.specs.declared.area_counts.AreasUsed.{AreasUsed}
+use Rattle.tc_script.specs.declared.area_counts.Effect.{Effect}
+use Rattle.tc_script.specs.declared.area_counts.Effect.TheVariants.{Stays, Saves, Restores, Unknown}
 use Rattle.tc_script.specs.AreaRows.{row_of, AreInRow, IsCounted, HasSaved, HasRestored, HasStored, HasStayed, EffectHolds, IsEffectOf}
 
 -- ---- rows

@@ -10,9 +10,9 @@ use Rattle.tc_machine.specs.declared.state.Machine.{Machine}
 use Rattle.tc_machine.specs.Instructions.{does}
 use Rattle.tc_machine.specs.Contexts.{saved, restored}
 use Rattle.tc_machine.specs.Stepping.{used_of}
-use Rattle.tc_script.specs.declared.counting.AreasUsed.{AreasUsed}
-use Rattle.tc_script.specs.declared.counting.Effect.{Effect}
-use Rattle.tc_script.specs.declared.counting.Effect.TheVariants.{Stays, Saves, Restores, Unknown}
+use Rattle.tc_script.specs.declared.area_counts.AreasUsed.{AreasUsed}
+use Rattle.tc_script.specs.declared.area_counts.Effect.{Effect}
+use Rattle.tc_script.specs.declared.area_counts.Effect.TheVariants.{Stays, Saves, Restores, Unknown}
 
 -- the links of n consecutive areas, of which this is the first one; the last area's link is first
 abbrev pub row_of : ℕ → ℕ → List ℕ

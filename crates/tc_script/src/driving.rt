@@ -8,9 +8,9 @@ ghost use Rattle.tc_script.specs.Fitting.{HasSources};
 ghost use Rattle.tc_script.specs.Ports.{IsAskable, IsBounded};
 ghost use Rattle.tc_script.specs.Runs.{IsInput, IsEventOf, IsDead, IsDriven};
 
-use crate::asking::Ports;
-use crate::counting::{count_areas, effect_of_event, used_after};
+use crate::area_counts::{count_areas, effect_of_event, used_after};
 use crate::known_words::KnownWords;
+use crate::ports::Ports;
 use crate::{Script, Turn};
 use tc_isa::Shape;
 use tc_machine::{Cause, End, Event, Machine};

@@ -1,21 +1,21 @@
 //! Scripts: the turns of a run, the answers of devices in it, and the machine driven by them.
 #![tactic(auto)]
 
-mod asking;
-mod counting;
+mod area_counts;
 mod driving;
 mod errors;
 mod known_words;
 mod laws;
 mod numbers;
+mod ports;
 mod reading;
 mod scripted;
 mod scripts;
 mod statements;
 
-pub use asking::Ports;
 pub use driving::{Peak, drive};
 pub use errors::ScriptErr;
 pub use laws::script_laws;
+pub use ports::Ports;
 pub use scripted::drive_by_script;
 pub use scripts::{AnswerRange, Script, Turn};

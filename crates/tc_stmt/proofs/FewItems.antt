@@ -9,8 +9,7 @@ use Rattle.std.proofs.lemmas.List.Splits.{length-slice_split}
 use Rattle.std.proofs.lemmas.List.Sums.{count_by-le-length}
 use Rattle.tc_lex.specs.declared.kinds.Token.{Token}
 use Rattle.tc_lex.specs.declared.kinds.TokenKind.TheVariants as kind
-use Rattle.tc_lex.specs.Cut.{tokens_of}
-use Rattle.tc_lex.specs.Lines.{IsFault, AreTokens}
+use Rattle.tc_lex.specs.Cut.{tokens_of, IsFault, AreTokens}
 use Rattle.tc_lex.proofs.LineLaws.{cut_reads, fault_reads}
 use Rattle.tc_lex.specs.Pieces.{PieceData, is_kind, text_at}
 use Rattle.tc_lex.specs.Operands.{OperandData, operand, operands, is_comma}
@@ -18,7 +17,7 @@ use Rattle.tc_stmt.specs.RowFields.{RowFieldsData}
 use Rattle.tc_stmt.specs.StatementRow.{statement}
 use Rattle.tc_stmt.proofs.Cases.{by_test}
 use Rattle.tc_stmt.specs.Items.{ItemData, section, global}
-use Rattle.tc_stmt.specs.Values.{value_item}
+use Rattle.tc_stmt.specs.DataDirectives.{value_item}
 use Rattle.tc_stmt.specs.Lines.{LineData, line_data, word_of, named_line, space_line, values_line, code_line, stated_line, line_from, has_label, pieces_line, piece_in, label_of, label_before, cut_line, line_in}
 
 -- a line that adds at most this many items

@@ -6,7 +6,8 @@ use Rattle.tc_isa.specs.Rows.{RowData}
 use Rattle.tc_stmt.specs.declared.want.Want.{Want}
 use Rattle.tc_lex.specs.declared.operand.Operand.{Operand}
 use Rattle.tc_lex.specs.Operands.{OperandData, operand_of}
-use Rattle.tc_stmt.specs.RowFields.{RowFieldsData, fill, fill_all}
+use Rattle.tc_stmt.specs.RowFields.{RowFieldsData}
+use Rattle.tc_stmt.specs.Filling.{fill, fill_all}
 
 none_of : (next : RowFieldsData → Option RowFieldsData) → ((f : RowFieldsData) → next f ≡ None) → (found : Option RowFieldsData) → option_and_then next found ≡ None
 none_of next none None = refl

@@ -6,8 +6,8 @@ use Rattle.std.specs.Str.{bytes_eq}
 use Rattle.std.proofs.lemmas.Bool.{and_parts}
 use Rattle.tc_isa.specs.declared.table.Form.{Form}
 use Rattle.tc_isa.specs.Rows.{RowData, listed}
-use Rattle.tc_isa.specs.Words.{bounds, form_index}
-use Rattle.tc_isa.specs.Codec.{is_apart}
+use Rattle.tc_isa.specs.Forms.{bounds, form_index}
+use Rattle.tc_isa.specs.ValidRows.{is_apart}
 use Rattle.tc_lex.specs.declared.operand.Shape.{Shape}
 use Rattle.tc_lex.specs.declared.operand.Shape.TheVariants as shape
 use Rattle.tc_stmt.specs.declared.want.Field.{Field}
@@ -16,7 +16,10 @@ use Rattle.tc_stmt.specs.declared.want.Want.{Want}
 use Rattle.tc_stmt.specs.declared.want.Want.TheVariants.{Reg, A10, Number, Target, Absolute, Memory}
 use Rattle.tc_lex.specs.Operands.{ValueData, OperandData}
 use Rattle.tc_stmt.specs.Wants.{want_of, wants_of}
-use Rattle.tc_stmt.specs.RowFields.{ReferenceData, RowFieldsData, no_fields, with_rule, set_field, with_value, shape_index, register_of, put_register, field_of, fits, wrap, put_number, symbol_rule, with_symbol, half_kind, is_symbol, is_half, fill_value, fill_memory, displacement_rule, with_displacement, fill_target, put_absolute, fill_absolute, fill_register, fill_a10, fill_plain, fill, fill_all, kept_apart, fields_of_row}
+use Rattle.tc_stmt.specs.RowFields.{ReferenceData, RowFieldsData, no_fields, with_rule, set_field, with_value, field_of}
+use Rattle.tc_stmt.specs.Filling.{put_register, put_number, symbol_rule, with_symbol, half_kind, fill_value, fill_memory, fill_target, put_absolute, fill_absolute, fill_register, fill_a10, fill_plain, fill, fill_all, kept_apart, fields_of_row}
+use Rattle.tc_stmt.specs.Displacements.{displacement_rule, with_displacement}
+use Rattle.tc_stmt.specs.Values.{shape_index, register_of, fits, wrap, is_symbol, is_half}
 use Rattle.tc_stmt.proofs.Cases.{by_test, one_passes}
 
 -- ---- rows

@@ -6,7 +6,10 @@ pub mod StatementRow
 pub mod Stated
 pub mod RowIndex
 pub mod Items
-pub mod Values
+pub mod DataDirectives
 pub mod Lines
 pub mod Readings
 pub mod SourceRules
+pub mod Values
+pub mod Filling
+pub mod Displacements

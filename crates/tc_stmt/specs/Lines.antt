@@ -8,14 +8,15 @@ use Rattle.tc_lex.specs.declared.kinds.Token.{Token}
 use Rattle.tc_lex.specs.declared.kinds.TokenKind.TheVariants as kind
 use Rattle.tc_lex.specs.Cut.{tokens_of}
 use Rattle.tc_isa.specs.Rows.{listed}
-use Rattle.tc_isa.specs.Codec.{is_long}
+use Rattle.tc_isa.specs.ValidRows.{is_long}
 use Rattle.tc_lex.specs.Pieces.{PieceData, is_kind, text_at, text_in as text_between, piece_in as with_text}
 use Rattle.tc_lex.specs.Operands.{OperandData, operands}
-use Rattle.tc_stmt.specs.RowFields.{RowFieldsData, is_word}
+use Rattle.tc_stmt.specs.RowFields.{RowFieldsData}
+use Rattle.tc_stmt.specs.Values.{is_word}
 use Rattle.tc_stmt.specs.StatementRow.{statement}
 use Rattle.tc_stmt.specs.declared.item.Item.{Item}
 use Rattle.tc_stmt.specs.Items.{ItemData, item_of, label, section, global, code, zeros}
-use Rattle.tc_stmt.specs.Values.{value_rule, value_item, space_rule, space_item}
+use Rattle.tc_stmt.specs.DataDirectives.{value_rule, value_item, space_rule, space_item}
 
 -- the least rule that a line breaks by itself (15 is none), and the items that it adds to its
 -- source

@@ -2,8 +2,8 @@
 use Rattle.std.specs.Prelude.{◌≡◌, ◌||◌, ℕ, Bool, true, List, slice_get, Option, Some, Ok}
 use Rattle.tc_isa.specs.Rows.{RowData, listed}
 use Rattle.tc_isa.specs.declared.table.Form.{Form}
-use Rattle.tc_isa.specs.Words.{is_sb, is_sbr}
-use Rattle.tc_isa.specs.Codec.{Fits, uses_of, is_long}
+use Rattle.tc_isa.specs.Forms.{is_sb, is_sbr}
+use Rattle.tc_isa.specs.ValidRows.{Fits, uses_of, is_long}
 use Rattle.tc_isa.specs.Relocations.{is_reloc, fills}
 use Rattle.tc_stmt.specs.Names.{is_name}
 use Rattle.tc_lex.specs.Operands.{OperandData}

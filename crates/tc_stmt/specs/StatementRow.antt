@@ -8,7 +8,8 @@ use Rattle.tc_stmt.specs.declared.tally.Tally.{Tally}
 use Rattle.tc_stmt.specs.declared.row_fields.RowFields.{RowFields}
 use Rattle.tc_stmt.specs.Wants.{wants_of}
 use Rattle.tc_lex.specs.Operands.{OperandData}
-use Rattle.tc_stmt.specs.RowFields.{RowFieldsData, row_fields_of, fields_of_row}
+use Rattle.tc_stmt.specs.RowFields.{RowFieldsData, row_fields_of}
+use Rattle.tc_stmt.specs.Filling.{fields_of_row}
 
 -- the tally before the first row: none had the name, none had the forms, no rule was broken
 abbrev pub start : Tally

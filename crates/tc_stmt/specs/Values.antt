@@ -1,40 +1,73 @@
--- The values of `.byte`, `.half`, `.word` and `.space`.
-use Rattle.std.specs.Prelude.{ℕ, ◌*◌, ◌/◌, ◌^◌, ◌==◌, ◌&&◌, ◌||◌, not, nat_lt, nat_le, min, Bool, if◌then◌else◌, [], ◌∷◌, take, Some, None}
-use Rattle.tc_isa.specs.Relocations.{word32}
-use Rattle.tc_stmt.specs.SourceRules.{wrong_operands, no_rule, wide_number, misplaced_symbol}
-use Rattle.tc_isa.specs.Codec.{four_bytes}
-use Rattle.tc_lex.specs.Operands.{OperandData}
-use Rattle.tc_stmt.specs.RowFields.{shape_index, is_symbol, is_half, symbol_rule, wrap, reference, is_number, is_huge}
-use Rattle.tc_stmt.specs.Items.{ItemData, bytes, zeros}
+-- Values of operands: their forms, the number that fits a field, and the register or the symbol
+use Rattle.std.specs.Prelude.{ℕ, ◌+◌, ◌-◌, ◌/◌, ◌==◌, ◌&&◌, ◌||◌, not, nat_lt, nat_le, Bool, if◌then◌else◌, List, length, slice_index, ◌^◌}
+use Rattle.tc_lex.specs.Bytes.{is_digit}
+use Rattle.tc_lex.specs.declared.operand.Shape.{Shape}
+use Rattle.tc_lex.specs.declared.operand.Shape.TheVariants as shape
+
+-- that is named.
+
+-- a number for each form of values, so that forms can be compared
+unfoldable pub shape_index : Shape → ℕ
+shape_index shape.Absent = 0
+shape_index shape.Number = 1
+shape_index shape.Word = 2
+shape_index shape.Sum = 3
+shape_index shape.High = 4
+shape_index shape.Low = 5
+shape_index shape.Bad = 6
+shape_index shape.Huge = 7
+
+-- there is no value
+abbrev pub is_absent : Shape → Bool
+is_absent s = shape_index s == 0
+
+-- the value is a number below 2^128
+abbrev pub is_number : Shape → Bool
+is_number s = shape_index s == 1
+
+-- the value is a name alone
+abbrev pub is_word : Shape → Bool
+is_word s = shape_index s == 2
+
+-- the value is a name plus a number
+abbrev pub is_sum : Shape → Bool
+is_sum s = shape_index s == 3
+
+-- the value is the upper half of an address
+abbrev pub is_high : Shape → Bool
+is_high s = shape_index s == 4
+
+-- the value is a number of 2^128 or more
+abbrev pub is_huge : Shape → Bool
+is_huge s = shape_index s == 7
+
+-- d0 to d15 are 0 to 15, a0 to a15 are 16 to 31, all else is 64 or more
+unfoldable pub register_of : List ℕ → ℕ
+register_of name =
+    (if slice_index name 0 == 100 then 0 else (if slice_index name 0 == 97 then 16 else 64))
+    + (if length name == 2 && is_digit (slice_index name 1) then slice_index name 1 - 48
+    else (if length name == 3 && slice_index name 1 == 49 && nat_le 48 (slice_index name 2) && nat_le (slice_index name 2) 53 then slice_index name 2 - 38
+    else 64))
+
+-- a number fits a field with this bound
+unfoldable pub fits : Bool → ℕ → Bool → ℕ → Bool
+fits signed bound minus size =
+    if signed
+    then (if minus then nat_le size (bound / 2) else nat_lt size (bound / 2))
+    else (if minus then size == 0 else nat_lt size bound)
+
+-- a number modulo the bound
+abbrev pub wrap : ℕ → Bool → ℕ → ℕ
+wrap bound minus size = if minus && not (size == 0) then bound - size else size
+
+-- the form of this number is a name, or a name with a number added
+abbrev pub is_symbol : ℕ → Bool
+is_symbol i = i == 2 || i == 3
+
+-- the form of this number is the upper or the lower half of a symbol
+abbrev pub is_half : ℕ → Bool
+is_half i = i == 4 || i == 5
 
 -- a number fits this many bits, signed or unsigned
 abbrev pub fits_width : ℕ → Bool → ℕ → Bool
 fits_width bits minus size = if minus then nat_le size (2 ^ bits / 2) else nat_lt size (2 ^ bits)
-
--- the least rule that a value of this many bytes breaks; 15 is none
-unfoldable pub value_rule : ℕ → OperandData → ℕ
-value_rule width o =
-    if o.is_memory then wrong_operands
-    else (if is_number o.value.shape then (if fits_width (8 * width) o.value.minus o.value.size then no_rule else wide_number)
-    else (if is_huge o.value.shape then wide_number
-    else (if is_symbol (shape_index o.value.shape) then (if width == 4 then symbol_rule o.value else min misplaced_symbol (symbol_rule o.value))
-    else (if is_half (shape_index o.value.shape) then min misplaced_symbol (symbol_rule o.value) else wrong_operands))))
-
--- the item for a value of this many bytes: the lowest byte first, and zeros if it breaks a rule
-unfoldable pub value_item : ℕ → OperandData → ItemData
-value_item width o =
-    if not (value_rule width o == no_rule) then zeros width
-    else (if is_number o.value.shape then bytes (take width (four_bytes (wrap (2 ^ 32) o.value.minus o.value.size))) None
-    else bytes (take width (0 ∷ 0 ∷ 0 ∷ 0 ∷ [])) (Some (reference word32 o.value)))
-
--- the least rule that the operand of `.space` breaks by itself
-unfoldable pub space_rule : OperandData → ℕ
-space_rule o =
-    if o.is_memory then wrong_operands
-    else (if is_number o.value.shape then (if o.value.minus && not (o.value.size == 0) then 5 else (if nat_le o.value.size (2 ^ 24) then 15 else 13))
-    else (if is_huge o.value.shape then wide_number
-    else (if is_symbol (shape_index o.value.shape) || is_half (shape_index o.value.shape) then min misplaced_symbol (symbol_rule o.value) else wrong_operands)))
-
--- the item for `.space`: zeros, and none of them if a rule is broken
-unfoldable pub space_item : OperandData → ItemData
-space_item o = zeros (if space_rule o == no_rule then o.value.size else 0)

@@ -1,15 +1,16 @@
 // The values of `.byte`, `.half`, `.word` and `.space`.
 ghost use Rattle.std.specs.Prelude.{◌≡◌, ◌≤◌, ◌<◌, ◌+◌, ◌^◌, ◌*◌, take, true, if◌then◌else◌, ◌⊎◌};
-ghost use Rattle.tc_isa.specs.Codec.{four_bytes};
+ghost use Rattle.tc_isa.specs.Spelling.{four_bytes};
 ghost use Rattle.tc_lex.specs.Operands.{operand_of};
-ghost use Rattle.tc_stmt.specs.RowFields.{reference_of, shape_index, wrap};
+ghost use Rattle.tc_stmt.specs.RowFields.{reference_of};
+ghost use Rattle.tc_stmt.specs.Values.{shape_index, wrap, fits_width};
 ghost use Rattle.tc_stmt.specs.Items.{item_of};
 ghost use Rattle.tc_stmt.specs.SourceRules.{no_rule};
-ghost use Rattle.tc_stmt.specs.Values.{fits_width, value_rule, value_item, space_rule, space_item};
+ghost use Rattle.tc_stmt.specs.DataDirectives.{value_rule, value_item, space_rule, space_item};
 
 use crate::item::Item;
+use crate::shape_index::{HIGH, HUGE, LOW, NUMBER, SUM, WORD};
 use crate::source_rules::{MISPLACED_SYMBOL, NO_RULE, PAST_LIMITS, WIDE_NUMBER, WRONG_OPERANDS};
-use crate::value_shapes::{HIGH, HUGE, LOW, NUMBER, SUM, WORD};
 use crate::{Reference, shape_index, symbol_rule};
 use tc_isa::WORD32;
 use tc_lex::Operand;

@@ -2,32 +2,32 @@
 #![tactic(auto)]
 
 mod data;
-mod fill;
-mod form_numbers;
+mod fill_fields;
+mod form_index;
 mod item;
 mod laws;
-mod parse;
+mod line_reader;
 mod row_fields;
 mod row_index;
 mod row_wants;
+mod shape_index;
 mod source;
 mod source_rules;
 mod statement_row;
 mod symbols;
 mod tally;
-mod value_shapes;
 mod want;
 
-pub use fill::{field_of, with_displacement};
+pub use fill_fields::{field_of, with_displacement};
 pub use item::Item;
 pub use laws::statement_laws;
 pub use row_fields::{NO_RELOC, Reference, RowFields};
 pub use row_wants::wants;
+pub use shape_index::shape_index;
 pub use source::{Line, Source, read_source};
 pub use source_rules::{
     BAD_NAME, LABEL_TWICE, MISPLACED_SYMBOL, NO_RULE, NO_SECTION, PAST_LIMITS, UNDEFINED_GLOBAL,
 };
 pub use statement_row::statement;
 pub use symbols::{is_name, symbol_rule};
-pub use value_shapes::shape_index;
 pub use want::{Field, Want};

@@ -5,7 +5,7 @@ ghost use Rattle.tc_stmt.specs.Lines.{LineData, line_in, lines_in, items_in};
 ghost use Rattle.tc_stmt.specs.Readings.{lines_of, AreRead};
 
 use crate::item::Item;
-use crate::parse::read_line;
+use crate::line_reader::read_line;
 use arrayvec::ArrayVec;
 use memchr::memchr;
 use std::alloc::{AllocError, Global};

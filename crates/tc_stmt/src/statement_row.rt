@@ -4,11 +4,12 @@ ghost use Rattle.std.specs.Str.{bytes_eq};
 ghost use Rattle.tc_isa.specs.Rows.{row_of, listed};
 ghost use Rattle.tc_stmt.specs.Wants.{wants_of, now_of};
 ghost use Rattle.tc_lex.specs.Operands.{operand_of};
-ghost use Rattle.tc_stmt.specs.RowFields.{Fills, row_fields_of, fill_all, no_fields, kept_apart, fields_of_row};
+ghost use Rattle.tc_stmt.specs.RowFields.{Fills, row_fields_of, no_fields};
+ghost use Rattle.tc_stmt.specs.Filling.{fill_all, kept_apart, fields_of_row};
 ghost use Rattle.tc_stmt.specs.StatementRow.{start, after_row, outcome, Steps, Judges, statement, rule_of};
 ghost use Rattle.tc_stmt.specs.RowIndex.{are_first, are_next};
 
-use crate::fill::fill;
+use crate::fill_fields::fill;
 use crate::row_fields::RowFields;
 use crate::row_index::{first_row, first_rows, next_row, next_rows};
 use crate::row_wants::wants;

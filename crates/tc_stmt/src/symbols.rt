@@ -3,7 +3,8 @@ ghost use Rattle.std.specs.Prelude.{◌≡◌, ◌<◌, ◌^◌, true};
 ghost use Rattle.tc_stmt.specs.Names.{is_name};
 ghost use Rattle.tc_stmt.specs.SourceRules.{no_rule};
 ghost use Rattle.tc_lex.specs.Operands.{value_of};
-ghost use Rattle.tc_stmt.specs.RowFields.{row_fields_of, symbol_rule, with_rule, with_symbol, with_misplaced};
+ghost use Rattle.tc_stmt.specs.RowFields.{row_fields_of, with_rule};
+ghost use Rattle.tc_stmt.specs.Filling.{symbol_rule, with_symbol, with_misplaced};
 
 use crate::row_fields::{Reference, RowFields};
 use crate::source_rules::{BAD_NAME, MISPLACED_SYMBOL, NO_RULE, WIDE_NUMBER};

@@ -5,7 +5,7 @@ use Rattle.std.specs.List.{flat_map}
 use Rattle.tcd_base.specs.declared.errors.FormErr.{FormErr}
 use Rattle.tcd_base.specs.Bytes.{half_at, word_at, bytes_of_half, bytes_of_word}
 use Rattle.tcd_base.specs.Place.{Place, place_between}
-use Rattle.tcd_base.specs.Reading.{u8_at, u16_at, u32_at, many_at}
+use Rattle.tcd_base.specs.FieldReaders.{u8_at, u16_at, u32_at, many_at}
 use Rattle.tcd_base.proofs.ByteWords.{get_or-behind, half_at-behind, word_at-behind, half_at_below, word_at_below, bytes_of_half-half_at, bytes_of_word-word_at}
 use Rattle.tcd_base.proofs.FieldReads.{Took, u8_at_ok, u16_at_ok, u32_at_ok, bind_ok}
 

@@ -1,6 +1,6 @@
 // Readers of fields, from left to right. A field that is cut off is `SHORT` at its first byte.
 ghost use Rattle.std.specs.Prelude.{◌≡◌, ◌≤◌, ◌^◌, length, MatchResult};
-ghost use Rattle.tcd_base.specs.Reading.{Reads, u8_at, u16_at, u32_at, bytes_at};
+ghost use Rattle.tcd_base.specs.FieldReaders.{Reads, u8_at, u16_at, u32_at, bytes_at};
 
 use crate::errors::{SHORT, fault};
 use crate::{Cursor, FormErr};

@@ -2,8 +2,8 @@
 ghost use Rattle.std.specs.Prelude.{◌≡◌, ◌<◌, ◌≤◌, ◌^◌, ◌++◌, ℕ, List, OnOk, OnErr};
 ghost use Rattle.tcd_base.specs.Bytes.{bytes_of_half, bytes_of_word};
 ghost use Rattle.tcd_base.specs.Place.{place_between};
-ghost use Rattle.tcd_base.specs.Reading.{u32_at};
-ghost use Rattle.tcd_base.specs.Fields.{bits_of, sext_of};
+ghost use Rattle.tcd_base.specs.FieldReaders.{u32_at};
+ghost use Rattle.tcd_base.specs.BitFields.{bits_of, sext_of};
 
 use crate::NoMemory;
 

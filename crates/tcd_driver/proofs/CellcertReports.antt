@@ -11,8 +11,8 @@ use Rattle.depth_cert.proofs.BackLaws.{written_is_read}
 use Rattle.depth_cert.proofs.SizeLaws.{cert_most}
 use Rattle.cfg_recover.specs.Accepting.{Accepts, certified_need}
 use Rattle.depth_check.proofs.Held as held
-use Rattle.depth_maker.specs.Making.{IsMade}
-use Rattle.depth_maker.specs.Made.{AreMade, IsRefused}
+use Rattle.depth_maker.specs.Made.{IsMade}
+use Rattle.depth_maker.specs.Answers.{AreMade, IsRefused}
 use Rattle.depth_maker.specs.declared.answering.MakeErr.{MakeErr}
 use Rattle.depth_maker.specs.declared.answering.MakeErr.TheVariants as making
 use Rattle.value_cells.specs.declared.cells.Cell.{Cell}
@@ -22,8 +22,7 @@ use Rattle.value_cells.proofs.CellPlan.{IsPlan-with_cells}
 use Rattle.value_cells.proofs.CellSafe.{cells_keep}
 use Rattle.value_cells.proofs.GrowthLaws.{cell_faults_grow, cell_faults_refute}
 use Rattle.tcd_reading.specs.Reports.{IsReportStatus, Report, says, writes_file}
-use Rattle.tcd_forms.specs.Lines.{refused_line}
-use Rattle.tcd_forms.specs.Results.{certified_cells_line}
+use Rattle.tcd_forms.specs.Lines.{refused_line, certified_cells_line}
 use Rattle.tcd_driver.specs.Cellcert.{NoneKeepsCells, IsCertifyingCells, refused, broken, certified}
 use Rattle.tcd_reading.specs.declared.status.Status.TheVariants.{Done, Refused}
 use Rattle.tcd_reading.proofs.Decided.{AreAlike, status_is, writes_are}

@@ -16,7 +16,7 @@ use Rattle.value_cells.proofs.CellSafe.{cells_keep}
 use Rattle.value_cells.proofs.ReadOne.{reads_one}
 use Rattle.tcd_reading.specs.Reports.{IsReportStatus, Report, says}
 use Rattle.tcd_driver.specs.Forms.{cells_form}
-use Rattle.tcd_forms.specs.Results.{certified_cells_line}
+use Rattle.tcd_forms.specs.Lines.{certified_cells_line}
 use Rattle.tcd_driver.specs.Cells.{IsCellsVerdict, refused, broken, certified}
 use Rattle.tcd_reading.specs.declared.status.Status.TheVariants.{Done, Refused}
 use Rattle.tcd_reading.proofs.Decided.{AreAlike, IsLawful, status_is, writes_are}

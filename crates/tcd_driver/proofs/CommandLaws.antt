@@ -14,7 +14,8 @@ use Rattle.tc_script.specs.ScriptRuns.{script_events, IsScriptRun}
 use Rattle.tc_script.specs.ScriptData.{ScriptData}
 use Rattle.tc_object.specs.Objects.{ObjectData}
 use Rattle.tc_link.specs.Layouts.{LayoutData}
-use Rattle.tc_link.specs.Linked.{Refusal, image_of_objects}
+use Rattle.tc_link.specs.Linked.{image_of_objects}
+use Rattle.tc_link.specs.Refusals.{Refusal}
 use Rattle.tc_link.specs.Errors.{refusal_of}
 use Rattle.tc_link.specs.declared.errors.LinkErr.{LinkErr}
 use Rattle.tc_link.specs.declared.errors.LinkErr.TheVariants as error

@@ -23,13 +23,12 @@ use Rattle.depth_cert.proofs.BackLaws.{written_is_read}
 use Rattle.depth_cert.proofs.SizeLaws.{cert_most}
 use Rattle.tcd_base.specs.declared.errors.FormErr.{FormErr}
 use Rattle.cfg_recover.specs.Accepting.{certified_need}
-use Rattle.depth_maker.specs.Making.{IsMade}
-use Rattle.depth_maker.specs.Made.{AreMade, IsRefused}
+use Rattle.depth_maker.specs.Made.{IsMade}
+use Rattle.depth_maker.specs.Answers.{AreMade, IsRefused}
 use Rattle.depth_maker.specs.declared.answering.MakeErr.{MakeErr}
 use Rattle.depth_maker.specs.declared.answering.MakeErr.TheVariants as make
 use Rattle.tcd_reading.specs.Reports.{IsReportStatus, Report, says}
-use Rattle.tcd_forms.specs.Lines.{refused_line}
-use Rattle.tcd_forms.specs.Results.{generated_line}
+use Rattle.tcd_forms.specs.Lines.{refused_line, generated_line}
 use Rattle.tcd_driver.specs.Gen.{IsSummary, refused, certified}
 use Rattle.tcd_reading.specs.declared.status.Status.TheVariants.{Done, Refused}
 use Rattle.tcd_reading.proofs.Decided.{AreAlike, status_is, writes_are}

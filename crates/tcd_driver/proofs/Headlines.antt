@@ -30,7 +30,7 @@ use Rattle.depth_cert.proofs.BackLaws.{written_is_read}
 use Rattle.cfg_recover.specs.Entries.{start_key, start_state}
 use Rattle.cfg_recover.specs.Accepting.{HasPoint, Accepts, IsFirstFault, need_of, certified_need}
 use Rattle.cfg_recover.proofs.FaultLaws.{fails_refutes}
-use Rattle.depth_maker.specs.Making.{IsMade, NoneAccepted}
+use Rattle.depth_maker.specs.Made.{IsMade, NoneAccepted}
 use Rattle.tc_link.specs.Layouts.{LayoutData}
 use Rattle.tcd_base.specs.Files.{Map}
 use Rattle.tcd_reading.specs.Reports.{Report, Written, says, with_written}
@@ -45,8 +45,8 @@ use Rattle.tcd_driver.specs.Check as verdict
 use Rattle.tcd_driver.specs.Check.{CheckNames, IsVerdict, check_reading}
 use Rattle.tcd_driver.specs.Cert as certifying
 use Rattle.tcd_driver.specs.Cert.{CertNames, IsCertifying, cert_reading}
-use Rattle.tcd_driver.specs.Made as made
-use Rattle.tcd_driver.specs.Made.{IsBest, IsCertified, AreNone}
+use Rattle.tcd_driver.specs.BestCert as made
+use Rattle.tcd_driver.specs.BestCert.{IsBest, IsCertified, AreNone}
 use Rattle.tcd_driver.specs.Ship as shipping
 use Rattle.tcd_driver.specs.Ship.{ShipNames, IsShipping, IsShipped, IsImageOf, ship_reading}
 use Rattle.tcd_driver.specs.Run as runs

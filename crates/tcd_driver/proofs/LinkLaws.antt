@@ -1,7 +1,7 @@
 -- The reports on refusals of the linker.
 use Rattle.std.proofs.Common.{◌≡◌, ℕ, List, Option, Some, None, Result, Ok, Err, refl, ap, ◌∙◌}
 use Rattle.std.specs.Prelude.{IfOk, IfSome, IsOkAnd}
-use Rattle.tc_link.specs.Linked.{Refusal}
+use Rattle.tc_link.specs.Refusals.{Refusal}
 use Rattle.tc_link.specs.Errors.{refusal_of}
 use Rattle.tc_link.specs.declared.errors.LinkErr.{LinkErr}
 use Rattle.tc_link.specs.declared.errors.LinkErr.TheVariants as error

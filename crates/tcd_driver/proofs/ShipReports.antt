@@ -11,7 +11,8 @@ use Rattle.depth_cert.specs.Spelling.{bytes_of}
 use Rattle.cfg_recover.specs.Accepting.{certified_need}
 use Rattle.tc_object.specs.Objects.{ObjectData}
 use Rattle.tc_link.specs.Layouts.{LayoutData, IsLayout}
-use Rattle.tc_link.specs.Linked.{Refusal, image_of_objects}
+use Rattle.tc_link.specs.Linked.{image_of_objects}
+use Rattle.tc_link.specs.Refusals.{Refusal}
 use Rattle.tc_link.specs.Errors.{refusal_of}
 use Rattle.tc_link.specs.declared.errors.LinkErr.{LinkErr}
 use Rattle.tc_link.specs.declared.errors.LinkErr.TheVariants as error
@@ -23,7 +24,7 @@ use Rattle.tcd_reading.specs.Inputs.{HoldsInput, each, answer}
 use Rattle.tcd_forms.specs.Forms.{SourceData, IsSource, placed_source_form}
 use Rattle.tcd_forms.specs.Lines.{link_line, certified_line}
 use Rattle.tcd_forms.proofs.FormLaws.{ok_err}
-use Rattle.tcd_driver.specs.Made.{SpellCertified}
+use Rattle.tcd_driver.specs.BestCert.{SpellCertified}
 use Rattle.tcd_driver.specs.Ship.{objects_of, texts_of, AreSourcesOf, IsShipping, IsShipped, SpellImage, refused, shipped, unlinked, of_image}
 use Rattle.tcd_reading.specs.declared.status.Status.TheVariants.{Done, Refused, BadInput}
 use Rattle.tcd_reading.proofs.Decided.{AreAlike, status_is, writes_are}

@@ -21,8 +21,8 @@ use Rattle.depth_cert.proofs.SizeLaws.{cert_most}
 use Rattle.depth_cert.proofs.KeyLaws.{found_in}
 use Rattle.cfg_recover.specs.Accepting.{certified_need, need_of}
 use Rattle.cfg_recover.specs.Entries.{start_key}
-use Rattle.depth_maker.specs.Making.{IsMade, needs_in}
-use Rattle.depth_maker.specs.Made.{AreMade, IsRefused}
+use Rattle.depth_maker.specs.Made.{IsMade, needs_in}
+use Rattle.depth_maker.specs.Answers.{AreMade, IsRefused}
 use Rattle.depth_maker.specs.declared.answering.MakeErr.{MakeErr}
 use Rattle.depth_maker.specs.declared.answering.MakeErr.TheVariants as make_err
 use Rattle.depth_maker.proofs.Accepted.{find_agrees}
@@ -39,8 +39,8 @@ use Rattle.tcd_reading.specs.Inputs.{answer}
 use Rattle.tcd_reading.specs.Outcomes.{Comes, IsTold}
 use Rattle.tcd_reading.specs.declared.outcome.Outcome.{Outcome}
 use Rattle.tcd_reading.proofs.Told.{comes_told}
-use Rattle.tcd_forms.specs.Results.{certified_tasks_line, sum_line}
-use Rattle.tcd_driver.specs.Lines.{tasks_line}
+use Rattle.tcd_forms.specs.Lines.{certified_tasks_line, sum_line}
+use Rattle.tcd_driver.specs.BadInputLines.{tasks_line}
 use Rattle.tcd_driver.specs.Tasks.{cert_of, needs_of, sum_of_needs, AreJudged, with_a_name_each}
 use Rattle.tcd_driver.specs.Taskcert.{IsTaskMade, NoneApart, IsUncertified, unaccepted, not_apart, AreTasksMade, IsFirstUncertified, cert_files, IsTaskcerting, no_switch, refused, above, certified, SpellApart, MakesApart, SpellTask, MakesTask, AreFiles, writes_files}
 use Rattle.tcd_driver.specs.declared.making.Making.{Making}

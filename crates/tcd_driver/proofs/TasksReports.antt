@@ -27,7 +27,7 @@ use Rattle.tcd_reading.specs.Reports.{IsReportStatus, Report, says}
 use Rattle.tcd_reading.specs.Inputs.{Reading}
 use Rattle.tcd_forms.specs.Forms.{cert_form}
 use Rattle.tcd_driver.specs.Forms.{tasks_form}
-use Rattle.tcd_forms.specs.Results.{certified_tasks_line, sum_line}
+use Rattle.tcd_forms.specs.Lines.{certified_tasks_line, sum_line}
 use Rattle.tcd_driver.specs.Tasks.{cert_of, IsTaskRefused, unaccepted, not_apart, needs_of, sum_of_needs, AreJudged, IsTasksVerdict, no_switch, refused, above, certified, if_as_many, with_a_name_each, certs_reading}
 use Rattle.tcd_reading.specs.declared.status.Status.{Status}
 use Rattle.tcd_reading.specs.declared.status.Status.TheVariants.{Done, Refused, BadInput}

@@ -12,13 +12,12 @@ use Rattle.tcd_base.specs.Files.{Map, FilesSeen}
 use Rattle.tcd_base.specs.Sink.{SinkSeen, with_appended}
 use Rattle.tcd_reading.specs.Reports.{Report, with_written}
 use Rattle.tcd_reading.specs.Inputs.{Reading, Says}
-use Rattle.tcd_reading.specs.Outcomes.{Prints, whole, cut, IsReported}
+use Rattle.tcd_reading.specs.Endings.{Prints, whole, cut, IsReported, HasEnded, Ends}
 use Rattle.tcd_reading.specs.Outcomes as outcome
 use Rattle.tcd_reading.specs.Endings as ending
-use Rattle.tcd_reading.specs.Endings.{HasEnded, Ends}
 use Rattle.tcd_reading.specs.declared.status.Status.{Status}
 use Rattle.tcd_reading.specs.declared.status.Status.TheVariants.{Done, Refused, BadInput, Fault, NoMemory, BadWords}
-use Rattle.tcd_driver.specs.Lines.{bad_words_line}
+use Rattle.tcd_driver.specs.BadInputLines.{bad_words_line}
 use Rattle.tcd_driver.specs.Commands as asked
 use Rattle.tcd_driver.specs.Commands.{Command, command, reading_of, is_link, is_ship, is_tasks, is_taskcert, are_different}
 use Rattle.tcd_driver.specs.Tool.{Call, Means, EndsWithBadWords, ToolSays}

@@ -13,9 +13,8 @@ use Rattle.tc_boot.specs.Judging.{Judges}
 use Rattle.tcd_reading.specs.Reports.{Report, says, writes_file}
 use Rattle.tcd_reading.specs.Inputs.{Reading, input, answer}
 use Rattle.tcd_forms.specs.Forms.{elf_form, plan_form, cert_form}
-use Rattle.tcd_forms.specs.Results.{boots_line, generated_boot_line}
-use Rattle.tcd_driver.specs.Lines.{unbooted_line}
-use Rattle.tcd_forms.specs.Lines.{refused_line}
+use Rattle.tcd_forms.specs.Lines.{boots_line, generated_boot_line, refused_line}
+use Rattle.tcd_driver.specs.BadInputLines.{unbooted_line}
 use Rattle.tcd_reading.specs.declared.status.Status.TheVariants.{Done, Refused}
 
 -- ---- boot

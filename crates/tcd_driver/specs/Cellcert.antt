@@ -7,7 +7,7 @@ use Rattle.depth_cert.specs.declared.keys.Key.{Key}
 use Rattle.depth_cert.specs.Spelling.{bytes_of}
 use Rattle.cfg_recover.specs.Accepting.{Accepts, certified_need}
 use Rattle.cfg_recover.specs.Refusals.{IsRefusal}
-use Rattle.depth_maker.specs.Making.{IsMade, NoneAccepted}
+use Rattle.depth_maker.specs.Made.{IsMade, NoneAccepted}
 use Rattle.value_cells.specs.declared.cells.Cell.{Cell}
 use Rattle.value_cells.specs.Cells.{with_cells}
 use Rattle.value_cells.specs.Keeping.{KeepsCells, IsFirstBreak}
@@ -16,8 +16,7 @@ use Rattle.tcd_reading.specs.Reports.{Report, says, writes_file}
 use Rattle.tcd_reading.specs.Inputs.{Reading, input, answer}
 use Rattle.tcd_driver.specs.Forms.{cells_form}
 use Rattle.tcd_forms.specs.Forms.{elf_form, plan_form}
-use Rattle.tcd_forms.specs.Results.{certified_cells_line}
-use Rattle.tcd_forms.specs.Lines.{refused_line}
+use Rattle.tcd_forms.specs.Lines.{certified_cells_line, refused_line}
 use Rattle.tcd_reading.specs.declared.status.Status.TheVariants.{Refused}
 
 -- the names of the files that `cellcert` reads, and of the one that it writes

@@ -13,8 +13,7 @@ use Rattle.tcd_reading.specs.Reports.{Report, says}
 use Rattle.tcd_reading.specs.Inputs.{Reading, input, answer}
 use Rattle.tcd_driver.specs.Forms.{cells_form}
 use Rattle.tcd_forms.specs.Forms.{elf_form, plan_form, cert_form}
-use Rattle.tcd_forms.specs.Results.{certified_cells_line}
-use Rattle.tcd_forms.specs.Lines.{refused_line}
+use Rattle.tcd_forms.specs.Lines.{certified_cells_line, refused_line}
 use Rattle.tcd_reading.specs.declared.status.Status.TheVariants.{Done, Refused}
 
 -- the names of the files that `cells` reads

@@ -10,7 +10,7 @@ use Rattle.tcd_reading.specs.Reports.{Report, says, writes_file}
 use Rattle.tcd_reading.specs.Inputs.{Reading, input, answer}
 use Rattle.tcd_forms.specs.Forms.{elf_form, plan_form}
 use Rattle.tcd_forms.specs.Lines.{refused_line, certified_line}
-use Rattle.tcd_driver.specs.Made.{IsCertified, AreNone}
+use Rattle.tcd_driver.specs.BestCert.{IsCertified, AreNone}
 use Rattle.tcd_reading.specs.declared.status.Status.TheVariants.{Refused}
 
 -- the names of the files that `cert` reads, and of the certificate that it writes

@@ -10,7 +10,7 @@ use Rattle.tcd_reading.specs.Reports.{Report, says}
 use Rattle.tcd_reading.specs.Inputs.{Reading, input, answer}
 use Rattle.tcd_forms.specs.Forms.{elf_form, plan_form}
 use Rattle.tcd_forms.specs.Lines.{refused_line}
-use Rattle.tcd_driver.specs.Made.{IsCertified, AreNone, SpellCertified}
+use Rattle.tcd_driver.specs.BestCert.{IsCertified, AreNone, SpellCertified}
 use Rattle.tcd_reading.specs.declared.status.Status.TheVariants.{Done, Refused}
 
 -- the names of the files that `cfg` reads

@@ -10,7 +10,7 @@ use Rattle.task_chains.specs.Tasks.{TasksData}
 use Rattle.task_chains.specs.Reading as tasks
 use Rattle.task_chains.specs.declared.task_lists.TasksErr.{TasksErr}
 use Rattle.tcd_forms.specs.Lines.{long_cells_line, long_tasks_line}
-use Rattle.tcd_driver.specs.Lines.{cells_line, tasks_line}
+use Rattle.tcd_driver.specs.BadInputLines.{cells_line, tasks_line}
 
 -- a file of cells for a plan
 abbrev pub cells_form : PlanData → FormSeen (List Cell)

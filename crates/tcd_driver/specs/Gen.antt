@@ -10,13 +10,12 @@ use Rattle.depth_cert.specs.declared.keys.Key.{Key}
 use Rattle.depth_cert.specs.Certs.{CertData, IsCert, count_points}
 use Rattle.cfg_recover.specs.Accepting.{certified_need}
 use Rattle.cfg_recover.specs.Refusals.{IsRefusal}
-use Rattle.depth_maker.specs.Making.{IsMade, NoneAccepted}
+use Rattle.depth_maker.specs.Made.{IsMade, NoneAccepted}
 use Rattle.tcd_report.specs.Generated.{generated_image}
 use Rattle.tcd_report.specs.Generated.Planned.{generated_plan}
 use Rattle.tcd_reading.specs.Reports.{Report, says}
 use Rattle.tcd_reading.specs.Inputs.{Reading, answer}
-use Rattle.tcd_forms.specs.Lines.{refused_line}
-use Rattle.tcd_forms.specs.Results.{generated_line}
+use Rattle.tcd_forms.specs.Lines.{refused_line, generated_line}
 use Rattle.tcd_reading.specs.declared.status.Status.TheVariants.{Done, Refused}
 
 -- the number of functions that a word asks for: 1 to 500, in decimal without leading zeros

@@ -34,9 +34,9 @@ use Rattle.cfg_recover.specs.Entries.{start_key}
 use Rattle.cfg_recover.specs.Accepting.{Accepts, IsFirstFault}
 use Rattle.cfg_recover.specs.Assignments.{IsBelowAt, known_in}
 use Rattle.cfg_recover.specs.Refusals.{IsRefusal}
-use Rattle.depth_maker.specs.Making.{needs_in}
+use Rattle.depth_maker.specs.Made.{needs_in}
 use Rattle.tc_link.specs.Layouts.{LayoutData}
-use Rattle.tc_link.specs.Faults.{layout_of}
+use Rattle.tc_link.specs.LayoutFaults.{layout_of}
 use Rattle.tc_link.specs.Linked.{image_of_objects}
 use Rattle.tc_program.specs.Placed.{Placed}
 use Rattle.tcd_base.specs.Files.{Map}

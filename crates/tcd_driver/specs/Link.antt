@@ -4,7 +4,8 @@ use Rattle.elf_image.specs.Images.{ImageData}
 use Rattle.elf_image.specs.Written.{file_of}
 use Rattle.tc_object.specs.Objects.{ObjectData}
 use Rattle.tc_link.specs.Layouts.{LayoutData}
-use Rattle.tc_link.specs.Linked.{Refusal, image_of_objects}
+use Rattle.tc_link.specs.Linked.{image_of_objects}
+use Rattle.tc_link.specs.Refusals.{Refusal}
 use Rattle.tcd_reading.specs.Reports.{Report, says, writes_file}
 use Rattle.tcd_reading.specs.Inputs.{Reading, input, each, answer}
 use Rattle.tcd_forms.specs.Forms.{layout_form, object_form}

@@ -6,7 +6,8 @@ use Rattle.elf_image.specs.Written.{file_of}
 use Rattle.tcd_plan.specs.PlanData.{PlanData}
 use Rattle.tc_object.specs.Objects.{ObjectData}
 use Rattle.tc_link.specs.Layouts.{LayoutData}
-use Rattle.tc_link.specs.Linked.{Refusal, image_of_objects}
+use Rattle.tc_link.specs.Linked.{image_of_objects}
+use Rattle.tc_link.specs.Refusals.{Refusal}
 use Rattle.tc_program.specs.Laws.{AreAssembled}
 use Rattle.tc_program.specs.Placed.{Placed}
 use Rattle.depth_cert.specs.declared.keys.Key.{Key}
@@ -17,7 +18,7 @@ use Rattle.tcd_reading.specs.Reports.{Report, says, writes_two}
 use Rattle.tcd_reading.specs.Inputs.{Reading, input, each, answer}
 use Rattle.tcd_forms.specs.Forms.{SourceData, plan_form, layout_form, placed_source_form}
 use Rattle.tcd_forms.specs.Lines.{link_line, refused_line, certified_line}
-use Rattle.tcd_driver.specs.Made.{IsCertified, AreNone}
+use Rattle.tcd_driver.specs.BestCert.{IsCertified, AreNone}
 use Rattle.tcd_driver.specs.declared.commands.ship.Shipment.{Shipment}
 use Rattle.tcd_reading.specs.declared.status.Status.TheVariants.{Refused, BadInput}
 

@@ -8,7 +8,7 @@ use Rattle.depth_cert.specs.declared.keys.Key.{Key}
 use Rattle.tc_machine.specs.Safe.{Safe}
 use Rattle.cfg_recover.specs.Accepting.{Accepts, certified_need}
 use Rattle.cfg_recover.specs.Refusals.{IsRefusal}
-use Rattle.depth_maker.specs.Making.{IsMade, NoneAccepted}
+use Rattle.depth_maker.specs.Made.{IsMade, NoneAccepted}
 use Rattle.task_chains.specs.Tasks.{TasksData, count}
 use Rattle.task_chains.specs.Routine.{HasRoutine, IsRoutineFault}
 use Rattle.task_chains.specs.Views.{view_image_of, view_plan_of}
@@ -18,7 +18,7 @@ use Rattle.tcd_reading.specs.Reports.{Report, Written, says}
 use Rattle.tcd_reading.specs.Inputs.{Reading, input, answer}
 use Rattle.tcd_driver.specs.Forms.{tasks_form}
 use Rattle.tcd_forms.specs.Forms.{elf_form, plan_form}
-use Rattle.tcd_forms.specs.Results.{switch_line, refused_task_line, sum_line, certified_tasks_line}
+use Rattle.tcd_forms.specs.Lines.{switch_line, refused_task_line, sum_line, certified_tasks_line}
 use Rattle.tcd_driver.specs.Tasks.{cert_of, needs_of, sum_of_needs, with_a_name_each}
 use Rattle.tcd_driver.specs.declared.making.Making.{Making}
 use Rattle.tcd_driver.specs.declared.making.Making.TheVariants as making

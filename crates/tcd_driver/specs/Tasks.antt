@@ -18,8 +18,8 @@ use Rattle.tcd_reading.specs.Reports.{Report, says}
 use Rattle.tcd_reading.specs.Inputs.{Reading, input, each, answer}
 use Rattle.tcd_driver.specs.Forms.{tasks_form}
 use Rattle.tcd_forms.specs.Forms.{elf_form, plan_form, cert_form}
-use Rattle.tcd_forms.specs.Results.{switch_line, refused_task_line, sum_line, certified_tasks_line}
-use Rattle.tcd_driver.specs.Lines.{tasks_line}
+use Rattle.tcd_forms.specs.Lines.{switch_line, refused_task_line, sum_line, certified_tasks_line}
+use Rattle.tcd_driver.specs.BadInputLines.{tasks_line}
 use Rattle.tcd_driver.specs.declared.commands.tasks.Tally.{Tally}
 use Rattle.tcd_driver.specs.declared.commands.tasks.Tally.TheVariants.{Sum, Against}
 use Rattle.tcd_reading.specs.declared.status.Status.TheVariants.{Done, Refused, BadInput}

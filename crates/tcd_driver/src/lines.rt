@@ -2,7 +2,7 @@
 // cells, and of files of tasks.
 ghost use Rattle.std.specs.Prelude.{◌≡◌, ◌++◌, ◌∷◌, [], codes, IfOk};
 ghost use Rattle.tcd_text.specs.Digits.{hex_word};
-ghost use Rattle.tcd_driver.specs.Lines.{bad_words_line, unbooted_line, cells_line, tasks_line};
+ghost use Rattle.tcd_driver.specs.BadInputLines.{bad_words_line, unbooted_line, cells_line, tasks_line};
 
 use std::alloc::Global;
 use task_chains::TasksErr;

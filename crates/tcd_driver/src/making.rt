@@ -1,6 +1,6 @@
 // Makes the best certificate for an image and a plan, and checks it.
-ghost use Rattle.depth_maker.specs.Making.{NoneAccepted};
-ghost use Rattle.tcd_driver.specs.Made.{Makes, SpellBest};
+ghost use Rattle.depth_maker.specs.Made.{NoneAccepted};
+ghost use Rattle.tcd_driver.specs.BestCert.{Makes, SpellBest};
 
 use depth_cert::{CertErr, Key};
 use depth_check::{Verdict, check_packed};

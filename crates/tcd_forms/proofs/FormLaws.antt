@@ -12,7 +12,7 @@ use Rattle.tc_script.specs.Reading.{script_of}
 use Rattle.tc_object.specs.Grammar as grammar
 use Rattle.tc_stmt.specs.Lines.{LineData, lines_in}
 use Rattle.tc_asm.specs.Sources.{KeepsRules, IsLeast}
-use Rattle.tc_link.specs.Faults.{layout_of}
+use Rattle.tc_link.specs.LayoutFaults.{layout_of}
 use Rattle.tcd_forms.specs.Forms.{elf_form, plan_form, cert_form, script_form, source_form, placed_source_form, layout_form, object_form}
 use Rattle.tcd_reading.proofs.Decided.{IsLawful}
 

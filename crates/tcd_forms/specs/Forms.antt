@@ -19,7 +19,7 @@ use Rattle.tc_stmt.specs.Lines.{lines_in}
 use Rattle.tc_asm.specs.Objects.{object_of}
 use Rattle.tc_asm.specs.Sources.{drafted, symbols_of, KeepsRules, IsLeast}
 use Rattle.tc_link.specs.Layouts.{LayoutData}
-use Rattle.tc_link.specs.Faults.{layout_of}
+use Rattle.tc_link.specs.LayoutFaults.{layout_of}
 use Rattle.tc_link.specs.declared.layout_errors.LayoutErr.{LayoutErr}
 use Rattle.tcd_reading.specs.Inputs.{FormSeen}
 use Rattle.tcd_forms.specs.Lines.{long_elf_line, elf_line, long_plan_line, plan_line, long_cert_line, cert_line, long_script_line, script_line, long_source_line, source_line, long_layout_line, layout_line, long_object_line, object_line}

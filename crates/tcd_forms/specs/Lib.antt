@@ -1,4 +1,3 @@
 -- The forms of input files, and the printed lines.
 pub mod Forms
 pub mod Lines
-pub mod Results

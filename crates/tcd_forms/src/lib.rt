@@ -1,21 +1,21 @@
 //! The forms of input files, and the printed lines.
 #![tactic(auto)]
 
-mod forms;
-mod lines;
-mod results;
+mod error_lines;
+mod file_forms;
+mod result_lines;
 
-pub use forms::{
+pub use error_lines::{
+    append, cert_line, elf_line, layout_line, line_of, link_line, long_cells_line, long_cert_line,
+    long_elf_line, long_layout_line, long_object_line, long_plan_line, long_script_line,
+    long_source_line, long_tasks_line, object_line, plan_line, refused_line, refused_task_line,
+    script_line, source_line, sum_line, switch_line,
+};
+pub use file_forms::{
     CertFile, ElfFile, LIMIT, LayoutFile, ObjectFile, PlacedSourceFile, PlanFile, ScriptFile,
     Source, SourceFile,
 };
-pub use lines::{
-    append, assembled_line, cert_line, certified_line, elf_line, layout_line, line_of, link_line,
-    linked_line, long_cells_line, long_cert_line, long_elf_line, long_layout_line,
-    long_object_line, long_plan_line, long_script_line, long_source_line, long_tasks_line,
-    object_line, plan_line, refused_line, run_line, script_line, source_line,
-};
-pub use results::{
-    boots_line, certified_cells_line, certified_tasks_line, generated_boot_line, generated_line,
-    refused_task_line, sum_line, switch_line,
+pub use result_lines::{
+    assembled_line, boots_line, certified_cells_line, certified_line, certified_tasks_line,
+    generated_boot_line, generated_line, linked_line, run_line,
 };

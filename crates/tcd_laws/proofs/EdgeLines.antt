@@ -16,7 +16,7 @@ use Rattle.depth_cert.specs.declared.keys.Key.{Key}
 use Rattle.depth_cert.specs.declared.points.Point.{Point}
 use Rattle.depth_cert.specs.Nodes.{NodeData}
 use Rattle.depth_cert.specs.Certs.{CertData, IsCert}
-use Rattle.cfg_recover.specs.Frames.{Way, to, call, irq, sys, aln, ret, rfe}
+use Rattle.cfg_recover.specs.Edges.{Way, to, call, irq, sys, aln, ret, rfe}
 use Rattle.depth_check.proofs.Sound.{accepted_is_safe}
 use Rattle.depth_check.proofs.Held.{edges_are_owed}
 use Rattle.tcd_text.specs.Digits.{hex_digit, hex_byte, hex_word}

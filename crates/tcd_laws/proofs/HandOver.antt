@@ -18,10 +18,9 @@ use Rattle.tcd_base.specs.Files.{Map, FilesSeen}
 use Rattle.tcd_base.specs.Sink.{SinkSeen}
 use Rattle.tcd_reading.specs.Reports.{Report, with_written}
 use Rattle.tcd_reading.specs.Inputs.{FormSeen, HoldsInput, Reading, each, Says}
-use Rattle.tcd_reading.specs.Outcomes.{Prints, whole, cut, IsReported}
+use Rattle.tcd_reading.specs.Endings.{Prints, whole, cut, IsReported, HasEnded}
 use Rattle.tcd_reading.specs.Outcomes as outcome
 use Rattle.tcd_reading.specs.Endings as ending
-use Rattle.tcd_reading.specs.Endings.{HasEnded}
 use Rattle.tcd_reading.specs.declared.status.Status.TheVariants.{Done, BadInput, Fault, NoMemory}
 use Rattle.tcd_reading.proofs.Decided.{status_is}
 use Rattle.tcd_forms.specs.Forms.{IsSource, object_form, layout_form, elf_form}

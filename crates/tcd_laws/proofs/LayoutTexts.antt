@@ -14,10 +14,10 @@ use Rattle.tcd_text.specs.HexNumbers.{is_upper_hex, hex_number_of}
 use Rattle.tc_object.specs.Names.{is_length, is_name, name_of}
 use Rattle.tc_object.specs.Objects.{InTurn}
 use Rattle.tc_link.specs.Layouts.{PlaceData, LayoutData, IsPlace, IsPlaceAfter, IsLayout, shares, is_placed}
-use Rattle.tc_link.specs.Lines.{LineData, blank, entry, place, place_of_words, line_in, line_of}
+use Rattle.tc_link.specs.LayoutLines.{LineData, blank, entry, place, place_of_words, line_in, line_of, entry_in, region_in, entries_of, places_of}
 use Rattle.tcd_base.specs.Refusing.{unless}
-use Rattle.tc_link.specs.Faults.{entry_in, region_in, entries_of, places_of, fault_of, first_fault, with_entry}
-use Rattle.tc_link.specs.Seen.{DraftData, IsDraft, IsGood, with_line}
+use Rattle.tc_link.specs.LayoutFaults.{fault_of, first_fault, with_entry}
+use Rattle.tc_link.specs.LayoutDrafts.{DraftData, IsDraft, IsGood, with_line}
 use Rattle.tc_link.specs.declared.layout_errors.LayoutErr.{LayoutErr}
 use Rattle.tc_link.proofs.TurnLaws.{turn_push}
 use Rattle.tcd_laws.specs.Images.{TextsGiveLayouts}

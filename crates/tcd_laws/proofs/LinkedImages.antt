@@ -11,10 +11,12 @@ use Rattle.elf_image.specs.Images.{SegmentData, AreBytes, IsImage}
 use Rattle.tc_object.specs.declared.relocs.Reloc.{Reloc}
 use Rattle.tc_object.specs.Objects.{SectionData, SymbolData, ObjectData}
 use Rattle.tc_link.specs.Layouts.{PlaceData}
-use Rattle.tc_link.specs.Placing.{round_up, GlobalData, PlacedData, is_global, global_data, globals_of, global_address, bases_after, placed_after}
+use Rattle.tc_link.specs.Placing.{GlobalData, PlacedData, is_global, global_data, globals_of, global_address, bases_after, placed_after}
+use Rattle.tc_link.specs.PlaceSizes.{round_up}
 use Rattle.tc_reloc.specs.Fields.{content_of, spread_of, rest_of}
 use Rattle.tc_reloc.specs.Applied.{with_field}
-use Rattle.tc_link.specs.Relocated.{field_place, value_of, field_at, with_relocation, with_reloc, relocated_sections, with_padding, with_section, joined_sections, segment_of, segments_of}
+use Rattle.tc_link.specs.Relocated.{field_place, value_of, field_at, with_relocation, with_reloc, relocated_sections}
+use Rattle.tc_link.specs.Segments.{with_padding, with_section, joined_sections, segment_of, segments_of}
 use Rattle.tc_link.specs.Linked.{placed_of, contents_of}
 use Rattle.tc_link.proofs.ImageLaws.{image_of_bytes}
 use Rattle.tc_link.proofs.LinkLaws.{linked_image}

@@ -4,12 +4,11 @@ use Rattle.std.specs.Prelude.{IsTrue, IsSomeAnd}
 use Rattle.std.specs.Option.{option_map}
 use Rattle.tcd_base.specs.Files.{Map, FilesSeen, with_file}
 use Rattle.tcd_base.specs.Sink.{SinkSeen, with_appended, HasRoomFor}
-use Rattle.tcd_reading.specs.Reports.{Report, Written, with_written, Stopped}
+use Rattle.tcd_reading.specs.Reports.{Report, Written, with_written}
+use Rattle.tcd_reading.specs.Endings.{Stopped, IsPrinted, Prints, whole, cut, IsReported, HasRoom, HasEnded, Ends}
 use Rattle.tcd_reading.specs.Inputs.{Reading, Says, AreSureOf}
-use Rattle.tcd_reading.specs.Outcomes.{IsPrinted, Prints, whole, cut, IsReported}
 use Rattle.tcd_reading.specs.Outcomes as outcome
 use Rattle.tcd_reading.specs.Endings as ending
-use Rattle.tcd_reading.specs.Endings.{HasRoom, HasEnded, Ends}
 use Rattle.tcd_reading.specs.declared.status.Status.{Status}
 use Rattle.tcd_reading.specs.declared.status.Status.TheVariants.{Done, Fault, NoMemory}
 use Rattle.tcd_driver.specs.Commands.{reading_of}

@@ -5,7 +5,8 @@ use Rattle.elf_image.specs.Written.{file_of}
 use Rattle.tc_object.specs.Objects.{ObjectData}
 use Rattle.tc_object.specs.Spelling.{bytes_of}
 use Rattle.tc_link.specs.Layouts.{LayoutData}
-use Rattle.tc_link.specs.Linked.{Refusal, image_of_objects}
+use Rattle.tc_link.specs.Linked.{image_of_objects}
+use Rattle.tc_link.specs.Refusals.{Refusal}
 use Rattle.tc_disasm.specs.Listing.{listing_of}
 use Rattle.tcd_base.specs.Files.{Map}
 use Rattle.tcd_reading.specs.Reports.{Report, says, writes_file}

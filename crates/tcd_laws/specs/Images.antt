@@ -5,11 +5,10 @@ use Rattle.elf_image.specs.Images.{ImageData, IsImage}
 use Rattle.tc_object.specs.Objects.{SectionData, ObjectData, IsObject}
 use Rattle.tc_object.specs.Spelling.{bytes_of}
 use Rattle.tc_stmt.specs.Lines.{lines_in}
-use Rattle.tc_asm.specs.Sources.{KeepsRules}
+use Rattle.tc_asm.specs.Sources.{KeepsRules, draft_in}
 use Rattle.tc_asm.specs.Objects.{object_of}
-use Rattle.tc_asm.specs.Contents.{draft_in}
 use Rattle.tc_link.specs.Layouts.{LayoutData, IsLayout}
-use Rattle.tc_link.specs.Faults.{layout_of}
+use Rattle.tc_link.specs.LayoutFaults.{layout_of}
 use Rattle.tc_link.specs.Linked.{image_of_objects}
 
 -- a number of eight bits

@@ -5,10 +5,9 @@ use Rattle.std.specs.List.{flat_map}
 use Rattle.std.specs.Option.{option_map}
 use Rattle.tcd_base.specs.Files.{Map, FilesSeen}
 use Rattle.tcd_base.specs.Sink.{SinkSeen, with_appended, HasRoomFor}
-use Rattle.tcd_reading.specs.Reports.{Report, Written, with_written, Stopped}
+use Rattle.tcd_reading.specs.Reports.{Report, Written, with_written}
+use Rattle.tcd_reading.specs.Endings.{Stopped, IsQuiet, Ends}
 use Rattle.tcd_reading.specs.Inputs.{Reading, Says, HoldsAsked}
-use Rattle.tcd_reading.specs.Outcomes.{IsQuiet}
-use Rattle.tcd_reading.specs.Endings.{Ends}
 use Rattle.tcd_reading.specs.declared.status.Status.{Status}
 use Rattle.tcd_reading.specs.declared.status.Status.TheVariants.{Done, NoMemory}
 use Rattle.tcd_driver.specs.Commands.{Command, reading_of}

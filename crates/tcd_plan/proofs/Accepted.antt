@@ -3,13 +3,16 @@ use Rattle.std.proofs.Common.{◌≡◌, ℕ, ◌+◌, ◌*◌, ◌%◌, ◌/◌
 use Rattle.std.proofs.lemmas.Bool.{and_parts, leb-true, ltb-true, eqb-true}
 use Rattle.std.proofs.lemmas.List.{length-map}
 use Rattle.serde_json.specs.Data.{Data}
-use Rattle.tcd_plan.specs.Objects.{objects_of}
+use Rattle.tcd_plan.specs.Objects.{objects_of, places_of}
 use Rattle.tcd_plan.specs.PlanData.{PlanData}
-use Rattle.tcd_plan.specs.Plans.{AreFew, are_areas, are_few, bad_value_of, has_areas, has_vectors, device_of, irq_of, numbered, overlap_of, places_of, range_of, refusal_of, refusals, plan_in, too_many_of}
-use Rattle.tcd_plan.specs.Values.{word_in}
+use Rattle.tcd_plan.specs.Plans.{device_of, irq_of, range_of, refusal_of, refusals, plan_in}
+use Rattle.tcd_plan.specs.PlanLimits.{AreFew, are_areas, are_few, has_areas, has_vectors, too_many_of}
+use Rattle.tcd_plan.specs.Regions.{overlap_of}
+use Rattle.tcd_plan.specs.KeyFaults.{bad_value_of, numbered}
+use Rattle.tcd_plan.specs.JsonValues.{word_in}
 use Rattle.tcd_plan.specs.declared.plans.PlanErr.TheVariants.{BadValue, TooMany, BadCsa, BadVector}
 use Rattle.tcd_base.specs.declared.range.Range.{Range}
-use Rattle.tcd_plan.specs.declared.rows.Holder.TheVariants.{Rom, Ram, Devices}
+use Rattle.tcd_plan.specs.declared.key_table.Holder.TheVariants.{Rom, Ram, Devices}
 use Rattle.tcd_plan.proofs.Small.{first_some_none, four_hold, option_map_none, where_none}
 
 -- the limits of the save areas, over numbers

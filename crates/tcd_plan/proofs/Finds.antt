@@ -2,9 +2,9 @@
 use Rattle.std.proofs.Common.{◌≡◌, Bool, true, false, List, [], ◌∷◌, map, Option, Some, None, option_map, Bor, cond, ◌||◌, refl, sym, ap, ◌∙◌}
 use Rattle.std.specs.List.{find, list_any}
 use Rattle.tcd_plan.specs.KeyRows.{KeyRow, holder_key, holders, key_rows, row_of}
-use Rattle.tcd_plan.specs.Plans.{numbered}
-use Rattle.tcd_plan.specs.declared.rows.Holder.{Holder}
-use Rattle.tcd_plan.specs.declared.rows.Row.{Row}
+use Rattle.tcd_plan.specs.KeyFaults.{numbered}
+use Rattle.tcd_plan.specs.declared.key_table.Holder.{Holder}
+use Rattle.tcd_plan.specs.declared.key_table.Row.{Row}
 
 pub list_any-map : {X Y : Type 0} (test : Y → Bool) (f : X → Y) (xs : List X) → list_any test (map f xs) ≡ list_any (λ x. test (f x)) xs
 list_any-map test f [] = refl

@@ -3,10 +3,11 @@ use Rattle.std.proofs.Common.{◌≡◌, ℕ, ◌<◌, true, false, [], ◌∷�
 use Rattle.std.specs.List.{list_all, list_any}
 use Rattle.serde_json.specs.Data.{Data}
 use Rattle.tcd_plan.specs.KeyRows.{KeyRow, key_rows, row}
-use Rattle.tcd_plan.specs.Objects.{has_form, is_bad, objects_of}
-use Rattle.tcd_plan.specs.Plans.{bad_value_of}
-use Rattle.tcd_plan.specs.declared.rows.Form.TheVariants.{Ranges, Object, At, Len, Hi, Word, Byte, Irqs}
-use Rattle.tcd_plan.specs.declared.rows.Holder.TheVariants.{Root, Rom, Ram, Devices, Start}
+use Rattle.tcd_plan.specs.Objects.{objects_of}
+use Rattle.tcd_plan.specs.KeyFaults.{is_bad, bad_value_of}
+use Rattle.tcd_plan.specs.ValueForms.{has_form}
+use Rattle.tcd_plan.specs.declared.key_table.Form.TheVariants.{Ranges, Object, At, Len, Hi, Word, Byte, Irqs}
+use Rattle.tcd_plan.specs.declared.key_table.Holder.TheVariants.{Root, Rom, Ram, Devices, Start}
 use Rattle.tcd_plan.proofs.Small.{none_fails, not_found, option_map_none}
 
 -- the value of a row's key has its form in each object

@@ -6,15 +6,18 @@ use Rattle.std.proofs.lemmas.Bool.{and_parts, ltb-true}
 use Rattle.serde_json.specs.Data.{Data}
 use Rattle.tcd_base.specs.declared.range.Range.{Range}
 use Rattle.tcd_plan.specs.KeyRows.{KeyRow, holder_key, holders, key_rows}
-use Rattle.tcd_plan.specs.Objects.{has_unknown, is_bad, lacks, objects_of}
+use Rattle.tcd_plan.specs.Objects.{objects_of}
+use Rattle.tcd_plan.specs.KeyFaults.{has_unknown, is_bad, lacks, bad_value_of, first_key, missing_of, numbered, unknown_of}
 use Rattle.tcd_plan.specs.PlanData.{PlanData, all_ranges, ranges_apart}
-use Rattle.tcd_plan.specs.Plans.{HasText, are_few, bad_value_of, first_key, has_areas, has_vectors, missing_of, numbered, overlap_from, overlap_of, refusal_of, plan_in, too_many_of, unknown_of, refusal_if}
-use Rattle.tcd_plan.specs.Values.{is_object}
+use Rattle.tcd_plan.specs.Plans.{HasText, refusal_of, plan_in, refusal_if}
+use Rattle.tcd_plan.specs.PlanLimits.{are_few, has_areas, has_vectors, too_many_of}
+use Rattle.tcd_plan.specs.Regions.{overlap_from, overlap_of}
+use Rattle.tcd_plan.specs.JsonValues.{is_object}
 use Rattle.tcd_plan.specs.declared.plans.PlanErr.{PlanErr}
 use Rattle.tcd_plan.specs.declared.plans.PlanErr.TheVariants.{NotJson, Missing, Unknown, BadValue, TooMany, BadCsa, BadVector, Overlap}
 use Rattle.tcd_plan.specs.declared.plans.PlanKey.{PlanKey}
-use Rattle.tcd_plan.specs.declared.rows.Holder.{Holder}
-use Rattle.tcd_plan.specs.declared.rows.Holder.TheVariants.{Root}
+use Rattle.tcd_plan.specs.declared.key_table.Holder.{Holder}
+use Rattle.tcd_plan.specs.declared.key_table.Holder.TheVariants.{Root}
 
 abbrev IsKey : PlanKey → Type 0
 IsKey key = key.0 < 32

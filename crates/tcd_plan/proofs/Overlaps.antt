@@ -7,8 +7,9 @@ use Rattle.serde_json.specs.Data.{Data}
 use Rattle.tcd_base.specs.declared.range.Range.{Range}
 use Rattle.tcd_plan.specs.PlanData.{all_ranges, areas_range, ranges_apart}
 use Rattle.tcd_plan.specs.Objects.{objects_of}
-use Rattle.tcd_plan.specs.Plans.{device_of, overlap_from, range_of, plan_in}
-use Rattle.tcd_plan.specs.declared.rows.Holder.TheVariants.{Rom, Ram, Devices}
+use Rattle.tcd_plan.specs.Plans.{device_of, range_of, plan_in}
+use Rattle.tcd_plan.specs.Regions.{overlap_from}
+use Rattle.tcd_plan.specs.declared.key_table.Holder.TheVariants.{Rom, Ram, Devices}
 use Rattle.tcd_plan.specs.declared.plans.PlanErr.TheVariants.{Overlap}
 
 abbrev pub sharing : Range → List Range → Option ℕ

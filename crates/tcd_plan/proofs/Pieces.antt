@@ -5,11 +5,11 @@ use Rattle.std.specs.List.Sorted.{IsStrictlyIncreasing}
 use Rattle.std.proofs.lemmas.Bool.{and_from, and_parts, ltb-true, lt-ltb}
 use Rattle.std.proofs.lemmas.List.Elements.{All-nil, All-cons}
 use Rattle.serde_json.specs.Data.{Data}
-use Rattle.tcd_plan.specs.Objects.{ascend_above, has_form, is_len, passes}
+use Rattle.tcd_plan.specs.ValueForms.{ascend_above, has_form, is_len, passes}
 use Rattle.tcd_plan.specs.PlanData.{is_device, is_range}
 use Rattle.tcd_plan.specs.Plans.{device_of, irq_of, range_of}
-use Rattle.tcd_plan.specs.Values.{is_object, number_at, number_of, word_at}
-use Rattle.tcd_plan.specs.declared.rows.Form.TheVariants.{At, Len, Hi}
+use Rattle.tcd_plan.specs.JsonValues.{is_object, number_at, number_of, word_at}
+use Rattle.tcd_plan.specs.declared.key_table.Form.TheVariants.{At, Len, Hi}
 use Rattle.tcd_plan.proofs.Small.{passes-unwrap_or}
 use Rattle.tcd_plan.proofs.Words.{word_at-lt}
 

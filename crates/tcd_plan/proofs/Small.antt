@@ -3,7 +3,7 @@ use Rattle.std.proofs.Common.{◌≡◌, ℕ, suc, zero, ◌+◌, ◌<◌, ◌�
 use Rattle.std.specs.List.{find, list_all, list_any, position, prefix_len}
 use Rattle.std.specs.Option.{option_or}
 use Rattle.std.proofs.lemmas.Bool.{and_from, or_parts, ltb-false}
-use Rattle.tcd_plan.specs.Objects.{passes}
+use Rattle.tcd_plan.specs.ValueForms.{passes}
 use Rattle.tcd_plan.specs.Plans.{first_some, refusal_if}
 use Rattle.tcd_plan.specs.declared.plans.PlanErr.{PlanErr}
 

@@ -7,13 +7,17 @@ use Rattle.std.proofs.lemmas.List.{length-map}
 use Rattle.serde_json.specs.Data.{Data}
 use Rattle.serde_json.specs.Find.{get}
 use Rattle.tcd_base.specs.declared.range.Range.{Range}
-use Rattle.tcd_plan.specs.Objects.{ascend_above, has_form, objects_of}
+use Rattle.tcd_plan.specs.Objects.{objects_of, places_of}
+use Rattle.tcd_plan.specs.ValueForms.{ascend_above, has_form}
 use Rattle.tcd_plan.specs.PlanData.{AreAreas, AreIrqs, AreRanges, AreWords, IsPlan, PlanData, all_apart, all_ranges, ranges_apart}
-use Rattle.tcd_plan.specs.Plans.{are_few, bad_value_of, has_areas, has_vectors, overlap_from, overlap_of, places_of, range_of, refusal_of, plan_in}
-use Rattle.tcd_plan.specs.Values.{places_at, word_at, word_in}
+use Rattle.tcd_plan.specs.Plans.{range_of, refusal_of, plan_in}
+use Rattle.tcd_plan.specs.PlanLimits.{are_few, has_areas, has_vectors}
+use Rattle.tcd_plan.specs.Regions.{overlap_from, overlap_of}
+use Rattle.tcd_plan.specs.KeyFaults.{bad_value_of}
+use Rattle.tcd_plan.specs.JsonValues.{places_at, word_at, word_in}
 use Rattle.tcd_plan.specs.declared.plans.PlanErr.TheVariants.{Overlap}
-use Rattle.tcd_plan.specs.declared.rows.Form.TheVariants.{Irqs, Object, Ranges}
-use Rattle.tcd_plan.specs.declared.rows.Holder.TheVariants.{Devices, Ram, Rom}
+use Rattle.tcd_plan.specs.declared.key_table.Form.TheVariants.{Irqs, Object, Ranges}
+use Rattle.tcd_plan.specs.declared.key_table.Holder.TheVariants.{Devices, Ram, Rom}
 use Rattle.tcd_plan.proofs.Accepted.{IsAccepted, accepted, are_areas_parts, few_ranges}
 use Rattle.tcd_plan.proofs.Forms.{devices_at, devices_hi, devices_len, irqs_form, ram_at, ram_len, rom_at, rom_form, rom_len, start_ccpn, start_form}
 use Rattle.tcd_plan.proofs.Pieces.{devices_are, inner_word, irqs_each, irqs_rise, ranges_are, some_objects}

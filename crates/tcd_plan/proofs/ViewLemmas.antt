@@ -8,7 +8,7 @@ use Rattle.std.proofs.lemmas.List.Folds.{list_all-map}
 use Rattle.serde_json.specs.Data.{Data, Members}
 use Rattle.serde_json.specs.View.{view, items_view, members_view}
 use Rattle.serde_json.specs.declared.value.Value.{Value}
-use Rattle.tcd_plan.specs.Values.{list_of, names_of}
+use Rattle.tcd_plan.specs.JsonValues.{list_of, names_of}
 
 pub list_of_items : (values : List Value) → list_of (items_view values) ≡ map view values
 list_of_items [] = refl

@@ -7,7 +7,7 @@ use Rattle.std.proofs.lemmas.Int.Digits.{digits_value-lt}
 use Rattle.std.proofs.Math.Nat.{pow-le-pow_right}
 use Rattle.serde_json.specs.Data.{unsigned, negative, float, Data, null, boolean, number, string, array, object}
 use Rattle.serde_json.specs.Find.{get}
-use Rattle.tcd_plan.specs.Values.{hex_word, is_hex, number_at, number_of, text_word, word, word_at, word_in}
+use Rattle.tcd_plan.specs.JsonValues.{hex_word, is_hex, number_at, number_of, text_word, word, word_at, word_in}
 
 abbrev IsSmall : Option ℕ → Type 0
 IsSmall None = Unit {0}

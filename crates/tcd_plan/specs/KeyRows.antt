@@ -1,12 +1,12 @@
 -- The table of keys: the object that each key is in, and the form of its value.
-use Rattle.std.specs.Prelude.{ℕ, ◌==◌, Bool, List, [], ◌∷◌, ◌++◌, codes, if◌then◌else◌, slice_get, unwrap_or}
+use Rattle.std.specs.Prelude.{ℕ, ◌==◌, Bool, List, ◌∷◌, ◌++◌, codes, if◌then◌else◌, slice_get, unwrap_or, true, false}
 use Rattle.std.specs.Str.{bytes_eq}
 use Rattle.tcd_plan.specs.Keys.{key_texts}
-use Rattle.tcd_plan.specs.declared.rows.Row.{Row}
-use Rattle.tcd_plan.specs.declared.rows.Form.{Form}
-use Rattle.tcd_plan.specs.declared.rows.Form.TheVariants.{Ranges, Objects, Object, At, Len, Hi, Word, Byte, Truth, Irqs, Traps, CoreText}
-use Rattle.tcd_plan.specs.declared.rows.Holder.{Holder}
-use Rattle.tcd_plan.specs.declared.rows.Holder.TheVariants.{Root, Rom, Ram, Devices, Csa, Start, Globals}
+use Rattle.tcd_plan.specs.declared.key_table.Row.{Row}
+use Rattle.tcd_plan.specs.declared.key_table.Form.{Form}
+use Rattle.tcd_plan.specs.declared.key_table.Form.TheVariants.{Ranges, Objects, Object, At, Len, Hi, Word, Byte, Truth, Irqs, Traps, CoreText}
+use Rattle.tcd_plan.specs.declared.key_table.Holder.{Holder}
+use Rattle.tcd_plan.specs.declared.key_table.Holder.TheVariants.{Root, Rom, Ram, Devices, Csa, Start, Globals}
 
 -- the number of a printed key, the object or objects that it is in, its name there, and the form of
 -- its value
@@ -81,3 +81,8 @@ text_of key = unwrap_or (slice_get key_texts key) []
 -- a key is printed by its name, after the key of the objects that it is in
 abbrev pub is_printed : KeyRow → Bool
 is_printed r = bytes_eq (text_of r.key) (if holder_key r.holder == 0 then r.name else text_of (holder_key r.holder) ++ codes "." ++ r.name)
+
+-- only `core` can be absent
+abbrev pub may_be_absent : Form → Bool
+may_be_absent CoreText = true
+may_be_absent _ = false

@@ -2,8 +2,11 @@
 pub mod PlanData
 pub mod Keys
 pub mod KeyRows
-pub mod Values
+pub mod JsonValues
 pub mod Objects
 pub mod Plans
 pub mod Regions
 pub mod Cutting
+pub mod ValueForms
+pub mod KeyFaults
+pub mod PlanLimits

@@ -1,8 +1,12 @@
--- What a plan maps, and what its devices can answer.
-use Rattle.std.specs.Prelude.{◌≡◌, ℕ, ◌+◌, ◌*◌, ◌^◌, ◌<◌, ◌≤◌, ◌⊎◌, List, [], ◌∷◌, Option, All, IfSome}
+-- What a plan maps, which of its ranges overlap, and what its devices can answer.
+use Rattle.std.specs.Prelude.{◌≡◌, ℕ, ◌+◌, ◌*◌, ◌^◌, ◌<◌, ◌≤◌, ◌⊎◌, List, ◌∷◌, Option, All, IfSome, not, Some, None, position}
 use Rattle.tcd_base.specs.Ranges.{IsWithin, IsInOne}
 use Rattle.tcd_plan.specs.declared.plans.Device.{Device}
-use Rattle.tcd_plan.specs.PlanData.{PlanData}
+use Rattle.tcd_plan.specs.PlanData.{PlanData, all_ranges, ranges_apart}
+use Rattle.std.specs.Option.{option_map_or}
+use Rattle.tcd_base.specs.declared.range.Range.{Range}
+use Rattle.tcd_plan.specs.declared.plans.PlanErr.{PlanErr}
+use Rattle.tcd_plan.specs.declared.plans.PlanErr.TheVariants.{Overlap}
 
 -- the n addresses from x on are in the range of one device
 abbrev pub IsInDevice : ℕ → ℕ → List Device → Type 0
@@ -28,3 +32,12 @@ AnswersLoad plan input load = IfSome load (λ l. l.1 ≡ 4 → AnswersAt l.0 inp
 -- a store doesn't pass 2^32, and is wholly in one ram range or one device range
 abbrev pub IsStoreInRange : PlanData → ℕ × ℕ → Type 0
 IsStoreInRange plan at = (at.0 + at.1 ≤ 2 ^ 32) × (IsInOne at.0 at.1 plan.ram ⊎ IsInDevice at.0 at.1 plan.devices)
+
+-- the first pair of ranges that share a byte; the first of the list is the range i
+abbrev pub overlap_from : ℕ → List Range → Option PlanErr
+overlap_from i [] = None
+overlap_from i (r ∷ rs) = option_map_or (λ k. Some (Overlap i (i + 1 + k))) (position (λ s. not (ranges_apart r s)) rs) (overlap_from (i + 1) rs)
+
+-- the first pair of the plan's ranges that share a byte, if there is one
+unfoldable pub overlap_of : PlanData → Option PlanErr
+overlap_of p = overlap_from 0 (all_ranges p)

@@ -2,15 +2,15 @@
 #![tactic(auto)]
 
 mod cutting;
+mod json_values;
+mod key_refusals;
+mod key_table;
 mod limits;
-mod objects;
+mod object_forms;
+mod plan_parts;
 mod plans;
 mod reader;
-mod readings;
-mod refusals;
-mod rows;
 mod texts;
-mod values;
 
 pub use cutting::ranges_without;
 pub use plans::{Device, Plan, PlanErr, PlanKey};

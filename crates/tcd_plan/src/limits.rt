@@ -2,12 +2,14 @@
 ghost use Rattle.std.specs.Prelude.{◌≡◌, ◌<◌, ◌≤◌, ◌+◌, IfSome, None, length, map, not, position, sum_by, true};
 ghost use Rattle.serde_json.specs.View.{view};
 ghost use Rattle.tcd_plan.specs.PlanData.{areas_range, ranges_apart};
-ghost use Rattle.tcd_plan.specs.Plans.{AreFew, are_areas, are_few, has_areas, has_vectors, overlap_from, overlap_of, range_of, plan_in, too_many_of};
+ghost use Rattle.tcd_plan.specs.Plans.{range_of, plan_in};
+ghost use Rattle.tcd_plan.specs.PlanLimits.{AreFew, are_areas, are_few, has_areas, has_vectors, too_many_of};
+ghost use Rattle.tcd_plan.specs.Regions.{overlap_from, overlap_of};
 
-use crate::objects::objects_of;
-use crate::readings::{places_of, push_ranges};
-use crate::rows::{DEVICES, Holder, IRQS, RAM, ROM};
-use crate::values::{word_at, word_in};
+use crate::json_values::{word_at, word_in};
+use crate::key_table::{DEVICES, Holder, IRQS, RAM, ROM};
+use crate::object_forms::objects_of;
+use crate::plan_parts::{places_of, push_ranges};
 use crate::{PlanErr, PlanKey};
 use arrayvec::ArrayVec;
 use serde_json::Value;

@@ -10,15 +10,15 @@ use Rattle.std.proofs.lemmas.Map.Text.{is_eq-slice_cmp}
 use Rattle.std.proofs.lemmas.Slice.Eq.{bytes_eq-Decides}
 use Rattle.tcd_base.specs.Files.{Map, FilesSeen, OthersStay}
 use Rattle.tcd_base.specs.Sink.{SinkSeen, HasRoomFor}
-use Rattle.tcd_reading.specs.Reports.{Written, Report, IsReportStatus, with_written, Stopped}
+use Rattle.tcd_reading.specs.Reports.{Written, Report, IsReportStatus, with_written, IsLineOf}
+use Rattle.tcd_reading.specs.Endings.{Stopped, whole, cut, IsReported, printed, unwritten, no_memory, HasEnded, Ends}
 use Rattle.tcd_reading.specs.Inputs.{FormSeen, HoldsInput, IsRefusal, Refuses, Reading, answer, input, Says, HoldsAsked, AreSureOf}
 use Rattle.tcd_reading.specs.Inputs as inputs
-use Rattle.tcd_reading.specs.Outcomes.{whole, cut, IsReported, printed, unwritten, no_memory}
 use Rattle.tcd_reading.proofs.Decided.{never_fault}
 use Rattle.tcd_reading.specs.Endings as ending
-use Rattle.tcd_reading.specs.Endings.{HasEnded, Ends}
-use Rattle.tcd_reading.specs.EndingWords.{HoldsLast, BreaksOff, HasEndedSo, EndsSo, EndsSay, HasRisen, EndsAnyhow, EndsAnyhowSay, IsHeldAs, IsHeldBad, IsLineOf, IsSaidOfTwo, first_bad, second_bad, both, SaysSay, AsksSay}
-use Rattle.tcd_reading.specs.EndingWords as so
+use Rattle.tcd_reading.specs.EndingLaws.{HoldsLast, BreaksOff, HasEndedSo, EndsSo, EndsSay, HasRisen, EndsAnyhow, EndsAnyhowSay}
+use Rattle.tcd_reading.specs.ReportLaws.{IsHeldAs, IsHeldBad, IsSaidOfTwo, first_bad, second_bad, both, SaysSay, AsksSay}
+use Rattle.tcd_reading.specs.EndingLaws as so
 use Rattle.tcd_reading.specs.declared.status.Status.{Status}
 use Rattle.tcd_reading.specs.declared.status.Status.TheVariants.{Fault, NoMemory}
 

@@ -3,11 +3,11 @@ use Rattle.std.proofs.Common.{◌≡◌, ◌≢◌, ◌⊎◌, inl, inr, List, [
 use Rattle.std.specs.Prelude.{IsTrue}
 use Rattle.tcd_base.specs.Files.{Map, FilesSeen, LeavesFaults}
 use Rattle.tcd_base.specs.Sink.{SinkSeen}
-use Rattle.tcd_reading.specs.Reports.{Written, Report, with_written, Stopped}
+use Rattle.tcd_reading.specs.Reports.{Written, Report, with_written}
+use Rattle.tcd_reading.specs.Endings.{Stopped, IsQuiet, whole, cut, IsReported, printed, unwritten, no_memory, Finishes, HasRoom, Ends}
 use Rattle.tcd_reading.specs.Inputs.{Reading, Says, AreSureOf}
-use Rattle.tcd_reading.specs.Outcomes.{Comes, HasNotRead, IsQuiet, whole, cut, IsReported, printed, unwritten, no_memory, Finishes}
+use Rattle.tcd_reading.specs.Outcomes.{Comes, HasNotRead}
 use Rattle.tcd_reading.specs.Endings as ending
-use Rattle.tcd_reading.specs.Endings.{HasRoom, Ends}
 use Rattle.tcd_reading.specs.declared.status.Status.{Status}
 use Rattle.tcd_reading.specs.declared.status.Status.TheVariants.{Done, Refused, BadInput, Fault, NoMemory, BadWords}
 use Rattle.tcd_reading.specs.declared.outcome.Outcome.{Outcome}

@@ -2,7 +2,8 @@
 use Rattle.std.proofs.Common.{◌≡◌, ◌<◌, ◌≤◌, ◌+◌, ℕ, zero, suc, List, [], ◌∷◌, ◌++◌, length, get_or, take, drop, Option, refl, sym, ap, subst, ◌∙◌, arith}
 use Rattle.std.specs.Prelude.{IsTrue}
 use Rattle.tcd_base.specs.Files.{Map, FilesSeen, LeavesFaults, OthersStay, with_file}
-use Rattle.tcd_reading.specs.Reports.{Written, with_written, Stopped}
+use Rattle.tcd_reading.specs.Reports.{Written, with_written}
+use Rattle.tcd_reading.specs.Endings.{Stopped}
 
 -- the first files were written
 pub record HasWritten (writes : List Written) (i : ℕ) (old new : FilesSeen) : Type 0 where

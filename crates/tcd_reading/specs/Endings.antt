@@ -1,16 +1,64 @@
 -- How a command ends, in terms of the views of the files and of the sink.
-use Rattle.std.specs.Prelude.{◌≡◌, ◌≢◌, ◌⊎◌, [], Option}
-use Rattle.tcd_base.specs.Files.{Map, FilesSeen, FaultCounted}
-use Rattle.tcd_base.specs.Sink.{SinkSeen, HasRoomFor}
-use Rattle.tcd_reading.specs.Reports.{Report, IsReportStatus}
+use Rattle.std.specs.Prelude.{◌≡◌, ◌≢◌, ◌⊎◌, Option, ◌≤◌, ◌-◌, ℕ, List, length, IsTrue, ◌∷◌, ◌++◌}
+use Rattle.tcd_base.specs.Files.{Map, FilesSeen, FaultCounted, LeavesFaults, OthersStay}
+use Rattle.tcd_base.specs.Sink.{SinkSeen, HasRoomFor, with_appended, AppendsFront}
+use Rattle.tcd_reading.specs.Reports.{Report, IsReportStatus, with_written, Written}
 use Rattle.tcd_reading.specs.Inputs.{Reading, Says, AreSureOf}
-use Rattle.tcd_reading.specs.Outcomes.{IsReported}
 use Rattle.tcd_reading.specs.declared.status.Status.{Status}
 use Rattle.tcd_reading.specs.declared.status.Status.TheVariants.{Done, Refused, BadInput, Fault, NoMemory, BadWords}
+use Rattle.std.specs.Option.{option_map}
+use Rattle.tcd_reading.specs.declared.outcome.Outcome.{Outcome}
+use Rattle.tcd_reading.specs.declared.status.Status.TheVariants as status
+use Rattle.tcd_reading.specs.declared.outcome.Outcome.TheVariants as outcome
 
 -- the sink has room for the text of each report
 abbrev pub HasRoom : Reading → Option Map → SinkSeen → Type 0
 HasRoom reading held sink = (report : Report) → Says reading held report → HasRoomFor sink report.text
+
+-- the text is printed whole; if the sink surely has room, no fault is counted, and the room shrinks
+-- by the text
+pub record IsPrinted (text : List ℕ) (old new : SinkSeen) : Type 0 where
+  pub written : new.written ≡ with_appended old.written text
+  pub faults : HasRoomFor old text → new.faults ≡ old.faults
+  pub room : HasRoomFor old text → new.room ≡ option_map (λ n. n - length text) old.room
+
+-- the text is printed whole, and its status returned; or the sink, which lacks room for it, failed
+-- within it
+pub data Prints (s : Status) (text : List ℕ) (old new : SinkSeen) (result : Status) : Type 0 where
+  whole : result ≡ s → IsPrinted text old new → Prints s text old new result
+  cut :
+      result ≡ status.Fault → AppendsFront old.written new.written text → FaultCounted old.faults new.faults → (HasRoomFor old text → ⊥)
+      → Prints s text old new result
+
+-- Writing a file failed. The files before it are written, its own contents are unknown, and the
+-- files after it aren't touched.
+pub record Stopped (held held' : Option Map) (writes : List Written) : Type 0 where
+  pub front : List Written
+  pub at : Written
+  pub rest : List Written
+  pub are : writes ≡ front ++ at ∷ rest
+  pub others : OthersStay at.name (with_written held front) held'
+
+-- How a report ends. Its files are written and its text is printed. Or a write failed, so the files
+-- aren't steady. Or memory ran out in a write. If a write failed, nothing is printed.
+pub data IsReported (report : Report) (files files' : FilesSeen) (sink sink' : SinkSeen) (result : Status) : Type 0 where
+  printed : files'.held ≡ with_written files.held report.writes → Prints report.status report.text sink sink' result → IsReported report files files' sink sink' result
+  unwritten :
+      result ≡ status.Fault → sink' ≡ sink → Stopped files.held files'.held report.writes → FaultCounted files.faults files'.faults
+      → (IsTrue files.steady → ⊥) → IsReported report files files' sink sink' result
+  no_memory : result ≡ status.NoMemory → sink' ≡ sink → Stopped files.held files'.held report.writes → IsReported report files files' sink sink' result
+
+-- the views of the files and of the sink don't change
+pub record IsQuiet (files files' : FilesSeen) (sink sink' : SinkSeen) : Type 0 where
+  pub files_stay : files' ≡ files
+  pub sink_stays : sink' ≡ sink
+
+-- the end of a command with this outcome
+abbrev pub Finishes : Outcome → FilesSeen → FilesSeen → SinkSeen → SinkSeen → Status → Type 0
+Finishes (outcome.Report s text writes) files files' sink sink' result =
+    IsReported (record { status = s; text = text.items; writes = writes.items }) files files' sink sink' result × LeavesFaults files files' × (files.faults ≤ files'.faults)
+Finishes outcome.Unread files files' sink sink' result = IsQuiet files files' sink sink' × (result ≡ status.Fault)
+Finishes outcome.NoMemory files files' sink sink' result = IsQuiet files files' sink sink' × (result ≡ status.NoMemory)
 
 -- A report was written and printed. Or a file couldn't be read, so the files aren't sure of all
 -- needed inputs. Or memory ran out before anything was written or printed.

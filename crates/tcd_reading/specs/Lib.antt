@@ -4,4 +4,5 @@ pub mod Inputs
 pub mod Outcomes
 pub mod Reports
 pub mod Statuses
-pub mod EndingWords
+pub mod EndingLaws
+pub mod ReportLaws

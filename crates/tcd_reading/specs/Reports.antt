@@ -1,6 +1,6 @@
 -- The report of a command: a status, a text to print, and files to write before it.
-use Rattle.std.specs.Prelude.{ℕ, List, [], ◌∷◌, ◌++◌, ◌≡◌, ◌⊎◌, Option}
-use Rattle.tcd_base.specs.Files.{Map, OthersStay, with_file}
+use Rattle.std.specs.Prelude.{ℕ, List, ◌∷◌, ◌≡◌, ◌⊎◌, Option}
+use Rattle.tcd_base.specs.Files.{Map, with_file}
 use Rattle.tcd_reading.specs.declared.status.Status.{Status}
 use Rattle.tcd_reading.specs.declared.status.Status.TheVariants.{Done, Refused, BadInput}
 
@@ -36,11 +36,8 @@ abbrev pub with_written : Option Map → List Written → Option Map
 with_written held [] = held
 with_written held (w ∷ ws) = with_written (with_file held w.name w.bytes) ws
 
--- Writing a file failed. The files before it are written, its own contents are unknown, and the
--- files after it aren't touched.
-pub record Stopped (held held' : Option Map) (writes : List Written) : Type 0 where
-  pub front : List Written
-  pub at : Written
-  pub rest : List Written
-  pub are : writes ≡ front ++ at ∷ rest
-  pub others : OthersStay at.name (with_written held front) held'
+-- a report of this line, with nothing to write
+pub record IsLineOf (IsLine : List ℕ → Type 0) (report : Report) : Type 0 where
+  pub status : report.status ≡ BadInput
+  pub line : IsLine report.text
+  pub writes : report.writes ≡ []

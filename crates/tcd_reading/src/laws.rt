@@ -1,5 +1,6 @@
 // Public laws of how a command ends.
-ghost use Rattle.tcd_reading.specs.EndingWords.{EndsAnyhowSay, EndsSay, SaysSay, AsksSay};
+ghost use Rattle.tcd_reading.specs.EndingLaws.{EndsAnyhowSay, EndsSay};
+ghost use Rattle.tcd_reading.specs.ReportLaws.{SaysSay, AsksSay};
 ghost use Rattle.tcd_reading.specs.Inputs.{FormSeen, Reading};
 ghost use Rattle.tcd_reading.specs.Reports.{Report};
 

@@ -1,8 +1,9 @@
 // The outcome of a command, and the end of a command with this outcome.
 ghost use Rattle.std.specs.Prelude.{◌≡◌, ◌≢◌, ◌≤◌, ◌∷◌, [], IsTrue, IfOk, OnOk, IfErr, IsOkAnd};
 ghost use Rattle.tcd_base.specs.Files.{FaultCounted, LeavesFaults};
-ghost use Rattle.tcd_reading.specs.Reports.{says, writes_file, writes_two, with_written, Stopped};
-ghost use Rattle.tcd_reading.specs.Outcomes.{IsTold, Prints, Finishes};
+ghost use Rattle.tcd_reading.specs.Reports.{says, writes_file, writes_two, with_written};
+ghost use Rattle.tcd_reading.specs.Endings.{Stopped, Prints, Finishes};
+ghost use Rattle.tcd_reading.specs.Outcomes.{IsTold};
 
 use crate::status::Status;
 use std::alloc::Global;

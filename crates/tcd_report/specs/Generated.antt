@@ -8,9 +8,9 @@ use Rattle.std.specs.Option.{option_map_or}
 use Rattle.std.specs.Str.{bytes_eq}
 use Rattle.tcd_base.specs.Bytes.{bytes_of_word}
 use Rattle.tc_isa.specs.declared.fields.Fields.{Fields}
-use Rattle.tc_isa.specs.Words.{fields}
+use Rattle.tc_isa.specs.Forms.{fields}
 use Rattle.tc_isa.specs.Rows.{listed}
-use Rattle.tc_isa.specs.Codec.{spelling}
+use Rattle.tc_isa.specs.Spelling.{spelling}
 use Rattle.elf_image.specs.Images.{ImageData, SegmentData}
 
 -- ---- instructions

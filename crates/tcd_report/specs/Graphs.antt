@@ -17,7 +17,7 @@ use Rattle.depth_cert.specs.Certs.{CertData, find_node}
 use Rattle.cfg_recover.specs.Code.{IsCode}
 use Rattle.cfg_recover.specs.Duties.{Duty, jump, enter, resume, Owed, duties_of}
 use Rattle.cfg_recover.specs.Accepting.{limits_in}
-use Rattle.cfg_recover.specs.Frames.{Way, to, call, irq, sys, aln, ret, rfe}
+use Rattle.cfg_recover.specs.Edges.{Way, to, call, irq, sys, aln, ret, rfe}
 use Rattle.tcd_text.specs.Digits.{hex_word}
 use Rattle.tcd_report.specs.Texts.{key_text}
 

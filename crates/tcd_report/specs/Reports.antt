@@ -11,9 +11,9 @@ use Rattle.tcd_plan.specs.PlanData.{PlanData}
 use Rattle.depth_cert.specs.Nodes.{NodeData}
 use Rattle.depth_cert.specs.Certs.{CertData}
 use Rattle.cfg_recover.specs.Accepting.{certified_need}
-use Rattle.tcd_report.specs.declared.reports.longest.LongestCalls.{LongestCalls}
+use Rattle.tcd_report.specs.declared.reports.longest_by_priority.LongestCalls.{LongestCalls}
 use Rattle.tcd_report.specs.Texts.{key_text}
-use Rattle.tcd_report.specs.Reports.Calls.{IsLongest, prios_of}
+use Rattle.tcd_report.specs.Reports.Longest.{prios_of, IsLongest}
 
 -- a number of the report
 abbrev pub count : ℕ → Data

@@ -1,9 +1,9 @@
 //! Worked effects on the values of the board.
 ghost use Rattle.std.specs.Prelude.{◌≡◌, IsTrue};
-ghost use Rattle.tc_isa.specs.Shapes.{shape_of};
+ghost use Rattle.tc_isa.specs.Meanings.{shape_of};
 ghost use Rattle.value_domain.specs.State.{AreValues};
 ghost use Rattle.value_domain.specs.Values.{IsValue};
-ghost use Rattle.vd_transfer.specs.Effects.{HasRoom};
+ghost use Rattle.vd_transfer.specs.EffectsOnStates.{HasRoom};
 
 use crate::asserts::{is_so, same};
 use crate::boards::board;

@@ -2,12 +2,12 @@
 #![tactic(auto)]
 
 mod cuts;
-mod digits;
 mod hex_numbers;
 mod lines;
 mod words;
 
-pub use digits::{append_ascii, append_hex_byte, append_hex_word, hex_byte, hex_word};
-pub use hex_numbers::hex_number;
+pub use hex_numbers::{
+    append_ascii, append_hex_byte, append_hex_word, hex_byte, hex_number, hex_word,
+};
 pub use lines::cut_line;
 pub use words::{Words, cut_word, words_in};

@@ -6,7 +6,7 @@ use Rattle.std.specs.Prelude.{IfSome, IsSomeAnd}
 use Rattle.csa_chain.specs.Memory.{Memory}
 use Rattle.elf_image.specs.Images.{ImageData}
 use Rattle.tcd_plan.specs.PlanData.{PlanData, IsPlan}
-use Rattle.tc_isa.specs.Shapes.{shape_of}
+use Rattle.tc_isa.specs.Meanings.{shape_of}
 use Rattle.tc_isa.specs.Bounded.{IsShape}
 use Rattle.tc_isa.specs.declared.shapes.Shape.{Shape}
 use Rattle.tc_isa.specs.declared.shapes.Shape.TheVariants.{Compute, Scaled, Load, Store, Branch, Jump, Call, Ret, Rfe, Svlcx, Rslcx, Bisr, Enable, Disable, Syscall, Mfcr, Mtcr, Nothing}
@@ -31,7 +31,7 @@ use Rattle.value_domain.specs.declared.values.Val.{Val}
 use Rattle.value_domain.specs.Values.{IsMember}
 use Rattle.value_domain.specs.State.{AreValues}
 use Rattle.vd_transfer.specs.Registers.{reg_of}
-use Rattle.vd_transfer.specs.Effects.{address_of}
+use Rattle.vd_transfer.specs.EffectsOnStates.{address_of}
 use Rattle.vd_transfer.specs.Soundness.{IsSetting}
 use Rattle.vd_transfer.proofs.HoldLaws.{address_holds}
 use Rattle.depth_cert.specs.declared.points.Point.{Point}
@@ -43,7 +43,7 @@ use Rattle.cfg_recover.specs.Code.{IsCode, HasCode}
 use Rattle.cfg_recover.specs.Entries.{start_key}
 use Rattle.cfg_recover.specs.Accepting.{limits_in, RuleHolds, HoldsAtNode, Accepts}
 use Rattle.cfg_recover.specs.Frames.{Standing, frames_after, frames_from, HoldFrames}
-use Rattle.cfg_recover.specs.Moves.{InState}
+use Rattle.cfg_recover.specs.OwedMoves.{InState}
 use Rattle.cfg_recover.proofs.EntryLaws.{reg_lt}
 use Rattle.depth_cert.proofs.KeyLaws.{found_in}
 use Rattle.cfg_recover.proofs.PointLaws.{limits_are}
@@ -51,7 +51,8 @@ use Rattle.cfg_recover.proofs.Went.{address-is}
 use Rattle.value_cells.specs.declared.cells.Cell.{Cell}
 use Rattle.value_cells.specs.Cells.{with_cells, IsCell}
 use Rattle.value_cells.specs.Keeping.{KeepsAll, KeepsCells}
-use Rattle.value_cells.specs.Safe.{IsSafeWithCellsAt, CellsKeepTheirBounds}
+use Rattle.value_cells.specs.Safe.{IsSafeWithCellsAt}
+use Rattle.value_cells.specs.Laws.{CellsKeepTheirBounds}
 use Rattle.value_cells.specs.Beside.{hidden, heard_in, heard_event, NamesAreas}
 use Rattle.value_cells.proofs.WithoutCells.{get-without}
 use Rattle.value_cells.proofs.CellSteps.{address-hidden, status_of_taken, hidden-step}

@@ -10,7 +10,7 @@ use Rattle.value_domain.specs.declared.states.State.{State}
 use Rattle.value_domain.specs.Limits.{Limits}
 use Rattle.value_domain.specs.State.{Covers}
 use Rattle.vd_transfer.specs.Registers.{slot}
-use Rattle.vd_transfer.specs.Effects.{address_of}
+use Rattle.vd_transfer.specs.EffectsOnStates.{address_of}
 use Rattle.vd_transfer.specs.Soundness.{IsSetting}
 use Rattle.depth_cert.specs.declared.keys.Key.{Key}
 use Rattle.depth_cert.specs.declared.points.Point.{Point}
@@ -23,7 +23,8 @@ use Rattle.depth_cert.specs.Known.{state}
 use Rattle.cfg_recover.proofs.CodeLaws.{IsCode-bounded}
 use Rattle.value_cells.specs.declared.cells.Cell.{Cell}
 use Rattle.value_cells.specs.Keeping.{KeepsCellsAt, KeepsCellsAtPoint, KeepsCells, BreaksCells, breaks_at}
-use Rattle.value_cells.specs.Growing.{CellFaultsGrow, LesserKeepsCells, CellFaultsRefute}
+use Rattle.value_cells.specs.Growing.{CellFaultsGrow, LesserKeepsCells}
+use Rattle.value_cells.specs.Laws.{CellFaultsRefute}
 use Rattle.cfg_recover.proofs.AccessGrowth.{value_grows, access_grows}
 use Rattle.cfg_recover.proofs.KnownPlaces.{Above, above, limits_same, setting}
 

@@ -2,8 +2,7 @@
 -- what the cells hold.
 use Rattle.std.specs.Prelude.{◌≡◌, ◌+◌, ◌*◌, ◌/◌, ◌%◌, ◌^◌, ◌⊎◌, ℕ, zero, suc, Bool, true, if◌then◌else◌, List, [], ◌∷◌, Option, Some, None, Ok, unwrap_or}
 use Rattle.std.specs.FinMap as map
-use Rattle.csa_chain.specs.Memory.{Memory}
-use Rattle.csa_chain.specs.MemoryChanges.{HasBytes}
+use Rattle.csa_chain.specs.Memory.{Memory, HasBytes}
 use Rattle.csa_chain.specs.Chain.{link_in, is_area}
 use Rattle.tc_isa.specs.declared.shapes.Shape.{Shape}
 use Rattle.tc_machine.specs.declared.events.Event.{Event}

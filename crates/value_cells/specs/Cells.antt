@@ -1,10 +1,10 @@
 -- Cells, and the plan in which they are devices. The rules of certificates know devices but no
 -- memory; so they can speak of words of ram.
-use Rattle.std.specs.Prelude.{◌≡◌, ◌≢◌, ◌<◌, ◌≤◌, ◌+◌, ◌%◌, ◌^◌, ◌&&◌, ◌||◌, ℕ, Bool, false, nat_lt, nat_le, List, [], ◌∷◌, ◌++◌, length, map, take, All, AllPairs}
+use Rattle.std.specs.Prelude.{◌≡◌, ◌≢◌, ◌<◌, ◌≤◌, ◌+◌, ◌%◌, ◌^◌, ◌&&◌, ◌||◌, ℕ, Bool, false, nat_lt, nat_le, List, ◌∷◌, ◌++◌, length, map, take, All, AllPairs}
 use Rattle.csa_chain.specs.Memory.{Memory, word_at}
 use Rattle.tcd_base.specs.declared.range.Range.{Range}
 use Rattle.tcd_plan.specs.declared.plans.Device.{Device}
-use Rattle.tcd_plan.specs.PlanData.{PlanData, IsPlan}
+use Rattle.tcd_plan.specs.PlanData.{PlanData}
 use Rattle.tcd_plan.specs.Cutting.{ranges_without}
 use Rattle.tcd_base.specs.Ranges.{IsInOne}
 use Rattle.value_cells.specs.declared.cells.Cell.{Cell}
@@ -49,7 +49,3 @@ is_in_cell (c ∷ cs) x = (nat_le c.at x && nat_lt x (c.at + 4)) || is_in_cell c
 abbrev pub AreInBounds : List Cell → Memory → Type 0
 AreInBounds [] mem = Unit {0}
 AreInBounds (c ∷ cs) mem = ((c.lo ≤ word_at mem c.at) × (word_at mem c.at ≤ c.hi)) × AreInBounds cs mem
-
--- the plan in which the cells are devices is a plan
-abbrev pub CellsMakeAPlan : Type 0
-CellsMakeAPlan = (plan : PlanData) (cells : List Cell) → IsPlan plan → AreCells plan cells → IsPlan (with_cells plan cells)

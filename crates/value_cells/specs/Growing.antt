@@ -24,9 +24,3 @@ LesserKeepsCells =
     (image : ImageData) (plan : PlanData) (cells : List Cell) (lower upper : CertData) → IsPlan plan → IsCert lower → IsCert upper
     → lower.version ≡ upper.version → Accepts image plan lower → Accepts image plan upper → IsBelowAt (known_in lower) (known_in upper)
     → KeepsCells image plan cells upper → KeepsCells image plan cells lower
-
--- If rule 16 fails somewhere, the certificate doesn't keep the cells.
-abbrev pub CellFaultsRefute : Type 0
-CellFaultsRefute =
-    (image : ImageData) (plan : PlanData) (cells : List Cell) (cert : CertData) (k : Key) (p : ℕ) → BreaksCells image plan cells cert k p
-    → KeepsCells image plan cells cert → ⊥

@@ -1,18 +1,21 @@
 -- What the definitions of this crate mean, in plain words.
-use Rattle.std.specs.Prelude.{◌≡◌, ◌≤◌, ◌↔◌, ℕ, false, List, All, Contains, Result}
+use Rattle.std.specs.Prelude.{◌≡◌, ◌≤◌, ◌↔◌, ℕ, false, List, All, Contains}
 use Rattle.csa_chain.specs.Memory.{word_at}
 use Rattle.elf_image.specs.Images.{ImageData}
-use Rattle.tcd_plan.specs.PlanData.{PlanData}
+use Rattle.tcd_plan.specs.PlanData.{PlanData, IsPlan}
 use Rattle.tc_machine.specs.declared.events.Event.{Event}
 use Rattle.tc_machine.specs.declared.state.Machine.{Machine}
 use Rattle.tc_machine.specs.Stepping.{run}
 use Rattle.tcd_base.specs.Ranges.{IsInOne}
-use Rattle.tc_machine.specs.Safe.{Starts, Fits, AllFit, IsSafeAt}
+use Rattle.tc_machine.specs.Safe.{Starts, Fits, AllFit, IsSafeAt, Safe}
 use Rattle.value_cells.specs.declared.cells.Cell.{Cell}
-use Rattle.value_cells.specs.declared.errors.CellsErr.{CellsErr}
-use Rattle.value_cells.specs.Cells.{with_cells, is_in_cell}
-use Rattle.value_cells.specs.Reading.{Reads}
+use Rattle.value_cells.specs.Cells.{with_cells, is_in_cell, AreCells}
 use Rattle.value_cells.specs.Safe.{SafeWithCells}
+use Rattle.depth_cert.specs.Certs.{CertData, IsCert}
+use Rattle.cfg_recover.specs.Accepting.{Accepts}
+use Rattle.cfg_recover.specs.Frames.{FramesHeld}
+use Rattle.value_cells.specs.Keeping.{KeepsCells, BreaksCells}
+use Rattle.depth_cert.specs.declared.keys.Key.{Key}
 
 -- The ram of the plan in which the cells are devices is all ram except the cells' bytes.
 abbrev pub RamIsWithoutCells : Type 0
@@ -27,6 +30,20 @@ EachCellStays =
     → Starts image plan m → All (λ d. (d.lo ≤ word_at m.mem d.at) × (word_at m.mem d.at ≤ d.hi)) cells → AllFit plan m es → Fits plan (run m es) e → Contains cells c
     → IsSafeAt image plan most (run m es) e × (c.lo ≤ word_at (run m es).mem c.at) × (word_at (run m es).mem c.at ≤ c.hi)
 
--- For each plan a text has one answer.
-abbrev pub ReadsOne : Type 0
-ReadsOne = (plan : PlanData) (bytes : List ℕ) (r s : Result (List Cell) CellsErr) → Reads plan bytes r → Reads plan bytes s → r ≡ s
+-- if an accepted certificate keeps the cells, and its image is safe under the plan in which the
+-- cells are devices, the image is safe with cells under the plan itself
+abbrev pub CellsKeepTheirBounds : Type 0
+CellsKeepTheirBounds =
+    (image : ImageData) (plan : PlanData) (cells : List Cell) (cert : CertData) (most : ℕ) → IsPlan plan → AreCells plan cells → IsCert cert
+    → Accepts image (with_cells plan cells) cert → Safe image (with_cells plan cells) most → FramesHeld image (with_cells plan cells) cert
+    → KeepsCells image (with_cells plan cells) cells cert → SafeWithCells image plan cells most
+
+-- the plan in which the cells are devices is a plan
+abbrev pub CellsMakeAPlan : Type 0
+CellsMakeAPlan = (plan : PlanData) (cells : List Cell) → IsPlan plan → AreCells plan cells → IsPlan (with_cells plan cells)
+
+-- If rule 16 fails somewhere, the certificate doesn't keep the cells.
+abbrev pub CellFaultsRefute : Type 0
+CellFaultsRefute =
+    (image : ImageData) (plan : PlanData) (cells : List Cell) (cert : CertData) (k : Key) (p : ℕ) → BreaksCells image plan cells cert k p
+    → KeepsCells image plan cells cert → ⊥

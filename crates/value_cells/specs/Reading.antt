@@ -1,5 +1,5 @@
 -- The text of cells: the cells that its lines name for a plan, or the error of the first bad line.
-use Rattle.std.specs.Prelude.{◌≡◌, ◌≢◌, ◌<◌, ◌≤◌, ◌+◌, ◌%◌, ◌^◌, ◌==◌, ◌&&◌, ◌⊎◌, ℕ, nat_le, if◌then◌else◌, List, [], ◌∷◌, ◌++◌, length, codes, filter_map, All, Any, Option, None, IsSome, IsSomeAnd, Result, Ok, Err}
+use Rattle.std.specs.Prelude.{◌≡◌, ◌≢◌, ◌<◌, ◌≤◌, ◌+◌, ◌%◌, ◌^◌, ◌==◌, ◌&&◌, ◌⊎◌, ℕ, nat_le, if◌then◌else◌, List, ◌∷◌, ◌++◌, length, codes, filter_map, All, Any, Option, None, IsSome, IsSomeAnd, Result, Ok, Err}
 use Rattle.std.specs.Bool.{then_some}
 use Rattle.std.specs.Option.{option_and_then}
 use Rattle.std.specs.Str.{bytes_eq}
@@ -85,3 +85,8 @@ pub record TakesLine (plan : PlanData) (cells : List Cell) (line : List ℕ) (mo
   pub form : IsLine line
   pub named : more ≡ cells ++ filter_map cell_of (line ∷ [])
   pub are : AreCells plan more
+
+-- ---- the law
+-- For each plan a text has one answer.
+abbrev pub ReadsOne : Type 0
+ReadsOne = (plan : PlanData) (bytes : List ℕ) (r s : Result (List Cell) CellsErr) → Reads plan bytes r → Reads plan bytes s → r ≡ s

@@ -8,7 +8,7 @@ ghost use Rattle.value_cells.specs.Keeping.{KeepsCells, KeepsCellsAtPoint, IsFir
 
 use crate::cells::Cells;
 use crate::plans::with_cells;
-use crate::rule::{Rule, keeps_point};
+use crate::rule_16::{Rule, keeps_point};
 use cfg_recover::KnownCodes;
 use depth_cert::{Cert, Key, Node};
 use elf_image::Image;

@@ -9,7 +9,7 @@ mod laws;
 mod lines;
 mod packed_faults;
 mod plans;
-mod rule;
+mod rule_16;
 
 pub use cells::{Cell, Cells};
 pub use errors::CellsErr;

@@ -5,11 +5,11 @@ use Rattle.std.proofs.lemmas.Bool.{cases_eq, cases_lt, le-leb, lt-leb}
 use Rattle.std.proofs.lemmas.Bool.Decides.{nat_tests}
 use Rattle.value_domain.specs.declared.values.Val.{Val}
 use Rattle.value_domain.specs.declared.values.Val.TheVariants.{Set, Span}
-use Rattle.value_domain.specs.Sets.{Among, Within, Rising, distinct, alignment_log2, least, greatest, step_of, multiples}
+use Rattle.value_domain.specs.Sets.{Among, Within, Rising, distinct, alignment_log2, least, greatest, step_of, multiples, AreCoverable}
 use Rattle.value_domain.specs.Limits.{Limits, AreLimits}
 use Rattle.value_domain.specs.Floors.{floor, above}
 use Rattle.value_domain.specs.Values.{IsMember, IsWell, IsValue, IsBelow, cover, value_of, members, range, first_in, count_in}
-use Rattle.value_domain.specs.Laws.{AreCoverable, AreMembers, IsLeast}
+use Rattle.value_domain.specs.Laws.{AreMembers, IsLeast}
 use Rattle.value_domain.proofs.SetLaws.{rising_distinct, among_distinct, distinct_has, distinct_same, length-distinct, length_within, least_among, least_least, greatest_among, greatest_greatest, step_least, step_greatest, step_le}
 use Rattle.value_domain.proofs.LimitLaws.{floor_le, floor_mono, floor_same, above_lt, above_le, above_mono, above_same}
 

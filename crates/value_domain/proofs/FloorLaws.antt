@@ -1,7 +1,7 @@
 -- The thresholds next to a word are the greatest not above it and the least above it.
 use Rattle.std.proofs.Common.{◌≡◌, ℕ, ◌^◌, ◌<◌, ◌≤◌, ◌⊎◌, inl, inr, List, [], ◌∷◌, ◌++◌, refl, subst, sym, ◌∙◌, arith, min, max, length, get_or, ◌-◌, drop}
 use Rattle.std.proofs.lemmas.Bool.{cases_lt, lt-ltb, le-ltb, le-leb, lt-leb}
-use Rattle.tcd_plan.specs.PlanData.{PlanData}
+use Rattle.tcd_plan.specs.PlanData.{PlanData, all_ranges}
 use Rattle.std.specs.List.{Contains, refill}
 use Rattle.std.specs.List.Sorted.{IsNonDecreasing, IsPermutation}
 use Rattle.std.proofs.lemmas.List.Sorted.{Contains-permutation, IsPermutation-sym}
@@ -10,11 +10,8 @@ use Rattle.value_domain.proofs.Loops.{among_get}
 use Rattle.value_domain.proofs.WordLaws.{among_place}
 use Rattle.value_domain.specs.Sets.{Among, Within}
 use Rattle.value_domain.specs.Floors.{floor, above, InOrder}
-use Rattle.value_domain.specs.Ends.{ends}
-use Rattle.value_domain.specs.Laws.{HasThresholds}
-use Rattle.value_domain.specs.Thresholds.{powers_of_two, thresholds_of}
+use Rattle.value_domain.specs.Thresholds.{ends, powers_of_two, thresholds_of, HasThresholds}
 use Rattle.value_domain.proofs.LimitLaws.{floor_le, above_lt, above_le}
-use Rattle.tcd_plan.specs.PlanData.{all_ranges}
 
 -- the greater of two is one of them
 max_is : (a b : ℕ) → (max a b ≡ a) ⊎ (max a b ≡ b)

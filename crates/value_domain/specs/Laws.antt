@@ -1,17 +1,9 @@
 -- The laws of values.
-use Rattle.std.specs.Prelude.{◌<◌, ◌≤◌, ◌^◌, ◌++◌, ◌↔◌, ℕ, List, length}
+use Rattle.std.specs.Prelude.{◌++◌, ◌↔◌, ℕ, List}
 use Rattle.value_domain.specs.declared.values.Val.{Val}
-use Rattle.tcd_plan.specs.PlanData.{PlanData}
-use Rattle.value_domain.specs.Sets.{Among}
-use Rattle.value_domain.specs.Floors.{floor, above, IsFloor, IsAbove}
-use Rattle.value_domain.specs.Thresholds.{thresholds_of}
+use Rattle.value_domain.specs.Sets.{Among, AreCoverable}
 use Rattle.value_domain.specs.Limits.{Limits, AreLimits}
 use Rattle.value_domain.specs.Values.{IsMember, IsWell, IsValue, IsBelow, cover, members}
-
--- a set is not empty, and its words are below 2 ^ 32
-pub record AreCoverable (xs : List ℕ) : Type 0 where
-  pub some : 1 ≤ length xs
-  pub below : (x : ℕ) → Among x xs → x < 2 ^ 32
 
 -- v is the least value that holds the words of xs
 pub record IsLeast (b : Limits) (xs : List ℕ) (v : Val) : Type 0 where
@@ -38,12 +30,3 @@ pub record IsLeastAbove (b : Limits) (v w u : Val) : Type 0 where
 abbrev pub AreJoins : Type 0
 AreJoins =
     (b : Limits) (v w : Val) → AreLimits b → IsValue b v → IsValue b w → IsLeastAbove b v w (cover b (members v ++ members w))
-
--- the thresholds of a plan next to a word
-pub record HasThresholds (ts : List ℕ) (x : ℕ) : Type 0 where
-  pub floor : IsFloor ts x (floor ts x)
-  pub above : IsAbove ts x (above ts x)
-
--- each word is between the greatest threshold that is at most it and the least above it
-abbrev pub AreThresholds : Type 0
-AreThresholds = (plan : PlanData) (x : ℕ) → x < 2 ^ 32 → HasThresholds (thresholds_of plan) x

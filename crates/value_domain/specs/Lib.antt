@@ -1,10 +1,9 @@
 -- Definitions of values, states, their order and joins, and the thresholds of a plan.
-pub mod Ends
 pub mod Floors
 pub mod Laws
 pub mod Limits
 pub mod Meets
-pub mod Merging
+pub mod MergedLists
 pub mod Sets
 pub mod State
 pub mod StateLaws

@@ -1,14 +1,20 @@
--- The thresholds of a plan, and the limits of a version.
-use Rattle.std.specs.Prelude.{◌^◌, ℕ, zero, suc, List, [], ◌∷◌, ◌++◌}
+-- The thresholds of a plan, those next to a word, and the limits of a version.
+use Rattle.std.specs.Prelude.{◌^◌, ℕ, zero, suc, List, ◌∷◌, ◌++◌, ◌+◌, ◌<◌}
 use Rattle.tcd_plan.specs.PlanData.{PlanData, all_ranges}
-use Rattle.value_domain.specs.Ends.{ends}
 use Rattle.value_domain.specs.Limits.{Limits}
 use Rattle.value_domain.specs.Versions.{most_words_of, most_locals_of}
+use Rattle.tcd_base.specs.declared.range.Range.{Range}
+use Rattle.value_domain.specs.Floors.{floor, above, IsFloor, IsAbove}
 
 -- the first n powers of two, from 1 on
 unfoldable pub powers_of_two : ℕ → List ℕ
 powers_of_two zero = []
 powers_of_two (suc n) = powers_of_two n ++ 2 ^ n ∷ []
+
+-- the first address of each range, and the one after its last
+abbrev pub ends : List Range → List ℕ
+ends [] = []
+ends (r ∷ rs) = r.at ∷ (r.at + r.len) ∷ ends rs
 
 -- 0, the powers of two from 1 to 2^32, and the two ends of each range of the plan
 abbrev pub thresholds_of : PlanData → List ℕ
@@ -17,3 +23,12 @@ thresholds_of p = (0 ∷ powers_of_two 33) ++ ends (all_ranges p)
 -- the plan's thresholds, and the limits of the version
 abbrev pub limits_for : PlanData → ℕ → Limits
 limits_for p version = record { thresholds = thresholds_of p; most_words = most_words_of version; most_locals = most_locals_of version }
+
+-- the thresholds of a plan next to a word
+pub record HasThresholds (ts : List ℕ) (x : ℕ) : Type 0 where
+  pub floor : IsFloor ts x (floor ts x)
+  pub above : IsAbove ts x (above ts x)
+
+-- each word is between the greatest threshold that is at most it and the least above it
+abbrev pub AreThresholds : Type 0
+AreThresholds = (plan : PlanData) (x : ℕ) → x < 2 ^ 32 → HasThresholds (thresholds_of plan) x

@@ -1,5 +1,6 @@
 // Laws of values and states.
-ghost use Rattle.value_domain.specs.Laws.{AreJoins, AreMembers, AreThresholds, IsClosure};
+ghost use Rattle.value_domain.specs.Laws.{AreJoins, AreMembers, IsClosure};
+ghost use Rattle.value_domain.specs.Thresholds.{AreThresholds};
 ghost use Rattle.value_domain.specs.StateLaws.{AreJoined};
 
 /// The laws of values: a value is given by its members; `cover` is the least value that holds a

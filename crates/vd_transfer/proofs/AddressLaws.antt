@@ -7,7 +7,7 @@ use Rattle.tc_isa.specs.declared.shapes.Shape.TheVariants.{Load, Store}
 use Rattle.value_domain.specs.declared.states.State.{State}
 use Rattle.value_domain.specs.Limits.{Limits}
 use Rattle.value_domain.specs.Values.{any_val}
-use Rattle.vd_transfer.specs.Effects.{address_of}
+use Rattle.vd_transfer.specs.EffectsOnStates.{address_of}
 
 pub address_none : (b : Limits) (p : PlanData) (shape : Shape) (s : State) → ((dst : ℕ) (base : Arg) (offset size : ℕ) (signed after : Bool) → shape ≡ Load dst base offset size signed after → ⊥)
     → ((src : ℕ) (base : Arg) (offset size : ℕ) (after : Bool) → shape ≡ Store src base offset size after → ⊥) → any_val ≡ address_of b p shape s

@@ -24,8 +24,9 @@ use Rattle.value_domain.proofs.RangeLaws.{words_more, members_below, some_member
 use Rattle.tc_isa.specs.declared.shapes.Op.{Op}
 use Rattle.tc_isa.specs.declared.shapes.Op.TheVariants.{Second, Add, Sub, And, Nand, Or, Nor, Xor, Xnor, Andn, Orn, Eq, Ne, Lt, LtU, Ge, GeU, Sh, Sha}
 use Rattle.tc_isa.specs.Arithmetic.{alu_of, shift_by, shifted_signed, complement, one_if, signed_place}
-use Rattle.vd_transfer.specs.Operations.{low, high, step, results, row, pairs, whole, all_of, runs, bounds, gives_truth, by_count, Shifts, differences, sums, shifts, signed_shifts, value_of, range_of, HasMet}
-use Rattle.vd_transfer.specs.Laws.{AreSound, AreMonotone}
+use Rattle.vd_transfer.specs.Operations.{results, row, pairs, gives_truth, value_of, HasMet}
+use Rattle.vd_transfer.specs.Intervals.{low, high, step, whole, all_of, runs, bounds, by_count, Shifts, differences, sums, shifts, signed_shifts, range_of}
+use Rattle.vd_transfer.specs.OperationLaws.{AreSound, AreMonotone}
 use Rattle.vd_transfer.proofs.Rows.{Lies, sums_have, sums_grow, differences_have, differences_grow, ands_have, ands_grow, shifts_have, shifts_grow, shifts_below}
 
 -- ---- the bounds of a value

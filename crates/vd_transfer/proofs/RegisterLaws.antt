@@ -11,7 +11,7 @@ use Rattle.value_domain.specs.Limits.{Limits, AreLimits}
 use Rattle.value_domain.specs.Values.{IsValue, any_val}
 use Rattle.value_domain.specs.State.{AreValues, is_lower_slot}
 use Rattle.value_domain.proofs.RangeLaws.{one_value, any_value}
-use Rattle.vd_transfer.specs.Effects.{forgotten_from}
+use Rattle.vd_transfer.specs.EffectsOnStates.{forgotten_from}
 use Rattle.vd_transfer.specs.Registers.{slot, reg_of, value_at, fixed_of, global_of, word_val}
 
 -- the plan's words are words

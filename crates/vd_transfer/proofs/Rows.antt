@@ -8,7 +8,7 @@ use Rattle.value_domain.specs.Sets.{Among, Within, alignment_log2}
 use Rattle.value_domain.specs.Values.{range}
 use Rattle.value_domain.proofs.CoverLaws.{range_among, among_range, from_units}
 use Rattle.tc_isa.specs.Arithmetic.{shift_by}
-use Rattle.vd_transfer.specs.Operations.{sums, differences, shifts, range_of}
+use Rattle.vd_transfer.specs.Intervals.{sums, differences, shifts, range_of}
 use Rattle.vd_transfer.proofs.Steps.{twos_add, twos_sub, twos_mod, twos_and_both, twos_shift}
 
 -- a range inside another

@@ -14,7 +14,8 @@ use Rattle.value_domain.proofs.CoverLaws.{range_among, cover_least}
 use Rattle.value_domain.proofs.ExtentLaws.{append_left, among_append}
 use Rattle.value_domain.proofs.RangeLaws.{members_below, cover_value}
 use Rattle.value_domain.proofs.WordLaws.{among_place}
-use Rattle.vd_transfer.specs.Operations.{results, pairs, row, runs, bounds, gives_truth, sums, differences, value_of, range_of, whole, run, low, high, step}
+use Rattle.vd_transfer.specs.Operations.{results, pairs, row, gives_truth, value_of}
+use Rattle.vd_transfer.specs.Intervals.{runs, bounds, sums, differences, range_of, whole, run, low, high, step}
 use Rattle.vd_transfer.specs.declared.strided_interval.StridedInterval.{StridedInterval}
 use Rattle.vd_transfer.proofs.OpLaws.{logical, arithmetic, complement_below, and_below, pairs_among, some_results, runs_step, bounds_of, high_below, by_below}
 

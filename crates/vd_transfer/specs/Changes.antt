@@ -4,21 +4,13 @@ use Rattle.tc_isa.specs.declared.shapes.Arg.{Arg}
 use Rattle.tc_isa.specs.declared.shapes.Arg.TheVariants.{Reg, Word}
 use Rattle.value_domain.specs.declared.values.Val.{Val}
 use Rattle.value_domain.specs.declared.states.State.{State}
-use Rattle.tc_isa.specs.declared.shapes.Shape.{Shape}
-use Rattle.tc_isa.specs.declared.shapes.Shape.TheVariants.{Load}
-use Rattle.value_domain.specs.Limits.{Limits}
-use Rattle.value_domain.specs.Values.{IsValue, any_val}
+use Rattle.value_domain.specs.Values.{any_val}
 use Rattle.vd_transfer.specs.declared.change.Base.{Base}
 use Rattle.vd_transfer.specs.declared.change.Base.TheVariants.{Same, Forgotten, Any}
 use Rattle.vd_transfer.specs.declared.change.Put.{Put}
 use Rattle.vd_transfer.specs.declared.change.Change.{Change}
 use Rattle.vd_transfer.specs.Registers.{slot}
-use Rattle.vd_transfer.specs.Effects.{forgotten_from}
-
--- what was loaded is a value of the limits, if an instruction of this shape writes it
-abbrev pub HasLoaded : Limits → Shape → Val → Type 0
-HasLoaded b (Load dst base offset size signed after) loaded = IsValue b loaded
-HasLoaded b _ loaded = Unit {0}
+use Rattle.vd_transfer.specs.EffectsOnStates.{forgotten_from}
 
 -- the values that a change starts from: the state's own, those with the lower registers unknown, or
 -- unknown everywhere

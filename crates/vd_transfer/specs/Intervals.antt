@@ -1,32 +1,103 @@
--- The words that are in a relation to some word of a set.
-use Rattle.std.specs.Prelude.{◌<◌, ◌≤◌, ℕ, Bool, not, nat_lt, nat_le, ◌==◌, List, ◌⊎◌, filter}
-use Rattle.std.specs.List.{list_any}
-use Rattle.vd_transfer.specs.declared.refinement.Relation.{Relation}
-use Rattle.vd_transfer.specs.declared.refinement.Relation.TheVariants.{Same, Other, Less, AtLeast, More, AtMost}
-use Rattle.vd_transfer.specs.declared.refinement.Interval.{Interval}
+-- Strided intervals: the bounds of values, and the words that an operation's interval covers.
+use Rattle.std.specs.Prelude.{◌+◌, ◌-◌, ◌*◌, ◌/◌, ◌%◌, ◌^◌, ℕ, ◌||◌, nat_lt, nat_le, if◌then◌else◌, min, max, List, ◌∷◌}
+use Rattle.tc_isa.specs.declared.shapes.Op.{Op}
+use Rattle.tc_isa.specs.declared.shapes.Op.TheVariants.{Second, Add, Sub, And, Nand, Or, Nor, Xor, Xnor, Andn, Orn, Eq, Ne, Lt, LtU, Ge, GeU, Sh, Sha}
+use Rattle.value_domain.specs.declared.values.Val.{Val}
+use Rattle.value_domain.specs.declared.values.Val.TheVariants.{Set, Span}
+use Rattle.value_domain.specs.declared.lattice.Extent.{Extent}
+use Rattle.value_domain.specs.Sets.{least, greatest, step_of}
+use Rattle.value_domain.specs.Values.{members, range}
+use Rattle.vd_transfer.specs.declared.strided_interval.StridedInterval.{StridedInterval}
 
--- a word is in a relation to another
-unfoldable pub is_related : Relation → ℕ → ℕ → Bool
-is_related Same x y = x == y
-is_related Other x y = not (x == y)
-is_related Less x y = nat_lt x y
-is_related AtLeast x y = nat_le y x
-is_related More x y = nat_lt y x
-is_related AtMost x y = nat_le x y
+-- a value's least member
+abbrev pub low : Val → ℕ
+low v = least (members v)
 
--- the words of vs that are in a relation to some word of ws
-unfoldable pub kept_by : Relation → List ℕ → List ℕ → List ℕ
-kept_by rel vs ws = filter (λ x. list_any (λ y. is_related rel x y) ws) vs
+-- a value's greatest member
+abbrev pub high : Val → ℕ
+high v = greatest (members v)
 
--- a word is in an interval
-abbrev pub IsIn : Interval → ℕ → Type 0
-IsIn i x = (i.lo ≤ x) × (x ≤ i.last)
+-- a value's step: the greatest up to 2 such that 2 ^ step divides each of its members
+abbrev pub step : Val → ℕ
+step v = step_of (members v)
 
--- x is in the relation to low or to high (equality needs more)
-unfoldable pub Reaches : Relation → ℕ → ℕ → ℕ → Type 0
-Reaches Same low high x = low ≤ x
-Reaches Other low high x = (x < high) ⊎ (low < x)
-Reaches Less low high x = x < high
-Reaches AtLeast low high x = low ≤ x
-Reaches More low high x = low < x
-Reaches AtMost low high x = x ≤ high
+-- the words of a strided interval
+abbrev pub range_of : StridedInterval → List ℕ
+range_of r = range r.first r.last r.step
+
+-- the multiples of 2 ^ step from the first word to the last
+abbrev pub run : ℕ → ℕ → ℕ → StridedInterval
+run first last step = record { first = first; last = last; step = step }
+
+-- all words that are multiples of 2 ^ s
+abbrev pub whole : ℕ → StridedInterval
+whole s = run 0 (2 ^ 32 - 1) s
+
+-- the words that are multiples of 2 ^ s
+abbrev pub all_of : ℕ → List ℕ
+all_of s = range_of (whole s)
+
+-- sums of a..=b and c..=d of step m, modulo 2 ^ 32
+unfoldable pub sums : ℕ → ℕ → ℕ → ℕ → ℕ → StridedInterval
+sums a b c d m =
+    if nat_lt (b + d) (2 ^ 32) then run (a + c) (b + d) m
+    else if nat_le (2 ^ 32) (a + c) then run (a + c - 2 ^ 32) (b + d - 2 ^ 32) m
+    else whole m
+
+-- differences, modulo 2 ^ 32
+unfoldable pub differences : ℕ → ℕ → ℕ → ℕ → ℕ → StridedInterval
+differences a b c d m =
+    if nat_le d a then run (a - d) (b - c) m
+    else if nat_lt b c then run (a + 2 ^ 32 - d) (b + 2 ^ 32 - c) m
+    else whole m
+
+-- shifts of a..=b of step p by the six bits n: to the left by n if it is below 32, else to the
+-- right by 64 - n, filled with zeros
+unfoldable pub shifts : ℕ → ℕ → ℕ → ℕ → StridedInterval
+shifts a b p n =
+    if nat_lt n 32
+    then (if nat_lt (b * 2 ^ n) (2 ^ 32) then run (a * 2 ^ n) (b * 2 ^ n) (min 2 (p + n)) else whole (min 2 (p + n)))
+    else run (a / 2 ^ (64 - n)) (b / 2 ^ (64 - n)) 0
+
+-- shifts of a..=b of step p by the six bits n: to the left by n if it is below 32, else to the
+-- right by 64 - n, filled with the sign bit
+unfoldable pub signed_shifts : ℕ → ℕ → ℕ → ℕ → StridedInterval
+signed_shifts a b p n = if nat_lt n 32 || nat_lt b (2 ^ 31) then shifts a b p n else whole 0
+
+-- a shift of words: the run of the results, by the words' ends and step and by the six bits of the
+-- count
+abbrev pub Shifts : Type 0
+Shifts = ℕ → ℕ → ℕ → ℕ → StridedInterval
+
+-- the run of shifts by the count, if the count's value is one word; else all words
+abbrev pub by_count : Shifts → ℕ → ℕ → ℕ → Val → StridedInterval
+by_count shift a b p (Set (y ∷ [])) = shift a b p (y % 64)
+by_count shift a b p (Set []) = whole 0
+by_count shift a b p (Set (x ∷ y ∷ ys)) = whole 0
+by_count shift a b p (Span lo last s) = whole 0
+
+-- the run that a row covers, by the bounds e and f of its operands
+unfoldable pub runs : Op → Extent → Extent → Val → StridedInterval
+runs Second e f w = whole 0
+runs Add e f w = sums e.least e.greatest f.least f.greatest (min e.step f.step)
+runs Sub e f w = differences e.least e.greatest f.least f.greatest (min e.step f.step)
+runs And e f w = run 0 (min e.greatest f.greatest) (max e.step f.step)
+runs Nand e f w = whole 0
+runs Or e f w = whole 0
+runs Nor e f w = whole 0
+runs Xor e f w = whole 0
+runs Xnor e f w = whole 0
+runs Andn e f w = whole 0
+runs Orn e f w = whole 0
+runs Eq e f w = whole 0
+runs Ne e f w = whole 0
+runs Lt e f w = whole 0
+runs LtU e f w = whole 0
+runs Ge e f w = whole 0
+runs GeU e f w = whole 0
+runs Sh e f w = by_count shifts e.least e.greatest e.step w
+runs Sha e f w = by_count signed_shifts e.least e.greatest e.step w
+
+-- the bounds of a value
+abbrev pub bounds : Val → Extent
+bounds v = record { least = low v; greatest = high v; step = step v }

@@ -1,7 +1,7 @@
 -- The registers of a state: D0..D15, A2..A7, A10 and A12..A15 have a value each.
 -- A0, A1, A8 and A9 are the plan's, and A11 is unknown. Registers are numbered 0 to 15 for D and
 -- 16 to 31 for A.
-use Rattle.std.specs.Prelude.{◌-◌, ℕ, Bool, not, ◌&&◌, ◌||◌, ◌==◌, nat_lt, nat_le, if◌then◌else◌, [], ◌∷◌, Option, Some, None, slice_index, slice_index_or, slice_set}
+use Rattle.std.specs.Prelude.{◌-◌, ℕ, Bool, not, ◌&&◌, ◌||◌, ◌==◌, nat_lt, nat_le, if◌then◌else◌, ◌∷◌, Option, Some, None, slice_index, slice_index_or, slice_set, IsSome}
 use Rattle.tcd_plan.specs.PlanData.{PlanData}
 use Rattle.tc_isa.specs.declared.shapes.Arg.{Arg}
 use Rattle.tc_isa.specs.declared.shapes.Arg.TheVariants.{Reg, Word}
@@ -61,3 +61,7 @@ is_lower r = nat_lt r 8 || (nat_le 18 r && nat_le r 23)
 -- the state after an instruction wrote a register
 abbrev pub write_reg : State → ℕ → Val → State
 write_reg s r v = record (set_reg s r v) { lower = s.lower && not (is_lower r) }
+
+-- a state has a value for the register: it is none of A0, A1, A8, A9 and A11
+abbrev pub HasValue : ℕ → Type 0
+HasValue r = IsSome (slot r)

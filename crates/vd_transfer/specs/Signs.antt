@@ -4,7 +4,7 @@ use Rattle.std.specs.List.{list_any}
 use Rattle.value_domain.specs.Sets.{Among}
 use Rattle.vd_transfer.specs.declared.refinement.Relation.{Relation}
 use Rattle.tc_isa.specs.Arithmetic.{signed_place}
-use Rattle.vd_transfer.specs.Intervals.{is_related}
+use Rattle.vd_transfer.specs.Relations.{is_related}
 
 -- the words of vs that are in a relation to some word of ws in the signed order
 unfoldable pub kept_signed : Relation → List ℕ → List ℕ → List ℕ

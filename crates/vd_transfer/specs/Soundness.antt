@@ -4,7 +4,7 @@ use Rattle.tcd_plan.specs.PlanData.{PlanData, IsPlan}
 use Rattle.tc_isa.specs.declared.shapes.Arg.{Arg}
 use Rattle.tc_isa.specs.declared.shapes.Cond.{Cond}
 use Rattle.tc_isa.specs.declared.shapes.Shape.{Shape}
-use Rattle.tc_isa.specs.declared.shapes.Shape.TheVariants.{Load, Store, Branch}
+use Rattle.tc_isa.specs.declared.shapes.Shape.TheVariants.{Load, Store, Branch, Jump, Call, Ret, Rfe, Rslcx, Syscall}
 use Rattle.tc_isa.specs.Arithmetic.{taken_of}
 use Rattle.tc_isa.specs.Bounded.{IsShape, IsArg}
 use Rattle.value_domain.specs.declared.values.Val.{Val}
@@ -13,9 +13,10 @@ use Rattle.value_domain.specs.Limits.{Limits, AreLimits}
 use Rattle.value_domain.specs.Values.{IsMember}
 use Rattle.value_domain.specs.State.{AreValues}
 use Rattle.vd_transfer.specs.Registers.{is_lower}
-use Rattle.vd_transfer.specs.Effects.{transfer_of, address_of, restored_lower}
+use Rattle.vd_transfer.specs.EffectsOnStates.{transfer_of, address_of, restored_lower}
 use Rattle.vd_transfer.specs.Branches.{refine_of}
-use Rattle.vd_transfer.specs.Holding.{Holds, word_of, access_word, words_after, ie_after, ccpn_after, WritesNoFixedRegister, StaysPlain, ReadsMember}
+use Rattle.vd_transfer.specs.Holding.{Holds, WritesNoFixedRegister}
+use Rattle.vd_transfer.specs.EffectsOnWords.{word_of, access_word, words_after, ie_after, ccpn_after}
 
 -- limits, a plan, and a state whose 27 registers have values
 pub record IsSetting (b : Limits) (p : PlanData) (s : State) : Type 0 where
@@ -23,6 +24,22 @@ pub record IsSetting (b : Limits) (p : PlanData) (s : State) : Type 0 where
   pub plan : IsPlan p
   pub regs : length s.regs ≡ 27
   pub values : AreValues b s.regs
+
+-- the instruction stays in its frame, is followed by the next one, and restores nothing
+abbrev pub StaysPlain : Shape → Type 0
+StaysPlain (Branch cond x y by lowers) = ⊥
+StaysPlain (Jump to) = ⊥
+StaysPlain (Call to) = ⊥
+StaysPlain Ret = ⊥
+StaysPlain Rfe = ⊥
+StaysPlain (Syscall tin) = ⊥
+StaysPlain Rslcx = ⊥
+StaysPlain _ = Unit {0}
+
+-- a load reads a member of the value that was loaded
+abbrev pub ReadsMember : Shape → ℕ → Val → Type 0
+ReadsMember (Load dst base offset size signed after) input loaded = IsMember input loaded
+ReadsMember _ input loaded = Unit {0}
 
 -- after an instruction that restores nothing, the changed state holds the words
 abbrev pub TransferHolds : Type 0

@@ -3,10 +3,10 @@ ghost use Rattle.std.specs.Prelude.{◌≡◌};
 ghost use Rattle.value_domain.specs.Values.{IsValue};
 ghost use Rattle.value_domain.specs.State.{AreValues};
 ghost use Rattle.tc_isa.specs.Bounded.{IsShape, IsArg};
-ghost use Rattle.vd_transfer.specs.Effects.{address_of, access_of};
+ghost use Rattle.vd_transfer.specs.EffectsOnStates.{address_of, access_of};
 
-use crate::operands::{Operation, operate};
-use crate::registers::write_arg;
+use crate::operands::{Operation, write_arg};
+use crate::operations::operate;
 use tc_isa::{Arg, Op, Shape};
 use tcd_plan::Plan;
 use value_domain::{Bounds, State, Val, write_any};

@@ -6,13 +6,13 @@ ghost use Rattle.tc_isa.specs.Bounded.{IsArg, IsShape};
 ghost use Rattle.tc_isa.specs.declared.shapes.Op.TheVariants.{Add, Sh};
 ghost use Rattle.vd_transfer.specs.Operations.{value_of};
 ghost use Rattle.vd_transfer.specs.Registers.{reg_of, arg_of, write_reg, word_val};
-ghost use Rattle.vd_transfer.specs.Effects.{HasRoom, with_base, saved_lower, restored_lower, transfer_of};
-ghost use Rattle.vd_transfer.specs.Changes.{HasLoaded, state_after};
+ghost use Rattle.vd_transfer.specs.EffectsOnStates.{HasRoom, with_base, saved_lower, restored_lower, transfer_of, HasLoaded};
+ghost use Rattle.vd_transfer.specs.Changes.{state_after};
 
 use crate::access::Addressing;
 use crate::change::{Base, Change, put_for, write_last};
-use crate::operands::{Operation, operate};
-use crate::operations::operation;
+use crate::operands::Operation;
+use crate::operations::{operate, operation};
 use crate::registers::reg_value;
 use tc_isa::{Arg, Op, Shape};
 use tcd_plan::Plan;

@@ -2,9 +2,9 @@
 #![tactic(auto)]
 
 mod access;
-mod branch;
+mod branch_sides;
 mod change;
-mod cover;
+mod changed_states;
 mod effect;
 mod laws;
 mod operands;
@@ -15,9 +15,9 @@ mod signed_refinement;
 mod strided_interval;
 
 pub use access::{address_by, write_address};
-pub use branch::change_on;
+pub use branch_sides::change_on;
 pub use change::{Base, Change, Put, put_register, unchanged};
-pub use cover::{changed_value, covers_changed};
+pub use changed_states::{changed_value, covers_changed};
 pub use effect::change_of;
 pub use laws::{effect_laws, operation_laws, refinement_laws};
 pub use registers::{A10, is_lower_slot, only_word, reg};

@@ -1,14 +1,14 @@
-// Operations on operands: registers of a state, or constants.
-ghost use Rattle.std.specs.Prelude.{◌≡◌};
+// Operands: registers of a state, or constants. An operation with its operands.
+ghost use Rattle.std.specs.Prelude.{◌≡◌, ◌<◌, IfSome};
 ghost use Rattle.value_domain.specs.Values.{IsValue};
 ghost use Rattle.value_domain.specs.State.{AreValues};
 ghost use Rattle.tc_isa.specs.Bounded.{IsArg};
-ghost use Rattle.vd_transfer.specs.Operations.{value_of};
-ghost use Rattle.vd_transfer.specs.Registers.{arg_of};
+ghost use Rattle.vd_transfer.specs.Registers.{arg_of, word_val};
+ghost use Rattle.vd_transfer.specs.Changes.{arg_slot};
 
-use crate::operations::{operation, write_word};
-use crate::registers::{arg, arg_in, arg_word};
-use tc_isa::{Arg, Op, alu};
+use crate::operations::operation;
+use crate::registers::{only_word, reg_in, reg_value, slot_of};
+use tc_isa::{Arg, Op};
 use tcd_plan::Plan;
 use value_domain::{Bounds, State, Val};
 
@@ -20,61 +20,81 @@ pub(crate) struct Operation {
     pub(crate) y: Arg,
 }
 
-/// Overwrites a value with that of an operation. If the operands are one word each, it is computed
-/// directly; else by the state's own values if it has them. What has to build a value is a function
-/// of its own.
-pub(crate) fn operate(b: &Bounds, plan: &Plan, s: &State, of: Operation, out: &mut Val)
-    requires operands { IsArg of.x × IsArg of.y }
+/// Returns the place of an operand's value in a state, if a state has one.
+pub(crate) fn operand_slot(a: Arg) -> Option<usize>
+    ensures { result ≡ arg_slot a }
+{
+    match a {
+        Arg::Reg(r) => slot_of(r),
+        Arg::Word(_) => None,
+    }
+}
+
+/// Returns the value of an operand in place, if a state has one for it.
+#[inline(always)]
+pub(crate) fn arg_in<'a>(b: &Bounds, plan: &Plan, s: &'a State, a: Arg) -> Option<&'a Val>
+    requires operand { IsArg a }
     requires values { AreValues b.now s.now.regs }
-    ensures of { out.new
-        ≡ value_of b.now of.op (arg_of plan.now s.now of.x) (arg_of plan.now s.now of.y) }
-    ensures value { IsValue b.now out.new }
+    ensures arg { IfSome result (λ v. v.now ≡ arg_of plan.now s.now a) }
+    ensures value { IfSome result (λ v. IsValue b.now v.now) }
+{
+    match a {
+        Arg::Reg(r) => reg_in(b, plan, s, r),
+        Arg::Word(_) => None,
+    }
+}
+
+/// Returns the word of an operand that has only one word and isn't one of the plan's registers.
+#[inline(always)]
+pub(crate) fn arg_word(b: &Bounds, plan: &Plan, s: &State, a: Arg) -> Option<u32>
+    requires operand { IsArg a }
+    requires values { AreValues b.now s.now.regs }
+    ensures arg { IfSome result (λ w. arg_of plan.now s.now a ≡ word_val w) }
+    ensures value { IfSome result (λ w. IsValue b.now (word_val w)) }
 {
     let _most_words = b.most_words();
-    match arg_word(b, plan, s, of.x) {
-        Some(x) => match arg_word(b, plan, s, of.y) {
-            Some(y) => write_word(b, alu(of.op, x, y), out),
-            None => on_values(b, plan, s, of, out),
+    match a {
+        Arg::Reg(r) => match reg_in(b, plan, s, r) {
+            Some(v) => only_word(v),
+            None => None,
         },
-        None => on_values(b, plan, s, of, out),
+        Arg::Word(w) => Some(w),
     }
 }
 
-fn on_values(b: &Bounds, plan: &Plan, s: &State, of: Operation, out: &mut Val)
-    requires operands { IsArg of.x × IsArg of.y }
-    requires values { AreValues b.now s.now.regs }
-    ensures of { out.new
-        ≡ value_of b.now of.op (arg_of plan.now s.now of.x) (arg_of plan.now s.now of.y) }
-    ensures value { IsValue b.now out.new }
+/// Returns the value of a constant.
+#[inline(always)]
+pub(crate) fn constant(b: &Bounds, w: u32) -> Val
+    ensures word { result ≡ word_val w }
+    ensures value { IsValue b.now result }
 {
-    match arg_in(b, plan, s, of.x) {
-        Some(v) => match arg_in(b, plan, s, of.y) {
-            Some(w) => operation(b, of.op, v, w, out),
-            None => with_made(b, plan, s, of, v, out),
-        },
-        None => on_made(b, plan, s, of, out),
+    let _most_words = b.most_words();
+    Val::one(w)
+}
+
+/// Returns the value of an operand. It is a function of its own, so that a caller that needs none
+/// built needs no stack for it.
+#[inline(never)]
+pub(crate) fn arg(b: &Bounds, plan: &Plan, s: &State, a: Arg) -> Val
+    requires operand { IsArg a }
+    requires values { AreValues b.now s.now.regs }
+    ensures arg { result ≡ arg_of plan.now s.now a }
+    ensures value { IsValue b.now result }
+{
+    match a {
+        Arg::Reg(r) => reg_value(b, plan, s, r),
+        Arg::Word(w) => constant(b, w),
     }
 }
 
+/// Overwrites a value with that of an operand. It is a function of its own, so that its callers
+/// need no stack for a value.
 #[inline(never)]
-fn on_made(b: &Bounds, plan: &Plan, s: &State, of: Operation, out: &mut Val)
-    requires operands { IsArg of.x × IsArg of.y }
+pub(crate) fn write_arg(b: &Bounds, plan: &Plan, s: &State, a: Arg, out: &mut Val)
+    requires operand { IsArg a }
     requires values { AreValues b.now s.now.regs }
-    ensures of { out.new
-        ≡ value_of b.now of.op (arg_of plan.now s.now of.x) (arg_of plan.now s.now of.y) }
+    ensures arg { out.new ≡ arg_of plan.now s.now a }
     ensures value { IsValue b.now out.new }
 {
-    let v = arg(b, plan, s, of.x);
-    with_made(b, plan, s, of, &v, out);
-}
-
-#[inline(never)]
-fn with_made(b: &Bounds, plan: &Plan, s: &State, of: Operation, v: &Val, out: &mut Val)
-    requires operand { IsArg of.y }
-    requires values { AreValues b.now s.now.regs }
-    requires left { IsValue b.now v.now }
-    ensures of { out.new ≡ value_of b.now of.op v.now (arg_of plan.now s.now of.y) }
-    ensures value { IsValue b.now out.new }
-{
-    operation(b, of.op, v, &arg(b, plan, s, of.y), out);
+    *out = arg(b, plan, s, a);
 }

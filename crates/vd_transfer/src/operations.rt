@@ -1,15 +1,19 @@
-// The value of an operation on two values.
+// The value of an operation on two values, or on two operands.
 ghost use Rattle.std.specs.Prelude.{◌≡◌, ◌≤◌, ◌<◌, ◌+◌, length, ◌++◌, ◌∷◌, map, IsNone};
 ghost use Rattle.value_domain.specs.Values.{IsValue, cover, members, words_of};
 ghost use Rattle.tc_isa.specs.Arithmetic.{alu_of};
-ghost use Rattle.vd_transfer.specs.Operations.{results, row, pairs, HasMet};
-ghost use Rattle.vd_transfer.specs.Registers.{word_val};
+ghost use Rattle.vd_transfer.specs.Operations.{results, row, pairs, HasMet, value_of, gives_truth};
+ghost use Rattle.vd_transfer.specs.Registers.{word_val, arg_of};
+ghost use Rattle.value_domain.specs.State.{AreValues};
+ghost use Rattle.tc_isa.specs.Bounded.{IsArg};
 
-use crate::registers::constant;
-use crate::strided_interval::{gives_truth, interval_of_row};
+use crate::operands::{Operation, arg, arg_in, arg_word, constant};
+use crate::strided_interval::interval_of_row;
 use tc_isa::{Op, alu};
+use tcd_plan::Plan;
 use value_domain::{
-    Bounds, Val, add_word, add_words, cover, cover_words, extent_of, extent_with, is_set, span,
+    Bounds, State, Val, add_word, add_words, cover, cover_words, extent_of, extent_with, is_set,
+    span,
 };
 
 /// Overwrites a value with that of one word. It is a function of its own, so that its callers need
@@ -269,5 +273,75 @@ fn from_row(b: &Bounds, op: Op, v: &Val, w: &Val, out: &mut Val)
             let run = interval_of_row(op, &extent_of(v), &extent_of(w), w);
             *out = cover(b, run.first, run.last, run.step);
         }
+    }
+}
+
+/// Overwrites a value with that of an operation. If the operands are one word each, it is computed
+/// directly; else by the state's own values if it has them. What has to build a value is a function
+/// of its own.
+pub(crate) fn operate(b: &Bounds, plan: &Plan, s: &State, of: Operation, out: &mut Val)
+    requires operands { IsArg of.x × IsArg of.y }
+    requires values { AreValues b.now s.now.regs }
+    ensures of { out.new
+        ≡ value_of b.now of.op (arg_of plan.now s.now of.x) (arg_of plan.now s.now of.y) }
+    ensures value { IsValue b.now out.new }
+{
+    let _most_words = b.most_words();
+    match arg_word(b, plan, s, of.x) {
+        Some(x) => match arg_word(b, plan, s, of.y) {
+            Some(y) => write_word(b, alu(of.op, x, y), out),
+            None => on_values(b, plan, s, of, out),
+        },
+        None => on_values(b, plan, s, of, out),
+    }
+}
+
+fn on_values(b: &Bounds, plan: &Plan, s: &State, of: Operation, out: &mut Val)
+    requires operands { IsArg of.x × IsArg of.y }
+    requires values { AreValues b.now s.now.regs }
+    ensures of { out.new
+        ≡ value_of b.now of.op (arg_of plan.now s.now of.x) (arg_of plan.now s.now of.y) }
+    ensures value { IsValue b.now out.new }
+{
+    match arg_in(b, plan, s, of.x) {
+        Some(v) => match arg_in(b, plan, s, of.y) {
+            Some(w) => operation(b, of.op, v, w, out),
+            None => with_made(b, plan, s, of, v, out),
+        },
+        None => on_made(b, plan, s, of, out),
+    }
+}
+
+#[inline(never)]
+fn on_made(b: &Bounds, plan: &Plan, s: &State, of: Operation, out: &mut Val)
+    requires operands { IsArg of.x × IsArg of.y }
+    requires values { AreValues b.now s.now.regs }
+    ensures of { out.new
+        ≡ value_of b.now of.op (arg_of plan.now s.now of.x) (arg_of plan.now s.now of.y) }
+    ensures value { IsValue b.now out.new }
+{
+    let v = arg(b, plan, s, of.x);
+    with_made(b, plan, s, of, &v, out);
+}
+
+#[inline(never)]
+fn with_made(b: &Bounds, plan: &Plan, s: &State, of: Operation, v: &Val, out: &mut Val)
+    requires operand { IsArg of.y }
+    requires values { AreValues b.now s.now.regs }
+    requires left { IsValue b.now v.now }
+    ensures of { out.new ≡ value_of b.now of.op v.now (arg_of plan.now s.now of.y) }
+    ensures value { IsValue b.now out.new }
+{
+    operation(b, of.op, v, &arg(b, plan, s, of.y), out);
+}
+
+/// Returns true if an operation gives 1 or 0.
+#[tactic(auto, unfolding(crate::specs::Operations::gives_truth))]
+pub(crate) fn gives_truth(op: Op) -> bool
+    ensures { result ≡ gives_truth op }
+{
+    match op {
+        Op::Eq | Op::Ne | Op::Lt | Op::LtU | Op::Ge | Op::GeU => true,
+        _ => false,
     }
 }

@@ -3,8 +3,7 @@ ghost use Rattle.std.specs.Prelude.{◌≡◌, ◌==◌, ◌<◌, ◌≤◌, ◌
 ghost use Rattle.value_domain.specs.Values.{IsValue, members};
 ghost use Rattle.value_domain.specs.declared.values.Val.TheVariants.{Set, Span};
 ghost use Rattle.value_domain.specs.Meets.{cover_some};
-ghost use Rattle.tc_isa.specs.Arithmetic.{signed_place};
-ghost use Rattle.vd_transfer.specs.Intervals.{IsIn, Reaches, kept_by};
+ghost use Rattle.vd_transfer.specs.Relations.{IsIn, Reaches, kept_by};
 ghost use Rattle.vd_transfer.specs.declared.refinement.Relation.TheVariants.{Same};
 
 use value_domain::{Bounds, Val, cover_of_words, extent_of, join_some, meet};
@@ -18,13 +17,6 @@ pub enum Relation {
     AtLeast,
     More,
     AtMost,
-}
-
-/// Returns a word's position in the signed order.
-pub(crate) fn signed_place(x: u32) -> u32
-    ensures { result ≡ signed_place x }
-{
-    x.wrapping_add(1 << 31)
 }
 
 /// An interval of words. If `last` is below `lo`, it is empty.

@@ -2,11 +2,8 @@
 ghost use Rattle.std.specs.Prelude.{◌≡◌, ◌<◌, IfSome};
 ghost use Rattle.value_domain.specs.Values.{IsValue};
 ghost use Rattle.value_domain.specs.State.{AreValues, is_lower_slot};
-ghost use Rattle.tc_isa.specs.Bounded.{IsArg};
-ghost use Rattle.vd_transfer.specs.Changes.{arg_slot};
-ghost use Rattle.vd_transfer.specs.Registers.{slot, reg_of, arg_of, fixed_of, word_val};
+ghost use Rattle.vd_transfer.specs.Registers.{slot, reg_of, fixed_of, word_val};
 
-use tc_isa::Arg;
 use tcd_plan::Plan;
 use value_domain::{A10_SLOT, Bounds, State, Val};
 
@@ -30,16 +27,6 @@ pub(crate) fn slot_of(r: u8) -> Option<usize>
         Some(r as usize - 5)
     } else {
         None
-    }
-}
-
-/// Returns the place of an operand's value in a state, if a state has one.
-pub(crate) fn operand_slot(a: Arg) -> Option<usize>
-    ensures { result ≡ arg_slot a }
-{
-    match a {
-        Arg::Reg(r) => slot_of(r),
-        Arg::Word(_) => None,
     }
 }
 
@@ -121,75 +108,6 @@ pub(crate) fn reg_in<'a>(b: &Bounds, plan: &Plan, s: &'a State, r: u8) -> Option
         Some(i) => Some(&s.regs[i]),
         None => None,
     }
-}
-
-/// Returns the value of an operand in place, if a state has one for it.
-#[inline(always)]
-pub(crate) fn arg_in<'a>(b: &Bounds, plan: &Plan, s: &'a State, a: Arg) -> Option<&'a Val>
-    requires operand { IsArg a }
-    requires values { AreValues b.now s.now.regs }
-    ensures arg { IfSome result (λ v. v.now ≡ arg_of plan.now s.now a) }
-    ensures value { IfSome result (λ v. IsValue b.now v.now) }
-{
-    match a {
-        Arg::Reg(r) => reg_in(b, plan, s, r),
-        Arg::Word(_) => None,
-    }
-}
-
-/// Returns the word of an operand that has only one word and isn't one of the plan's registers.
-#[inline(always)]
-pub(crate) fn arg_word(b: &Bounds, plan: &Plan, s: &State, a: Arg) -> Option<u32>
-    requires operand { IsArg a }
-    requires values { AreValues b.now s.now.regs }
-    ensures arg { IfSome result (λ w. arg_of plan.now s.now a ≡ word_val w) }
-    ensures value { IfSome result (λ w. IsValue b.now (word_val w)) }
-{
-    let _most_words = b.most_words();
-    match a {
-        Arg::Reg(r) => match reg_in(b, plan, s, r) {
-            Some(v) => only_word(v),
-            None => None,
-        },
-        Arg::Word(w) => Some(w),
-    }
-}
-
-/// Returns the value of a constant.
-#[inline(always)]
-pub(crate) fn constant(b: &Bounds, w: u32) -> Val
-    ensures word { result ≡ word_val w }
-    ensures value { IsValue b.now result }
-{
-    let _most_words = b.most_words();
-    Val::one(w)
-}
-
-/// Returns the value of an operand. It is a function of its own, so that a caller that needs none
-/// built needs no stack for it.
-#[inline(never)]
-pub(crate) fn arg(b: &Bounds, plan: &Plan, s: &State, a: Arg) -> Val
-    requires operand { IsArg a }
-    requires values { AreValues b.now s.now.regs }
-    ensures arg { result ≡ arg_of plan.now s.now a }
-    ensures value { IsValue b.now result }
-{
-    match a {
-        Arg::Reg(r) => reg_value(b, plan, s, r),
-        Arg::Word(w) => constant(b, w),
-    }
-}
-
-/// Overwrites a value with that of an operand. It is a function of its own, so that its callers
-/// need no stack for a value.
-#[inline(never)]
-pub(crate) fn write_arg(b: &Bounds, plan: &Plan, s: &State, a: Arg, out: &mut Val)
-    requires operand { IsArg a }
-    requires values { AreValues b.now s.now.regs }
-    ensures arg { out.new ≡ arg_of plan.now s.now a }
-    ensures value { IsValue b.now out.new }
-{
-    *out = arg(b, plan, s, a);
 }
 
 /// Returns true if a place of a state is that of a lower register.

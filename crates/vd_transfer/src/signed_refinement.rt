@@ -1,14 +1,14 @@
 // Refinement by signed comparisons.
-ghost use Rattle.std.specs.Prelude.{◌≡◌, ◌≢◌, ◌<◌, ◌≤◌, ◌+◌, ◌^◌, length, ℕ, IfSome, ◌↔◌, ◌⊎◌};
+ghost use Rattle.std.specs.Prelude.{◌≡◌, ◌≢◌, ◌<◌, ◌≤◌, ◌+◌, ◌^◌, length, ℕ, IfSome, ◌↔◌, ◌⊎◌, ◌-◌};
 ghost use Rattle.value_domain.specs.Values.{IsValue, IsWell, members, range};
 ghost use Rattle.value_domain.specs.declared.values.Val.TheVariants.{Set, Span};
 ghost use Rattle.value_domain.specs.Meets.{cover_some};
 ghost use Rattle.tc_isa.specs.Arithmetic.{signed_place};
-ghost use Rattle.vd_transfer.specs.Intervals.{IsIn};
+ghost use Rattle.vd_transfer.specs.Relations.{IsIn};
 ghost use Rattle.vd_transfer.specs.Signs.{IsSignedRange, kept_signed};
 ghost use Rattle.vd_transfer.specs.declared.refinement.Relation.TheVariants.{Same};
 
-use crate::refinement::{Interval, NONE, Relation, signed_place, words_reached};
+use crate::refinement::{Interval, NONE, Relation, words_reached};
 use value_domain::{Bounds, Val, extent_of, join_some, meet};
 
 const HALF: u32 = 1 << 31;
@@ -121,4 +121,11 @@ fn signed_max(x: u32, high: u32) -> u32
     } else {
         high
     }
+}
+
+/// Returns a word's position in the signed order.
+pub(crate) fn signed_place(x: u32) -> u32
+    ensures { result ≡ signed_place x }
+{
+    x.wrapping_add(1 << 31)
 }

@@ -1,6 +1,6 @@
 // The sets that the rows of the table of operations cover: multiples of a power of two in a range.
-ghost use Rattle.std.specs.Prelude.{◌≡◌, ◌<◌, ◌≤◌, ◌||◌, min, max, nat_lt, ◌^◌};
-ghost use Rattle.vd_transfer.specs.Operations.{sums, differences, shifts, signed_shifts, runs, gives_truth};
+ghost use Rattle.std.specs.Prelude.{◌≡◌, ◌<◌, ◌≤◌, ◌||◌, min, max, ◌^◌};
+ghost use Rattle.vd_transfer.specs.Intervals.{sums, differences, shifts, signed_shifts, runs};
 
 use tc_isa::Op;
 use value_domain::{Extent, Val};
@@ -21,17 +21,6 @@ const ANY: StridedInterval = StridedInterval {
     last: u32::MAX,
     step: 0,
 };
-
-/// Returns true if an operation gives 1 or 0.
-#[tactic(auto, unfolding(crate::specs::Operations::gives_truth))]
-pub(crate) fn gives_truth(op: Op) -> bool
-    ensures { result ≡ gives_truth op }
-{
-    match op {
-        Op::Eq | Op::Ne | Op::Lt | Op::LtU | Op::Ge | Op::GeU => true,
-        _ => false,
-    }
-}
 
 /// Returns the multiples that a row covers.
 #[tactic(auto, unfolding(crate::specs::Operations::runs))]

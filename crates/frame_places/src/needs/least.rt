@@ -1,7 +1,7 @@
 // The least needs.
 
 ghost use Rattle.std.specs.Prelude.{Ok, IfOk, IfSome, IsTrue, Some, ℕ, ◌+◌, ◌<◌, ◌≤◌, ◌^◌, Contains, length, slice_index, min, MatchOption, EachIndex};
-ghost use Rattle.frame_places.specs.Rows.{MeetsRow, IsWithin, IsLow, MeetsCapped, PassesRow, PassesRows, LeastNeeds};
+ghost use Rattle.frame_places.specs.RowNeeds.{MeetsRow, IsWithin, IsLow, MeetsCapped, PassesRow, PassesRows, LeastNeeds};
 ghost use Rattle.frame_places.specs.declared.needs.row.NeedRow.{NeedRow};
 
 use crate::needs::row::NeedRow;

@@ -16,7 +16,7 @@ use Rattle.tcd_reading.specs.Inputs.{HoldsInput}
 use Rattle.tcd_reading.specs.declared.status.Status.TheVariants.{Done, Refused, BadInput}
 use Rattle.tcd_reading.proofs.Decided.{status_is}
 use Rattle.tcd_forms.specs.Forms.{elf_form, plan_form, cert_form}
-use Rattle.tcd_forms.specs.Results.{boots_line, generated_boot_line}
+use Rattle.tcd_forms.specs.Lines.{boots_line, generated_boot_line}
 use Rattle.tcd_driver.specs.Boot as boots
 use Rattle.tcd_driver.specs.Boot.{BootNames, IsBootVerdict, boot_reading, BootgenNames, bootgen_reading}
 use Rattle.tcd_driver.specs.Headlines.Boots.{HeadlineOfBoot, RefusalByBoot, HeadlineOfBootgen}

@@ -18,8 +18,7 @@ use Rattle.tcd_reading.specs.Inputs.{HoldsInput}
 use Rattle.tcd_reading.specs.declared.status.Status.TheVariants.{Done, Refused, BadInput}
 use Rattle.tcd_reading.proofs.Decided.{status_is}
 use Rattle.tcd_forms.specs.Forms.{elf_form, plan_form, cert_form}
-use Rattle.tcd_forms.specs.Lines.{refused_line}
-use Rattle.tcd_forms.specs.Results.{certified_cells_line}
+use Rattle.tcd_forms.specs.Lines.{refused_line, certified_cells_line}
 use Rattle.tcd_driver.specs.Forms.{cells_form}
 use Rattle.tcd_driver.specs.Cells as keeping
 use Rattle.tcd_driver.specs.Cells.{CellsNames, IsCellsVerdict, cells_reading}

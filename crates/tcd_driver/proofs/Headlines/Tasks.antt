@@ -27,8 +27,7 @@ use Rattle.tcd_reading.specs.Inputs.{HoldsInput, Reading, answer, each, Says}
 use Rattle.tcd_reading.specs.declared.status.Status.TheVariants.{Done, Refused, BadInput}
 use Rattle.tcd_reading.proofs.Decided.{status_is, writes_are}
 use Rattle.tcd_forms.specs.Forms.{elf_form, plan_form, cert_form}
-use Rattle.tcd_forms.specs.Lines.{refused_line, key_line, kind_text}
-use Rattle.tcd_forms.specs.Results.{certified_tasks_line, switch_line, refused_task_line, of_task, sum_line}
+use Rattle.tcd_forms.specs.Lines.{refused_line, key_line, kind_text, certified_tasks_line, switch_line, refused_task_line, of_task, sum_line}
 use Rattle.tcd_driver.specs.Forms.{tasks_form}
 use Rattle.tcd_driver.specs.Commands.{are_different}
 use Rattle.tcd_driver.specs.Tasks as judging

@@ -13,8 +13,7 @@ use Rattle.tcd_reading.specs.Inputs.{HoldsInput}
 use Rattle.tcd_reading.specs.declared.status.Status.TheVariants.{Done, Refused, BadInput}
 use Rattle.tcd_reading.proofs.Decided.{status_is}
 use Rattle.tcd_forms.specs.Forms.{elf_form, plan_form, cert_form}
-use Rattle.tcd_forms.specs.Lines.{long_elf_line}
-use Rattle.tcd_forms.specs.Results.{generated_line}
+use Rattle.tcd_forms.specs.Lines.{long_elf_line, generated_line}
 use Rattle.tcd_driver.specs.Cfg as drawing
 use Rattle.tcd_driver.specs.Cfg.{CfgNames, IsDrawing, cfg_reading}
 use Rattle.tcd_driver.specs.Reporting as reporting

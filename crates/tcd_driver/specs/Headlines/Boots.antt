@@ -12,7 +12,7 @@ use Rattle.tc_boot.specs.Judging.{Judges}
 use Rattle.tc_boot.specs.Reset.{HasBoot, BootsSafely}
 use Rattle.tc_boot.specs.Sequence.{boot_image_of}
 use Rattle.tcd_base.specs.Files.{Map}
-use Rattle.tcd_driver.specs.Lines.{unbooted_line}
+use Rattle.tcd_driver.specs.BadInputLines.{unbooted_line}
 use Rattle.tcd_driver.specs.Headlines.{HoldsPlan, AreCheckFiles, IsWritten, IsAcceptedWith, RefusalByCheck}
 
 -- `boot` is done: the certificate is accepted, and the boot sequence is at the address and may run.

@@ -9,8 +9,9 @@ use Rattle.tc_object.specs.Spelling.{bytes_of}
 use Rattle.tc_stmt.specs.Lines.{lines_in}
 use Rattle.tc_asm.specs.Sources.{IsLeast}
 use Rattle.tc_link.specs.Layouts.{LayoutData}
-use Rattle.tc_link.specs.Linked.{Refusal, image_of_objects}
-use Rattle.tc_link.specs.Faults.{layout_of}
+use Rattle.tc_link.specs.Linked.{image_of_objects}
+use Rattle.tc_link.specs.Refusals.{Refusal}
+use Rattle.tc_link.specs.LayoutFaults.{layout_of}
 use Rattle.tc_link.specs.declared.layout_errors.LayoutErr.{LayoutErr}
 use Rattle.tcd_base.specs.Files.{Map}
 use Rattle.tcd_base.specs.declared.errors.FormErr.{FormErr}

@@ -1,11 +1,11 @@
 // The command `cellcert`.
-ghost use Rattle.depth_maker.specs.Made.{AreMade};
+ghost use Rattle.depth_maker.specs.Answers.{AreMade};
 ghost use Rattle.value_cells.specs.Cells as spec;
 ghost use Rattle.value_cells.specs.Cells.{AreCells};
 ghost use Rattle.tcd_driver.specs.Cellcert.{IsCertifyingCells, cellcert_reading};
 ghost use Rattle.tcd_reading.specs.Outcomes.{Comes, IsTold};
 
-use crate::forms::CellsFile;
+use crate::cell_and_task_files::CellsFile;
 use depth_cert::CertErr;
 use depth_check::{Verdict, check_packed};
 use depth_maker::{MakeErr, make_bytes};

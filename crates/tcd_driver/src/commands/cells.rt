@@ -3,7 +3,7 @@ ghost use Rattle.value_cells.specs.Cells.{AreCells};
 ghost use Rattle.tcd_driver.specs.Cells.{IsCellsVerdict, cells_reading};
 ghost use Rattle.tcd_reading.specs.Outcomes.{Comes, IsTold};
 
-use crate::forms::CellsFile;
+use crate::cell_and_task_files::CellsFile;
 use depth_check::{Verdict, check_packed};
 use elf_image::Image;
 use packed_cert::PackedCert;

@@ -1,12 +1,12 @@
 // The command `gen`.
 ghost use Rattle.std.specs.Prelude.{◌≤◌};
-ghost use Rattle.depth_maker.specs.Made.{AreMade};
+ghost use Rattle.depth_maker.specs.Answers.{AreMade};
 ghost use Rattle.tcd_report.specs.Generated.{generated_image};
 ghost use Rattle.tcd_report.specs.Generated.Planned.{generated_plan};
 ghost use Rattle.tcd_driver.specs.Gen.{IsSummary};
 ghost use Rattle.tcd_reading.specs.Outcomes.{IsTold};
 
-use crate::again::{only_image_memory, only_plan_memory};
+use crate::own_output::{only_image_memory, only_plan_memory};
 use depth_cert::CertErr;
 use depth_check::{Verdict, check_packed};
 use depth_maker::{MakeErr, make_bytes};

@@ -8,7 +8,7 @@ ghost use Rattle.tcd_reading.specs.Inputs.{each, answer};
 ghost use Rattle.tcd_reading.specs.Outcomes.{Comes, IsTold};
 ghost use Rattle.tcd_driver.specs.Tasks.{IsTasksVerdict, JudgesTask, Tallies, certs_reading, tasks_reading};
 
-use crate::forms::TasksFile;
+use crate::cell_and_task_files::TasksFile;
 use crate::lines::tasks_line;
 use depth_cert::Key;
 use depth_check::{Verdict, check_packed};

@@ -14,15 +14,15 @@ use Rattle.value_domain.specs.declared.values.Val.{Val}
 use Rattle.value_domain.specs.declared.states.State.{State}
 use Rattle.value_domain.specs.Limits.{Limits}
 use Rattle.vd_transfer.specs.Branches.{possible, refine_of}
-use Rattle.vd_transfer.specs.Effects.{address_of, transfer_of}
+use Rattle.vd_transfer.specs.EffectsOnStates.{address_of, transfer_of}
 use Rattle.depth_cert.specs.declared.keys.Key.{Key}
 use Rattle.depth_cert.specs.declared.points.Exit.{Exit}
 use Rattle.depth_cert.specs.Certs.{CertData}
 use Rattle.depth_cert.specs.Exits.{exit_of}
-use Rattle.cfg_recover.specs.Entries.{aln_entry, aln_key, call_entry, call_key, irq_entry, irq_key, sys_key}
+use Rattle.cfg_recover.specs.Entries.{aln_entry, aln_key, call_entry, call_key, irq_entry, irq_key, sys_key, irqs_of}
 use Rattle.cfg_recover.specs.Flows.{entered_key}
-use Rattle.cfg_recover.specs.Local.{are_aligned, targets_of}
-use Rattle.cfg_recover.specs.Duties.{Owed, owed, jump, enter, resume, leave, jump_on, jumps_to, loaded_at, next_of, successors_of, entered_and_back, entries_of, misaligned_at, misaligned_entry, misaligned_of, interrupts_of, irqs_of, leavings_of, duties_of}
+use Rattle.cfg_recover.specs.LocalRules.{are_aligned, targets_of}
+use Rattle.cfg_recover.specs.Duties.{Owed, owed, jump, enter, resume, leave, jump_on, jumps_to, loaded_at, next_of, successors_of, entered_and_back, entries_of, misaligned_at, misaligned_entry, misaligned_of, interrupts_of, leavings_of, duties_of}
 use Rattle.tcd_report.specs.Graphs.{jump_by, entry_by, entries_in, back_by, each_once}
 use Rattle.tcd_report.specs.Reports.Calls.{key_by, called_by}
 use Rattle.tcd_report.specs.Graphs.Edges.{jumped_in, returned_in, called_of, systems_of, vectors_in}

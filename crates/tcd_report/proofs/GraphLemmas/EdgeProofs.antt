@@ -8,7 +8,7 @@ use Rattle.tcd_plan.specs.PlanData.{PlanData, IsPlan}
 use Rattle.tcd_plan.proofs.ApartLaws.{rom_fits}
 use Rattle.tc_isa.specs.declared.shapes.Shape.{Shape}
 use Rattle.tc_isa.specs.declared.shapes.Shape.TheVariants as shape
-use Rattle.tc_isa.specs.Shapes.{shape_of}
+use Rattle.tc_isa.specs.Meanings.{shape_of}
 use Rattle.tc_encode.specs.Decoding.{decoded_of}
 use Rattle.tc_encode.proofs.DecodeProofs.{decode_laws}
 use Rattle.tc_machine.specs.declared.events.Cause.{Cause}
@@ -28,11 +28,13 @@ use Rattle.depth_cert.specs.Keys.{IsKey, number_of_key}
 use Rattle.depth_cert.specs.Nodes.{NodeData, IsNode}
 use Rattle.depth_cert.specs.Certs.{CertData, IsCert}
 use Rattle.cfg_recover.specs.Code.{IsCode}
-use Rattle.cfg_recover.specs.Entries.{start_key, call_key}
+use Rattle.cfg_recover.specs.Entries.{start_key, call_key, handler_key}
 use Rattle.cfg_recover.specs.Duties.{Owed, duties_of}
 use Rattle.cfg_recover.specs.Accepting.{limits_in}
-use Rattle.cfg_recover.specs.Moves.{traps}
-use Rattle.cfg_recover.specs.Frames.{Way, to, call, irq, sys, aln, ret, rfe, way_of_shape, way_by, way_in, way_of_step, Standing, handler_key, frames_by, frames_after, frames_from, frames, IsOwed, EdgeOwed, size_in}
+use Rattle.cfg_recover.specs.OwedMoves.{traps}
+use Rattle.cfg_recover.specs.Frames.{Standing, frames_by, frames_after, frames_from, frames, size_in}
+use Rattle.cfg_recover.specs.OwedEdges.{IsOwed, EdgeOwed}
+use Rattle.cfg_recover.specs.Edges.{Way, to, call, irq, sys, aln, ret, rfe, way_of_shape, way_by, way_in, way_of_step}
 use Rattle.cfg_recover.proofs.CodeLaws.{IsCode-one}
 use Rattle.cfg_recover.proofs.Members.{contains_first, contains_map, contains_flat}
 use Rattle.tcd_report.specs.Graphs.{Arrow, goes, line_text, arrows_of, ArePointLines, AreParts, AreJoined, AreNodeLines, AreGraphLines, leaves_by}

@@ -2,8 +2,8 @@
 use Rattle.std.proofs.Common.{◌≡◌, ◌+◌, ◌-◌, ◌*◌, ◌/◌, ◌%◌, ◌^◌, ◌<◌, ℕ, [], ◌∷◌, ◌++◌, codes, refl, sym, ap, ◌∙◌, arith}
 use Rattle.tcd_base.specs.Bytes.{bytes_of_word}
 use Rattle.tc_isa.specs.declared.table.Form.TheVariants.{B}
-use Rattle.tc_isa.specs.Words.{fields, word}
-use Rattle.tc_isa.specs.Codec.{four_bytes}
+use Rattle.tc_isa.specs.Forms.{fields, word}
+use Rattle.tc_isa.specs.Spelling.{four_bytes}
 use Rattle.tcd_report.specs.Generated.{code, call_from, call_if_below, function_at, function_code, handler, handler_at, main_code, system_code}
 
 -- ---- calls

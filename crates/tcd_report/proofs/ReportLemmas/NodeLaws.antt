@@ -15,7 +15,7 @@ use Rattle.depth_cert.specs.declared.points.Point.{Point}
 use Rattle.depth_cert.specs.Keys.{number_of_key}
 use Rattle.depth_cert.specs.Nodes.{NodeData}
 use Rattle.depth_cert.specs.Certs.{CertData, IsCert, find_node, key_numbers}
-use Rattle.cfg_recover.specs.Local.{IsFaultless}
+use Rattle.cfg_recover.specs.LocalFaults.{IsFaultless}
 use Rattle.cfg_recover.specs.Duties.{Duty, enter, Owed, owed, duties_of}
 use Rattle.cfg_recover.specs.Accepting.{limits_in, RuleHolds, HasNeed, IsNeedAbove, Accepts}
 use Rattle.cfg_recover.proofs.Members.{contains_first}

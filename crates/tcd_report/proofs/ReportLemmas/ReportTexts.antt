@@ -6,7 +6,7 @@ use Rattle.serde_json.specs.Data.{Data, object, Members, no_members, put}
 use Rattle.serde_json.specs.Written.{has_float, items_have_float}
 use Rattle.serde_json.specs.View.{items_of}
 use Rattle.depth_cert.specs.Nodes.{NodeData}
-use Rattle.tcd_report.specs.declared.reports.longest.LongestCalls.{LongestCalls}
+use Rattle.tcd_report.specs.declared.reports.longest_by_priority.LongestCalls.{LongestCalls}
 use Rattle.tcd_report.specs.Reports.{count, node_data, nodes_data, row_data, rows_data, whole_data}
 
 rows_plain : (rows : List LongestCalls) → items_have_float (items_of (map row_data rows)) ≡ false

@@ -8,7 +8,7 @@ use Rattle.value_domain.specs.declared.states.State.{State}
 use Rattle.depth_cert.specs.declared.keys.Key.{Key}
 use Rattle.depth_cert.specs.Certs.{CertData}
 use Rattle.cfg_recover.specs.Entries.{irq_key, sys_key}
-use Rattle.cfg_recover.specs.Local.{targets_of}
+use Rattle.cfg_recover.specs.LocalRules.{targets_of}
 use Rattle.cfg_recover.specs.Duties.{Owed}
 use Rattle.tcd_report.specs.declared.graphs.edges.Edges.{Edges}
 use Rattle.tcd_report.specs.Graphs.{jump_by, back_by, jumps_in, calls_in, backs_in, systems_in, misaligned_in, interrupts_in, line_front, line_to}

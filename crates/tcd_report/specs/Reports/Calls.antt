@@ -1,6 +1,6 @@
 -- The calls between the nodes of a certificate, and the longest call chains.
-use Rattle.std.specs.Prelude.{◌≡◌, ◌≤◌, ◌==◌, ℕ, zero, suc, List, [], ◌∷◌, filter, Contains, if◌then◌else◌}
-use Rattle.std.specs.List.{flat_map, list_any, range_with_len}
+use Rattle.std.specs.Prelude.{◌==◌, ℕ, zero, suc, List, ◌∷◌, Contains, if◌then◌else◌}
+use Rattle.std.specs.List.{flat_map}
 use Rattle.elf_image.specs.Images.{ImageData}
 use Rattle.tcd_plan.specs.PlanData.{PlanData}
 use Rattle.tc_isa.specs.declared.shapes.Shape.{Shape}
@@ -40,24 +40,3 @@ abbrev pub CallsInARow : ImageData → PlanData → CertData → NodeData → �
 CallsInARow image plan cert node zero = Unit {0}
 CallsInARow image plan cert node (suc n) =
     (callee : NodeData) × (Contains cert.nodes callee × (Calls image plan cert node callee.key × CallsInARow image plan cert callee n))
-
--- n is the length of the longest call chain that begins in a node of this priority (a callee has
--- the priority of its caller)
-pub record IsLongest (image : ImageData) (plan : PlanData) (cert : CertData) (prio n : ℕ) : Type 0 where
-  pub node : NodeData
-  pub stands : Contains cert.nodes node
-  pub at_prio : (node.key).prio ≡ prio
-  pub reached : CallsInARow image plan cert node n
-  pub most : (other : NodeData) (m : ℕ) → Contains cert.nodes other → (other.key).prio ≡ prio → CallsInARow image plan cert other m → m ≤ n
-
--- the priorities of the nodes that are below a number, ascending
-unfoldable pub prios_below : List NodeData → ℕ → List ℕ
-prios_below nodes n = filter (λ p. list_any (λ n. (n.key).prio == p) nodes) (range_with_len 0 n)
-
--- the number of priorities: an interrupt's priority is one byte
-unfoldable pub priorities : ℕ
-priorities = 256
-
--- the priorities of the nodes, ascending
-abbrev pub prios_of : List NodeData → List ℕ
-prios_of nodes = prios_below nodes priorities

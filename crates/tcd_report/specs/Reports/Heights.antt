@@ -1,5 +1,5 @@
 -- The length of the longest call chain that begins in each node (its height), in a map by keys.
-use Rattle.std.specs.Prelude.{◌≡◌, ◌≤◌, ◌⊎◌, ℕ, suc, Bool, List, Some, Contains}
+use Rattle.std.specs.Prelude.{◌≡◌, ◌≤◌, ◌⊎◌, ℕ, suc, Bool, List, Some, Contains, Option, None}
 use Rattle.std.specs.declared.cmp.Ordering.{Ordering}
 use Rattle.std.specs.HashMap.{HashMap, get}
 use Rattle.elf_image.specs.Images.{ImageData}
@@ -64,3 +64,8 @@ TellsHeights image plan cert heights = (k : Key) (h : ℕ) → get key_eq height
 -- the map has a height for each of these keys
 abbrev pub HasHeights : {S : Type 0} → HashMap Key ℕ S → List (ℕ × Key) → Type 0
 HasHeights heights ranks = (r : ℕ × Key) → Contains ranks r → (h : ℕ) × (get key_eq heights r.1 ≡ Some h)
+
+-- the greatest number with this property, if there is one
+abbrev pub IsGreatest : (ℕ → Type 0) → Option ℕ → Type 0
+IsGreatest P None = (m : ℕ) → P m → ⊥
+IsGreatest P (Some n) = P n × ((m : ℕ) → P m → m ≤ n)

@@ -1,15 +1,15 @@
 -- The longest call chains of the priorities, by the heights of the nodes.
-use Rattle.std.specs.Prelude.{◌≡◌, ◌≤◌, ℕ, zero, suc, List, [], ◌∷◌, ◌++◌, Option, Some, None, Contains, max}
+use Rattle.std.specs.Prelude.{◌≡◌, ◌≤◌, ℕ, zero, suc, List, ◌∷◌, ◌++◌, Option, Some, None, Contains, max, ◌==◌, filter}
 use Rattle.std.specs.HashMap.{HashMap, get}
 use Rattle.depth_cert.specs.declared.keys.Key.{Key}
 use Rattle.depth_cert.specs.Nodes.{NodeData}
 use Rattle.tcd_report.specs.Reports.Heights.{key_eq}
-use Rattle.tcd_report.specs.declared.reports.longest.LongestCalls.{LongestCalls}
-
--- the greatest number with this property, if there is one
-abbrev pub IsGreatest : (ℕ → Type 0) → Option ℕ → Type 0
-IsGreatest P None = (m : ℕ) → P m → ⊥
-IsGreatest P (Some n) = P n × ((m : ℕ) → P m → m ≤ n)
+use Rattle.tcd_report.specs.declared.reports.longest_by_priority.LongestCalls.{LongestCalls}
+use Rattle.elf_image.specs.Images.{ImageData}
+use Rattle.tcd_plan.specs.PlanData.{PlanData}
+use Rattle.depth_cert.specs.Certs.{CertData}
+use Rattle.tcd_report.specs.Reports.Calls.{CallsInARow}
+use Rattle.std.specs.List.{list_any, range_with_len}
 
 -- the number is the height of a node of this priority
 abbrev pub AtPrio : {S : Type 0} → HashMap Key ℕ S → List NodeData → ℕ → ℕ → Type 0
@@ -29,3 +29,24 @@ row_of p (Some n) = record { longest = n; prio = p } ∷ []
 unfoldable pub rows_below : (ℕ → Option ℕ) → ℕ → List LongestCalls
 rows_below row zero = []
 rows_below row (suc n) = rows_below row n ++ row_of n (row n)
+
+-- n is the length of the longest call chain that begins in a node of this priority (a callee has
+-- the priority of its caller)
+pub record IsLongest (image : ImageData) (plan : PlanData) (cert : CertData) (prio n : ℕ) : Type 0 where
+  pub node : NodeData
+  pub stands : Contains cert.nodes node
+  pub at_prio : (node.key).prio ≡ prio
+  pub reached : CallsInARow image plan cert node n
+  pub most : (other : NodeData) (m : ℕ) → Contains cert.nodes other → (other.key).prio ≡ prio → CallsInARow image plan cert other m → m ≤ n
+
+-- the priorities of the nodes that are below a number, ascending
+unfoldable pub prios_below : List NodeData → ℕ → List ℕ
+prios_below nodes n = filter (λ p. list_any (λ n. (n.key).prio == p) nodes) (range_with_len 0 n)
+
+-- the number of priorities: an interrupt's priority is one byte
+unfoldable pub priorities : ℕ
+priorities = 256
+
+-- the priorities of the nodes, ascending
+abbrev pub prios_of : List NodeData → List ℕ
+prios_of nodes = prios_below nodes priorities

@@ -2,7 +2,7 @@
 ghost use Rattle.std.specs.Prelude.{◌≡◌, ◌≤◌, ◌<◌, ◌+◌, ◌*◌, ◌++◌, OnOk, IfOk, length};
 ghost use Rattle.tcd_report.specs.Generated.{function_at, call_if_below, function_code, filled, functions};
 
-use crate::generating::pieces::{append, append_call, append_zeros};
+use crate::generating::appending::{append, append_call, append_zeros};
 use std::alloc::Global;
 use tcd_base::NoMemory;
 

@@ -7,7 +7,7 @@ ghost use Rattle.tcd_report.specs.Generated.{generated_image};
 ghost use Rattle.tcd_report.specs.Generated.Planned.{generated_plan, generated_text};
 
 use crate::generating::functions::functions;
-use crate::generating::segments::{main_code, system_code, table, vectors};
+use crate::generating::program_segments::{main_code, system_code, table, vectors};
 use elf_image::{Image, Segment, read_segments};
 use std::alloc::Global;
 use tcd_base::NoMemory;

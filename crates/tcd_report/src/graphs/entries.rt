@@ -2,9 +2,9 @@
 ghost use Rattle.std.specs.Prelude.{◌≡◌, ◌++◌, ◌∷◌, [], OnOk, IfOk, not, if◌then◌else◌};
 ghost use Rattle.tc_isa.specs.Bounded.{IsShape, IsSize};
 ghost use Rattle.value_domain.specs.State.{AreValues};
-ghost use Rattle.vd_transfer.specs.Effects.{address_of};
+ghost use Rattle.vd_transfer.specs.EffectsOnStates.{address_of};
 ghost use Rattle.depth_cert.specs.declared.keys.Key.{Key};
-ghost use Rattle.cfg_recover.specs.Local.{are_aligned};
+ghost use Rattle.cfg_recover.specs.LocalRules.{are_aligned};
 ghost use Rattle.cfg_recover.specs.Duties.{misaligned_entry, misaligned_of};
 ghost use Rattle.tcd_report.specs.Graphs.{entries_in, misaligned_rule};
 ghost use Rattle.tcd_report.specs.Graphs.Edges.{called_of, systems_of};

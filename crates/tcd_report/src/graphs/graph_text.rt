@@ -2,7 +2,7 @@
 ghost use Rattle.std.specs.Prelude.{◌≡◌, Contains, OnOk, IfOk, string_bytes};
 ghost use Rattle.value_domain.specs.State.{AreValues};
 ghost use Rattle.cfg_recover.specs.Accepting.{Accepts};
-ghost use Rattle.cfg_recover.specs.Local.{IsFaultless};
+ghost use Rattle.cfg_recover.specs.LocalFaults.{IsFaultless};
 ghost use Rattle.tcd_report.specs.Graphs.{ArePointLines, AreNodeLines, IsGraph};
 ghost use Rattle.tcd_report.specs.Judging.{point_of, IsJudged, GrowsBy};
 

@@ -3,7 +3,7 @@ ghost use Rattle.std.specs.Prelude.{◌≡◌, ◌++◌, [], OnOk, false, is_som
 ghost use Rattle.tc_isa.specs.Bounded.{IsShape, IsTarget};
 ghost use Rattle.value_domain.specs.State.{AreValues};
 ghost use Rattle.vd_transfer.specs.Branches.{refine_of};
-ghost use Rattle.cfg_recover.specs.Local.{targets_of};
+ghost use Rattle.cfg_recover.specs.LocalRules.{targets_of};
 ghost use Rattle.cfg_recover.specs.Duties.{jump_on};
 ghost use Rattle.tcd_report.specs.Judging.{point_of, successors_at};
 ghost use Rattle.tcd_report.specs.Graphs.Edges.{jumped_in};

@@ -6,7 +6,7 @@ ghost use Rattle.tcd_report.specs.Reports.Heights.{key_eq, rank_of, TellsHeights
 ghost use Rattle.tcd_report.specs.Judging.{IsJudged};
 
 use crate::judged::Judged;
-use crate::reports::calls_in_a_row::rows_from;
+use crate::reports::call_chains::rows_from;
 use cfg_recover::KnownCodes;
 use depth_cert::Key;
 use packed_cert::{PackedCert, PointWalk};

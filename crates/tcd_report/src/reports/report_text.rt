@@ -8,7 +8,9 @@ ghost use Rattle.tcd_report.specs.Reports.{whole_data};
 
 use crate::judged::Judged;
 use crate::reports::heights::heights;
-use crate::reports::longest::{LongestCalls, longest_by_priority, priority_count, rows_below};
+use crate::reports::longest_by_priority::{
+    LongestCalls, longest_by_priority, priority_count, rows_below,
+};
 use crate::texts::{append, append_key};
 use cfg_recover::start_key;
 use depth_cert::Cert;

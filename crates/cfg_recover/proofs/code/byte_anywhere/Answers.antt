@@ -1,5 +1,5 @@
 use Rattle.std.proofs.Common.{List, map, ap, sym}
-use Rattle.elf_image.specs.declared.segment.Segment.{Segment}
+use Rattle.elf_image.specs.declared.segments.Segment.{Segment}
 use Rattle.elf_image.specs.Images.{image_data, segment_data}
 use Rattle.cfg_recover.proofs.HeldLaws.{held_byte}
 use Rattle.cfg_recover.proofs.code.byte_anywhere.Goals as goal

@@ -1,6 +1,6 @@
 use Rattle.std.proofs.Common.{List, length, map, ap, sym}
 use Rattle.std.proofs.lemmas.Bool.{ltb-true}
-use Rattle.elf_image.specs.declared.segment.Segment.{Segment}
+use Rattle.elf_image.specs.declared.segments.Segment.{Segment}
 use Rattle.elf_image.specs.Images.{image_data, segment_data}
 use Rattle.cfg_recover.proofs.HeldLaws.{held_byte}
 use Rattle.cfg_recover.proofs.code.byte_at.Goals as goal

@@ -1,5 +1,5 @@
 use Rattle.std.proofs.Common.{◌≡◌, List, length, map, ap, sym, arith}
-use Rattle.elf_image.specs.declared.segment.Segment.{Segment}
+use Rattle.elf_image.specs.declared.segments.Segment.{Segment}
 use Rattle.elf_image.specs.Images.{image_data, segment_data}
 use Rattle.cfg_recover.proofs.HeldLaws.{held_four}
 use Rattle.cfg_recover.proofs.code.four_anywhere.Goals as goal

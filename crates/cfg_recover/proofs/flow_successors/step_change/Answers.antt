@@ -1,6 +1,6 @@
 use Rattle.std.proofs.Common.{ap, ◌∙◌}
 use Rattle.value_domain.specs.declared.values.Val.{Val}
-use Rattle.vd_transfer.specs.Effects.{transfer_of}
+use Rattle.vd_transfer.specs.EffectsOnStates.{transfer_of}
 use Rattle.cfg_recover.proofs.StepChanges.{loaded_is, nothing_keeps, writes_none}
 use Rattle.cfg_recover.proofs.flow_successors.step_change.Goals as goal
 

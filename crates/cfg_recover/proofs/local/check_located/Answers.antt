@@ -1,7 +1,7 @@
 use Rattle.std.proofs.Common.{subst}
 use Rattle.std.specs.Prelude.{Option}
 use Rattle.cfg_recover.specs.declared.local.Located.{Located}
-use Rattle.cfg_recover.specs.Finding.{LocatesCode}
+use Rattle.cfg_recover.specs.Code.{LocatesCode}
 use Rattle.cfg_recover.proofs.LocalLaws.{IsLocalFault-broken, LocalHolds-found}
 use Rattle.cfg_recover.proofs.local.check_located.Goals as goal
 

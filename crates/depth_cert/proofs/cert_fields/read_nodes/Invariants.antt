@@ -1,5 +1,5 @@
 use Rattle.std.proofs.Common.{◌≡◌, ◌≤◌, ◌-◌, ◌^◌, []}
-use Rattle.tcd_base.specs.Reading.{many_at}
+use Rattle.tcd_base.specs.FieldReaders.{many_at}
 use Rattle.depth_cert.specs.Grammar.{node_after}
 use Rattle.depth_cert.specs.Certs.{count_points}
 use Rattle.depth_cert.proofs.cert_fields.read_nodes.Given as goal

@@ -1,5 +1,5 @@
 use Rattle.std.proofs.Common.{◌≡◌, ◌-◌, length, [], take}
-use Rattle.tcd_base.specs.Reading.{many_at}
+use Rattle.tcd_base.specs.FieldReaders.{many_at}
 use Rattle.depth_cert.specs.Grammar.{value_at}
 use Rattle.depth_cert.proofs.value_fields.read_values.Given as goal
 

@@ -11,7 +11,7 @@ use Rattle.cfg_recover.specs.Accepting.{limits_in, HoldsAtEntry, RuleHolds}
 use Rattle.value_domain.specs.State.{AreValues}
 use Rattle.value_domain.specs.Values.{IsWell, IsValue, any_val}
 use Rattle.depth_check.specs.declared.nodes.Fault.{Fault}
-use Rattle.depth_check.specs.Finding.{Finds, IsWellNode}
+use Rattle.depth_check.specs.LeastBroken.{Finds, IsWellNode}
 use Rattle.depth_check.specs.NodeFaults.{IsNodeFault, first_of}
 use Rattle.depth_check.specs.Interrupts.{HoldsWith}
 use Rattle.depth_check.proofs.InterruptLaws.{interrupts_at, stack_well, stacks_well}

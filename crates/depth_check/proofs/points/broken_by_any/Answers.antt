@@ -5,8 +5,9 @@ use Rattle.depth_cert.specs.declared.keys.Key.{Key}
 use Rattle.depth_cert.specs.Nodes.{NodeData}
 use Rattle.cfg_recover.specs.Changes.{StandsFaultless}
 use Rattle.cfg_recover.specs.Duties.{duties_of}
-use Rattle.cfg_recover.specs.Local.{IsLocalFault}
-use Rattle.depth_check.specs.Finding.{Finds, DutiesHold}
+use Rattle.cfg_recover.specs.LocalFaults.{IsLocalFault}
+use Rattle.depth_check.specs.LeastBroken.{Finds}
+use Rattle.depth_check.specs.DutyTests.{DutiesHold}
 use Rattle.depth_check.specs.Forms.{point_here}
 use Rattle.depth_check.proofs.RuleLaws.{own_broken, duties_found}
 use Rattle.depth_check.proofs.points.broken_by_any.Goals as goal

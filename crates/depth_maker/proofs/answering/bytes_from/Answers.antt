@@ -1,6 +1,5 @@
 use Rattle.std.proofs.Common.{subst, sym}
-use Rattle.depth_maker.specs.NeedsBy.{NeedsOrPlace}
-use Rattle.depth_maker.specs.Spelled.{NeedsAre}
+use Rattle.depth_maker.specs.Needs.{NeedsOrPlace, NeedsAre}
 use Rattle.depth_maker.proofs.MakeLemmas.{needs_are}
 use Rattle.depth_maker.proofs.answering.bytes_from.Goals as goal
 

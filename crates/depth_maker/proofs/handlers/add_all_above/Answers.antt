@@ -1,6 +1,6 @@
 use Rattle.std.proofs.Common.{sym, ap, refl, ◌∙◌, ◌++◌, List, arith}
 use Rattle.std.proofs.lemmas.List.{append-nil, take_all}
-use Rattle.depth_maker.specs.Handlers.{nodes_above}
+use Rattle.depth_maker.specs.InterruptHandlers.{nodes_above}
 use Rattle.depth_maker.specs.declared.handlers.Handler.{Handler}
 use Rattle.depth_maker.proofs.HandlerLaws.{above_more}
 use Rattle.depth_maker.proofs.handlers.add_all_above.Goals as goal

@@ -1,6 +1,6 @@
 use Rattle.std.proofs.Common.{◌≡◌, ◌≤◌, ◌+◌, ◌++◌, take}
 use Rattle.std.specs.Prelude.{vec_capacity, vec_len}
-use Rattle.depth_maker.specs.Handlers.{nodes_above}
+use Rattle.depth_maker.specs.InterruptHandlers.{nodes_above}
 use Rattle.depth_maker.proofs.handlers.add_all_above.Given as goal
 
 abbrev pub invariant-loop-h : goal.invariant-loop-h

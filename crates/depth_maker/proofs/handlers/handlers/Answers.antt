@@ -1,7 +1,7 @@
 use Rattle.std.proofs.Common.{◌∙◌, ap, subst, ℕ, List}
 use Rattle.std.proofs.lemmas.Result.{IfOk-weaker}
 use Rattle.tcd_plan.specs.PlanData.{PlanData}
-use Rattle.depth_maker.specs.Handlers.{AreHandlers}
+use Rattle.depth_maker.specs.InterruptHandlers.{AreHandlers}
 use Rattle.depth_maker.proofs.handlers.handlers.Goals as goal
 
 pub returns : goal.returns

@@ -2,7 +2,7 @@ use Rattle.std.proofs.Common.{sym, subst, ap, ◌∙◌, refl, ℕ, List, Contai
 use Rattle.std.proofs.lemmas.List.{take_all}
 use Rattle.depth_cert.specs.declared.keys.Key.{Key}
 use Rattle.frame_places.specs.Numbers.{number_in}
-use Rattle.depth_maker.specs.Handlers.{AreHandlers}
+use Rattle.depth_maker.specs.InterruptHandlers.{AreHandlers}
 use Rattle.depth_maker.proofs.HandlerLaws.{handlers_more, handlers_none}
 use Rattle.depth_maker.proofs.handlers.handlers_of.Goals as goal
 

@@ -1,7 +1,7 @@
 use Rattle.std.proofs.Common.{List, take}
 use Rattle.depth_cert.specs.declared.keys.Key.{Key}
 use Rattle.frame_places.specs.Numbers.{AreNumbers}
-use Rattle.depth_maker.specs.Handlers.{AreHandlers}
+use Rattle.depth_maker.specs.InterruptHandlers.{AreHandlers}
 use Rattle.depth_maker.proofs.handlers.handlers_of.Given as goal
 
 abbrev pub invariant-loop-p : goal.invariant-loop-p

@@ -1,6 +1,6 @@
 use Rattle.std.proofs.Common.{subst, sym, List}
 use Rattle.frame_places.specs.declared.needs.row.NeedRow.{NeedRow}
-use Rattle.depth_maker.specs.RowsBy.{RowsOn}
+use Rattle.depth_maker.specs.Rows.{RowsOn}
 use Rattle.depth_maker.proofs.RowSteps.{rows_again}
 use Rattle.depth_maker.proofs.needs.frame_needs.Goals as goal
 

@@ -2,10 +2,10 @@ use Rattle.std.proofs.Common.{subst, sym, refl, ap, ℕ, List, length, Ok, Optio
 use Rattle.std.specs.Prelude.{IfSome}
 use Rattle.std.specs.declared.alloc.Global.{Global}
 use Rattle.std.specs.declared.vec.Vec.{Vec}
-use Rattle.depth_maker.specs.NeedsBy.{NeedsOn}
+use Rattle.depth_maker.specs.Needs.{NeedsOn}
 use Rattle.depth_maker.specs.Recursing.{IsRecursion}
 use Rattle.depth_cert.specs.declared.keys.Key.{Key}
-use Rattle.frame_places.specs.Rows.{IsWithin, LeastNeeds}
+use Rattle.frame_places.specs.RowNeeds.{IsWithin, LeastNeeds}
 use Rattle.depth_maker.proofs.CountedLemmas.{few_spots}
 use Rattle.depth_maker.proofs.NeedSteps.{recursion_above, source_within, source_needs}
 use Rattle.depth_maker.proofs.needs.needs_by.Goals as goal

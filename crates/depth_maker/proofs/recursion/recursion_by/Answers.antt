@@ -2,7 +2,7 @@ use Rattle.std.proofs.Common.{◌∙◌, ℕ, List, length, subst, sym, ap}
 use Rattle.std.proofs.lemmas.List.{length-map}
 use Rattle.depth_cert.specs.declared.keys.Key.{Key}
 use Rattle.depth_cert.specs.Keys.{number_of_key}
-use Rattle.frame_places.specs.Reaching.{AreBetween}
+use Rattle.frame_places.specs.NodeGraph.{AreBetween}
 use Rattle.depth_maker.proofs.RecursSteps.{edges_within, none_recurs}
 use Rattle.depth_maker.proofs.recursion.recursion_by.Goals as goal
 

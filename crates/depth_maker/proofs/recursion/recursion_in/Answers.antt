@@ -1,6 +1,6 @@
 use Rattle.std.proofs.Common.{false, List, length, get_or, Some, None, subst, sym}
 use Rattle.depth_cert.specs.declared.keys.Key.{Key}
-use Rattle.frame_places.specs.Reaching.{AreBetween, AreReaching}
+use Rattle.frame_places.specs.NodeGraph.{AreBetween, AreReaching}
 use Rattle.depth_maker.specs.Recursing.{IsFirstMarked}
 use Rattle.frame_places.specs.declared.places.Spot.{Spot}
 use Rattle.depth_maker.proofs.RecursSteps.{edges_within, key_there, one_stands, first_recurs}

@@ -1,7 +1,7 @@
 use Rattle.std.proofs.Common.{refl, sym, ap, subst, arith, ◌∙◌, ◌<◌, ◌++◌, ℕ, List, length, Some, set}
 use Rattle.frame_places.specs.declared.needs.row.NeedRow.{NeedRow}
-use Rattle.depth_maker.specs.Handlers.{nodes_taken}
-use Rattle.depth_maker.specs.RowsBy.{HaveRows, IsPlainRow}
+use Rattle.depth_maker.specs.InterruptHandlers.{nodes_taken}
+use Rattle.depth_maker.specs.Rows.{HaveRows, IsPlainRow}
 use Rattle.depth_maker.proofs.RowSteps.{have_rows_more, have_rows_still}
 use Rattle.depth_maker.proofs.rows.add_plain.Goals as goal
 

@@ -3,7 +3,7 @@ use Rattle.indexmap.specs.IndexMap.{get}
 use Rattle.frame_places.specs.Spots.{spot_eq}
 use Rattle.frame_places.specs.declared.places.Spot.TheVariants.{Point}
 use Rattle.small_states.specs.declared.known.Outline.{Outline}
-use Rattle.depth_maker.specs.RowsBy.{IsPlainRow, HasRow}
+use Rattle.depth_maker.specs.Rows.{IsPlainRow, HasRow}
 use Rattle.depth_maker.specs.declared.rows.KnownPoint.{KnownPoint}
 use Rattle.depth_maker.proofs.PlainRows.{plain_point}
 use Rattle.depth_maker.proofs.RowSteps.{draft_more, draft_same, index_there, number_there, row_moves}

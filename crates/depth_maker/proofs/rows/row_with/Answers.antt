@@ -4,9 +4,9 @@ use Rattle.std.proofs.lemmas.List.{map-append}
 use Rattle.std.proofs.lemmas.List.Elements.{Contains-append_left, Contains-append_right}
 use Rattle.depth_cert.specs.declared.keys.Key.{Key}
 use Rattle.frame_places.specs.Numbers.{number_in}
-use Rattle.depth_maker.specs.Entered.{entered_in}
-use Rattle.depth_maker.specs.Handlers.{nodes_taken}
-use Rattle.depth_maker.specs.View.{access_by, entries_by, interrupts_by}
+use Rattle.depth_maker.specs.EnteredFrames.{entered_in}
+use Rattle.depth_maker.specs.InterruptHandlers.{nodes_taken}
+use Rattle.depth_maker.specs.VisitDuties.{access_by, entries_by, interrupts_by}
 use Rattle.depth_maker.proofs.EnteredLemmas.{entered_whole}
 use Rattle.depth_maker.proofs.HandlerLaws.{nodes_taken-is}
 use Rattle.depth_maker.proofs.rows.row_with.Goals as goal

@@ -1,4 +1,4 @@
-use Rattle.depth_maker.specs.RowsBy.{IsDraft}
+use Rattle.depth_maker.specs.Rows.{IsDraft}
 use Rattle.depth_maker.proofs.rows.rows.Given as goal
 
 abbrev pub invariant-loop-entry : goal.invariant-loop-entry

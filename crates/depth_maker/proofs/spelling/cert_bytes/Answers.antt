@@ -2,8 +2,8 @@ use Rattle.std.proofs.Common.{subst, sym, List}
 use Rattle.std.specs.List.Sorted.{IsPermutation, IsNonDecreasingBy}
 use Rattle.depth_cert.specs.declared.keys.Key.{Key}
 use Rattle.depth_cert.specs.Keys.{number_of_key}
-use Rattle.depth_maker.specs.Spelled.{IsOrdered}
-use Rattle.frame_places.specs.Entries.{AreEntries, places_at, points_in}
+use Rattle.depth_maker.specs.SpelledCert.{IsOrdered}
+use Rattle.frame_places.specs.PointEntries.{AreEntries, places_at, points_in}
 use Rattle.frame_places.specs.declared.ordering.PointEntry.{PointEntry}
 use Rattle.depth_maker.specs.declared.spelling.Ordered.{Ordered}
 use Rattle.depth_maker.proofs.OutLemmas.{spelled_is}

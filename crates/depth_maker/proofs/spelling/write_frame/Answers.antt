@@ -1,8 +1,9 @@
 use Rattle.std.proofs.Common.{subst, sym, ap, ◌∙◌, arith, List, length}
 use Rattle.std.proofs.lemmas.List.{length-map}
-use Rattle.frame_places.specs.Entries.{place_at}
+use Rattle.frame_places.specs.PointEntries.{place_at}
 use Rattle.frame_places.specs.declared.ordering.PointEntry.{PointEntry}
-use Rattle.depth_maker.specs.Spelled.{ArePointsOf, spots_on}
+use Rattle.depth_maker.specs.SpelledCert.{ArePointsOf}
+use Rattle.depth_maker.specs.Spots.{spots_on}
 use Rattle.depth_maker.proofs.OutLemmas.{points_are, spots_are, few_of, writes_node}
 use Rattle.depth_maker.proofs.spelling.write_frame.Goals as goal
 

@@ -3,7 +3,7 @@ use Rattle.std.proofs.lemmas.List.{take_all}
 use Rattle.std.proofs.lemmas.List.Elements.{Contains-get_or}
 use Rattle.std.proofs.lemmas.List.Sorted.{Contains-permutation, IsPermutation-sym}
 use Rattle.depth_cert.specs.declared.keys.Key.{Key}
-use Rattle.depth_maker.specs.Spelled.{WritesNodes}
+use Rattle.depth_maker.specs.SpelledCert.{WritesNodes}
 use Rattle.depth_maker.proofs.OutLemmas.{nodes_none, nodes_more}
 use Rattle.depth_maker.proofs.spelling.write_frames.Goals as goal
 

@@ -1,5 +1,5 @@
 use Rattle.std.proofs.Common.{take}
-use Rattle.depth_maker.specs.Spelled.{WritesNodes}
+use Rattle.depth_maker.specs.SpelledCert.{WritesNodes}
 use Rattle.depth_maker.proofs.spelling.write_frames.Given as goal
 
 abbrev pub invariant-loop-k : goal.invariant-loop-k

@@ -4,11 +4,11 @@ use Rattle.std.proofs.lemmas.Map.Entries.{length-keys_of}
 use Rattle.tcd_base.specs.Bytes.{bytes_of_word}
 use Rattle.depth_cert.specs.Known.{Known}
 use Rattle.small_states.specs.Incoming.{AddsState, IsStateAt}
-use Rattle.frame_places.specs.Entries.{place_at}
+use Rattle.frame_places.specs.PointEntries.{place_at}
 use Rattle.frame_places.specs.Marks.{value_for}
 use Rattle.frame_places.specs.Spots.{spot_address}
 use Rattle.frame_places.specs.declared.places.Spot.TheVariants.{Point}
-use Rattle.depth_maker.specs.View.{seen}
+use Rattle.depth_maker.specs.Table.{seen}
 use Rattle.depth_maker.proofs.OutLemmas.{writes_point}
 use Rattle.depth_maker.proofs.PointEntries.{entry_place}
 use Rattle.depth_maker.proofs.RowSteps.{done_proper, done_state, read_there}

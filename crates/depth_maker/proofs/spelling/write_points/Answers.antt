@@ -1,10 +1,12 @@
 use Rattle.std.proofs.Common.{sym, subst, List, ℕ, ◌<◌, ◌≤◌}
 use Rattle.std.proofs.lemmas.List.{get_or-map, length-map, take_all}
 use Rattle.std.proofs.lemmas.List.Elements.{Contains-get_or}
-use Rattle.frame_places.specs.Entries.{nowhere, place_at}
+use Rattle.frame_places.specs.PointEntries.{place_at}
+use Rattle.frame_places.specs.Numbers.{nowhere}
 use Rattle.frame_places.specs.Spots.{spot_address}
 use Rattle.frame_places.specs.declared.places.Spot.{Spot}
-use Rattle.depth_maker.specs.Spelled.{WritesPoint, WritesPoints, spots_on}
+use Rattle.depth_maker.specs.SpelledCert.{WritesPoint, WritesPoints}
+use Rattle.depth_maker.specs.Spots.{spots_on}
 use Rattle.depth_maker.proofs.OutLemmas.{points_none, points_more}
 use Rattle.depth_maker.proofs.spelling.write_points.Goals as goal
 

@@ -1,5 +1,6 @@
 use Rattle.std.proofs.Common.{take}
-use Rattle.depth_maker.specs.Spelled.{WritesPoints, spots_on}
+use Rattle.depth_maker.specs.SpelledCert.{WritesPoints}
+use Rattle.depth_maker.specs.Spots.{spots_on}
 use Rattle.depth_maker.proofs.spelling.write_points.Given as goal
 
 abbrev pub invariant-loop-p : goal.invariant-loop-p

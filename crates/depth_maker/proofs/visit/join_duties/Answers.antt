@@ -1,6 +1,6 @@
 use Rattle.std.proofs.Common.{◌++◌}
 use Rattle.cfg_recover.specs.Duties.{duties_of, leavings_of}
-use Rattle.depth_maker.specs.View.{access_by, entries_by, interrupts_by, successors_by}
+use Rattle.depth_maker.specs.VisitDuties.{access_by, entries_by, interrupts_by, successors_by}
 use Rattle.depth_maker.proofs.Lawful.{lawful}
 use Rattle.depth_maker.proofs.PartLemmas.{on_five, owes_back, owes_duties, owes_front, visited_after}
 use Rattle.depth_maker.proofs.visit.join_duties.Goals as goal

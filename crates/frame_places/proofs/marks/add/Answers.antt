@@ -1,9 +1,8 @@
-use Rattle.std.proofs.Common.{sym, subst, refl}
+use Rattle.std.proofs.Common.{sym, subst, refl, ℕ, false}
 use Rattle.frame_places.specs.declared.places.Marked.{Marked}
-use Rattle.std.proofs.Common.{ℕ, false}
 use Rattle.frame_places.specs.Work.{all_work}
 use Rattle.frame_places.proofs.WorkLemmas.{adds_new}
-use Rattle.frame_places.specs.Nearby.{StandsAt}
+use Rattle.frame_places.specs.Numbers.{StandsAt}
 use Rattle.frame_places.specs.declared.places.Mark.TheVariants.{Queued}
 use Rattle.frame_places.proofs.MarkLemmas.{AllListed-adds, puts_as, unknown_place}
 use Rattle.frame_places.proofs.NearbyLemmas.{added_last, added_numbers}

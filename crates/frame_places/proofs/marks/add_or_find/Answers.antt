@@ -5,7 +5,7 @@ use Rattle.indexmap.specs.declared.map.entry.Entry.TheVariants.{Vacant}
 use Rattle.frame_places.specs.declared.places.Marked.{Marked}
 use Rattle.frame_places.specs.declared.places.Mark.TheVariants.{Queued}
 use Rattle.frame_places.specs.Marks.{AllListed, Puts}
-use Rattle.frame_places.specs.Nearby.{StandsAt}
+use Rattle.frame_places.specs.Numbers.{StandsAt}
 use Rattle.frame_places.specs.Work.{all_work}
 use Rattle.frame_places.proofs.MarkLemmas.{AllListed-adds, puts_as}
 use Rattle.frame_places.proofs.NearbyLemmas.{added_last, added_numbers, found_there}

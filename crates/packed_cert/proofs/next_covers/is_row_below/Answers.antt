@@ -7,7 +7,7 @@ use Rattle.vd_transfer.specs.Changes.{state_after}
 use Rattle.vd_transfer.proofs.ChangeLaws.{length-changed}
 use Rattle.packed_cert.specs.Standing.{behind}
 use Rattle.packed_cert.specs.Points.{state_in}
-use Rattle.packed_cert.specs.Below.{value_in}
+use Rattle.packed_cert.specs.ValuesInBytes.{value_in}
 use Rattle.packed_cert.proofs.ValueShapes.{left_first, stands_at}
 use Rattle.packed_cert.proofs.next_covers.is_row_below.Goals as goal
 use Rattle.packed_cert.proofs.next_covers.is_row_below.Goals.{else-tag-ne0-via-then-tag-ne0+else-not-is_below_at, else-tag-ne0-via-else-tag-ne0}

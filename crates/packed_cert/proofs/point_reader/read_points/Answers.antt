@@ -11,7 +11,7 @@ use Rattle.packed_cert.specs.declared.places.PackedPoint.{PackedPoint}
 use Rattle.value_domain.specs.declared.states.State.{State}
 use Rattle.std.specs.Prelude.{IsTrue}
 use Rattle.packed_cert.specs.declared.places.ReadState.{ReadState}
-use Rattle.packed_cert.specs.Standing.{ChangesRow}
+use Rattle.packed_cert.specs.ChangedRows.{ChangesRow}
 use Rattle.packed_cert.specs.Points.{read_or, no_state, state_in, points_in, HasState}
 use Rattle.packed_cert.specs.Moves.{StandsBefore, IsMoved}
 use Rattle.packed_cert.proofs.RowLaws.{moves_push, moved_next}

@@ -1,7 +1,8 @@
 use Rattle.std.proofs.Common.{◌≡◌, ◌≤◌, ◌+◌, ◌-◌, length, [], take, drop}
-use Rattle.tcd_base.specs.Reading.{many_at}
+use Rattle.tcd_base.specs.FieldReaders.{many_at}
 use Rattle.depth_cert.specs.Grammar.{value_at}
-use Rattle.packed_cert.specs.Standing.{at, Stand, StandAlike, ChangesRow, IsFrom, place_after}
+use Rattle.packed_cert.specs.Standing.{at, Stand, StandAlike}
+use Rattle.packed_cert.specs.ChangedRows.{ChangesRow, IsFrom, place_after}
 use Rattle.packed_cert.proofs.value_reader.read_values_after.Given as goal
 
 abbrev pub invariant-loop-i : goal.invariant-loop-i

@@ -1,7 +1,7 @@
 use Rattle.std.proofs.Common.{◌≡◌, ◌<◌, ◌≤◌, ◌-◌, ◌⊎◌, ℕ, get_or, drop, length}
 use Rattle.value_domain.specs.Values.{any_val}
 use Rattle.packed_cert.specs.Points.{state_in}
-use Rattle.packed_cert.specs.Below.{values_in, HaveValues}
+use Rattle.packed_cert.specs.ValuesInBytes.{values_in, HaveValues}
 use Rattle.packed_cert.proofs.walks.read_row.Given as goal
 
 abbrev pub invariant-loop-i : goal.invariant-loop-i

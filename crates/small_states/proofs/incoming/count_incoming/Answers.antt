@@ -1,7 +1,7 @@
 use Rattle.std.proofs.Common.{sym, arith}
 use Rattle.vd_transfer.proofs.ChangeLaws.{length-changed}
 use Rattle.depth_cert.proofs.ExitValues.{with_lower_length}
-use Rattle.small_states.specs.Wholes.{all_values}
+use Rattle.small_states.specs.CompactForms.{all_values}
 use Rattle.small_states.proofs.incoming.count_incoming.Goals as goal
 
 pub returns-in-Changed-clause-long : goal.returns-in-Changed-clause-long

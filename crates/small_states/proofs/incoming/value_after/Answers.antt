@@ -3,7 +3,7 @@ use Rattle.std.proofs.lemmas.List.{get_or_default}
 use Rattle.value_domain.specs.declared.values.Val.{Val}
 use Rattle.value_domain.specs.Values.{any_val}
 use Rattle.depth_cert.proofs.ExitValues.{after-at, restored_at}
-use Rattle.small_states.specs.Wholes.{all_values}
+use Rattle.small_states.specs.CompactForms.{all_values}
 use Rattle.small_states.proofs.incoming.value_after.Goals as goal
 
 pub returns : goal.returns

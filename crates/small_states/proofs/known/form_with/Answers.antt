@@ -1,7 +1,7 @@
 use Rattle.std.proofs.Common.{◌∙◌, List, sym, ap}
 use Rattle.value_domain.specs.declared.values.Val.{Val}
 use Rattle.depth_cert.specs.Known.{state, leaving}
-use Rattle.small_states.specs.Wholes.{all_values}
+use Rattle.small_states.specs.CompactForms.{all_values}
 use Rattle.small_states.specs.Incoming.{exit_with, state_with}
 use Rattle.small_states.proofs.IncomingLemmas.{incoming_exit, incoming_state}
 use Rattle.small_states.proofs.known.form_with.Goals as goal

@@ -1,6 +1,6 @@
 use Rattle.std.proofs.Common.{◌≡◌, ◌∙◌, ◌<◌, List, false, true, length, sym, ap, refl, arith}
 use Rattle.std.proofs.Math.ListN.{length-set}
-use Rattle.small_states.specs.declared.sparse.SpacedValue.{SpacedValue}
+use Rattle.small_states.specs.declared.values.SpacedValue.{SpacedValue}
 use Rattle.small_states.proofs.WrittenOver.{all_written, none_written, one_kept, one_written, place_within}
 use Rattle.small_states.proofs.scratch.write_over.Goals as goal
 use Rattle.small_states.proofs.scratch.write_over.Goals.{then-not-is_equal, else-not-is_equal}

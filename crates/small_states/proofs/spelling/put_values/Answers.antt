@@ -3,8 +3,8 @@ use Rattle.std.proofs.lemmas.List.{append_assoc, take_all}
 use Rattle.std.proofs.lemmas.Result.{on_ok_weaker}
 use Rattle.std.specs.List.{flat_map}
 use Rattle.depth_cert.specs.Spelling.{bytes_of_value}
-use Rattle.small_states.specs.declared.sparse.SpacedValue.{SpacedValue}
-use Rattle.small_states.specs.Wholes.{front}
+use Rattle.small_states.specs.declared.values.SpacedValue.{SpacedValue}
+use Rattle.small_states.specs.CompactForms.{front}
 use Rattle.small_states.proofs.SparseLemmas.{known_well, spelled_all, spelled_more}
 use Rattle.small_states.proofs.spelling.put_values.Goals as goal
 use Rattle.small_states.proofs.spelling.put_values.Goals.{then-not-put_one+in_ok-put_spaced, else-not-put_one}

@@ -1,7 +1,7 @@
 use Rattle.std.proofs.Common.{◌≡◌, ◌++◌, take}
 use Rattle.std.specs.List.{flat_map}
 use Rattle.depth_cert.specs.Spelling.{bytes_of_value}
-use Rattle.small_states.specs.Wholes.{front}
+use Rattle.small_states.specs.CompactForms.{front}
 use Rattle.small_states.proofs.spelling.put_values.Given as goal
 
 abbrev pub invariant-loop-n : goal.invariant-loop-n

@@ -1,6 +1,6 @@
 use Rattle.std.proofs.Common.{List, map, sym, ap, ◌∙◌, subst, slice_index_or}
 use Rattle.elf_image.specs.Images.{ImageData, IsImage, AreBytes, segment_data}
-use Rattle.elf_image.specs.declared.segment.Segment.{Segment}
+use Rattle.elf_image.specs.declared.segments.Segment.{Segment}
 use Rattle.task_chains.specs.declared.task_lists.Task.{Task}
 use Rattle.task_chains.specs.Tasks.{TasksData, AreTasks}
 use Rattle.task_chains.proofs.ViewBytes.{view_is_image}

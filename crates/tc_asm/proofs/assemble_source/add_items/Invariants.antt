@@ -1,7 +1,7 @@
 use Rattle.std.proofs.Common.{◌≡◌, ◌≤◌, drop, map, fold, min}
 use Rattle.tc_stmt.specs.Items.{item_of}
 use Rattle.tc_asm.specs.Drafts.{stepped}
-use Rattle.tc_asm.specs.Sources.{items_rule}
+use Rattle.tc_asm.specs.Rules.{items_rule}
 use Rattle.tc_asm.proofs.assemble_source.add_items.Given as goal
 
 abbrev pub invariant-loop-item : goal.invariant-loop-item

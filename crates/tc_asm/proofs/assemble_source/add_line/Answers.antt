@@ -1,6 +1,7 @@
 use Rattle.std.proofs.Common.{min, fold, ap, ◌∙◌}
 use Rattle.tc_asm.specs.Drafts.{stepped}
-use Rattle.tc_asm.specs.Sources.{items_rule, with_line, line_rule}
+use Rattle.tc_asm.specs.Sources.{with_line}
+use Rattle.tc_asm.specs.Rules.{items_rule, line_rule}
 use Rattle.tc_asm.proofs.Passes.{first_things}
 use Rattle.tc_asm.proofs.assemble_source.add_line.Goals as goal
 

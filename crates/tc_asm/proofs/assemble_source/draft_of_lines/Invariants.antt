@@ -1,7 +1,7 @@
 use Rattle.std.proofs.Common.{◌≡◌, take, drop, map}
 use Rattle.tc_stmt.specs.Items.{item_of}
 use Rattle.tc_asm.specs.Sources.{drafted, KeepsRules}
-use Rattle.tc_asm.specs.Kept.{IsDraft}
+use Rattle.tc_asm.specs.DraftInvariants.{IsDraft}
 use Rattle.tc_stmt.specs.Readings.{lines_read, lines_of}
 use Rattle.tc_asm.proofs.assemble_source.draft_of_lines.Given as goal
 

@@ -5,7 +5,7 @@ use Rattle.tc_asm.specs.declared.sections.Part.{Part}
 use Rattle.tc_asm.specs.declared.sections.Use.{Use}
 use Rattle.tc_asm.specs.Views.{part_of}
 use Rattle.tc_asm.specs.Objects.{section_of, relocs_from}
-use Rattle.tc_asm.specs.Kept.{IsDraft, symbol_names}
+use Rattle.tc_asm.specs.DraftInvariants.{IsDraft, symbol_names}
 use Rattle.tc_asm.proofs.FinishLaws.{parts_named, symbols_named, symbols_small, offsets_small}
 use Rattle.tc_asm.proofs.ObjectLaws.{object_whole}
 use Rattle.tc_asm.proofs.emit.finish.Goals as goal

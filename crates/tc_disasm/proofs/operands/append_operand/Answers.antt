@@ -1,5 +1,5 @@
 use Rattle.std.proofs.Common.{◌≡◌, ap, arith}
-use Rattle.tc_isa.specs.Words.{bounds}
+use Rattle.tc_isa.specs.Forms.{bounds}
 use Rattle.tc_disasm.proofs.Bounds.{bounds-k}
 use Rattle.tc_disasm.proofs.operands.append_operand.Goals as goal
 

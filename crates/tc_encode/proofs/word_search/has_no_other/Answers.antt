@@ -2,8 +2,8 @@ use Rattle.std.proofs.Common.{◌∙◌, sym, ap, false}
 use Rattle.std.specs.Prelude.{slice_get}
 use Rattle.tc_isa.specs.declared.fields.Uses.{Uses}
 use Rattle.tc_isa.specs.Rows.{row_of, listed}
-use Rattle.tc_isa.specs.Words.{bounds}
-use Rattle.tc_isa.specs.Codec.{uses_of, rest_is_zero}
+use Rattle.tc_isa.specs.Forms.{bounds}
+use Rattle.tc_isa.specs.ValidRows.{uses_of, rest_is_zero}
 use Rattle.tc_encode.proofs.Finds.{plain_zero, plain_at, uses_at}
 use Rattle.tc_encode.proofs.word_search.has_no_other.Goals as goal
 

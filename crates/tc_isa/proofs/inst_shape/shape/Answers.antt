@@ -1,5 +1,5 @@
 use Rattle.std.proofs.Common.{◌∙◌, sym, ap, subst}
-use Rattle.tc_isa.specs.Shapes.{shape_of}
+use Rattle.tc_isa.specs.Meanings.{shape_of}
 use Rattle.tc_isa.specs.Bounded.{IsShape}
 use Rattle.tc_isa.proofs.Shaped.{small, meanings_enough, shaped}
 use Rattle.tc_isa.proofs.ShapeBounds.{shape_is}

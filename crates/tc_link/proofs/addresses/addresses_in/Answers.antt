@@ -1,5 +1,5 @@
 use Rattle.std.proofs.Common.{◌∙◌}
-use Rattle.tc_link.specs.Placing.{symbol_address}
+use Rattle.tc_link.specs.Relocated.{symbol_address}
 use Rattle.tc_link.proofs.AddressLaws.{map_next}
 use Rattle.tc_link.proofs.addresses.addresses_in.Goals as goal
 

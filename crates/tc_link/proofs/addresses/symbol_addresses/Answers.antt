@@ -1,6 +1,7 @@
 use Rattle.std.proofs.Common.{◌≡◌, ◌∙◌, List, ℕ, map, ap}
 use Rattle.tc_object.specs.Objects.{SymbolData, ObjectData}
-use Rattle.tc_link.specs.Placing.{PlacedData, symbol_address, symbol_addresses}
+use Rattle.tc_link.specs.Placing.{PlacedData}
+use Rattle.tc_link.specs.Relocated.{symbol_address, symbol_addresses}
 use Rattle.tc_link.proofs.ItemLaws.{if_ok}
 use Rattle.tc_link.proofs.addresses.symbol_addresses.Goals as goal
 

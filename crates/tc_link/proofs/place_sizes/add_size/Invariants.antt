@@ -1,6 +1,6 @@
 use Rattle.std.proofs.Common.{◌≡◌, ◌<◌, ◌≤◌, ℕ, get_or}
 use Rattle.tc_link.specs.Layouts.{PlaceData}
-use Rattle.tc_link.specs.Placing.{with_size}
+use Rattle.tc_link.specs.PlaceSizes.{with_size}
 use Rattle.tc_link.proofs.place_sizes.add_size.Given as goal
 
 abbrev pub invariant-loop-i : goal.invariant-loop-i

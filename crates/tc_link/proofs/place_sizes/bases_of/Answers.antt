@@ -2,7 +2,7 @@ use Rattle.std.proofs.Common.{◌≡◌, ◌+◌, ◌++◌, ◌∷◌, [], ℕ, 
 use Rattle.std.proofs.lemmas.List.{append-nil, take_all}
 use Rattle.tc_object.specs.Objects.{SectionData}
 use Rattle.tc_link.specs.Placing.{bases_after}
-use Rattle.tc_link.specs.Linked.{no_room, no_room_after}
+use Rattle.tc_link.specs.Refusals.{no_room, no_room_after}
 use Rattle.tc_link.specs.PlaceSizes.{AreTaken}
 use Rattle.tc_link.proofs.RoomLaws.{take_next, bases_step, taken_step, room_step, room_fault}
 use Rattle.tc_link.proofs.place_sizes.bases_of.Goals as goal

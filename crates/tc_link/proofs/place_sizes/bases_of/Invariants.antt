@@ -1,7 +1,7 @@
 use Rattle.std.proofs.Common.{◌≡◌, ◌++◌, List, None, take}
 use Rattle.tc_object.specs.Objects.{SectionData}
 use Rattle.tc_link.specs.Placing.{bases_after}
-use Rattle.tc_link.specs.Linked.{no_room_after}
+use Rattle.tc_link.specs.Refusals.{no_room_after}
 use Rattle.tc_link.specs.PlaceSizes.{AreTaken, AreSmall}
 use Rattle.tc_link.proofs.place_sizes.bases_of.Given as goal
 

@@ -1,8 +1,7 @@
 use Rattle.std.proofs.Common.{◌≡◌, ◌<◌, ◌≤◌, ◌*◌, ◌^◌, ℕ, false, get_or, take, List, ltb}
 use Rattle.std.specs.List.{sum_by, list_any}
 use Rattle.tc_object.specs.Objects.{SectionData}
-use Rattle.tc_link.specs.Placing.{taken_bytes}
-use Rattle.tc_link.specs.PlaceSizes.{AreTaken}
+use Rattle.tc_link.specs.PlaceSizes.{taken_bytes, AreTaken}
 use Rattle.tc_link.proofs.place_sizes.is_over.Given as goal
 
 abbrev pub invariant-loop-i : goal.invariant-loop-i

@@ -3,7 +3,7 @@ use Rattle.std.specs.Prelude.{IfSome}
 use Rattle.std.proofs.lemmas.Result.{err_from_is_err_and}
 use Rattle.tc_object.specs.Objects.{SectionData, ObjectData, IsObject}
 use Rattle.tc_link.specs.Placing.{sections_of, placed_after, bases_after}
-use Rattle.tc_link.specs.Linked.{Refusal, no_room_after}
+use Rattle.tc_link.specs.Refusals.{Refusal, no_room_after}
 use Rattle.tc_link.specs.PlaceSizes.{AreTaken}
 use Rattle.tc_link.specs.Errors.{refusal_of}
 use Rattle.tc_link.proofs.ItemLaws.{good_more}

@@ -1,7 +1,7 @@
 use Rattle.std.proofs.Common.{◌≡◌, ◌<◌, [], ℕ, None, take, get_or}
 use Rattle.tc_object.specs.Objects.{ObjectData, IsObject}
 use Rattle.tc_link.specs.Placing.{sections_of, placed_after}
-use Rattle.tc_link.specs.Linked.{no_room_after}
+use Rattle.tc_link.specs.Refusals.{no_room_after}
 use Rattle.tc_link.specs.PlaceSizes.{AreTaken, AreSmall}
 use Rattle.tc_link.proofs.placed.place_objects.Given as goal
 

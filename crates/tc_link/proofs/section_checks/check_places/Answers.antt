@@ -2,7 +2,7 @@ use Rattle.std.proofs.Common.{◌≡◌, ◌<◌, ◌∙◌, Bool, Some, None, r
 use Rattle.std.specs.Option.{option_map}
 use Rattle.std.specs.Borrow.{Bor}
 use Rattle.tc_object.specs.Objects.{SectionData, ObjectData}
-use Rattle.tc_link.specs.Linked.{first_at, no_place, no_place_of, no_place_in, has_symbol}
+use Rattle.tc_link.specs.Refusals.{first_at, no_place, no_place_of, no_place_in, has_symbol}
 use Rattle.tc_link.proofs.FirstLaws.{more_item, found_item, first_end}
 use Rattle.tc_link.proofs.section_checks.check_places.Goals as goal
 

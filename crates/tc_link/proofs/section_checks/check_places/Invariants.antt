@@ -1,5 +1,5 @@
 use Rattle.std.proofs.Common.{◌≡◌, None, take}
-use Rattle.tc_link.specs.Linked.{first_at, no_place_of}
+use Rattle.tc_link.specs.Refusals.{first_at, no_place_of}
 use Rattle.tc_link.proofs.section_checks.check_places.Given as goal
 
 abbrev pub invariant-loop-object : goal.invariant-loop-object

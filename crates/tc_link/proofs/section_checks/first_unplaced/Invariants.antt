@@ -1,6 +1,6 @@
 use Rattle.std.proofs.Common.{◌≡◌, ◌<◌, ℕ, Bool, List, None, take, get_or, length}
 use Rattle.tc_object.specs.Objects.{SymbolData}
-use Rattle.tc_link.specs.Linked.{first_at, no_place_of, has_symbol}
+use Rattle.tc_link.specs.Refusals.{first_at, no_place_of, has_symbol}
 use Rattle.tc_link.proofs.section_checks.first_unplaced.Given as goal
 
 abbrev pub invariant-loop-number : goal.invariant-loop-number

@@ -1,5 +1,5 @@
 use Rattle.std.proofs.Common.{◌≡◌, ◌<◌, ℕ, Bool, get_or, take, length}
-use Rattle.tc_link.specs.Linked.{has_symbol}
+use Rattle.tc_link.specs.Refusals.{has_symbol}
 use Rattle.tc_link.proofs.section_checks.sections_with_symbols.Given as goal
 
 abbrev pub invariant-loop-symbol : goal.invariant-loop-symbol

@@ -1,6 +1,6 @@
 use Rattle.std.proofs.Common.{◌≡◌, [], take}
 use Rattle.std.specs.List.{fold}
-use Rattle.tc_link.specs.Relocated.{with_section}
+use Rattle.tc_link.specs.Segments.{with_section}
 use Rattle.tc_link.proofs.segments.join_sections.Given as goal
 
 abbrev pub invariant-loop-section : goal.invariant-loop-section

@@ -1,6 +1,6 @@
 use Rattle.std.proofs.Common.{◌≡◌, map, take}
 use Rattle.elf_image.specs.Images.{segment_data}
-use Rattle.tc_link.specs.Relocated.{segments_of}
+use Rattle.tc_link.specs.Segments.{segments_of}
 use Rattle.tc_link.proofs.segments.segments_of.Given as goal
 
 abbrev pub invariant-loop-place : goal.invariant-loop-place

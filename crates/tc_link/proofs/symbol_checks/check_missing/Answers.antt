@@ -2,7 +2,7 @@ use Rattle.std.proofs.Common.{◌≡◌, ◌<◌, ◌∙◌, Bool, Some, None, r
 use Rattle.std.specs.Option.{option_map}
 use Rattle.std.specs.Borrow.{Bor}
 use Rattle.tc_object.specs.Objects.{SymbolData, ObjectData}
-use Rattle.tc_link.specs.Linked.{first_at, missing, missing_of, missing_in, is_used}
+use Rattle.tc_link.specs.Refusals.{first_at, missing, missing_of, missing_in, is_used}
 use Rattle.tc_link.proofs.FirstLaws.{more_item, found_item, first_end}
 use Rattle.tc_link.proofs.symbol_checks.check_missing.Goals as goal
 

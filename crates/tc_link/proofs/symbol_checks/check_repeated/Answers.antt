@@ -2,7 +2,7 @@ use Rattle.std.proofs.Common.{◌≡◌, ◌∙◌, Some, None, refl, sym, ap, �
 use Rattle.std.specs.Option.{option_map}
 use Rattle.std.specs.Borrow.{Bor}
 use Rattle.tc_object.specs.Objects.{ObjectData}
-use Rattle.tc_link.specs.Linked.{first_at, twice, twice_of, twice_in}
+use Rattle.tc_link.specs.Refusals.{first_at, twice, twice_of, twice_in}
 use Rattle.tc_link.proofs.FirstLaws.{more_item, found_item, first_end}
 use Rattle.tc_link.proofs.TwiceLaws.{none_twice}
 use Rattle.tc_link.proofs.symbol_checks.check_repeated.Goals as goal

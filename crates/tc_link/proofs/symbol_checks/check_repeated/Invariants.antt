@@ -1,5 +1,5 @@
 use Rattle.std.proofs.Common.{◌≡◌, None, take}
-use Rattle.tc_link.specs.Linked.{first_at, twice_of}
+use Rattle.tc_link.specs.Refusals.{first_at, twice_of}
 use Rattle.tc_link.proofs.symbol_checks.check_repeated.Given as goal
 
 abbrev pub invariant-loop-object : goal.invariant-loop-object

@@ -1,7 +1,7 @@
 use Rattle.std.proofs.Common.{◌≡◌, ◌<◌, ℕ, Bool, List, None, take, get_or, length}
 use Rattle.tc_object.specs.declared.relocs.Reloc.{Reloc}
 use Rattle.tc_object.specs.Objects.{ObjectData}
-use Rattle.tc_link.specs.Linked.{first_at, missing_of, is_used}
+use Rattle.tc_link.specs.Refusals.{first_at, missing_of, is_used}
 use Rattle.tc_link.specs.Names.{CountsGlobals}
 use Rattle.tc_link.proofs.symbol_checks.first_missing.Given as goal
 

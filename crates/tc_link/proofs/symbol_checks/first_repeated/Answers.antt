@@ -1,6 +1,6 @@
 use Rattle.std.proofs.Common.{◌∙◌, Some, refl, sym, ap, ℕ, List}
 use Rattle.tc_object.specs.Objects.{SymbolData}
-use Rattle.tc_link.specs.Linked.{first_at, twice, twice_of}
+use Rattle.tc_link.specs.Refusals.{first_at, twice, twice_of}
 use Rattle.tc_link.proofs.FirstLaws.{more_item, found_item, then_yes, then_no}
 use Rattle.tc_link.proofs.symbol_checks.first_repeated.Goals as goal
 

@@ -1,6 +1,6 @@
 use Rattle.std.proofs.Common.{◌≡◌, List, None, take}
 use Rattle.tc_object.specs.Objects.{ObjectData}
-use Rattle.tc_link.specs.Linked.{first_at, twice_of}
+use Rattle.tc_link.specs.Refusals.{first_at, twice_of}
 use Rattle.tc_link.specs.Names.{CountsGlobals}
 use Rattle.tc_link.proofs.symbol_checks.first_repeated.Given as goal
 

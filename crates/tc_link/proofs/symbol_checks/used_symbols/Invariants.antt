@@ -1,5 +1,5 @@
 use Rattle.std.proofs.Common.{◌≡◌, ◌<◌, ℕ, Bool, get_or, take, length}
-use Rattle.tc_link.specs.Linked.{is_used}
+use Rattle.tc_link.specs.Refusals.{is_used}
 use Rattle.tc_link.proofs.symbol_checks.used_symbols.Given as goal
 
 abbrev pub invariant-loop-reloc : goal.invariant-loop-reloc

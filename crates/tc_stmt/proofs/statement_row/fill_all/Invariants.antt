@@ -1,7 +1,8 @@
 use Rattle.std.proofs.Common.{◌≡◌, drop, map}
 use Rattle.tc_isa.specs.Rows.{row_of}
 use Rattle.tc_lex.specs.Operands.{operand_of}
-use Rattle.tc_stmt.specs.RowFields.{row_fields_of, fill_all}
+use Rattle.tc_stmt.specs.RowFields.{row_fields_of}
+use Rattle.tc_stmt.specs.Filling.{fill_all}
 use Rattle.tc_stmt.proofs.statement_row.fill_all.Given as goal
 
 abbrev pub invariant-loop-i : goal.invariant-loop-i

@@ -1,7 +1,7 @@
 use Rattle.std.proofs.Common.{◌∙◌, sym, subst}
 use Rattle.depth_cert.specs.Answers.{IsFaultOf}
 use Rattle.depth_cert.specs.Grammar.{certificate_of}
-use Rattle.tcd_driver.specs.Made.{SpellBest}
+use Rattle.tcd_driver.specs.BestCert.{SpellBest}
 use Rattle.tcd_driver.proofs.MakingLaws.{best_most, best_accepted, spelled_is_read, spelled_has_no_fault, spells_certified}
 use Rattle.tcd_driver.proofs.making.check_made.Goals as goal
 

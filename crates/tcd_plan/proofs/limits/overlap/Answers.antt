@@ -1,6 +1,6 @@
 use Rattle.std.proofs.Common.{ap, ◌∙◌}
 use Rattle.serde_json.specs.View.{view}
-use Rattle.tcd_plan.specs.Plans.{overlap_from, overlap_of}
+use Rattle.tcd_plan.specs.Regions.{overlap_from, overlap_of}
 use Rattle.tcd_plan.proofs.Overlaps.{all_gathered}
 use Rattle.tcd_plan.proofs.limits.overlap.Goals as goal
 

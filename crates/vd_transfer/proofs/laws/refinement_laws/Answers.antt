@@ -3,7 +3,7 @@ use Rattle.std.specs.List.{filter, list_any}
 use Rattle.tc_isa.specs.Arithmetic.{signed_place}
 use Rattle.value_domain.specs.Sets.{Among, Within}
 use Rattle.value_domain.proofs.MeetLaws.{among_filter, filter_has, any_among, among_any}
-use Rattle.vd_transfer.specs.Intervals.{is_related, kept_by}
+use Rattle.vd_transfer.specs.Relations.{is_related, kept_by}
 use Rattle.vd_transfer.specs.Signs.{kept_signed}
 use Rattle.vd_transfer.proofs.laws.refinement_laws.Goals as goal
 

@@ -1,6 +1,7 @@
 use Rattle.std.proofs.Common.{◌∙◌, ap, ◌≡◌, sym}
 use Rattle.value_domain.specs.Values.{cover}
-use Rattle.vd_transfer.specs.Operations.{range_of, row}
+use Rattle.vd_transfer.specs.Operations.{row}
+use Rattle.vd_transfer.specs.Intervals.{range_of}
 use Rattle.vd_transfer.proofs.OpLaws.{row-Second, same_bounds, row_runs, runs_step, run_some, row-truth}
 use Rattle.vd_transfer.proofs.operations.from_row.Goals as goal
 

@@ -1,5 +1,5 @@
 use Rattle.std.proofs.Common.{◌≤◌, ◌<◌, inl, inr, arith}
-use Rattle.vd_transfer.specs.Intervals.{Reaches}
+use Rattle.vd_transfer.specs.Relations.{Reaches}
 use Rattle.vd_transfer.proofs.Meets.{with_none}
 use Rattle.vd_transfer.proofs.refinement.words_reached.Goals as goal
 

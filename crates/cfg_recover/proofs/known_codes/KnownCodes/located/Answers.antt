@@ -1,6 +1,5 @@
 use Rattle.std.proofs.Common.{ap, arith, get_or, ◌∙◌}
-use Rattle.cfg_recover.specs.Finding.{LocatesCode}
-use Rattle.cfg_recover.specs.KnownCodes.{located_in}
+use Rattle.cfg_recover.specs.Code.{LocatesCode, located_in}
 use Rattle.cfg_recover.proofs.KnownCodeLaws.{located_there, located_bounded}
 use Rattle.cfg_recover.proofs.known_codes.KnownCodes.located.Goals as goal
 use Rattle.cfg_recover.proofs.known_codes.KnownCodes.located.Goals.{Then-known-word}

@@ -1,5 +1,5 @@
 use Rattle.std.proofs.Common.{drop}
-use Rattle.frame_places.specs.Rows.{PassesRows}
+use Rattle.frame_places.specs.RowNeeds.{PassesRows}
 use Rattle.frame_places.proofs.needs.least.pass.Given as goal
 
 abbrev pub invariant-loop-i : goal.invariant-loop-i

@@ -1,6 +1,6 @@
 use Rattle.std.proofs.Common.{ℕ, ◌+◌, ◌-◌, ◌*◌, ◌≤◌, length}
 use Rattle.std.specs.Prelude.{sum, slice_index}
-use Rattle.frame_places.specs.Rows.{IsLow}
+use Rattle.frame_places.specs.RowNeeds.{IsLow}
 use Rattle.frame_places.proofs.needs.least.run_passes.Given as goal
 
 abbrev pub invariant-loop : goal.invariant-loop

@@ -1,6 +1,6 @@
 use Rattle.std.proofs.Common.{sym, subst, ℕ, ◌<◌, ◌≤◌, ◌≡◌, length, arith, take, drop, ◌++◌, ◌∙◌}
 use Rattle.std.specs.Prelude.{slice_index, List}
-use Rattle.frame_places.specs.Rows.{Meets, IsLow}
+use Rattle.frame_places.specs.RowNeeds.{Meets, IsLow}
 use Rattle.frame_places.proofs.RowLemmas.{answered_none, take_front}
 use Rattle.frame_places.proofs.needs.least.soon_needs.Goals as goal
 

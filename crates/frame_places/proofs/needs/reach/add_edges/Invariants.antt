@@ -1,5 +1,5 @@
 use Rattle.std.proofs.Common.{take}
-use Rattle.frame_places.specs.Reaching.{AddsEdges}
+use Rattle.frame_places.specs.NodeGraph.{AddsEdges}
 use Rattle.frame_places.proofs.needs.reach.add_edges.Given as goal
 
 abbrev pub invariant-loop-t : goal.invariant-loop-t

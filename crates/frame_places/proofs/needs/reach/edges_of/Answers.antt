@@ -1,7 +1,7 @@
 use Rattle.std.proofs.Common.{List, take, subst, sym, ◌++◌, ◌∷◌, []}
 use Rattle.std.proofs.lemmas.List.{take_more}
 use Rattle.frame_places.specs.declared.needs.row.NeedRow.{NeedRow}
-use Rattle.frame_places.specs.Reaching.{AreEdges, AddsEdges}
+use Rattle.frame_places.specs.NodeGraph.{AreEdges, AddsEdges}
 use Rattle.frame_places.proofs.ReachLemmas.{edges_more}
 use Rattle.frame_places.proofs.needs.reach.edges_of.Goals as goal
 

@@ -1,5 +1,5 @@
 use Rattle.std.proofs.Common.{take}
-use Rattle.frame_places.specs.Reaching.{AreEdges}
+use Rattle.frame_places.specs.NodeGraph.{AreEdges}
 use Rattle.frame_places.proofs.needs.reach.edges_of.Given as goal
 
 abbrev pub invariant-loop-row : goal.invariant-loop-row

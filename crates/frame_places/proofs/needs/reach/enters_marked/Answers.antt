@@ -2,7 +2,7 @@ use Rattle.std.proofs.Common.{List, Contains, subst, sym, refl}
 use Rattle.std.proofs.lemmas.List.{take_all}
 use Rattle.std.proofs.lemmas.List.Elements.{Contains-get_or}
 use Rattle.frame_places.specs.declared.needs.reach.FrameEdge.{FrameEdge}
-use Rattle.frame_places.specs.Reaching.{edge_to}
+use Rattle.frame_places.specs.NodeGraph.{edge_to}
 use Rattle.frame_places.proofs.needs.reach.enters_marked.Goals as goal
 
 pub bounds-marks-edge : goal.bounds-marks-edge

@@ -1,4 +1,4 @@
-use Rattle.frame_places.specs.Reaching.{IsFirstBefore}
+use Rattle.frame_places.specs.NodeGraph.{IsFirstBefore}
 use Rattle.frame_places.proofs.needs.reach.first_recurring.Given as goal
 
 abbrev pub invariant-loop-node : goal.invariant-loop-node

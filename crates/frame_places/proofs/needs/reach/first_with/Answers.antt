@@ -1,6 +1,6 @@
 use Rattle.std.proofs.Common.{◌≡◌, ◌∙◌, ℕ, ◌<◌, true, false, Some, None, subst, sym}
 use Rattle.std.specs.Prelude.{slice_index}
-use Rattle.frame_places.specs.Reaching.{IsFirstBefore, IsRecurring}
+use Rattle.frame_places.specs.NodeGraph.{IsFirstBefore, IsRecurring}
 use Rattle.frame_places.proofs.ReachLemmas.{first_here, first_not}
 use Rattle.frame_places.proofs.needs.reach.first_with.Goals as goal
 use Rattle.frame_places.proofs.needs.reach.first_with.Goals.{in-Some+else-orders-other, in_default}

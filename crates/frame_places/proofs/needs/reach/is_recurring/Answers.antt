@@ -1,5 +1,5 @@
 use Rattle.std.proofs.Common.{◌∙◌, List, Bool, subst, sym, ap, length}
-use Rattle.frame_places.specs.Reaching.{AreBetween, AreReaching}
+use Rattle.frame_places.specs.NodeGraph.{AreBetween, AreReaching}
 use Rattle.frame_places.proofs.ReachLemmas.{recurring_marks, sources_below}
 use Rattle.frame_places.proofs.needs.reach.is_recurring.Goals as goal
 

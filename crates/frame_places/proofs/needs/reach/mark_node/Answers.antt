@@ -1,5 +1,5 @@
 use Rattle.std.proofs.Common.{true, set, subst, sym, ◌∷◌, []}
-use Rattle.frame_places.specs.Reaching.{MarksNodes}
+use Rattle.frame_places.specs.NodeGraph.{MarksNodes}
 use Rattle.frame_places.proofs.ReachLemmas.{node_new}
 use Rattle.frame_places.proofs.needs.reach.mark_node.Goals as goal
 

@@ -1,7 +1,7 @@
 use Rattle.std.proofs.Common.{ℕ, List, take, get_or, subst, sym, arith}
 use Rattle.std.proofs.lemmas.List.{take_more}
 use Rattle.std.proofs.lemmas.List.Elements.{Contains-get_or}
-use Rattle.frame_places.specs.Reaching.{MarksNodes}
+use Rattle.frame_places.specs.NodeGraph.{MarksNodes}
 use Rattle.frame_places.proofs.ReachLemmas.{nodes_more}
 use Rattle.frame_places.proofs.needs.reach.mark_nodes.Goals as goal
 

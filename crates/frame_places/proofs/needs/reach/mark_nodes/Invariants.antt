@@ -1,5 +1,5 @@
 use Rattle.std.proofs.Common.{take}
-use Rattle.frame_places.specs.Reaching.{MarksNodes}
+use Rattle.frame_places.specs.NodeGraph.{MarksNodes}
 use Rattle.frame_places.proofs.needs.reach.mark_nodes.Given as goal
 
 abbrev pub invariant-loop-node : goal.invariant-loop-node

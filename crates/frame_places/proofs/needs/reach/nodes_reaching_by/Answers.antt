@@ -1,7 +1,7 @@
 use Rattle.std.proofs.Common.{◌≡◌, ◌∙◌, ℕ, Bool, true, false, List, [], ◌∷◌, ◌++◌, length, take, drop, set, subst, sym, ap, arith}
 use Rattle.std.specs.Prelude.{replicate}
 use Rattle.std.proofs.lemmas.List.{length-replicate}
-use Rattle.frame_places.specs.Reaching.{AreReaching, IsMarking}
+use Rattle.frame_places.specs.NodeGraph.{AreReaching, IsMarking}
 use Rattle.frame_places.proofs.ReachLemmas.{marking_begins, marking_done, take_front}
 use Rattle.frame_places.proofs.needs.reach.nodes_reaching_by.Goals as goal
 

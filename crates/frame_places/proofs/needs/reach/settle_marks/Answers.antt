@@ -1,7 +1,7 @@
 use Rattle.std.proofs.Common.{◌≡◌, ◌∙◌, ℕ, ◌-◌, List, [], ◌++◌, take, length, Option, subst, sym, ap, arith, Contains}
 use Rattle.std.specs.declared.vec.Vec.{Vec}
 use Rattle.std.specs.declared.alloc.Global.{Global}
-use Rattle.frame_places.specs.Reaching.{HasSource, IsMarking, MarksNodes}
+use Rattle.frame_places.specs.NodeGraph.{HasSource, IsMarking, MarksNodes}
 use Rattle.frame_places.proofs.ReachLemmas.{marking_more, marking_past}
 use Rattle.frame_places.proofs.needs.reach.settle_marks.Goals as goal
 

@@ -1,6 +1,6 @@
 use Rattle.std.proofs.Common.{ℕ, ◌+◌, ◌*◌, List, length}
 use Rattle.frame_places.specs.declared.needs.reach.FrameEdge.{FrameEdge}
-use Rattle.frame_places.specs.Reaching.{AreSources, IsMarking, unmarked}
+use Rattle.frame_places.specs.NodeGraph.{AreSources, IsMarking, unmarked}
 use Rattle.frame_places.proofs.needs.reach.settle_marks.Given as goal
 
 abbrev pub invariant-loop-node : goal.invariant-loop-node

@@ -1,7 +1,7 @@
 use Rattle.std.proofs.Common.{List, take, get_or, subst, sym}
 use Rattle.std.proofs.lemmas.List.{take_more}
 use Rattle.frame_places.specs.declared.needs.reach.FrameEdge.{FrameEdge}
-use Rattle.frame_places.specs.Reaching.{AreSources}
+use Rattle.frame_places.specs.NodeGraph.{AreSources}
 use Rattle.frame_places.proofs.ReachLemmas.{sources_more}
 use Rattle.frame_places.proofs.needs.reach.sources_of.Goals as goal
 

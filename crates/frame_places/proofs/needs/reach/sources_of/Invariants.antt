@@ -1,5 +1,5 @@
 use Rattle.std.proofs.Common.{take}
-use Rattle.frame_places.specs.Reaching.{AreSources}
+use Rattle.frame_places.specs.NodeGraph.{AreSources}
 use Rattle.frame_places.proofs.needs.reach.sources_of.Given as goal
 
 abbrev pub invariant-loop-edge : goal.invariant-loop-edge

@@ -4,7 +4,7 @@ use Rattle.value_domain.specs.declared.values.Val.{Val}
 use Rattle.value_domain.specs.declared.states.State.{State}
 use Rattle.value_domain.specs.State.{AreBelow}
 use Rattle.depth_cert.specs.Exits.{with_lower_from}
-use Rattle.packed_cert.specs.Below.{values_in}
+use Rattle.packed_cert.specs.ValuesInBytes.{values_in}
 use Rattle.packed_cert.proofs.states.StateAt.covers_after.Goals as goal
 
 pub returns : goal.returns

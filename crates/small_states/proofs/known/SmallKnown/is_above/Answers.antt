@@ -1,7 +1,6 @@
 use Rattle.std.proofs.Common.{◌≡◌, ◌∙◌, sym, ap, subst}
 use Rattle.depth_cert.specs.Known.{CoversKnown, Known, state}
-use Rattle.small_states.specs.Incoming.{known_of}
-use Rattle.small_states.specs.Wholes.{state_in}
+use Rattle.small_states.specs.CompactForms.{known_of, state_in}
 use Rattle.small_states.proofs.known.SmallKnown.is_above.Goals as goal
 
 pub returns : goal.returns

@@ -1,5 +1,6 @@
 use Rattle.std.proofs.Common.{◌∙◌, sym, ap, subst}
-use Rattle.depth_cert.specs.Known.{IsProperKnown, Known, joined_known}
+use Rattle.depth_cert.specs.Known.{Known, joined_known}
+use Rattle.depth_cert.specs.Proper.{IsProperKnown}
 use Rattle.small_states.proofs.AboveLaws.{known_above}
 use Rattle.small_states.proofs.known.SmallKnown.join_from.Goals as goal
 

@@ -1,8 +1,8 @@
 use Rattle.std.proofs.Common.{subst, sym}
 use Rattle.std.proofs.lemmas.List.{get_or_default}
 use Rattle.value_domain.specs.Values.{IsWell, any_val}
-use Rattle.depth_cert.specs.Known.{IsProper}
-use Rattle.small_states.specs.Wholes.{all_values, state_in}
+use Rattle.depth_cert.specs.Proper.{IsProper}
+use Rattle.small_states.specs.CompactForms.{all_values, state_in}
 use Rattle.small_states.proofs.known.SmallKnown.spell_state.Goals as goal
 
 pub spell-requires : goal.spell-requires

@@ -1,7 +1,7 @@
 use Rattle.std.proofs.Common.{◌≡◌, [], ◌∷◌, ℕ, List, length, sym, subst, ap, arith, length-append}
 use Rattle.std.specs.Prelude.{string_bytes}
 use Rattle.tc_link.specs.Layouts.{PlaceData, IsPlaceAfter}
-use Rattle.tc_link.specs.Seen.{DraftData}
+use Rattle.tc_link.specs.LayoutDrafts.{DraftData}
 use Rattle.tc_link.proofs.TurnLaws.{turn_push}
 use Rattle.tc_link.proofs.drafts.Draft.add_place.Goals as goal
 

@@ -5,8 +5,8 @@ use Rattle.std.proofs.lemmas.Result.{err_from_is_err_and}
 use Rattle.tc_link.specs.declared.layout_errors.LayoutErr.{LayoutErr}
 use Rattle.tc_link.specs.Layouts.{LayoutData}
 use Rattle.tcd_text.specs.Lines.{lines_of}
-use Rattle.tc_link.specs.Faults.{IsFaultOf}
-use Rattle.tc_link.specs.Seen.{DraftData}
+use Rattle.tc_link.specs.LayoutFaults.{IsFaultOf}
+use Rattle.tc_link.specs.LayoutDrafts.{DraftData}
 use Rattle.tc_link.proofs.ReadLaws.{reached_none, reached_more, reached_fault, reached_end}
 use Rattle.tc_link.proofs.layouts.Layout.read.Goals as goal
 

@@ -4,7 +4,7 @@ use Rattle.value_domain.specs.declared.states.State.{State}
 use Rattle.depth_cert.specs.declared.keys.Key.{Key}
 use Rattle.depth_cert.specs.declared.points.Point.{Point}
 use Rattle.depth_cert.specs.Nodes.{NodeData}
-use Rattle.cfg_recover.specs.Local.{IsFaultless}
+use Rattle.cfg_recover.specs.LocalFaults.{IsFaultless}
 use Rattle.tcd_report.specs.Graphs.{ArePointLines, AreJoined}
 use Rattle.tcd_report.specs.Judging.{point_of, GrowsBy}
 use Rattle.tcd_report.proofs.GraphLemmas.Joining.{grown_push}

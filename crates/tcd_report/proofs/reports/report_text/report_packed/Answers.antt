@@ -6,9 +6,9 @@ use Rattle.serde_json.specs.Written.{compact_text, has_float}
 use Rattle.depth_cert.specs.Nodes.{NodeData}
 use Rattle.depth_cert.specs.Certs.{CertData, IsCert}
 use Rattle.cfg_recover.specs.Accepting.{certified_need}
-use Rattle.tcd_report.specs.Reports.Calls.{priorities}
-use Rattle.tcd_report.specs.Reports.Longest.{AtPrio, IsGreatest, rows_below}
-use Rattle.tcd_report.specs.declared.reports.longest.LongestCalls.{LongestCalls}
+use Rattle.tcd_report.specs.Reports.Longest.{priorities, AtPrio, rows_below}
+use Rattle.tcd_report.specs.Reports.Heights.{IsGreatest}
+use Rattle.tcd_report.specs.declared.reports.longest_by_priority.LongestCalls.{LongestCalls}
 use Rattle.tcd_report.specs.Reports.{nodes_data, rows_data, whole_data, report_data}
 use Rattle.tcd_report.proofs.ReportLemmas.LongestLaws.{prios_are, rows_longest}
 use Rattle.tcd_report.proofs.ReportLemmas.ReportTexts.{report_plain}

@@ -1,0 +1,108 @@
+-- The own parts of rules: what they ask of a point's instruction alone, whatever other points the
+-- certificate has.
+use Rattle.std.specs.Prelude.{◌≡◌, ◌*◌, ◌/◌, ◌%◌, ◌==◌, ◌⊎◌, ℕ, Bool, true, List, ◌∷◌, length, map, Option, Some, None, IsSome}
+use Rattle.std.specs.List.{list_all}
+use Rattle.depth_cert.specs.Keys.{call_kind, irq_kind, aln_kind, sys_kind}
+use Rattle.elf_image.specs.Images.{ImageData}
+use Rattle.tcd_plan.specs.PlanData.{PlanData}
+use Rattle.tc_isa.specs.declared.shapes.Target.{Target}
+use Rattle.tc_isa.specs.declared.shapes.Target.TheVariants as target
+use Rattle.tc_isa.specs.declared.shapes.Shape.{Shape}
+use Rattle.tc_isa.specs.declared.shapes.Shape.TheVariants.{Load, Store, Jump, Call, Ret, Rfe, Syscall}
+use Rattle.tc_machine.specs.Machine.{moved}
+use Rattle.value_domain.specs.declared.values.Val.{Val}
+use Rattle.value_domain.specs.declared.values.Val.TheVariants.{Set, Span}
+use Rattle.value_domain.specs.declared.states.State.{State}
+use Rattle.value_domain.specs.Limits.{Limits}
+use Rattle.value_domain.specs.Sets.{distinct}
+use Rattle.value_domain.specs.Values.{members}
+use Rattle.vd_transfer.specs.Registers.{reg_of}
+use Rattle.vd_transfer.specs.EffectsOnStates.{address_of, HasRoom}
+use Rattle.vd_transfer.specs.Holding.{WritesNoFixedRegister}
+use Rattle.store_ranges.specs.Accesses.{AreStoresInRange}
+use Rattle.depth_cert.specs.declared.keys.Key.{Key}
+use Rattle.cfg_recover.specs.Code.{IsCode, HasCode}
+
+-- ---- targets
+-- The addresses that a register's words name, in ascending order, each once: bit 0 is dropped. A
+-- span is no list of targets.
+abbrev pub named_by : Val → Option (List ℕ)
+named_by (Set ws) = Some (distinct (map (λ w. w / 2 * 2) ws))
+named_by (Span lo last step) = None
+
+-- the targets of a jump or a call at p, if they are known
+abbrev pub targets_of : PlanData → State → ℕ → Target → Option (List ℕ)
+targets_of plan s p (target.Rel by) = Some (moved p by ∷ [])
+targets_of plan s p (target.Abs x) = Some (x ∷ [])
+targets_of plan s p (target.Reg r) = named_by (reg_of plan s r)
+
+-- The only target of a jump or a call at p, whatever the registers hold; none if it goes by a
+-- register.
+abbrev pub direct_target : ℕ → Target → Option ℕ
+direct_target p (target.Rel by) = Some (moved p by)
+direct_target p (target.Abs x) = Some x
+direct_target p (target.Reg r) = None
+
+-- ---- accesses
+-- each address is a multiple of the size
+abbrev pub are_aligned : Val → ℕ → Bool
+are_aligned v size = list_all (λ x. x % size == 0) (members v)
+
+-- ---- the rules' own parts, by shape; nothing is asked of other shapes
+-- rule 5: the targets of a jump or a call are a known list of addresses
+abbrev pub KnowsTargets : PlanData → State → ℕ → Shape → Type 0
+KnowsTargets plan s p (Jump to) = IsSome (targets_of plan s p to)
+KnowsTargets plan s p (Call to) = IsSome (targets_of plan s p to)
+KnowsTargets plan s p _ = Unit {0}
+
+-- rule 6: only a called function returns, and it has restored all lower contexts
+abbrev pub MayReturn : Key → State → Shape → Type 0
+MayReturn key s Ret = (key.kind ≡ call_kind) × (length s.locals.items ≡ 0)
+MayReturn key s _ = Unit {0}
+
+-- Rule 7: only a handler returns from an exception, and it has restored all lower contexts. The
+-- handler of an interrupt or of a misaligned access, which may come anywhere, returns with the
+-- lower registers of its entry.
+abbrev pub MayReturnFromException : Key → State → Shape → Type 0
+MayReturnFromException key s Rfe =
+    (length s.locals.items ≡ 0) × ((((key.kind ≡ irq_kind) ⊎ (key.kind ≡ aln_kind)) × (s.lower ≡ true)) ⊎ (key.kind ≡ sys_kind))
+MayReturnFromException key s _ = Unit {0}
+
+-- Rule 9: each possible store is in one ram range or one device range as a whole, and doesn't pass
+-- 2^32.
+abbrev pub StoresInRange : Limits → PlanData → State → Shape → Type 0
+StoresInRange b plan s (Store src base offset size after) = AreStoresInRange plan (address_of b plan (Store src base offset size after) s) size
+StoresInRange b plan s _ = Unit {0}
+
+-- Rule 10: each possible address is a multiple of the size, or the plan states the trap of
+-- misaligned accesses.
+abbrev pub MayAccess : Limits → PlanData → State → Shape → Type 0
+MayAccess b plan s (Load dst base offset size signed after) =
+    (are_aligned (address_of b plan (Load dst base offset size signed after) s) size ≡ true) ⊎ (plan.aln ≡ true)
+MayAccess b plan s (Store src base offset size after) =
+    (are_aligned (address_of b plan (Store src base offset size after) s) size ≡ true) ⊎ (plan.aln ≡ true)
+MayAccess b plan s _ = Unit {0}
+
+-- rule 12: the plan states the trap of system calls
+abbrev pub MayCallSystem : PlanData → Shape → Type 0
+MayCallSystem plan (Syscall tin) = plan.sys ≡ true
+MayCallSystem plan _ = Unit {0}
+
+-- The own part of rule r at an instruction of this shape. Rule 8: a lower context is saved only if
+-- there is room for a local, and restored only if there is one. Rule 13: the instruction isn't
+-- MTCR, and writes none of A0, A1, A8, A9 and A11.
+pub record LocalRule (b : Limits) (plan : PlanData) (key : Key) (p : ℕ) (s : State) (shape : Shape) (r : ℕ) : Type 0 where
+  pub targets : r ≡ 5 → KnowsTargets plan s p shape
+  pub returns : r ≡ 6 → MayReturn key s shape
+  pub exceptions : r ≡ 7 → MayReturnFromException key s shape
+  pub room : r ≡ 8 → HasRoom b shape s
+  pub stores : r ≡ 9 → StoresInRange b plan s shape
+  pub accesses : r ≡ 10 → MayAccess b plan s shape
+  pub system : r ≡ 12 → MayCallSystem plan shape
+  pub writes : r ≡ 13 → WritesNoFixedRegister shape
+
+-- The own part of rule r holds at the point p of a node with this key and state. Rule 3: there is
+-- an instruction.
+pub record LocalHolds (b : Limits) (image : ImageData) (plan : PlanData) (key : Key) (p : ℕ) (s : State) (r : ℕ) : Type 0 where
+  pub code : r ≡ 3 → HasCode image plan p
+  pub own : (shape : Shape) (n : ℕ) → IsCode image plan p shape n → LocalRule b plan key p s shape r

@@ -1,5 +1,0 @@
-use Rattle.csa_chain.proofs.Laws.{save_moves, restore_moves, store_misses, store_leaves}
-use Rattle.csa_chain.proofs.chain_laws.Goals as goal
-
-pub returns : goal.returns
-returns c = record { save = save_moves; restore = restore_moves; misses = store_misses; store = store_leaves }

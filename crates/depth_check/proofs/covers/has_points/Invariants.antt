@@ -1,6 +1,0 @@
-use Rattle.std.proofs.Common.{take}
-use Rattle.depth_check.specs.Finding.{HasPoints}
-use Rattle.depth_check.proofs.covers.has_points.Given as goal
-
-abbrev pub invariant-loop-t : goal.invariant-loop-t
-invariant-loop-t l = HasPoints l.at.node.now l.at.point.state.now (take l.t-index l.targets)

@@ -1,0 +1,33 @@
+use Rattle.std.proofs.Common.{sym, ap, ◌∙◌, subst}
+use Rattle.value_domain.specs.declared.states.State.{State}
+use Rattle.value_domain.specs.State.{AreWell}
+use Rattle.vd_transfer.specs.Changes.{state_after}
+use Rattle.cfg_recover.specs.Accepting.{HasPoint}
+use Rattle.cfg_recover.proofs.OperationLaws.{same_word}
+use Rattle.depth_check.proofs.Deciding.{yes}
+use Rattle.depth_check.proofs.RepeatLaws.{known_covers}
+use Rattle.depth_check.proofs.RuleLaws.{values_well}
+use Rattle.depth_check.proofs.node_covers.has_kept_next.Goals as goal
+
+pub returns-then-eq : goal.returns-then-eq
+returns-then-eq c =
+    let t = c.args.at.now in
+    yes _ (known_covers t.node.now t.point.next c.args.addr t.point.state.now (same_word t.point.next c.args.addr c.eq.result c.eq.ensures c.if-eq.true) c.requires.next)
+
+pub covers_next-requires-clause-hand : goal.covers_next-requires-clause-hand
+covers_next-requires-clause-hand c =
+    let ahead = rw c.in-Some.is at c.requires.walk in
+    subst (λ (s : State). AreWell s.regs) (sym ahead.current) (values_well c.args.at.now.bounds.now _ c.requires.values)
+
+pub covers_next-requires-clause-changed : goal.covers_next-requires-clause-changed
+covers_next-requires-clause-changed c =
+    let ahead = rw c.in-Some.is at c.requires.walk in
+    let kept = ap (λ (s : State). state_after s c.keep.new.self) ahead.current ∙ c.keep.ensures.same in
+    subst (λ (s : State). AreWell s.regs) (sym kept) (values_well c.args.at.now.bounds.now _ c.requires.values)
+
+pub returns-then-covers_next : goal.returns-then-covers_next
+returns-then-covers_next c =
+    let t = c.args.at.now in
+    let ahead = rw c.in-Some.is at c.requires.walk in
+    let kept = ap (λ (s : State). state_after s c.keep.new.self) ahead.current ∙ c.keep.ensures.same in
+    yes _ (subst (λ (s : State). HasPoint t.node.now c.args.addr s) kept (ahead.ahead c.args.addr _ (c.covers_next.ensures c.if-covers_next.true)))

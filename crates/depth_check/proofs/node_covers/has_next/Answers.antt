@@ -1,0 +1,30 @@
+use Rattle.std.proofs.Common.{List, subst, sym}
+use Rattle.std.specs.Prelude.{IsTrue, IsSomeAnd, ◌↔◌}
+use Rattle.value_domain.specs.declared.states.State.{State}
+use Rattle.value_domain.specs.State.{AreWell, Covers}
+use Rattle.depth_cert.specs.declared.points.Point.{Point}
+use Rattle.depth_cert.specs.Points.{find_point}
+use Rattle.cfg_recover.proofs.OperationLaws.{same_word}
+use Rattle.depth_check.proofs.Deciding.{yes}
+use Rattle.depth_check.proofs.RepeatLaws.{known_covers}
+use Rattle.depth_check.proofs.RuleLaws.{values_well}
+use Rattle.depth_check.proofs.node_covers.has_next.Goals as goal
+
+pub returns-then-eq : goal.returns-then-eq
+returns-then-eq c =
+    let t = c.args.at.now in
+    yes _ (known_covers t.node.now t.point.next c.args.addr t.point.state.now (same_word t.point.next c.args.addr c.eq.result c.eq.ensures c.if-eq.true) c.requires.next)
+
+pub covers_at-requires : goal.covers_at-requires
+covers_at-requires c =
+    let ahead = rw c.in-Some.is at c.requires.walk in
+    subst (λ (s : State). AreWell s.regs) (sym ahead.current) (values_well c.args.at.now.bounds.now _ c.requires.values)
+
+pub returns-in-Some : goal.returns-in-Some
+returns-in-Some c =
+    let ahead = rw c.in-Some.is at c.requires.walk in
+    subst (λ (s : State). IsTrue c.covers_at.result ↔ IsSomeAnd (find_point c.args.addr c.args.at.now.node.now.points) (λ p. Covers p.state s)) ahead.current
+    (subst (λ (ps : List Point). IsTrue c.covers_at.result ↔ IsSomeAnd (find_point c.args.addr ps) (λ p. Covers p.state c.in-Some.walk.now.current)) ahead.points c.covers_at.ensures)
+
+pub has_point-requires-clause-state : goal.has_point-requires-clause-state
+has_point-requires-clause-state c = values_well c.args.at.now.bounds.now _ c.requires.values

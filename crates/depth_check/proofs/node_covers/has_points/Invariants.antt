@@ -1,0 +1,6 @@
+use Rattle.std.proofs.Common.{take}
+use Rattle.depth_check.specs.DutyTests.{HasPoints}
+use Rattle.depth_check.proofs.node_covers.has_points.Given as goal
+
+abbrev pub invariant-loop-t : goal.invariant-loop-t
+invariant-loop-t l = HasPoints l.at.node.now l.at.point.state.now (take l.t-index l.targets)

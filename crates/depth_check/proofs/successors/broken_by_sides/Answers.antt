@@ -1,7 +1,0 @@
-use Rattle.depth_check.proofs.DutyLaws.{duties_append}
-use Rattle.depth_check.proofs.successors.broken_by_sides.Goals as goal
-
-pub returns : goal.returns
-returns c =
-    rw c.least.ensures
-    (duties_append c.args.at.now.cert.now c.args.at.now.node.now c.args.at.now.point.state.now _ _ c.broken_by_side-straight.result c.broken_by_side-taken.result c.broken_by_side-straight.ensures c.broken_by_side-taken.ensures)

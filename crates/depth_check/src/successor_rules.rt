@@ -1,0 +1,254 @@
+// Rule 4 for the successors of a point in its frame.
+ghost use Rattle.std.specs.Prelude.{◌≡◌, ◌+◌, [], ◌∷◌, unwrap_or, ◌<◌, ◌++◌, false, true};
+ghost use Rattle.value_domain.specs.State.{AreValues};
+ghost use Rattle.vd_transfer.specs.Changes.{state_after};
+ghost use Rattle.depth_check.specs.Points.{IsPointCheck, Breaks};
+ghost use Rattle.tc_isa.specs.Bounded.{IsShape, IsTarget};
+ghost use Rattle.vd_transfer.specs.EffectsOnStates.{transfer_of};
+ghost use Rattle.cfg_recover.specs.Changes.{StandsFaultless};
+ghost use Rattle.cfg_recover.specs.LocalRules.{targets_of, named_by};
+ghost use Rattle.cfg_recover.specs.Duties.{owed, jump, jumps_to, jump_on, loaded_at, next_of, successors_of};
+ghost use Rattle.cfg_recover.specs.SetOperations.{HoldsResults};
+ghost use Rattle.depth_check.specs.CheckedRegisters.{RegistersHoldAt, JumpsHoldAt};
+ghost use Rattle.vd_transfer.specs.Registers.{reg_of};
+ghost use Rattle.vd_transfer.specs.Branches.{refine_of};
+
+use crate::entry_rules::least;
+use crate::fast_paths::{keeps_state, only_narrows};
+use crate::node_covers::{has_changed_next, has_kept_next, has_next, has_points};
+use crate::points::{PointCheck, PointScratch};
+use crate::rules::NO_POINT;
+use cfg_recover::{Located, step_change, targets, unless};
+use tc_isa::{Shape, Target};
+use vd_transfer::{Change, change_on};
+
+/// The least rule that the successors in the frame break. What follows a call or a system call is
+/// none of them.
+pub(crate) fn broken_by_successors(
+    at: &PointCheck<'_, '_>,
+    found: &Located,
+    scratch: &mut PointScratch,
+) -> Option<u8>
+    requires point { IsPointCheck at.now }
+    requires found { StandsFaultless at.now.bounds.now at.now.image.now at.now.plan.now
+        at.now.node.now.key at.now.point.addr at.now.point.state.now found.now }
+    requires results { HoldsResults at.now.bounds.now scratch.old.cache }
+    requires registers { RegistersHoldAt at.now scratch.old.registers }
+    ensures found { Breaks at.now
+        (successors_of at.now.bounds.now at.now.image.now at.now.plan.now at.now.point.addr
+        at.now.point.state.now found.now.shape found.now.size) result }
+    ensures results { HoldsResults at.now.bounds.now scratch.new.cache }
+    ensures registers { RegistersHoldAt at.now scratch.new.registers }
+{
+    let addr = at.point.addr;
+    let next = addr.wrapping_add(found.size);
+    match found.shape {
+        Shape::Branch { by, .. } => broken_by_sides(
+            at,
+            found.shape,
+            next,
+            addr.wrapping_add(by),
+            &mut scratch.change,
+        ),
+        Shape::Jump { to } => broken_by_jump(at, to, &mut scratch.registers.jumped),
+        Shape::Call { .. } | Shape::Ret | Shape::Rfe | Shape::Syscall { .. } | Shape::Mtcr { .. } =>
+            None,
+        _ => broken_by_next(at, found, scratch),
+    }
+}
+
+/// The least rule that a step breaks which changes nothing.
+pub(crate) fn broken_by_pass(at: &PointCheck<'_, '_>, next: u32) -> Option<u8>
+    requires { IsPointCheck at.now }
+    ensures { Breaks at.now (owed 4 (jump next at.now.point.state.now) ∷ []) result }
+{
+    unless(has_next(at, next), NO_POINT)
+}
+
+/// The least rule that both sides of a branch break.
+#[inline(never)]
+fn broken_by_sides(
+    at: &PointCheck<'_, '_>,
+    shape: Shape,
+    next: u32,
+    to: u32,
+    c: &mut Change,
+) -> Option<u8>
+    requires point { IsPointCheck at.now }
+    requires shape { IsShape shape }
+    ensures { Breaks at.now
+        (jump_on next
+        (refine_of at.now.bounds.now at.now.plan.now shape at.now.point.state.now false)
+        ++ jump_on to
+        (refine_of at.now.bounds.now at.now.plan.now shape at.now.point.state.now true)) result }
+{
+    let straight = broken_by_side(at, shape, false, next, c);
+    let taken = broken_by_side(at, shape, true, to, c);
+    least(straight, taken)
+}
+
+/// The least rule that a side of a branch breaks, if the side is possible. If the side allows no
+/// more than the state before it, a point that covers that state suffices.
+fn broken_by_side(
+    at: &PointCheck<'_, '_>,
+    shape: Shape,
+    taken: bool,
+    to: u32,
+    c: &mut Change,
+) -> Option<u8>
+    requires point { IsPointCheck at.now }
+    requires shape { IsShape shape }
+    ensures { Breaks at.now
+        (jump_on to
+        (refine_of at.now.bounds.now at.now.plan.now shape at.now.point.state.now taken)) result }
+{
+    if only_narrows(shape) {
+        if has_kept_next(at, to, c) {
+            return None;
+        }
+    }
+    broken_by_change(at, shape, taken, to, c)
+}
+
+/// The least rule that a side of a branch breaks, if the side is possible. The changed state is
+/// compared.
+#[inline(never)]
+fn broken_by_change(
+    at: &PointCheck<'_, '_>,
+    shape: Shape,
+    taken: bool,
+    to: u32,
+    c: &mut Change,
+) -> Option<u8>
+    requires point { IsPointCheck at.now }
+    requires shape { IsShape shape }
+    ensures { Breaks at.now
+        (jump_on to
+        (refine_of at.now.bounds.now at.now.plan.now shape at.now.point.state.now taken)) result }
+{
+    if !change_on(at.bounds, at.plan, shape, at.point.state, taken, c) {
+        return None;
+    }
+    unless(has_changed_next(at, to, c), NO_POINT)
+}
+
+/// The least rule that a jump breaks. A list of targets is made only for a register.
+fn broken_by_jump(at: &PointCheck<'_, '_>, to: Target, jumped: &mut Option<u8>) -> Option<u8>
+    requires point { IsPointCheck at.now }
+    requires target { IsTarget to }
+    requires jumped { JumpsHoldAt at.now jumped.old }
+    ensures found { Breaks at.now
+        (jumps_to at.now.point.state.now
+        (unwrap_or (targets_of at.now.plan.now at.now.point.state.now at.now.point.addr to) []))
+        result }
+    ensures jumped { JumpsHoldAt at.now jumped.new }
+{
+    match to {
+        Target::Rel(by) => broken_by_pass(at, at.point.addr.wrapping_add(by)),
+        Target::Abs(x) => broken_by_pass(at, x),
+        Target::Reg(r) => broken_by_listed_jumps(at, r, jumped),
+    }
+}
+
+/// The least rule that a jump to the targets of a register breaks. Jumps by the register `jumped`
+/// are passed over; if jumps by another register hold, that one is kept.
+#[inline(never)]
+fn broken_by_listed_jumps(at: &PointCheck<'_, '_>, r: u8, jumped: &mut Option<u8>) -> Option<u8>
+    requires point { IsPointCheck at.now }
+    requires register { r < 32 }
+    requires jumped { JumpsHoldAt at.now jumped.old }
+    ensures found { Breaks at.now
+        (jumps_to at.now.point.state.now
+        (unwrap_or (named_by (reg_of at.now.plan.now at.now.point.state.now r)) [])) result }
+    ensures jumped { JumpsHoldAt at.now jumped.new }
+{
+    if *jumped == Some(r) {
+        return None;
+    }
+    let s = at.point.state;
+    let targets = targets(at.plan, s, at.point.addr, Target::Reg(r));
+    if has_points(at, targets.as_slice()) {
+        *jumped = Some(r);
+        None
+    } else {
+        Some(NO_POINT)
+    }
+}
+
+/// The least rule that an instruction breaks whose only successor is the next one.
+fn broken_by_next(
+    at: &PointCheck<'_, '_>,
+    found: &Located,
+    scratch: &mut PointScratch,
+) -> Option<u8>
+    requires point { IsPointCheck at.now }
+    requires found { StandsFaultless at.now.bounds.now at.now.image.now at.now.plan.now
+        at.now.node.now.key at.now.point.addr at.now.point.state.now found.now }
+    requires results { HoldsResults at.now.bounds.now scratch.old.cache }
+    ensures found { Breaks at.now
+        (next_of at.now.bounds.now at.now.image.now at.now.plan.now at.now.point.addr
+        at.now.point.state.now found.now.shape found.now.size) result }
+    ensures results { HoldsResults at.now.bounds.now scratch.new.cache }
+    ensures registers { scratch.new.registers ≡ scratch.old.registers }
+{
+    if keeps_state(found.shape) {
+        return broken_by_pass(at, at.point.addr.wrapping_add(found.size));
+    }
+    broken_by_step(at, found, scratch)
+}
+
+/// The least rule that the step to the next instruction breaks.
+#[inline(never)]
+fn broken_by_step(
+    at: &PointCheck<'_, '_>,
+    found: &Located,
+    scratch: &mut PointScratch,
+) -> Option<u8>
+    requires point { IsPointCheck at.now }
+    requires found { StandsFaultless at.now.bounds.now at.now.image.now at.now.plan.now
+        at.now.node.now.key at.now.point.addr at.now.point.state.now found.now }
+    requires results { HoldsResults at.now.bounds.now scratch.old.cache }
+    ensures found { Breaks at.now
+        (next_of at.now.bounds.now at.now.image.now at.now.plan.now at.now.point.addr
+        at.now.point.state.now found.now.shape found.now.size) result }
+    ensures results { HoldsResults at.now.bounds.now scratch.new.cache }
+    ensures registers { scratch.new.registers ≡ scratch.old.registers }
+{
+    change_at(at, found, scratch);
+    let next = at.point.addr.wrapping_add(found.size);
+    unless(has_changed_next(at, next, &scratch.change), NO_POINT)
+}
+
+/// Writes what the instruction changes into the change of `scratch`. The result of an operation on
+/// two sets may be in its cache.
+#[inline(always)]
+fn change_at(at: &PointCheck<'_, '_>, found: &Located, scratch: &mut PointScratch)
+    requires point { IsPointCheck at.now }
+    requires found { StandsFaultless at.now.bounds.now at.now.image.now at.now.plan.now
+        at.now.node.now.key at.now.point.addr at.now.point.state.now found.now }
+    requires results { HoldsResults at.now.bounds.now scratch.old.cache }
+    ensures change { state_after at.now.point.state.now scratch.new.change
+        ≡ transfer_of at.now.bounds.now at.now.plan.now found.now.shape at.now.point.state.now
+        (loaded_at at.now.bounds.now at.now.image.now at.now.plan.now at.now.point.state.now
+        found.now.shape) }
+    ensures values { AreValues at.now.bounds.now
+        (state_after at.now.point.state.now scratch.new.change).regs }
+    ensures results { HoldsResults at.now.bounds.now scratch.new.cache }
+    ensures registers { scratch.new.registers ≡ scratch.old.registers }
+{
+    let s = at.point.state;
+    if scratch
+        .cache
+        .change(at.bounds, at.plan, found.shape, s, &mut scratch.change)
+    {
+        return;
+    }
+    step_change(
+        at.bounds,
+        at.image,
+        at.plan,
+        found.shape,
+        s,
+        &mut scratch.change,
+    );
+}

@@ -1,0 +1,13 @@
+use Rattle.std.proofs.Common.{◌≡◌, ◌<◌, ◌≤◌, ◌+◌, ◌⊎◌, length}
+use Rattle.cfg_recover.specs.SetOperations.{HoldsResults}
+use Rattle.frame_places.specs.Work.{all_work}
+use Rattle.depth_maker.specs.Levels.{level}
+use Rattle.depth_maker.specs.Table.{FineOn}
+use Rattle.depth_maker.specs.Visits.{NoneOpen}
+use Rattle.depth_maker.proofs.fixpoint.turn.Given as goal
+
+abbrev pub invariant-loop-done : goal.invariant-loop-done
+invariant-loop-done l =
+    FineOn l.ground l.table × NoneOpen l.table
+    × ((level l.initial.table < level l.table) ⊎ ((level l.table ≡ level l.initial.table) × (length (all_work l.table.work) + l._done ≤ l._done-end)))
+    × HoldsResults l.ground.bounds.now l.cache

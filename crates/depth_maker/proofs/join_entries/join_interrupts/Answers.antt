@@ -1,0 +1,32 @@
+use Rattle.std.proofs.Common.{sym, subst, ◌∙◌, List}
+use Rattle.std.proofs.lemmas.Bool.{eqb-true}
+use Rattle.cfg_recover.specs.Duties.{Owed}
+use Rattle.depth_maker.specs.VisitDuties.{JoinedBy}
+use Rattle.depth_maker.proofs.DutyParts.{interrupts_none, interrupts_off}
+use Rattle.depth_maker.proofs.InterruptLaws.{taken_on}
+use Rattle.depth_maker.proofs.PartLemmas.{duties_none}
+use Rattle.depth_maker.proofs.join_entries.join_interrupts.Goals as goal
+
+pub returns-then-not-v-clause-ok : goal.returns-then-not-v-clause-ok
+returns-then-not-v-clause-ok c =
+    let v = c.args.v.now in
+    subst (λ (l : List Owed). JoinedBy v c.args.table.now c.args.table.now l) (interrupts_off v.ground.now.plan.now v.key v.state.now c.if-not-v.true)
+    (duties_none _ _ _ v.key v.addr v.state.now c.args.table.now c.requires.visited.fine)
+
+pub returns-then-are_noted-clause-ok : goal.returns-then-are_noted-clause-ok
+returns-then-are_noted-clause-ok c = c.are_noted.ensures c.if-are_noted.true
+
+pub returns-then-is_empty-clause-ok : goal.returns-then-is_empty-clause-ok
+returns-then-is_empty-clause-ok c =
+    let v = c.args.v.now in
+    subst (λ (l : List Owed). JoinedBy v c.args.table.now c.args.table.now l) (interrupts_none v.ground.now.plan.now v.key v.state.now c.interrupts-irqs.result.items c.interrupts-irqs.ensures (eqb-true _ _ (sym c.is_empty.ensures ∙ c.if-is_empty.true)))
+    (duties_none _ _ _ v.key v.addr v.state.now c.args.table.now c.requires.visited.fine)
+
+pub join_handlers-requires-clause-irqs : goal.join_handlers-requires-clause-irqs
+join_handlers-requires-clause-irqs c = c.as_slice.ensures.value ∙ c.interrupts-irqs.ensures
+
+pub note_interrupts-requires-clause-on : goal.note_interrupts-requires-clause-on
+note_interrupts-requires-clause-on c = taken_on c.args.v.now.state.now.ie _ c.interrupts-irqs.result.items c.interrupts-irqs.ensures (sym c.is_empty.ensures ∙ c.if-is_empty.false)
+
+pub returns-clause-ok : goal.returns-clause-ok
+returns-clause-ok c = c.note_interrupts.ensures c.args.table.now c.in_ok-join_handlers.ensures.ok

@@ -1,0 +1,54 @@
+-- The frames that duties enter.
+use Rattle.std.specs.Prelude.{◌≡◌, ℕ, List, ◌∷◌, Some}
+use Rattle.std.specs.List.{flat_map}
+use Rattle.tcd_plan.specs.PlanData.{PlanData}
+use Rattle.tc_isa.specs.declared.shapes.Shape.{Shape}
+use Rattle.value_domain.specs.Limits.{Limits}
+use Rattle.value_domain.specs.declared.states.State.{State}
+use Rattle.depth_cert.specs.declared.keys.Key.{Key}
+use Rattle.cfg_recover.specs.Code.{IsCode}
+use Rattle.cfg_recover.specs.LocalRules.{LocalRule}
+use Rattle.elf_image.specs.Images.{ImageData}
+use Rattle.tc_isa.specs.Bounded.{IsShape}
+use Rattle.frame_places.specs.declared.places.Spot.{Spot}
+use Rattle.frame_places.specs.declared.places.Spot.TheVariants.{Point, Exit}
+use Rattle.cfg_recover.specs.Duties.{Duty, jump, enter, resume, leave, Owed, entries_of, misaligned_of}
+use Rattle.indexmap.specs.IndexMap.{IndexMap}
+use Rattle.depth_cert.specs.Known.{Known}
+use Rattle.frame_places.specs.declared.places.Marked.{Marked}
+use Rattle.frame_places.specs.declared.places.Mark.TheVariants.{Plain}
+use Rattle.frame_places.specs.Marks.{mark_for}
+
+-- the frame that a duty enters, if any
+abbrev pub entered_by : Duty → List Key
+entered_by (jump q t) = []
+entered_by (enter k t) = k ∷ []
+entered_by (resume k q) = []
+entered_by (leave x) = []
+
+-- the frames that duties enter, in their order
+abbrev pub entered_in : List Owed → List Key
+entered_in ds = flat_map (λ d. entered_by d.duty) ds
+
+-- an instruction of this shape enters no frame by itself if none of its accesses breaks rule 10;
+-- interrupts may be taken
+abbrev pub EntersNone : PlanData → Shape → Type 0
+EntersNone plan shape =
+    (b : Limits) (k : Key) (p : ℕ) (u : State) (n : ℕ) → LocalRule b plan k p u shape 10 → (entered_in (entries_of plan k p u shape n) ≡ []) × (entered_in (misaligned_of b plan k u shape) ≡ [])
+
+-- the instruction there enters no frame by itself
+pub record IsPlainAt (image : ImageData) (plan : PlanData) (p : ℕ) : Type 0 where
+  pub shape : Shape
+  pub size : ℕ
+  pub code : IsCode image plan p shape size
+  pub shaped : IsShape shape
+  pub enters : EntersNone plan shape
+
+-- the same for a place; an exit has no instruction
+abbrev pub IsPlainIn : ImageData → PlanData → Spot → Type 0
+IsPlainIn image plan (Point k p) = IsPlainAt image plan p
+IsPlainIn image plan (Exit k) = Unit {0}
+
+-- the instruction of a place that is marked as plain enters no frame by itself
+abbrev pub ArePlain : {S : Type 0} → ImageData → PlanData → IndexMap Spot (Marked Known) S → Type 0
+ArePlain image plan places = (q : Spot) → mark_for places q ≡ Some Plain → IsPlainIn image plan q

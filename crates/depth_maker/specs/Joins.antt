@@ -1,0 +1,81 @@
+-- What a join does to the maker's table.
+use Rattle.std.specs.Prelude.{◌≡◌, ℕ, Bool, true, false, Some, is_some, map, Result, Ok, Err}
+use Rattle.indexmap.specs.IndexMap.{get}
+use Rattle.elf_image.specs.Images.{ImageData}
+use Rattle.tcd_plan.specs.PlanData.{PlanData}
+use Rattle.value_domain.specs.declared.states.State.{State}
+use Rattle.value_domain.specs.Limits.{Limits}
+use Rattle.depth_cert.specs.declared.keys.Key.{Key}
+use Rattle.cfg_recover.specs.Duties.{Duty}
+use Rattle.cfg_recover.specs.Assignments.{point, CoversAt, Asks, raised}
+use Rattle.depth_cert.specs.Known.{Known, CoversKnown}
+use Rattle.depth_cert.specs.Proper.{IsProper}
+use Rattle.depth_maker.specs.ProperAssignments.{IsProperDuty}
+use Rattle.depth_maker.specs.TableView.{Settled}
+use Rattle.frame_places.specs.declared.places.Spot.{Spot}
+use Rattle.frame_places.specs.declared.refusals.Refusal.{Refusal}
+use Rattle.frame_places.specs.Spots.{spot_eq}
+use Rattle.depth_maker.specs.Spots.{spot_of, place_of}
+use Rattle.frame_places.specs.Counting.{frames_after, points_after}
+use Rattle.frame_places.specs.Marks.{is_queued, mark_for, value_for, AllListed, Puts, Reads}
+use Rattle.frame_places.specs.Numbers.{KeepsNumbers}
+use Rattle.frame_places.specs.Work.{all_work}
+use Rattle.depth_maker.specs.Counts.{AreFew}
+use Rattle.depth_maker.specs.Levels.{Rises}
+use Rattle.depth_maker.specs.declared.inputs_and_limits.Ground.{Ground}
+use Rattle.depth_maker.specs.declared.table.Table as made
+use Rattle.depth_maker.specs.Table.{AnsweredOn, IsFine, seen}
+
+-- v, which wasn't covered, was joined at y alone: y is queued now, and counted
+pub record JoinedAlone (b : Limits) (s t : made.Table) (y : Spot) (v : Known) : Type 0 where
+  pub known : Known
+  pub raises : raised b (value_for s.places y) v ≡ Some known
+  pub new : (w : Known) → value_for s.places y ≡ Some w → CoversKnown w v → ⊥
+  pub puts : Puts s.places t.places y known
+  pub listed : AllListed t.places (all_work t.work)
+  pub near : t.near ≡ s.near
+  pub readers : t.readers ≡ s.readers
+  pub interrupts : t.interrupts ≡ s.interrupts
+  pub points : t.points.items ≡ points_after (is_some (value_for s.places y)) s.points.items y
+  pub frames : t.frames.items ≡ frames_after (is_some (value_for s.places y)) s.frames.items y
+  pub few : AreFew (map place_of t.points.items) t.frames.items
+
+-- a join keeps places without new work as they are
+pub record Keeps (b : Limits) (image : ImageData) (plan : PlanData) (s t : made.Table) : Type 0 where
+  pub each :
+      (x : Spot) → is_queued (mark_for t.places x) ≡ false
+      → (mark_for t.places x ≡ mark_for s.places x) × (value_for t.places x ≡ value_for s.places x)
+  pub readers : (z x : Spot) → Reads (get spot_eq s.readers z) x → Reads (get spot_eq t.readers z) x
+  pub read :
+      (z x : Spot) → Reads (get spot_eq s.readers z) x → is_queued (mark_for t.places x) ≡ false → value_for t.places z ≡ value_for s.places z
+  pub settled :
+      (k : Key) (p : ℕ) (u : State) (d : Duty) → is_queued (mark_for t.places (spot_of (point k p))) ≡ false → IsProper b u → IsProperDuty b d
+      → Settled (seen s) k p u d → Settled (seen t) k p u d
+  pub rises : Rises s t
+  pub near : t.near ≡ s.near
+  pub numbers : KeepsNumbers s.places t.places
+
+-- v was joined at y
+pub record Joined (b : Limits) (image : ImageData) (plan : PlanData) (s t : made.Table) (y : Spot) (v : Known) : Type 0 where
+  pub fine : IsFine b image plan t
+  pub covers : CoversAt (seen t).cells (place_of y) v
+  pub keeps : Keeps b image plan s t
+
+-- v flows into y from some point
+abbrev pub AsksOn : Ground → made.Table → Spot → Known → Type 0
+AsksOn g t y v = Asks g.bounds.now g.image.now g.plan.now (seen t).cells (place_of y) v
+
+-- v was joined at y alone
+abbrev pub JoinedAloneOn : Ground → made.Table → made.Table → Spot → Known → Type 0
+JoinedAloneOn g s t y v = JoinedAlone g.bounds.now s t y v
+
+-- v was joined at y: alone if the result is true; otherwise it was covered already, or more places
+-- rose
+abbrev pub JoinsOn : Ground → made.Table → made.Table → Spot → Known → Result Bool Refusal → Type 0
+JoinsOn g s t y v (Ok true) = JoinedAloneOn g s t y v
+JoinsOn g s t y v (Ok false) = Joined g.bounds.now g.image.now g.plan.now s t y v
+JoinsOn g s t y v (Err e) = AnsweredOn g e
+
+-- v was joined at y
+abbrev pub JoinedOn : Ground → made.Table → made.Table → Spot → Known → Type 0
+JoinedOn g s t y v = Joined g.bounds.now g.image.now g.plan.now s t y v

@@ -1,0 +1,36 @@
+-- The least needs of a closed table, by the types of the code.
+use Rattle.std.specs.Prelude.{◌-◌, ◌<◌, ◌≤◌, ℕ, Option, Some, None, Result, Ok, Err, List, slice_index}
+use Rattle.std.specs.declared.vec.Vec.{Vec}
+use Rattle.std.specs.declared.alloc.Global.{Global}
+use Rattle.depth_cert.specs.declared.keys.Key.{Key}
+use Rattle.cfg_recover.specs.Entries.{start_key}
+use Rattle.cfg_recover.specs.Refusals.{AreLeastNeeds, MeetsNeeds}
+use Rattle.depth_maker.specs.Recursing.{IsRecursion}
+use Rattle.depth_maker.specs.Table.{seen}
+use Rattle.depth_maker.specs.declared.rows.Source.{Source}
+use Rattle.frame_places.specs.Numbers.{number_in}
+
+-- the need of a frame, from needs by numbers
+abbrev pub need_by : List Key → List ℕ → Key → ℕ
+need_by frames needs k = slice_index needs (number_in frames k)
+
+-- the least needs, all within the areas without the reserve; or the start's is above them in any
+-- case
+abbrev pub NeedsOn : Source → Option (Vec ℕ Global) → Type 0
+NeedsOn s (Some needs) =
+    AreLeastNeeds (s.ground.now).bounds.now (s.ground.now).image.now (s.ground.now).plan.now (seen s.table.now).cells (need_by (s.table.now).frames.items needs.items)
+    × ((k : Key) → need_by (s.table.now).frames.items needs.items k ≤ ((s.ground.now).plan.now).areas - ((s.ground.now).plan.now).reserve)
+NeedsOn s None =
+    (need : Key → ℕ) → MeetsNeeds (s.ground.now).bounds.now (s.ground.now).image.now (s.ground.now).plan.now (seen s.table.now).cells need
+    → ((s.ground.now).plan.now).areas - ((s.ground.now).plan.now).reserve < need (start_key (s.ground.now).image.now (s.ground.now).plan.now)
+
+-- the least needs; or that the start's is above the areas, and the first recursion, if any
+abbrev pub NeedsOrPlace : Source → Result (Vec ℕ Global) (Option (Key × ℕ)) → Type 0
+NeedsOrPlace s (Ok needs) = NeedsOn s (Some needs)
+NeedsOrPlace s (Err place) = NeedsOn s None × IsRecursion s place
+
+-- the least needs of the table's frames, by their numbers; none is above the areas without the
+-- reserve
+pub record NeedsAre (s : Source) (needs : List ℕ) : Type 0 where
+  pub least : AreLeastNeeds (s.ground.now).bounds.now (s.ground.now).image.now (s.ground.now).plan.now (seen s.table.now).cells (need_by (s.table.now).frames.items needs)
+  pub few : (k : Key) → need_by (s.table.now).frames.items needs k ≤ ((s.ground.now).plan.now).areas - ((s.ground.now).plan.now).reserve

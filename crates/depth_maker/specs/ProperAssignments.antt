@@ -1,0 +1,50 @@
+-- Assignments and duties at the limits and without faults.
+use Rattle.std.specs.Prelude.{◌≡◌, ℕ, Some, Contains}
+use Rattle.elf_image.specs.Images.{ImageData}
+use Rattle.tcd_plan.specs.PlanData.{PlanData}
+use Rattle.tc_isa.specs.declared.shapes.Shape.{Shape}
+use Rattle.value_domain.specs.declared.states.State.{State}
+use Rattle.value_domain.specs.Limits.{Limits}
+use Rattle.depth_cert.specs.declared.keys.Key.{Key}
+use Rattle.depth_cert.specs.declared.points.Exit.{Exit}
+use Rattle.cfg_recover.specs.Code.{IsCode}
+use Rattle.depth_cert.specs.Exits.{after_of}
+use Rattle.cfg_recover.specs.LocalFaults.{IsFaultless}
+use Rattle.cfg_recover.specs.Duties.{Owed, duties_of, Duty, jump, enter, resume, leave}
+use Rattle.cfg_recover.specs.Assignments.{Place, point, Assignment}
+use Rattle.depth_cert.specs.Known.{Known, state}
+use Rattle.depth_cert.specs.Proper.{IsProper, IsProperExit, IsProperKnown}
+use Rattle.depth_maker.specs.Growth.{IsGround}
+use Rattle.indexmap.specs.IndexMap.{IndexMap}
+use Rattle.frame_places.specs.declared.places.Spot.{Spot}
+use Rattle.frame_places.specs.declared.places.Marked.{Marked}
+use Rattle.frame_places.specs.Marks.{value_for}
+
+-- all that an assignment knows is at the limits
+abbrev pub AllProper : Limits → Assignment → Type 0
+AllProper b a = (y : Place) (v : Known) → a y ≡ Some v → IsProperKnown b v
+
+-- no point has a fault of its own
+abbrev pub AllFaultless : Limits → ImageData → PlanData → Assignment → Type 0
+AllFaultless b image plan a = (k : Key) (p : ℕ) (s : State) → a (point k p) ≡ Some (state s) → IsFaultless b image plan k p s
+
+-- a duty asks for a state or an exit at the limits
+abbrev pub IsProperDuty : Limits → Duty → Type 0
+IsProperDuty b (jump q t) = IsProper b t
+IsProperDuty b (enter k t) = IsProper b t
+IsProperDuty b (resume k q) = Unit {0}
+IsProperDuty b (leave x) = IsProperExit b x
+
+-- the duties of a point are at the limits
+abbrev pub DutiesAreProper : Type 0
+DutiesAreProper =
+    (b : Limits) (image : ImageData) (plan : PlanData) (key : Key) (p : ℕ) (s : State) (shape : Shape) (n : ℕ) (d : Owed) → IsGround b image plan
+    → IsProper b s → IsFaultless b image plan key p s → IsCode image plan p shape n → Contains (duties_of b image plan key p s shape n) d → IsProperDuty b d.duty
+
+-- the state after a return is at the limits
+abbrev pub AfterIsProper : Type 0
+AfterIsProper = (b : Limits) (s : State) (x : Exit) (kind : ℕ) → IsProper b s → IsProperExit b x → IsProper b (after_of s x kind)
+
+-- all that is known is at the limits
+abbrev pub CellsProper : {S : Type 0} → Limits → IndexMap Spot (Marked Known) S → Type 0
+CellsProper b places = (q : Spot) (v : Known) → value_for places q ≡ Some v → IsProperKnown b v

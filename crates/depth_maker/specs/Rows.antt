@@ -1,0 +1,115 @@
+-- The rows of an assignment or a table: each point's frame, its locals, and the frames that it
+-- enters.
+use Rattle.std.specs.Prelude.{◌≡◌, ◌++◌, ℕ, List, ◌∷◌, take, Option, Some, Contains, slice_get, length, map}
+use Rattle.indexmap.specs.IndexMap.{get, keys}
+use Rattle.value_domain.specs.declared.states.State.{State}
+use Rattle.depth_cert.specs.declared.keys.Key.{Key}
+use Rattle.cfg_recover.specs.declared.local.Located.{Located}
+use Rattle.cfg_recover.specs.Assignments.{point, Assignment}
+use Rattle.depth_cert.specs.Known.{Known, state}
+use Rattle.small_states.specs.Incoming.{IsOutline}
+use Rattle.small_states.specs.declared.known.Outline.{Outline}
+use Rattle.depth_maker.specs.EnteredFrames.{entered_in}
+use Rattle.depth_maker.specs.InterruptHandlers.{AreHandlers, nodes_taken}
+use Rattle.frame_places.specs.Numbers.{AreNumbers, number_in}
+use Rattle.frame_places.specs.Spots.{spot_eq}
+use Rattle.depth_maker.specs.Table.{seen, IsDone}
+use Rattle.depth_maker.specs.VisitDuties.{StandsBy, duties_by}
+use Rattle.depth_maker.specs.declared.inputs_and_limits.Ground.{Ground}
+use Rattle.depth_maker.specs.declared.inputs_and_limits.Visit.{Visit}
+use Rattle.frame_places.specs.declared.places.Spot.TheVariants.{Point}
+use Rattle.frame_places.specs.declared.places.Mark.TheVariants.{Plain}
+use Rattle.frame_places.specs.declared.places.Marked.{Marked}
+use Rattle.frame_places.specs.declared.needs.row.NeedRow.{NeedRow}
+use Rattle.depth_maker.specs.declared.rows.Draft.{Draft}
+use Rattle.depth_maker.specs.declared.rows.KnownPoint.{KnownPoint}
+use Rattle.depth_maker.specs.declared.rows.Source.{Source}
+use Rattle.depth_maker.specs.declared.table.Table as made
+use Rattle.elf_image.specs.Images.{ImageData}
+use Rattle.tcd_plan.specs.PlanData.{PlanData}
+use Rattle.value_domain.specs.Limits.{Limits}
+use Rattle.cfg_recover.specs.Changes.{StandsFaultless}
+use Rattle.cfg_recover.specs.Duties.{duties_of}
+
+-- the row of the point p of frame k with the state u; frames go by their numbers
+pub record IsRowAt (b : Limits) (image : ImageData) (plan : PlanData) (frames : List Key) (k : Key) (p : ℕ) (u : State) (row : NeedRow) : Type 0 where
+  pub found : Located
+  pub stands : StandsFaultless b image plan k p u found
+  pub node : row.node ≡ number_in frames k
+  pub held : row.held ≡ length u.locals.items
+  pub into : row.into.items ≡ map (number_in frames) (entered_in (duties_of b image plan k p u found.shape found.size))
+
+-- each row is that of a point, and each point has its row
+pub record AreRows (b : Limits) (image : ImageData) (plan : PlanData) (a : Assignment) (frames : List Key) (rows : List NeedRow) : Type 0 where
+  pub sound : (row : NeedRow) → Contains rows row → (k : Key) × (p : ℕ) × (u : State) × (a (point k p) ≡ Some (state u)) × IsRowAt b image plan frames k p u row
+  pub complete : (k : Key) (p : ℕ) (u : State) → a (point k p) ≡ Some (state u) → (row : NeedRow) × Contains rows row × IsRowAt b image plan frames k p u row
+
+-- the point's row
+abbrev pub IsRowBy : Visit → List Key → NeedRow → Type 0
+IsRowBy v frames row = IsRowAt (v.ground.now).bounds.now (v.ground.now).image.now (v.ground.now).plan.now frames v.key v.addr v.state.now row
+
+-- the point's frame and those that it enters are among these
+pub record AllKnownBy (v : Visit) (frames : List Key) : Type 0 where
+  pub own : Contains frames v.key
+  pub entered : (found : Located) → StandsBy v found → (k : Key) → Contains (entered_in (duties_by v found)) k → Contains frames k
+
+-- the rows of all points of a table
+abbrev pub RowsOn : Ground → made.Table → List NeedRow → Type 0
+RowsOn g t rows = AreRows g.bounds.now g.image.now g.plan.now (seen t).cells t.frames.items rows
+
+-- a table without work, the numbers of its frames, and its handlers
+pub record IsSource (s : Source) : Type 0 where
+  pub done : IsDone s.ground.now s.table.now
+  pub numbers : AreNumbers s.numbers.now (s.table.now).frames.items (s.table.now).frames.items
+  pub handlers : AreHandlers (s.ground.now).plan.now (s.table.now).frames.items ((s.ground.now).plan.now).irqs s.handlers.now
+
+-- the row of a known point
+abbrev pub IsPointRow : Source → Key → ℕ → NeedRow → Type 0
+IsPointRow s k p row =
+    (u : State) × ((seen s.table.now).cells (point k p) ≡ Some (state u))
+    × IsRowAt (s.ground.now).bounds.now (s.ground.now).image.now (s.ground.now).plan.now (s.table.now).frames.items k p u row
+
+-- the value and the mark of a point, and the number of its frame
+pub record IsKnownPoint (s : Source) (at : KnownPoint) : Type 0 where
+  pub known : get spot_eq (s.table.now).places (Point at.key at.addr) ≡ Some at.known.now
+  pub node : at.node ≡ number_in (s.table.now).frames.items at.key
+
+-- ---- equal rows
+-- the row of a point of this frame with this outline, whose instruction enters no frame by itself
+pub record IsPlainRow (s : Source) (number : ℕ) (o : Outline) (row : NeedRow) : Type 0 where
+  pub node : row.node ≡ number
+  pub held : row.held ≡ o.held
+  pub into : row.into.items ≡ nodes_taken o.ie o.ccpn s.handlers.now
+
+-- each outline of the list, which is that of a frame, has its row among these
+abbrev pub HaveRows : Source → List NeedRow → List (Option Outline) → Type 0
+HaveRows s rows outlines = (number : ℕ) (o : Outline) → slice_get outlines number ≡ Some (Some o) → (row : NeedRow) × Contains rows row × IsPlainRow s number o row
+
+-- a point is plain, and its outline is the list's for its frame
+pub record HasRow (outlines : List (Option Outline)) (node : ℕ) (known : Marked Known) : Type 0 where
+  pub outline : Outline
+  pub there : slice_get outlines node ≡ Some (Some outline)
+  pub is : IsOutline known.value outline
+  pub plain : known.mark ≡ Plain
+
+-- ---- one after another
+-- the rows of the first `count` entries of the table
+pub record IsDraft (s : Source) (count : ℕ) (draft : Draft) : Type 0 where
+  pub sound : (row : NeedRow) → Contains draft.rows.items row → (k : Key) × (p : ℕ) × IsPointRow s k p row
+  pub complete :
+      (k : Key) (p : ℕ) → Contains (take count (keys (s.table.now).places)) (Point k p)
+      → (row : NeedRow) × Contains draft.rows.items row × IsPointRow s k p row
+  pub outlines : HaveRows s draft.rows.items draft.outlines.items
+
+-- a row is appended
+pub record AddsRow (s : Source) (old new : Draft) (row : NeedRow) : Type 0 where
+  pub rows : new.rows.items ≡ old.rows.items ++ row ∷ []
+  pub outlines : HaveRows s old.rows.items old.outlines.items → HaveRows s new.rows.items new.outlines.items
+
+-- the row of a plain point is appended
+abbrev pub AddsPlain : Source → Draft → Draft → ℕ → Outline → Type 0
+AddsPlain s old new node o = (row : NeedRow) × IsPlainRow s node o row × AddsRow s old new row
+
+-- the row of a point is appended
+abbrev pub AddsPoint : Source → Draft → Draft → KnownPoint → Type 0
+AddsPoint s old new at = (row : NeedRow) × IsPointRow s at.key at.addr row × AddsRow s old new row

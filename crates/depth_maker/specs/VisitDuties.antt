@@ -1,0 +1,112 @@
+-- What the visited point owes, and what of it was joined.
+use Rattle.std.specs.Prelude.{◌≡◌, ℕ, Bool, false, Option, List, Contains}
+use Rattle.std.specs.List.{flat_map}
+use Rattle.elf_image.specs.Images.{ImageData}
+use Rattle.tcd_plan.specs.PlanData.{PlanData}
+use Rattle.value_domain.specs.declared.states.State.{State}
+use Rattle.value_domain.specs.Limits.{Limits}
+use Rattle.depth_cert.specs.declared.keys.Key.{Key}
+use Rattle.tc_isa.specs.declared.shapes.Shape.{Shape}
+use Rattle.vd_transfer.specs.Branches.{refine_of}
+use Rattle.vd_transfer.specs.EffectsOnStates.{transfer_of}
+use Rattle.cfg_recover.specs.declared.local.Located.{Located}
+use Rattle.cfg_recover.specs.Changes.{StandsFaultless}
+use Rattle.cfg_recover.specs.Code.{IsCode}
+use Rattle.cfg_recover.specs.Entries.{call_key, sys_key, sys_entry}
+use Rattle.cfg_recover.specs.LocalFaults.{IsFaultless}
+use Rattle.cfg_recover.specs.Duties.{Duty, Owed, duties_of, entered_and_back, entries_of, interrupts_of, loaded_at, misaligned_entry, misaligned_of, next_of, successors_of}
+use Rattle.cfg_recover.specs.Assignments.{point}
+use Rattle.depth_maker.specs.TableView.{Settled}
+use Rattle.depth_maker.specs.Spots.{spot_of}
+use Rattle.frame_places.specs.Marks.{is_queued, mark_for}
+use Rattle.depth_maker.specs.EnteredFrames.{IsPlainAt}
+use Rattle.depth_maker.specs.declared.inputs_and_limits.Visit.{Visit}
+use Rattle.depth_maker.specs.Joins.{Keeps}
+use Rattle.depth_maker.specs.declared.table.Table as made
+use Rattle.depth_maker.specs.Table.{IsFine, seen}
+
+-- these duties of the point p of frame k, which has the state u, were joined, unless the point has
+-- new work
+pub record DutiesJoined (b : Limits) (image : ImageData) (plan : PlanData) (s t : made.Table) (k : Key) (p : ℕ) (u : State) (ds : List Owed) : Type 0 where
+  pub fine : IsFine b image plan t
+  pub keeps : Keeps b image plan s t
+  pub settled : is_queued (mark_for t.places (spot_of (point k p))) ≡ false → (d : Owed) → Contains ds d → Settled (seen t) k p u d.duty
+
+-- the point owes this duty by its state u, and has no fault of its own
+pub record Owes (b : Limits) (image : ImageData) (plan : PlanData) (k : Key) (p : ℕ) (u : State) (d : Duty) : Type 0 where
+  pub faultless : IsFaultless b image plan k p u
+  pub shape : Shape
+  pub size : ℕ
+  pub code : IsCode image plan p shape size
+  pub owed : Owed
+  pub listed : Contains (duties_of b image plan k p u shape size) owed
+  pub is : owed.duty ≡ d
+
+-- the point owes this duty
+abbrev pub OwesDuty : Visit → Duty → Type 0
+OwesDuty v d = Owes (v.ground.now).bounds.now (v.ground.now).image.now (v.ground.now).plan.now v.key v.addr v.state.now d
+
+-- the point owes each of these duties
+abbrev pub OwesAll : Visit → List Owed → Type 0
+OwesAll v ds = (d : Owed) → Contains ds d → Owes (v.ground.now).bounds.now (v.ground.now).image.now (v.ground.now).plan.now v.key v.addr v.state.now d.duty
+
+-- these duties of the point were joined
+abbrev pub JoinedBy : Visit → made.Table → made.Table → List Owed → Type 0
+JoinedBy v s t ds = DutiesJoined (v.ground.now).bounds.now (v.ground.now).image.now (v.ground.now).plan.now s t v.key v.addr v.state.now ds
+
+-- the instruction at the point, where no rule's own part fails
+abbrev pub StandsBy : Visit → Located → Type 0
+StandsBy v found = StandsFaultless (v.ground.now).bounds.now (v.ground.now).image.now (v.ground.now).plan.now v.key v.addr v.state.now found
+
+-- the state on one side of a branch, if that side is possible
+abbrev pub side_by : Visit → Shape → Bool → Option State
+side_by v shape taken = refine_of (v.ground.now).bounds.now (v.ground.now).plan.now shape v.state.now taken
+
+-- the state after an instruction of this shape
+abbrev pub step_by : Visit → Shape → State
+step_by v shape =
+    transfer_of (v.ground.now).bounds.now (v.ground.now).plan.now shape v.state.now (loaded_at (v.ground.now).bounds.now (v.ground.now).image.now (v.ground.now).plan.now v.state.now shape)
+
+-- to continue at the next instruction
+abbrev pub next_by : Visit → Located → List Owed
+next_by v found = next_of (v.ground.now).bounds.now (v.ground.now).image.now (v.ground.now).plan.now v.addr v.state.now found.shape found.size
+
+-- to continue in the frame, at each successor
+abbrev pub successors_by : Visit → Located → List Owed
+successors_by v found = successors_of (v.ground.now).bounds.now (v.ground.now).image.now (v.ground.now).plan.now v.addr v.state.now found.shape found.size
+
+-- to enter each function that a call may name, and to return after it
+abbrev pub calls_by : Visit → State → ℕ → List ℕ → List Owed
+calls_by v entry back targets = flat_map (λ t. entered_and_back 5 (call_key v.key t) entry back) targets
+
+-- to enter the handler of system calls, and to return after the SYSCALL
+abbrev pub system_by : Visit → ℕ → ℕ → List Owed
+system_by v tin back = entered_and_back 12 (sys_key (v.ground.now).plan.now v.key) (sys_entry (v.ground.now).plan.now v.key v.state.now tin) back
+
+-- to enter what the instruction calls, and to return after it
+abbrev pub entries_by : Visit → Shape → ℕ → List Owed
+entries_by v shape size = entries_of (v.ground.now).plan.now v.key v.addr v.state.now shape size
+
+-- to enter the handler of misaligned accesses
+abbrev pub misaligned_by : Visit → Owed
+misaligned_by v = misaligned_entry (v.ground.now).plan.now v.key v.state.now
+
+-- the same, if an address that the instruction accesses may be misaligned
+abbrev pub access_by : Visit → Located → List Owed
+access_by v found = misaligned_of (v.ground.now).bounds.now (v.ground.now).plan.now v.key v.state.now found.shape
+
+-- to enter the handler of each interrupt that may be taken
+abbrev pub interrupts_by : Visit → List Owed
+interrupts_by v = interrupts_of (v.ground.now).plan.now v.key v.state.now
+
+-- joined entries of interrupts stay joined
+abbrev pub StayJoined : Visit → made.Table → made.Table → Type 0
+StayJoined v m t = (s : made.Table) → JoinedBy v s m (interrupts_by v) → JoinedBy v s t (interrupts_by v)
+
+-- the instruction at the point enters no frame by itself
+abbrev pub IsPlainBy : Visit → Type 0
+IsPlainBy v = IsPlainAt (v.ground.now).image.now (v.ground.now).plan.now v.addr
+
+-- all that the point owes
+abbrev pub duties_by : Visit → Located → List Owed
+duties_by v found = duties_of (v.ground.now).bounds.now (v.ground.now).image.now (v.ground.now).plan.now v.key v.addr v.state.now found.shape found.size

@@ -1,0 +1,203 @@
+// The worklist algorithm: visits all points with work.
+ghost use Rattle.std.specs.Prelude.{◌≡◌, IsTrue, OnOk, IfOk, IfErr, None};
+ghost use Rattle.indexmap.specs.IndexMap.{get};
+ghost use Rattle.frame_places.specs.declared.places.Spot as spots;
+ghost use Rattle.frame_places.specs.Numbers.{StandsAt};
+ghost use Rattle.frame_places.specs.Spots.{spot_eq};
+ghost use Rattle.cfg_recover.specs.SetOperations.{HoldsResults};
+ghost use Rattle.depth_maker.specs.EnteredFrames.{IsPlainIn};
+ghost use Rattle.depth_maker.specs.Table.{AnsweredOn, FineOn, IsDone};
+ghost use Rattle.depth_maker.specs.Visits.{EndsOn, IsOpen, NoneOpen, PointJoinedOn, StepsOn, TurnsOn};
+
+use crate::inputs_and_limits::{Ground, Visit};
+use crate::interrupt_contexts::LastInterrupts;
+use crate::table::Table;
+use crate::visit::visit_point;
+use cfg_recover::{KnownCodes, OperationCache, start_key, start_state};
+use elf_image::Image;
+use frame_places::{Refusal, Spot, Work, add, begin_visit, end_visit, has_work};
+use indexmap::IndexMap;
+use small_states::{Incoming, ScratchState, SmallKnown};
+use std::alloc::Global;
+use vd_transfer::{Change, unchanged};
+
+/// Room that visits write over: the state of the point, and the known words of code.
+#[derive(Drop)]
+struct VisitScratch {
+    state: ScratchState,
+    codes: KnownCodes,
+}
+
+/// Returns the number of places to make room for at first: the number of 2-byte instructions in the
+/// first segment, at most 8,192.
+fn first_room(image: &Image) -> usize {
+    match image.segments.first() {
+        Some(segment) => (segment.bytes.len() / 2).min(8192),
+        None => 0,
+    }
+}
+
+/// Returns a map without readers.
+fn no_readers(alloc: Global) -> IndexMap<Spot, Vec<Spot>>
+    ensures { (z : spots.Spot) → get spot_eq result z ≡ None }
+{
+    IndexMap::new(alloc)
+}
+
+/// Returns the table with only the start.
+#[inline(never)]
+fn begin(alloc: Global, ground: &Ground) -> Result<Table, Refusal>
+    ensures ok { IfOk result (λ t. FineOn ground.now t × NoneOpen t) }
+    ensures err { IfErr result (AnsweredOn ground.now) }
+{
+    let key = start_key(ground.image, ground.plan);
+    let place = Spot::Point(key, key.entry);
+    let start = start_state(ground.plan);
+    let same = unchanged(&start);
+    let incoming = Incoming::Changed(&start, &same);
+    let cell = SmallKnown::new(alloc, ground.bounds, &incoming)?;
+    let mut places = IndexMap::with_capacity(alloc, first_room(ground.image))?;
+    let mut work = Work::new(alloc);
+    let mut points = Vec::new(alloc);
+    let mut frames = Vec::new(alloc);
+    points.push(place)?;
+    frames.push(key)?;
+    add(&mut places, &mut work, place, cell)?;
+    Ok(Table {
+        places,
+        readers: no_readers(alloc),
+        work,
+        points,
+        frames,
+        interrupts: LastInterrupts {
+            last: None,
+            before: None,
+        },
+        near: 0,
+    })
+}
+
+/// Joins what the visited place owes, and returns true only if its instruction enters no frame by
+/// itself. An exit owes nothing. The state of a point is written over `scratch`, its changes over
+/// `change`, and results of operations on two sets are in `cache`.
+fn visit_place(
+    alloc: Global,
+    ground: &Ground,
+    table: &mut Table,
+    scratch: &mut VisitScratch,
+    change: &mut Change,
+    cache: &mut OperationCache,
+) -> Result<bool, Refusal>
+    requires fine { FineOn ground.now table.old }
+    requires results { HoldsResults ground.now.bounds.now cache.old }
+    ensures ok { (x : spots.Spot) → StandsAt table.old.places table.old.near x
+        → OnOk result (PointJoinedOn ground.now table.old table.new x) }
+    ensures plain { (x : spots.Spot) → StandsAt table.old.places table.old.near x
+        → IfOk result (λ plain. IsTrue plain
+        → IsPlainIn ground.now.image.now ground.now.plan.now x) }
+    ensures err { IfErr result (AnsweredOn ground.now) }
+    ensures results { HoldsResults ground.now.bounds.now cache.new }
+{
+    let Some((at, place)) = table.places.get_index(table.near) else {
+        return Ok(false);
+    };
+    let Spot::Point(key, addr) = *at else {
+        return Ok(false);
+    };
+    place.value.read_state(ground.bounds, &mut scratch.state);
+    let v = Visit {
+        ground,
+        key,
+        addr,
+        state: scratch.state.state(),
+    };
+    visit_point(alloc, table, &v, change, &mut scratch.codes, cache)
+}
+
+/// Visits the place that was taken off the list.
+fn visit(
+    alloc: Global,
+    ground: &Ground,
+    table: &mut Table,
+    scratch: &mut VisitScratch,
+    change: &mut Change,
+    cache: &mut OperationCache,
+) -> Result<(), Refusal>
+    requires fine { FineOn ground.now table.old }
+    requires opened { IsOpen table.old }
+    requires results { HoldsResults ground.now.bounds.now cache.old }
+    ensures ok { OnOk result (EndsOn ground.now table.old table.new) }
+    ensures err { IfErr result (AnsweredOn ground.now) }
+    ensures results { HoldsResults ground.now.bounds.now cache.new }
+{
+    let plain = visit_place(alloc, ground, table, scratch, change, cache)?;
+    end_visit(&mut table.places, table.near, plain);
+    Ok(())
+}
+
+/// Takes the next place off the list, and visits it if it still has work. Returns false if the list
+/// is empty.
+fn step(
+    alloc: Global,
+    ground: &Ground,
+    table: &mut Table,
+    scratch: &mut VisitScratch,
+    change: &mut Change,
+    cache: &mut OperationCache,
+) -> Result<bool, Refusal>
+    requires fine { FineOn ground.now table.old }
+    requires none { NoneOpen table.old }
+    requires results { HoldsResults ground.now.bounds.now cache.old }
+    ensures steps { StepsOn ground.now table.old table.new result }
+    ensures results { HoldsResults ground.now.bounds.now cache.new }
+{
+    let Some(number) = table.work.pop() else {
+        return Ok(false);
+    };
+    if !has_work(&table.places, number) {
+        return Ok(true);
+    }
+    table.near = number;
+    begin_visit(&mut table.places, number);
+    visit(alloc, ground, table, scratch, change, cache)?;
+    Ok(true)
+}
+
+/// Takes up to as many places off the list as it has now, and 1,024 more, and visits those with
+/// work. Returns whether some are left.
+#[inline(never)]
+fn turn(
+    alloc: Global,
+    ground: &Ground,
+    table: &mut Table,
+    scratch: &mut VisitScratch,
+) -> Result<bool, Refusal>
+    requires fine { FineOn ground.now table.old }
+    requires none { NoneOpen table.old }
+    ensures { TurnsOn ground.now table.old table.new result }
+{
+    let mut change = unchanged(scratch.state.state());
+    let mut cache = OperationCache::empty();
+    for _done in 0..table.work.len() + 1024 {
+        if !step(alloc, ground, table, scratch, &mut change, &mut cache)? {
+            return Ok(false);
+        }
+    }
+    Ok(!table.work.is_empty())
+}
+
+/// Returns the least closed assignment, or a fault of a derived one.
+// It is a function of its own, so that its stack room is free before the rows are made.
+#[inline(never)]
+pub(crate) fn close(alloc: Global, ground: &Ground) -> Result<Table, Refusal>
+    ensures ok { IfOk result (IsDone ground.now) }
+    ensures err { IfErr result (AnsweredOn ground.now) }
+{
+    let mut table = begin(alloc, ground)?;
+    let mut scratch = VisitScratch {
+        state: ScratchState::new(start_state(ground.plan)),
+        codes: KnownCodes::new(),
+    };
+    while turn(alloc, ground, &mut table, &mut scratch)? {}
+    Ok(table)
+}

@@ -1,0 +1,171 @@
+// Joins what flows from the visited point into a place.
+ghost use Rattle.std.specs.Prelude.{◌≡◌, IfErr, None, OnOk, Some};
+ghost use Rattle.indexmap.specs.IndexMap.{get};
+ghost use Rattle.cfg_recover.specs.Assignments.{point};
+ghost use Rattle.depth_cert.specs.Known.{state};
+ghost use Rattle.small_states.specs.Incoming.{incoming_known, sender_state};
+ghost use Rattle.frame_places.specs.declared.places.Spot.TheVariants.{Point};
+ghost use Rattle.frame_places.specs.Marks.{AllListed, AreKnown, Reads, Requeues};
+ghost use Rattle.frame_places.specs.Work.{all_work};
+ghost use Rattle.frame_places.specs.Numbers.{StandsAt};
+ghost use Rattle.frame_places.specs.Spots.{spot_eq};
+ghost use Rattle.depth_maker.specs.Table.{seen, AnsweredOn, AreExitsRead, FineOn};
+ghost use Rattle.depth_maker.specs.Joins.{AsksOn, JoinedOn, JoinsOn};
+
+use crate::inputs_and_limits::Visit;
+use crate::table::Table;
+use frame_places::{
+    LOCALS_RULE, Marked, Refusal, Spot, Work, add_or_find, count, put, requeue_readers_of,
+};
+use indexmap::IndexMap;
+use small_states::{Incoming, SmallKnown, priority};
+use std::alloc::{AllocError, Global};
+
+/// Joins what flows into `y`, which has this number, and queues `y`, unless it is covered. Returns
+/// whether it wasn't. The entry point of a frame waits for the next round if it was visited.
+fn join_known(
+    alloc: Global,
+    table: &mut Table,
+    v: &Visit,
+    number: usize,
+    y: &Spot,
+    incoming: &Incoming,
+) -> Result<bool, Refusal>
+    requires fine { FineOn v.now.ground.now table.old }
+    requires there { StandsAt table.old.places number y.now }
+    requires near { StandsAt table.old.places table.old.near (Point v.now.key v.now.addr) }
+    requires at { (seen table.old).cells (point v.now.key v.now.addr)
+        ≡ Some (state v.now.state.now) }
+    requires own { sender_state incoming.now ≡ v.now.state.now }
+    requires incoming { AsksOn v.now.ground.now table.old y.now (incoming_known incoming.now) }
+    ensures { JoinsOn v.now.ground.now table.old table.new y.now
+        (incoming_known incoming.now) result }
+{
+    let Some((_, place)) = table.places.get_index(number) else {
+        unreachable!();
+    };
+    let Some((_, own)) = table.places.get_index(table.near) else {
+        unreachable!();
+    };
+    let b = v.ground.bounds;
+    if place.value.covers(b, incoming) {
+        return Ok(false);
+    }
+    let Some(cell) = place.value.join_from(alloc, b, &own.value, incoming)? else {
+        return Err(Refusal::Fault(LOCALS_RULE, *y));
+    };
+    put(
+        &mut table.places,
+        &mut table.work,
+        number,
+        cell,
+        y.is_entry(),
+    )?;
+    Ok(true)
+}
+
+/// Adds the place `y` with what flows in, and counts it. If `y` is known, joins what flows in,
+/// unless it is covered. Returns whether it wasn't.
+fn join_new(
+    alloc: Global,
+    table: &mut Table,
+    v: &Visit,
+    y: &Spot,
+    incoming: &Incoming,
+) -> Result<bool, Refusal>
+    requires fine { FineOn v.now.ground.now table.old }
+    requires near { StandsAt table.old.places table.old.near (Point v.now.key v.now.addr) }
+    requires at { (seen table.old).cells (point v.now.key v.now.addr)
+        ≡ Some (state v.now.state.now) }
+    requires own { sender_state incoming.now ≡ v.now.state.now }
+    requires incoming { AsksOn v.now.ground.now table.old y.now (incoming_known incoming.now) }
+    ensures { JoinsOn v.now.ground.now table.old table.new y.now
+        (incoming_known incoming.now) result }
+{
+    let Some((_, own)) = table.places.get_index(table.near) else {
+        unreachable!();
+    };
+    let value = own.value.apply(alloc, incoming)?;
+    match add_or_find(&mut table.places, &mut table.work, *y, value)? {
+        None => {
+            count(false, &mut table.points, &mut table.frames, *y)?;
+            Ok(true)
+        }
+        Some(number) => join_known(alloc, table, v, number, y, incoming),
+    }
+}
+
+/// Joins what flows into `y` alone, unless it is covered. Returns whether it wasn't. After the last
+/// place that was found mostly nothing is known, so `y` is looked up as it is added.
+fn join_alone(
+    alloc: Global,
+    table: &mut Table,
+    v: &Visit,
+    y: &Spot,
+    incoming: &Incoming,
+) -> Result<bool, Refusal>
+    requires fine { FineOn v.now.ground.now table.old }
+    requires near { StandsAt table.old.places table.old.near (Point v.now.key v.now.addr) }
+    requires at { (seen table.old).cells (point v.now.key v.now.addr)
+        ≡ Some (state v.now.state.now) }
+    requires own { sender_state incoming.now ≡ v.now.state.now }
+    requires incoming { AsksOn v.now.ground.now table.old y.now (incoming_known incoming.now) }
+    ensures { JoinsOn v.now.ground.now table.old table.new y.now
+        (incoming_known incoming.now) result }
+{
+    if table.near < table.places.len().saturating_sub(1) {
+        if let Some(number) = table.places.get_index_of(y) {
+            return join_known(alloc, table, v, number, y, incoming);
+        }
+    }
+    join_new(alloc, table, v, y, incoming)
+}
+
+/// Queues all readers of `y`. They wait for the next round, or are next. A point has no readers.
+fn requeue_readers(
+    places: &mut IndexMap<Spot, Marked<SmallKnown>>,
+    work: &mut Work,
+    readers: &IndexMap<Spot, Vec<Spot>>,
+    y: &Spot,
+    waits: bool,
+) -> Result<(), AllocError>
+    requires listed { AllListed places.old (all_work work.old) }
+    requires exits { AreExitsRead readers.now }
+    requires known { AreKnown places.old (Reads (get spot_eq readers.now y.now)) }
+    ensures marks { OnOk result
+        (Requeues places.old places.new (Reads (get spot_eq readers.now y.now))) }
+    ensures work { OnOk result (AllListed places.new (all_work work.new)) }
+{
+    if let Spot::Point(_, _) = *y {
+        return Ok(());
+    }
+    requeue_readers_of(places, work, readers, *y, waits)
+}
+
+/// Joins what flows from the visited point, which still has its state, into `y`. The readers of a
+/// known exit that rises wait for the next round.
+pub(crate) fn join_at(
+    alloc: Global,
+    table: &mut Table,
+    v: &Visit,
+    y: &Spot,
+    incoming: &Incoming,
+) -> Result<(), Refusal>
+    requires fine { FineOn v.now.ground.now table.old }
+    requires near { StandsAt table.old.places table.old.near (Point v.now.key v.now.addr) }
+    requires at { (seen table.old).cells (point v.now.key v.now.addr)
+        ≡ Some (state v.now.state.now) }
+    requires own { sender_state incoming.now ≡ v.now.state.now }
+    requires incoming { AsksOn v.now.ground.now table.old y.now (incoming_known incoming.now) }
+    ensures ok { OnOk result
+        (JoinedOn v.now.ground.now table.old table.new y.now (incoming_known incoming.now)) }
+    ensures err { IfErr result (AnsweredOn v.now.ground.now) }
+{
+    let _byte = priority(incoming);
+    let known = table.places.len();
+    if join_alone(alloc, table, v, y, incoming)? {
+        let again = table.places.len() == known;
+        requeue_readers(&mut table.places, &mut table.work, &table.readers, y, again)?;
+    }
+    Ok(())
+}

@@ -1,0 +1,107 @@
+// Segments: bytes from an address on, and those that an ELF file loads.
+ghost use Rattle.std.specs.Prelude.{◌≡◌, ◌≤◌, ◌<◌, ◌-◌, ◌^◌, All, map, slice_get, ◌+◌, ◌⊎◌, length, None, IfOk, IfErr, true, false};
+ghost use Rattle.elf_image.specs.Images.{segment_data, holds, AreBytes};
+ghost use Rattle.elf_image.specs.Elf.{header_at, segment_refusal, loads_of, is_large, segment_of};
+
+use crate::ImageErr;
+use crate::headers::{E_PHNUM, Header, half_at, has_bytes, header_at};
+use std::alloc::Global;
+
+/// The bytes from the address `at` on.
+#[derive(Drop)]
+pub struct Segment {
+    pub at: u32,
+    pub bytes: Vec<u8>,
+}
+
+pub(crate) fn is_held(segment: &Segment, addr: u32) -> bool
+    ensures { result ≡ holds (segment_data segment.now) addr }
+{
+    segment.at <= addr && ((addr - segment.at) as usize) < segment.bytes.len()
+}
+
+pub(crate) fn byte_of(segment: &Segment, addr: u32) -> Option<u8>
+    requires { segment.now.at ≤ addr }
+    ensures { result ≡ slice_get segment.now.bytes.items (addr - segment.now.at) }
+{
+    segment.bytes.get((addr - segment.at) as usize).copied()
+}
+
+// Establishes that bytes are numbers below 256.
+fn read_bytes(bytes: &[u8])
+    ensures { All (λ b. b < 2 ^ 8) bytes.now }
+{
+    for byte in bytes {
+        let _value = *byte;
+    }
+}
+
+/// Establishes that the bytes of segments are numbers below 256, which an image requires. It reads
+/// each byte and changes nothing.
+pub fn read_segments(segments: &[Segment])
+    ensures { AreBytes (map segment_data segments.now) }
+{
+    for segment in segments {
+        read_bytes(&segment.bytes);
+    }
+}
+
+// Collects the headers that load bytes, in order: at most 64, with at most 2^24 bytes together.
+pub(crate) fn loads_of(alloc: Global, bytes: &[u8]) -> Result<Vec<Header>, ImageErr>
+    requires long { 52 ≤ length bytes.now }
+    requires good { segment_refusal bytes.now ≡ None }
+    ensures ok { IfOk result (λ v.
+        (v.items ≡ loads_of bytes.now) × (is_large (loads_of bytes.now) ≡ false)) }
+    ensures err { IfErr result (λ e.
+        (e ≡ ImageErr.NoMemory)
+        ⊎ ((e ≡ ImageErr.TooLarge) × (is_large (loads_of bytes.now) ≡ true))) }
+{
+    let mut loads = Vec::new(alloc);
+    let mut total = 0u32;
+    let count = half_at(bytes, E_PHNUM);
+    for number in 0..count {
+        let header = header_at(bytes, number);
+        if has_bytes(&header) {
+            if loads.len() == 64 || header.file_size > 16_777_216 - total {
+                return Err(ImageErr::TooLarge);
+            }
+            total += header.file_size;
+            loads.push(header)?;
+        }
+    }
+    Ok(loads)
+}
+
+// Copies the bytes that a header loads.
+fn segment_of(alloc: Global, bytes: &[u8], load: &Header) -> Result<Segment, ImageErr>
+    requires { load.now.offset + load.now.file_size ≤ length bytes.now }
+    ensures ok { IfOk result (λ s. segment_data s ≡ segment_of bytes.now load.now) }
+    ensures err { IfErr result (λ e. e ≡ ImageErr.NoMemory) }
+{
+    let start = load.offset as usize;
+    let end = start + load.file_size as usize;
+    let loaded = Vec::from_slice(alloc, &bytes[start..end])?;
+    Ok(Segment {
+        at: load.address,
+        bytes: loaded,
+    })
+}
+
+// Copies the segments of these headers, in order.
+pub(crate) fn segments_of(
+    alloc: Global,
+    bytes: &[u8],
+    loads: &[Header],
+) -> Result<Vec<Segment>, ImageErr>
+    requires { All (λ h. h.offset + h.file_size ≤ length bytes.now) loads.now }
+    ensures ok { IfOk result (λ v.
+        map segment_data v.items ≡ map (segment_of bytes.now) loads.now) }
+    ensures err { IfErr result (λ e. e ≡ ImageErr.NoMemory) }
+{
+    let mut segments = Vec::new(alloc);
+    for load in loads {
+        let segment = segment_of(alloc, bytes, load)?;
+        segments.push(segment)?;
+    }
+    Ok(segments)
+}

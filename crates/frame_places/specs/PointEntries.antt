@@ -1,0 +1,37 @@
+-- The points of a map, by the numbers of its entries.
+use Rattle.std.specs.Prelude.{◌≡◌, ◌<◌, ◌+◌, ◌*◌, ◌^◌, ◌&&◌, ℕ, Bool, not, nat_lt, List, ◌∷◌, length, map, filter, Option, Some, None, Contains, slice_index_or}
+use Rattle.indexmap.specs.IndexMap.{IndexMap, keys}
+use Rattle.depth_cert.specs.declared.keys.Key.{Key}
+use Rattle.depth_cert.specs.Keys.{number_of_key}
+use Rattle.frame_places.specs.Spots.{spot_number, is_point}
+use Rattle.frame_places.specs.declared.ordering.PointEntry.{PointEntry}
+use Rattle.frame_places.specs.declared.places.Spot.{Spot}
+use Rattle.frame_places.specs.declared.places.Spot.TheVariants.{Point, Exit}
+use Rattle.frame_places.specs.Numbers.{nowhere}
+
+-- the points of a map, in its order
+abbrev pub points_in : {X S : Type 0} → IndexMap Spot X S → List Spot
+points_in m = filter is_point (keys m)
+
+-- the place of an entry
+abbrev pub place_at : {X S : Type 0} → IndexMap Spot X S → PointEntry → Spot
+place_at m x = slice_index_or (keys m) x.entry nowhere
+
+-- the places of entries, in their order
+abbrev pub places_at : {X S : Type 0} → IndexMap Spot X S → List PointEntry → List Spot
+places_at m xs = map (place_at m) xs
+
+-- these are entries of the map, each ordered like its place
+pub record AreEntries {X S : Type 0} (m : IndexMap Spot X S) (xs : List PointEntry) : Type 0 where
+  pub within : (x : PointEntry) → Contains xs x → x.entry < length (keys m)
+  pub order : (x : PointEntry) → Contains xs x → x.order ≡ spot_number (place_at m x)
+
+-- the entry of a place with this number, if it is a point
+abbrev pub entry_of : Option Spot → ℕ → List PointEntry
+entry_of None i = []
+entry_of (Some (Point k p)) i = record { order = spot_number (Point k p); entry = i } ∷ []
+entry_of (Some (Exit k)) i = []
+
+-- the order of an entry is among those of the points of frame k
+abbrev pub is_in_frame : Key → PointEntry → Bool
+is_in_frame k x = not (nat_lt x.order (number_of_key k * 2 ^ 32)) && nat_lt x.order (number_of_key k * 2 ^ 32 + 2 ^ 32)

@@ -1,0 +1,36 @@
+-- The row of changed values in the state of a point: where it is, and what is outside it.
+use Rattle.std.specs.Prelude.{◌≡◌, ◌≤◌, ◌<◌, ◌⊎◌, slice_index_or, ◌+◌, ℕ, zero, suc, List, length}
+use Rattle.value_domain.specs.declared.values.Val.{Val}
+use Rattle.value_domain.specs.Values.{any_val}
+use Rattle.packed_cert.specs.declared.places.ValueRow.{ValueRow}
+use Rattle.packed_cert.specs.Standing.{behind}
+
+-- a number is before a row or after it
+abbrev pub IsOutside : ValueRow → ℕ → Type 0
+IsOutside row k = (k < row.first) ⊎ (row.behind ≤ k)
+
+-- as many values as before, and those outside a row are as they were
+pub record ChangesRow (before after : List Val) (row : ValueRow) : Type 0 where
+  pub count : length after ≡ length before
+  pub order : row.first ≤ row.behind
+  pub within : row.behind ≤ length before
+  pub kept : (k : ℕ) → k < length before → IsOutside row k → slice_index_or after k any_val ≡ slice_index_or before k any_val
+
+-- the place after n values that are one after another from a place on
+abbrev pub place_after : List ℕ → ℕ → ℕ → ℕ
+place_after bytes place zero = place
+place_after bytes place (suc n) = place_after bytes (behind bytes place) n
+
+-- the first value of the row, if it has one, is where it says, in values from x on
+abbrev pub IsFrom : List ℕ → ℕ → ValueRow → Type 0
+IsFrom bytes x row = 0 < row.behind → row.from ≡ place_after bytes x row.first
+
+-- the row has all n values
+abbrev pub IsWhole : ℕ → ValueRow → Type 0
+IsWhole n row = (row.first ≡ 0) × (row.behind ≡ n)
+
+-- the row with one more value, which is after it
+pub record IsWithRead (row : ValueRow) (place : ℕ) (more : ValueRow) : Type 0 where
+  pub first : more.first ≤ place
+  pub behind : more.behind ≡ place + 1
+  pub others : (k : ℕ) → IsOutside more k → IsOutside row k × (k ≡ place → ⊥)

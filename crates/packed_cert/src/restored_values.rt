@@ -1,0 +1,122 @@
+// Does a state in the bytes cover the one after a return?
+// That state has the lower registers' values of the exit, which stay in the bytes too.
+ghost use Rattle.std.specs.Prelude.{◌≡◌, ◌≤◌, ◌<◌, ◌^◌, ◌↔◌, if◌then◌else◌, IsTrue, length, slice_index_or};
+ghost use Rattle.value_domain.specs.Values.{any_val, IsBelow};
+ghost use Rattle.value_domain.specs.State.{AreWell, AreBelow};
+ghost use Rattle.value_domain.specs.State as states;
+ghost use Rattle.depth_cert.specs.Exits.{lower_values, with_lower_from};
+ghost use Rattle.packed_cert.specs.Standing.{behind};
+ghost use Rattle.packed_cert.specs.ValuesInBytes.{value_in, HasValue, values_in, HaveValues};
+
+use crate::certs::are_bytes;
+use crate::places::VALUES;
+use crate::value_reader::length_by;
+use crate::values_at_places::{is_below_at, value};
+use depth_cert::lower_value;
+use value_domain::{State, Val};
+use vd_transfer::is_lower_slot;
+
+/// Values in the bytes, by the place of the first.
+#[derive(Clone, Copy)]
+pub(crate) struct ValuesAt<'a> {
+    pub(crate) bytes: &'a [u8],
+    pub(crate) version: u8,
+    pub(crate) place: usize,
+}
+
+/// Returns true if each value of a state is below the one in its turn at `high`, with those at
+/// `lower` for the lower registers.
+pub(crate) fn are_restored_below(regs: &[Val; 27], lower: ValuesAt<'_>, high: ValuesAt<'_>) -> bool
+    requires well { AreWell regs.now }
+    requires low_short { length lower.bytes.now ≤ 2 ^ 30 }
+    requires high_short { length high.bytes.now ≤ 2 ^ 30 }
+    requires low { HaveValues lower.version lower.bytes.now lower.place 14 }
+    requires high { HaveValues high.version high.bytes.now high.place 27 }
+    ensures { IsTrue result
+        ↔ AreBelow
+        (with_lower_from 0
+        (values_in lower.entry.version lower.entry.bytes.now lower.entry.place 14) regs.now)
+        (values_in high.entry.version high.entry.bytes.now high.entry.place 27) }
+{
+    are_bytes(high.bytes);
+    let mut from = lower.place;
+    let mut at = high.place;
+    for i in 0..VALUES {
+        let low = ValuesAt {
+            bytes: lower.bytes,
+            version: lower.version,
+            place: from,
+        };
+        let here = ValuesAt {
+            bytes: high.bytes,
+            version: high.version,
+            place: at,
+        };
+        if !is_restored_below(regs, i, low, here) {
+            return false;
+        }
+        from = next_lower(i, low);
+        at += length_by(high.bytes[at]);
+    }
+    true
+}
+
+/// Returns true if value number `i` after a return is below the one at `high`. For a lower register
+/// it is the one at `low`, else the state's own.
+fn is_restored_below(regs: &[Val; 27], i: usize, low: ValuesAt<'_>, high: ValuesAt<'_>) -> bool
+    requires place { i < 27 }
+    requires well { AreWell regs.now }
+    requires low_short { length low.bytes.now ≤ 2 ^ 30 }
+    requires high_short { length high.bytes.now ≤ 2 ^ 30 }
+    requires low { IsTrue (states.is_lower_slot i) → HasValue low.version low.bytes.now low.place }
+    requires high { HasValue high.version high.bytes.now high.place }
+    ensures { IsTrue result
+        ↔ IsBelow
+        (if states.is_lower_slot i
+        then value_in low.entry.version low.entry.bytes.now low.entry.place
+        else slice_index_or regs.now i any_val)
+        (value_in high.entry.version high.entry.bytes.now high.entry.place) }
+{
+    are_bytes(low.bytes);
+    are_bytes(high.bytes);
+    // All words: each value is below it.
+    if high.bytes[high.place] == 0 {
+        return true;
+    }
+    if is_lower_slot(i) {
+        return is_read_below(low, high);
+    }
+    is_below_at(&regs[i], high.bytes, high.version, high.place)
+}
+
+/// Returns true if the value at a place is below the value at another. The first is read.
+#[inline(never)]
+fn is_read_below(low: ValuesAt<'_>, high: ValuesAt<'_>) -> bool
+    requires low_short { length low.bytes.now ≤ 2 ^ 30 }
+    requires high_short { length high.bytes.now ≤ 2 ^ 30 }
+    requires low { HasValue low.version low.bytes.now low.place }
+    requires high { HasValue high.version high.bytes.now high.place }
+    ensures { IsTrue result
+        ↔ IsBelow (value_in low.entry.version low.entry.bytes.now low.entry.place)
+        (value_in high.entry.version high.entry.bytes.now high.entry.place) }
+{
+    are_bytes(low.bytes);
+    let v = value(low.bytes, low.version, low.place);
+    is_below_at(&v, high.bytes, high.version, high.place)
+}
+
+/// Returns the place of the next lower register's value: after the one at `low` if value number `i`
+/// is a lower register's, and else `low`.
+fn next_lower(i: usize, low: ValuesAt<'_>) -> usize
+    requires short { length low.bytes.now ≤ 2 ^ 30 }
+    requires low { IsTrue (states.is_lower_slot i) → HasValue low.version low.bytes.now low.place }
+    ensures { result
+        ≡ (if states.is_lower_slot i then behind low.entry.bytes.now low.entry.place
+        else low.entry.place) }
+{
+    are_bytes(low.bytes);
+    if is_lower_slot(i) {
+        return low.place + length_by(low.bytes[low.place]);
+    }
+    low.place
+}

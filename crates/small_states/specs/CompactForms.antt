@@ -1,0 +1,60 @@
+-- The values, states and exits that compact ones stand for.
+use Rattle.std.specs.Prelude.{◌≡◌, ◌+◌, ◌<◌, ◌≤◌, ℕ, zero, suc, List, ◌∷◌, ◌++◌, length, replicate, slice_index_or, take}
+use Rattle.std.specs.List.{flat_map}
+use Rattle.value_domain.specs.declared.values.Val.{Val}
+use Rattle.value_domain.specs.declared.states.State.{State}
+use Rattle.value_domain.specs.Values.{any_val}
+use Rattle.depth_cert.specs.declared.points.Exit.{Exit}
+use Rattle.small_states.specs.declared.values.SpacedValue.{SpacedValue}
+use Rattle.small_states.specs.declared.values.Values.{Values}
+use Rattle.small_states.specs.declared.states.SmallState.{SmallState}
+use Rattle.small_states.specs.declared.states.SmallExit.{SmallExit}
+use Rattle.value_domain.specs.declared.values.Val.TheVariants.{Set, Span}
+use Rattle.small_states.specs.declared.small.Form.{Form}
+use Rattle.small_states.specs.declared.small.Form.TheVariants.{Any, One, Many, Range}
+use Rattle.depth_cert.specs.Known.{Known, state, leaving}
+use Rattle.small_states.specs.declared.known.KnownForm.{KnownForm}
+use Rattle.small_states.specs.declared.known.KnownForm.TheVariants.{Point, Leaves}
+
+-- a known value after unknown ones
+abbrev pub spaced_values : SpacedValue → List Val
+spaced_values s = replicate s.anys any_val ++ s.value ∷ []
+
+-- the values up to the last known one
+abbrev pub front : List SpacedValue → List Val
+front known = flat_map spaced_values known
+
+-- all values in their order
+abbrev pub all_values : Values → List Val
+all_values v = front v.known.items ++ replicate v.rest any_val
+
+-- the place i is after n known values and `others` unknown ones, before the next known value
+pub record IsFoundIn (v : Values) (i n others : ℕ) : Type 0 where
+  pub within : n ≤ length v.known.items
+  pub at : i ≡ length (front (take n v.known.items)) + others
+  pub before : n < length v.known.items → (d : SpacedValue) → others ≤ (slice_index_or v.known.items n d).anys
+
+-- `count` values from a place on; any_val past the end
+unfoldable pub values_from : List Val → ℕ → ℕ → List Val
+values_from vs from zero = []
+values_from vs from (suc count) = slice_index_or vs from any_val ∷ values_from vs (from + 1) count
+
+-- the state with these values
+abbrev pub state_in : SmallState → State
+state_in s = record { regs = all_values s.regs.value; ie = s.ie; ccpn = s.ccpn; lower = s.lower; locals = s.locals }
+
+-- the exit with these values
+abbrev pub exit_in : SmallExit → Exit
+exit_in x = record { ie = x.ie; ccpn = x.ccpn; lower = all_values x.lower.value }
+
+-- the value of this form
+abbrev pub val_of : Form → Val
+val_of Any = any_val
+val_of (One x) = Set (x ∷ [])
+val_of (Many own) = own.value
+val_of (Range lo last step) = Span lo last step
+
+-- the state or the exit of this form
+abbrev pub known_of : KnownForm → Known
+known_of (Point s) = state (state_in s)
+known_of (Leaves x) = leaving (exit_in x)

@@ -1,0 +1,219 @@
+// Lists of compact values: made from what flows in, compared with it, joined with it.
+ghost use Rattle.std.specs.Prelude.{◌≡◌, ◌↔◌, IsTrue, IfOk, OnOk, length};
+ghost use Rattle.value_domain.specs.State.{AreBelow, AreValues, AreWell, joined_regs};
+ghost use Rattle.vd_transfer.specs.Changes.{put_in, state_after};
+ghost use Rattle.small_states.specs.Incoming.{sender_state, incoming_values};
+ghost use Rattle.small_states.specs.CompactForms.{all_values};
+
+use crate::incoming::{Incoming, count_incoming, incoming_value};
+use crate::small::{Form, Small};
+use crate::values::Values;
+use std::alloc::{AllocError, Global};
+use std::rc::Rc;
+use value_domain::{Bounds, State};
+use vd_transfer::{Base, Change, Put};
+
+/// Returns the incoming values, place by place. It is a call of its own, since it has room for a
+/// whole value.
+#[inline(never)]
+pub(crate) fn pack_values(alloc: Global, incoming: &Incoming) -> Result<Values, AllocError>
+    ensures { IfOk result (λ values. all_values values ≡ incoming_values incoming.now) }
+{
+    let any = Small { form: Form::Any };
+    let count = count_incoming(incoming);
+    let mut values = Values {
+        known: Vec::with_capacity(alloc, 0)?,
+        rest: 0,
+    };
+    for i in 0..count {
+        let value = Small::of_given(alloc, &incoming_value(&*incoming, &any, i))?;
+        values.add_small(value)?;
+    }
+    Ok(values)
+}
+
+/// Returns the incoming values, from a point whose compact values are at hand.
+#[inline(never)]
+fn pack_own(alloc: Global, own: &Values, incoming: &Incoming) -> Result<Values, AllocError>
+    requires { all_values own.now ≡ (sender_state incoming.now).regs }
+    ensures { IfOk result (λ values. all_values values ≡ incoming_values incoming.now) }
+{
+    let mut values = Values {
+        known: Vec::with_capacity(alloc, own.known.len())?,
+        rest: 0,
+    };
+    match incoming {
+        Incoming::Changed(_, _) => pack_values(alloc, incoming),
+        Incoming::After(s, exit, _) => {
+            let _regs = &s.regs[..];
+            let lower = exit.lower.as_ref();
+            values.add_part(lower, 0, 8)?;
+            values.add_part(own, 8, 8)?;
+            values.add_part(lower, 8, 6)?;
+            values.add_part(own, 22, 5)?;
+            Ok(values)
+        }
+        Incoming::Leaving(s) => {
+            let _regs = &s.regs[..];
+            values.add_part(own, 0, 8)?;
+            values.add_part(own, 16, 6)?;
+            Ok(values)
+        }
+    }
+}
+
+/// Puts a value of a change over a list, if there is one.
+#[inline(always)]
+fn put_over(alloc: Global, values: &mut Values, put: &Put) -> Result<(), AllocError>
+    ensures { OnOk result (all_values values.new ≡ put_in (all_values values.old) put.now) }
+{
+    let Some(at) = put.at else {
+        return Ok(());
+    };
+    let value = Small::of(alloc, &put.value)?;
+    values.put(at, value)
+}
+
+/// Returns a state's values after a change's values were put over them. If there are none, the list
+/// is shared.
+#[inline(always)]
+fn put_all_over(alloc: Global, own: &Rc<Values>, c: &Change) -> Result<Rc<Values>, AllocError>
+    ensures { IfOk result
+        (λ values. all_values values.value
+        ≡ put_in (put_in (put_in (all_values own.now.value) c.now.first) c.now.second)
+        c.now.third) }
+{
+    if c.first.at.is_none() && c.second.at.is_none() && c.third.at.is_none() {
+        return own.clone();
+    }
+    let mut values = own.as_ref().copy(alloc)?;
+    put_over(alloc, &mut values, &c.first)?;
+    put_over(alloc, &mut values, &c.second)?;
+    put_over(alloc, &mut values, &c.third)?;
+    Ok(Rc::new(alloc, values)?)
+}
+
+/// Returns the values of a changed state, from the state's compact values.
+fn pack_change(
+    alloc: Global,
+    own: &Rc<Values>,
+    s: &State,
+    c: &Change,
+) -> Result<Rc<Values>, AllocError>
+    requires { all_values own.now.value ≡ s.now.regs }
+    ensures { IfOk result (λ values. all_values values.value ≡ (state_after s.now c.now).regs) }
+{
+    match c.base {
+        Base::Same => put_all_over(alloc, own, c),
+        _ => {
+            let values = pack_values(alloc, &Incoming::Changed(s, c))?;
+            Ok(Rc::new(alloc, values)?)
+        }
+    }
+}
+
+/// Returns the incoming values, from a point whose compact values are at hand.
+pub(crate) fn pack_for(
+    alloc: Global,
+    own: &Rc<Values>,
+    incoming: &Incoming,
+) -> Result<Rc<Values>, AllocError>
+    requires { all_values own.now.value ≡ (sender_state incoming.now).regs }
+    ensures { IfOk result (λ values. all_values values.value ≡ incoming_values incoming.now) }
+{
+    match incoming {
+        Incoming::Changed(s, c) => pack_change(alloc, own, s, c),
+        _ => {
+            let values = pack_own(alloc, own.as_ref(), incoming)?;
+            Ok(Rc::new(alloc, values)?)
+        }
+    }
+}
+
+/// Returns whether each incoming value is below the one at its place. Places of unknown values are
+/// skipped.
+pub(crate) fn are_covered(upper: &Values, incoming: &Incoming) -> bool
+    requires upper { AreWell (all_values upper.now) }
+    requires incoming { AreWell (incoming_values incoming.now) }
+    requires long { length (all_values upper.now) ≡ length (incoming_values incoming.now) }
+    ensures { IsTrue result ↔ AreBelow (incoming_values incoming.now) (all_values upper.now) }
+{
+    let _count = count_incoming(incoming);
+    let any = Small { form: Form::Any };
+    let known = upper.known.as_slice();
+    let mut at = 0;
+    for n in 0..known.len() {
+        let here = &known[n];
+        let place = at + here.anys as usize;
+        if !here
+            .value
+            .covers_given(&incoming_value(&*incoming, &any, place))
+        {
+            return false;
+        }
+        at = place + 1;
+    }
+    true
+}
+
+/// Returns true only if both lists have the same gaps and each value is below the other list's
+/// value at its place.
+pub(crate) fn are_all_below(low: &Values, high: &Values) -> bool
+    requires low { AreWell (all_values low.now) }
+    requires high { AreWell (all_values high.now) }
+    requires long { length (all_values low.now) ≡ length (all_values high.now) }
+    ensures { IsTrue result → AreBelow (all_values low.now) (all_values high.now) }
+{
+    let lows = low.known.as_slice();
+    let highs = high.known.as_slice();
+    if lows.len() != highs.len() {
+        return false;
+    }
+    for n in 0..lows.len() {
+        let here = &lows[n];
+        let above = &highs[n];
+        if here.anys != above.anys {
+            return false;
+        }
+        if !above.value.covers_small(&here.value) {
+            return false;
+        }
+    }
+    true
+}
+
+/// Returns the least values with the members of the known and the incoming ones at each place.
+pub(crate) fn join_values(
+    alloc: Global,
+    b: &Bounds,
+    left: &Values,
+    incoming: &Incoming,
+) -> Result<Values, AllocError>
+    requires left { AreValues b.now (all_values left.now) }
+    requires incoming { AreValues b.now (incoming_values incoming.now) }
+    requires long { length (all_values left.now) ≡ length (incoming_values incoming.now) }
+    ensures { IfOk result
+        (λ values. all_values values
+        ≡ joined_regs b.now (all_values left.now) (incoming_values incoming.now)) }
+{
+    let _count = count_incoming(incoming);
+    let any = Small { form: Form::Any };
+    let known = left.known.as_slice();
+    let mut values = Values {
+        known: Vec::with_capacity(alloc, known.len())?,
+        rest: 0,
+    };
+    let mut at = 0;
+    for n in 0..known.len() {
+        let here = &known[n];
+        let anys = here.anys;
+        let place = at + anys as usize;
+        let value = here
+            .value
+            .join_given(alloc, b, &incoming_value(&*incoming, &any, place))?;
+        values.add_spaced(anys, value)?;
+        at = place + 1;
+    }
+    values.add_anys(left.rest);
+    Ok(values)
+}

@@ -1,6 +1,0 @@
-use Rattle.task_chains.proofs.MissLaws.{NoneBefore}
-use Rattle.task_chains.proofs.apart.has_word_between.Given as goal
-
--- none of the words so far is there
-abbrev pub invariant-loop-x : goal.invariant-loop-x
-invariant-loop-x l = NoneBefore l.words l.x-index l.low l.high

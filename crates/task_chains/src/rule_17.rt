@@ -1,0 +1,194 @@
+// Rule 17: the test at a point of a view's certificate.
+ghost use Rattle.std.specs.Prelude.{◌↔◌, IsTrue, ◌≡◌, ◌≤◌, ◌<◌, ◌+◌, ◌-◌, ◌*◌, ◌/◌, ◌^◌, ℕ};
+ghost use Rattle.value_domain.specs.State.{AreValues};
+ghost use Rattle.task_chains.specs.Apart.{HoldsApartIn, AllMiss, LoadsElsewhere, ReadsNoLink, IsNoBisr, StaysApart, HasBetween, IsPlaceApart};
+ghost use Rattle.tc_isa.specs.Bounded.{IsShape};
+ghost use Rattle.value_domain.specs.Sets.{Among};
+ghost use Rattle.value_domain.specs.Values.{IsWell};
+ghost use Rattle.store_ranges.specs.Accesses.{IsSize};
+ghost use Rattle.task_chains.specs.Routine.{switch_key};
+
+use crate::Tasks;
+use crate::routine::ROUTINE_BYTES;
+use cfg_recover::KnownCodes;
+use depth_cert::{CALL, Key};
+use elf_image::Image;
+use tc_isa::{FCX, LCX, PCXI, Shape};
+use tcd_plan::Plan;
+use value_domain::{Bounds, State, Val};
+use vd_transfer::address_by;
+
+/// What rule 17 is judged by: the image and the plan of a task's view.
+#[derive(Drop)]
+pub(crate) struct Rule<'a> {
+    pub(crate) bounds: &'a Bounds,
+    pub(crate) view: &'a Image,
+    pub(crate) plan: &'a Plan,
+    pub(crate) tasks: &'a Tasks,
+}
+
+/// Returns whether rule 17 holds at an address of a frame, with this state before the instruction.
+pub(crate) fn holds_apart(
+    rule: &Rule,
+    codes: &mut KnownCodes,
+    key: &Key,
+    addr: u32,
+    s: &State,
+) -> bool
+    requires { AreValues rule.now.bounds.now s.now.regs }
+    ensures { let r = rule.now in
+        IsTrue result
+        ↔ HoldsApartIn r.bounds.now r.view.now r.plan.now r.tasks.now key.now
+        (record { addr = addr; state = s.now }) }
+{
+    match codes.located(rule.view, rule.plan, addr) {
+        Some(found) => stays_apart(rule, key, addr, s, found.shape),
+        None => true,
+    }
+}
+
+fn is_between(x: u32, low: u32, high: u32) -> bool
+    ensures { IsTrue result ↔ (low ≤ x) × (x ≤ high) }
+{
+    low <= x && x <= high
+}
+
+/// Returns whether one of the words is in `low..=high`.
+fn has_word_between(words: &[u32], low: u32, high: u32) -> bool
+    ensures { IsTrue result ↔ ((x : ℕ) × Among x words.now × (low ≤ x) × (x ≤ high)) }
+{
+    for x in words {
+        if is_between(*x, low, high) {
+            return true;
+        }
+    }
+    false
+}
+
+/// Returns the least multiple of `2 ^ step` that is at least `x`.
+fn multiple_from(x: u64, step: u8) -> u64
+    requires step { step ≤ 2 }
+    requires small { x ≤ 2 ^ 32 }
+    ensures { result ≡ (x + (2 ^ step - 1)) / 2 ^ step * 2 ^ step }
+{
+    let unit = 1u64 << step;
+    (x + (unit - 1)) / unit * unit
+}
+
+/// Returns whether a word of the value is in `low..=high`.
+fn has_between(v: &Val, low: u32, high: u32) -> bool
+    requires { IsWell v.now }
+    ensures { IsTrue result ↔ HasBetween v.now low high }
+{
+    match v {
+        Val::Set(words) => has_word_between(words.as_slice(), low, high),
+        Val::Span { lo, last, step } => {
+            multiple_from(u64::from(low.max(*lo)), *step) <= u64::from(high.min(*last))
+        }
+    }
+}
+
+/// Returns whether no access of 1, 2 or 4 bytes (`size`), at an address that is a word of the
+/// value, shares a byte with the `len` bytes from `from` on.
+pub(crate) fn misses(at: &Val, size: u8, from: u32, len: u32) -> bool
+    requires at { IsWell at.now }
+    requires size { IsSize size }
+    requires some { 0 < len }
+    ensures { IsTrue result ↔ AllMiss at.now size from len }
+{
+    let below = u32::from(size) - 1;
+    let last = from.saturating_add(len - 1);
+    if has_between(at, from.saturating_sub(below), last) {
+        return false;
+    }
+    if below <= from {
+        return true;
+    }
+    !has_between(at, from.wrapping_sub(below), 0xFFFF_FFFF)
+}
+
+/// Returns whether the instruction is no load, or each of its possible accesses misses the save
+/// areas and the routine.
+fn loads_elsewhere(b: &Bounds, plan: &Plan, tasks: &Tasks, s: &State, shape: Shape) -> bool
+    requires shape { IsShape shape }
+    requires values { AreValues b.now s.now.regs }
+    ensures { IsTrue result ↔ LoadsElsewhere b.now plan.now tasks.now s.now shape }
+{
+    match shape {
+        Shape::Load { size, .. } => {
+            let at = address_by(b, plan, shape, s);
+            misses(&at, size, plan.csa_at, 64 * plan.areas)
+                && misses(&at, size, tasks.switch, ROUTINE_BYTES)
+        }
+        _ => true,
+    }
+}
+
+/// Returns whether the instruction doesn't read PCXI, FCX or LCX.
+fn reads_no_link(shape: Shape) -> bool
+    ensures { IsTrue result ↔ ReadsNoLink shape }
+{
+    match shape {
+        Shape::Mfcr { number, .. } => number != PCXI && number != FCX && number != LCX,
+        _ => true,
+    }
+}
+
+fn is_no_bisr(shape: Shape) -> bool
+    ensures { IsTrue result ↔ IsNoBisr shape }
+{
+    match shape {
+        Shape::Bisr { .. } => false,
+        _ => true,
+    }
+}
+
+/// Returns the key of the routine's frame.
+fn key_of_switch(tasks: &Tasks) -> Key
+    ensures { result ≡ switch_key tasks.now }
+{
+    Key {
+        kind: CALL,
+        entry: tasks.switch,
+        prio: 0,
+        is: false,
+    }
+}
+
+/// Returns whether an address is that of one of the routine's instructions.
+fn is_routine_step(tasks: &Tasks, addr: u32) -> bool
+    ensures { IsTrue result ↔ ((i : ℕ) × (i < 18) × (addr ≡ tasks.now.switch + 4 * i)) }
+{
+    if addr < tasks.switch {
+        return false;
+    }
+    let offset = addr - tasks.switch;
+    offset < ROUTINE_BYTES && offset % 4 == 0
+}
+
+/// Returns whether a frame can have a point at an address: the routine's frame only at the
+/// routine's instructions, each other frame only outside of the routine.
+fn is_place_apart(tasks: &Tasks, key: &Key, addr: u32) -> bool
+    ensures { IsTrue result ↔ IsPlaceApart tasks.now key.now addr }
+{
+    if *key == key_of_switch(tasks) {
+        is_routine_step(tasks, addr)
+    } else {
+        addr < tasks.switch || ROUTINE_BYTES <= addr - tasks.switch
+    }
+}
+
+/// Returns whether an instruction of this shape keeps the rule at an address of a frame, with this
+/// state before it.
+pub(crate) fn stays_apart(rule: &Rule, key: &Key, addr: u32, s: &State, shape: Shape) -> bool
+    requires shape { IsShape shape }
+    requires values { AreValues rule.now.bounds.now s.now.regs }
+    ensures { let r = rule.now in
+        IsTrue result
+        ↔ StaysApart r.bounds.now r.plan.now r.tasks.now key.now addr s.now shape }
+{
+    is_place_apart(rule.tasks, key, addr)
+        && loads_elsewhere(rule.bounds, rule.plan, rule.tasks, s, shape)
+        && reads_no_link(shape)
+        && (key.prio != 0 || key.is || is_no_bisr(shape))
+}

@@ -1,0 +1,48 @@
+-- The relocations of a source's statements, and the laws of them.
+use Rattle.std.specs.Prelude.{◌≡◌, ◌+◌, ◌==◌, ◌++◌, ℕ, true, if◌then◌else◌, List, [], ◌∷◌, length, slice_get, Option, Some, None}
+use Rattle.tc_isa.specs.Relocations.{is_reloc}
+use Rattle.tc_reloc.specs.Applied.{with_field}
+use Rattle.tc_stmt.specs.RowFields.{ReferenceData}
+use Rattle.tc_object.specs.declared.relocs.Reloc.{Reloc}
+use Rattle.tc_stmt.specs.Lines.{lines_in}
+use Rattle.tc_asm.specs.Symbols.{SymbolData}
+use Rattle.tc_asm.specs.Sources.{KeepsRules, draft_in, symbols_in, names_in}
+use Rattle.tc_asm.specs.Objects.{number_of, addend_of, object_of}
+use Rattle.tc_asm.specs.Statements.{StatementData, statements_in, sections_in, is_open}
+
+-- the relocation of a statement in this section at this offset; none if it doesn't wait for an
+-- address
+abbrev pub reloc_at : List SymbolData → ℕ → ℕ → Option ReferenceData → List Reloc
+reloc_at symbols section offset None = []
+reloc_at symbols section offset (Some r) =
+    if is_open (Some r)
+    then record { section = section; offset = offset; kind = r.kind; symbol = number_of symbols r.name; addend = addend_of r } ∷ []
+    else []
+
+-- the relocations of this section's statements, in order; the first of them is at this offset
+abbrev pub relocs_behind : List SymbolData → ℕ → ℕ → List StatementData → List Reloc
+relocs_behind symbols section offset [] = []
+relocs_behind symbols section offset (t ∷ ts) =
+    if t.section == section
+    then reloc_at symbols section offset t.reference ++ relocs_behind symbols section (offset + length t.bytes) ts
+    else relocs_behind symbols section offset ts
+
+-- the relocations of sections with these names, numbered from this number on
+abbrev pub relocs_of : List SymbolData → List StatementData → ℕ → List (List ℕ) → List Reloc
+relocs_of symbols ts section [] = []
+relocs_of symbols ts section (name ∷ names) = relocs_behind symbols section 0 ts ++ relocs_of symbols ts (section + 1) names
+
+-- ---- laws
+-- the sections of an object are those of the source
+abbrev pub ObjectSectionsLaw : Type 0
+ObjectSectionsLaw = (source : List ℕ) → (object_of (draft_in source)).sections ≡ sections_in source
+
+-- the relocations of an object are those of the statements that wait for addresses
+abbrev pub RelocationsLaw : Type 0
+RelocationsLaw = (source : List ℕ) → KeepsRules (lines_in source) (length (lines_in source))
+    → (object_of (draft_in source)).relocs ≡ relocs_of (symbols_in source) (statements_in source) 0 (names_in source)
+
+-- the fields that relocations fill are zero: writing zero there changes nothing
+abbrev pub UnfilledLaw : Type 0
+UnfilledLaw = (source : List ℕ) (index : ℕ) (t : StatementData) (r : ReferenceData) → slice_get (statements_in source) index ≡ Some t → t.reference ≡ Some r → is_reloc r.kind ≡ true
+    → with_field r.kind t.bytes 0 ≡ t.bytes

@@ -1,0 +1,126 @@
+// Beginnings of instructions: whether fewer bytes than an instruction has can be completed.
+ghost use Rattle.std.specs.Prelude.{◌≡◌, ◌<◌, ◌≤◌, ◌%◌, IfSome, IfNone, slice_get, Some};
+ghost use Rattle.tc_isa.specs.Rows.{row_of, listed, RowData};
+ghost use Rattle.tc_isa.specs.ValidRows.{least};
+ghost use Rattle.tc_isa.specs.Insts.{InstData};
+ghost use Rattle.tc_encode.specs.Decoding.{size_of, need_of};
+ghost use Rattle.tc_encode.specs.WordSearch.{GoesOn, Makes, span};
+
+use crate::forms::{join, split};
+use crate::index::groups;
+use tc_isa::{Fields, Inst, ROW_COUNT, Row, inst, rows};
+
+/// Returns the instruction of this row if the word is one.
+fn inst_by(place: u8, row: &Row, w: u32) -> Option<Inst>
+    requires { slice_get listed place ≡ Some (row_of row.now) }
+    ensures some { IfSome result (Makes w) }
+    ensures place { IfSome result (λ i. i.row ≡ place) }
+    ensures none { IfNone result ((i : InstData) → Makes w i → i.row ≡ place → ⊥) }
+{
+    let f = split(row.form, w);
+    let Some(found) = inst(place, f.c, f.s1, f.s2, f.n, f.k) else {
+        return None;
+    };
+    if join(row.form, row.op1, row.op2, &f) != w {
+        return None;
+    }
+    Some(found)
+}
+
+/// Returns the least fields that fit the row.
+fn least_of(row: &Row) -> Fields
+    ensures { result ≡ least (row_of row.now) }
+{
+    let s1 = if (row.op1 == 9 || row.op1 == 137) && row.op2 == 6 {
+        1
+    } else {
+        0
+    };
+    Fields {
+        c: 0,
+        s1,
+        s2: 0,
+        n: 0,
+        k: 0,
+    }
+}
+
+/// Returns 256 to the power of `n`: the number of values of `n` bytes.
+fn span_of(n: u8) -> u32
+    requires low { 1 ≤ n }
+    requires high { n ≤ 3 }
+    ensures span { result ≡ span n }
+    ensures some { 0 < result }
+{
+    match n {
+        1 => 256,
+        2 => 65536,
+        _ => 16_777_216,
+    }
+}
+
+/// Returns an instruction of this row with these `n` low bytes, if there is one.
+fn completion_by(place: u8, row: &Row, n: u8, part: u32) -> Option<Inst>
+    requires place { slice_get listed place ≡ Some (row_of row.now) }
+    requires low { 1 ≤ n }
+    requires high { n ≤ 3 }
+    requires part { part < span n }
+    requires longer { n < size_of (row_of row.now) }
+    ensures some { IfSome result (GoesOn n part) }
+    ensures none { IfNone result ((i : InstData) → GoesOn n part i → i.row ≡ place → ⊥) }
+{
+    let rest = join(row.form, row.op1, row.op2, &least_of(row));
+    let span = span_of(n);
+    inst_by(place, row, part + rest / span * span)
+}
+
+/// Returns an instruction of the row at this place with these `n` low bytes, if the row's first
+/// code is the lowest of them.
+fn completion_at(place: u8, first: u8, n: u8, part: u32) -> Option<Inst>
+    requires place { place < ROW_COUNT }
+    requires low { 1 ≤ n }
+    requires high { n < need_of first }
+    requires part { part < span n }
+    requires first { first ≡ part % 256 }
+    ensures some { IfSome result (GoesOn n part) }
+    ensures none { IfNone result ((i : InstData) → GoesOn n part i → i.row ≡ place → ⊥) }
+{
+    let row = &rows()[usize::from(place)];
+    if row.op1 != first {
+        return None;
+    }
+    completion_by(place, row, n, part)
+}
+
+/// Returns an instruction with these `n` low bytes, of a row from one place up to before another.
+fn completion_between(from: u8, to: u8, first: u8, n: u8, part: u32) -> Option<Inst>
+    requires places { to ≤ ROW_COUNT }
+    requires low { 1 ≤ n }
+    requires high { n < need_of first }
+    requires part { part < span n }
+    requires first { first ≡ part % 256 }
+    ensures some { IfSome result (GoesOn n part) }
+    ensures none { IfNone result
+        ((i : InstData) → GoesOn n part i → from ≤ i.row → i.row < to → ⊥) }
+{
+    for place in from..to {
+        if let Some(found) = completion_at(place, first, n, part) {
+            return Some(found);
+        }
+    }
+    None
+}
+
+/// Returns an instruction that has more than these `n` bytes and begins with them, if there is one.
+pub fn completion(first: u8, n: u8, part: u32) -> Option<Inst>
+    requires low { 1 ≤ n }
+    requires high { n < need_of first }
+    requires part { part < span n }
+    requires first { first ≡ part % 256 }
+    ensures some { IfSome result (GoesOn n part) }
+    ensures none { IfNone result ((i : InstData) → GoesOn n part i → ⊥) }
+{
+    let (starts, ends) = groups();
+    let place = usize::from(first);
+    completion_between(starts[place], ends[place], first, n, part)
+}

@@ -1,0 +1,109 @@
+// Decodes the instruction that bytes begin with.
+ghost use Rattle.std.specs.Prelude.{◌≡◌, ◌↔◌, Ok, ◌<◌, ◌≤◌, ◌%◌, ◌^◌, ℕ, List, [], ◌∷◌, length, Err, All, slice_index, IfOk};
+ghost use Rattle.tc_isa.specs.Insts.{InstData};
+ghost use Rattle.tc_isa.specs.Spelling.{Begins, IsFront};
+ghost use Rattle.tc_encode.specs.Decoding.{decoded_of, need_of, number_of};
+
+use crate::completions::completion;
+use crate::errors::DecodeErr;
+use crate::word_search::find;
+use tc_isa::Inst;
+
+/// Decodes four bytes, the first of which is odd.
+fn long_word(a: u8, b: u8, c: u8, d: u8) -> Result<(Inst, usize), DecodeErr>
+    requires { a % 2 ≡ 1 }
+    ensures { (rest : List ℕ) → decoded_of (a ∷ b ∷ c ∷ d ∷ rest) ≡ result }
+{
+    match find(u32::from_le_bytes([a, b, c, d])) {
+        Some(found) => Ok((found, 4)),
+        None => Err(DecodeErr::NotListed),
+    }
+}
+
+/// Decodes two bytes, the first of which is even.
+fn short_word(a: u8, b: u8) -> Result<(Inst, usize), DecodeErr>
+    requires { a % 2 ≡ 0 }
+    ensures { (rest : List ℕ) → decoded_of (a ∷ b ∷ rest) ≡ result }
+{
+    match find(u32::from(a) + u32::from(b) * 256) {
+        Some(found) => Ok((found, 2)),
+        None => Err(DecodeErr::NotListed),
+    }
+}
+
+/// Returns why these `n` bytes, as the number `part`, are no instruction: too few, or not listed.
+fn front(first: u8, n: u8, part: u32) -> DecodeErr
+    requires low { 1 ≤ n }
+    requires high { n < need_of first }
+    requires first { first ≡ part % 256 }
+    requires part { part < 256 ^ n }
+    ensures { (bytes : List ℕ) → length bytes ≡ n → All (λ b. b < 256) bytes
+        → number_of bytes ≡ part
+        → decoded_of bytes ≡ Err result }
+{
+    match completion(first, n, part) {
+        Some(_) => DecodeErr::Short,
+        None => DecodeErr::NotListed,
+    }
+}
+
+/// Returns the instruction that the bytes begin with, and its length in bytes. If there is none,
+/// the answer is `Short` exactly if the bytes are the beginning of a listed instruction, and else
+/// `NotListed`.
+pub fn decode(bytes: &[u8]) -> Result<(Inst, usize), DecodeErr>
+    ensures decoded { result ≡ decoded_of bytes.now }
+    ensures size { IfOk result (λ p. (2 ≤ p.1) × (p.1 ≤ 4) × (p.1 ≤ length bytes.now)) }
+
+    // Each answer by the relation of bytes and instructions: it is given exactly in its case.
+    ensures ok { (i : InstData) (n : ℕ) → (result ≡ Ok (i, n)) ↔ Begins bytes.now i n }
+    ensures short { (result ≡ Err DecodeErr.Short)
+        ↔ (IsFront bytes.now × ((i : InstData) (n : ℕ) → Begins bytes.now i n → ⊥)) }
+    ensures not_listed { (result ≡ Err DecodeErr.NotListed)
+        ↔ ((IsFront bytes.now → ⊥) × ((i : InstData) (n : ℕ) → Begins bytes.now i n → ⊥)) }
+{
+    decode_by_first(bytes)
+}
+
+/// Decodes by the first byte: bit 0 of it gives the length.
+fn decode_by_first(bytes: &[u8]) -> Result<(Inst, usize), DecodeErr>
+    ensures { result ≡ decoded_of bytes.now }
+{
+    match bytes {
+        [] => Err(DecodeErr::Short),
+        [a, ..] => if a % 2 == 1 {
+            decode_long(bytes)
+        } else {
+            decode_short(bytes)
+        },
+    }
+}
+
+/// Decodes bytes of which the first is odd.
+fn decode_long(bytes: &[u8]) -> Result<(Inst, usize), DecodeErr>
+    requires { slice_index bytes.now 0 % 2 ≡ 1 }
+    ensures { result ≡ decoded_of bytes.now }
+{
+    match bytes {
+        [] => Err(DecodeErr::Short),
+        [a] => Err(front(*a, 1, u32::from(*a))),
+        [a, b] => Err(front(*a, 2, u32::from(*a) + u32::from(*b) * 256)),
+        [a, b, c] => Err(front(
+            *a,
+            3,
+            u32::from(*a) + u32::from(*b) * 256 + u32::from(*c) * 65536,
+        )),
+        [a, b, c, d, ..] => long_word(*a, *b, *c, *d),
+    }
+}
+
+/// Decodes bytes of which the first is even.
+fn decode_short(bytes: &[u8]) -> Result<(Inst, usize), DecodeErr>
+    requires { slice_index bytes.now 0 % 2 ≡ 0 }
+    ensures { result ≡ decoded_of bytes.now }
+{
+    match bytes {
+        [] => Err(DecodeErr::Short),
+        [a] => Err(front(*a, 1, u32::from(*a))),
+        [a, b, ..] => short_word(*a, *b),
+    }
+}

@@ -1,0 +1,184 @@
+-- The forms of instructions: the places and the bounds of the fields in the words of each form.
+use Rattle.std.specs.Prelude.{◌==◌, ◌+◌, ◌*◌, ◌/◌, ◌%◌, ◌^◌, ◌<◌, ℕ, Bool, true, false}
+use Rattle.tc_isa.specs.declared.fields.Fields.{Fields}
+use Rattle.tc_isa.specs.declared.table.Form.{Form}
+use Rattle.tc_isa.specs.declared.table.Form.TheVariants.{Rlc, Rr, Rc, Bol, Bo, Brr, Brc, B, Abs, Sys, Sr, Sc, Sb, Sbr, Src, Srr, Slr, Ssr}
+
+-- the fields c, s1, s2, n and k
+abbrev pub fields : ℕ → ℕ → ℕ → ℕ → ℕ → Fields
+fields c s1 s2 n k = record { c = c; s1 = s1; s2 = s2; n = n; k = k }
+
+-- each field is below its bound; a field that the form doesn't have has the bound 1
+pub record IsBelow (f bounds : Fields) : Type 0 where
+  pub c : f.c < bounds.c
+  pub s1 : f.s1 < bounds.s1
+  pub s2 : f.s2 < bounds.s2
+  pub n : f.n < bounds.n
+  pub k : f.k < bounds.k
+
+-- the bounds of a form's fields
+unfoldable pub bounds : Form → Fields
+bounds Rlc = fields 16 16 1 1 65536
+bounds Rr = fields 16 16 16 4 1
+bounds Rc = fields 16 16 1 1 512
+bounds Bol = fields 1 16 16 1 65536
+bounds Bo = fields 1 16 16 1 1024
+bounds Brr = fields 1 16 16 1 32768
+bounds Brc = fields 1 16 16 1 32768
+bounds B = fields 1 1 1 1 16777216
+bounds Abs = fields 1 16 1 1 262144
+bounds Sys = fields 1 1 1 1 1
+bounds Sr = fields 1 16 1 1 1
+bounds Sc = fields 1 1 1 1 256
+bounds Sb = fields 1 1 1 1 256
+bounds Sbr = fields 1 1 16 1 16
+bounds Src = fields 1 16 1 1 16
+bounds Srr = fields 1 16 16 1 1
+bounds Slr = fields 1 16 16 1 1
+bounds Ssr = fields 1 16 16 1 1
+
+-- the bound of a form's second code
+unfoldable pub second_bound : Form → ℕ
+second_bound Rlc = 1
+second_bound Rr = 256
+second_bound Rc = 128
+second_bound Bol = 1
+second_bound Bo = 64
+second_bound Brr = 2
+second_bound Brc = 2
+second_bound B = 1
+second_bound Abs = 4
+second_bound Sys = 64
+second_bound Sr = 16
+second_bound Sc = 1
+second_bound Sb = 1
+second_bound Sbr = 1
+second_bound Src = 1
+second_bound Srr = 1
+second_bound Slr = 1
+second_bound Ssr = 1
+
+-- the bytes of an instruction as one number, the first byte lowest
+unfoldable pub word : Form → ℕ → ℕ → Fields → ℕ
+word Rlc op1 op2 f = f.c * 2 ^ 28 + f.k * 2 ^ 12 + f.s1 * 2 ^ 8 + op1
+word Rr op1 op2 f = f.c * 2 ^ 28 + op2 * 2 ^ 20 + f.n * 2 ^ 16 + f.s2 * 2 ^ 12 + f.s1 * 2 ^ 8 + op1
+word Rc op1 op2 f = f.c * 2 ^ 28 + op2 * 2 ^ 21 + f.k * 2 ^ 12 + f.s1 * 2 ^ 8 + op1
+word Bol op1 op2 f = f.k / 64 % 16 * 2 ^ 28 + f.k / 1024 * 2 ^ 22 + f.k % 64 * 2 ^ 16 + f.s2 * 2 ^ 12 + f.s1 * 2 ^ 8 + op1
+word Bo op1 op2 f = f.k / 64 * 2 ^ 28 + op2 * 2 ^ 22 + f.k % 64 * 2 ^ 16 + f.s2 * 2 ^ 12 + f.s1 * 2 ^ 8 + op1
+word Brr op1 op2 f = op2 * 2 ^ 31 + f.k * 2 ^ 16 + f.s2 * 2 ^ 12 + f.s1 * 2 ^ 8 + op1
+word Brc op1 op2 f = op2 * 2 ^ 31 + f.k * 2 ^ 16 + f.s2 * 2 ^ 12 + f.s1 * 2 ^ 8 + op1
+word B op1 op2 f = f.k % 2 ^ 16 * 2 ^ 16 + f.k / 2 ^ 16 * 2 ^ 8 + op1
+word Abs op1 op2 f = f.k / 64 % 16 * 2 ^ 28 + op2 * 2 ^ 26 + f.k / 1024 % 16 * 2 ^ 22 + f.k % 64 * 2 ^ 16 + f.k / 2 ^ 14 * 2 ^ 12 + f.s1 * 2 ^ 8 + op1
+word Sys op1 op2 f = op2 * 2 ^ 22 + op1
+word Sr op1 op2 f = op2 * 2 ^ 12 + f.s1 * 2 ^ 8 + op1
+word Sc op1 op2 f = f.k * 2 ^ 8 + op1
+word Sb op1 op2 f = f.k * 2 ^ 8 + op1
+word Sbr op1 op2 f = f.s2 * 2 ^ 12 + f.k * 2 ^ 8 + op1
+word Src op1 op2 f = f.k * 2 ^ 12 + f.s1 * 2 ^ 8 + op1
+word Srr op1 op2 f = f.s2 * 2 ^ 12 + f.s1 * 2 ^ 8 + op1
+word Slr op1 op2 f = f.s2 * 2 ^ 12 + f.s1 * 2 ^ 8 + op1
+word Ssr op1 op2 f = f.s2 * 2 ^ 12 + f.s1 * 2 ^ 8 + op1
+
+-- the fields of the number of an instruction
+unfoldable pub fields_of : Form → ℕ → Fields
+fields_of Rlc w = fields (w / 2 ^ 28) (w / 2 ^ 8 % 16) (0) (0) (w / 2 ^ 12 % 2 ^ 16)
+fields_of Rr w = fields (w / 2 ^ 28) (w / 2 ^ 8 % 16) (w / 2 ^ 12 % 16) (w / 2 ^ 16 % 4) (0)
+fields_of Rc w = fields (w / 2 ^ 28) (w / 2 ^ 8 % 16) (0) (0) (w / 2 ^ 12 % 512)
+fields_of Bol w = fields (0) (w / 2 ^ 8 % 16) (w / 2 ^ 12 % 16) (0) (w / 2 ^ 28 * 64 + w / 2 ^ 22 % 64 * 1024 + w / 2 ^ 16 % 64)
+fields_of Bo w = fields (0) (w / 2 ^ 8 % 16) (w / 2 ^ 12 % 16) (0) (w / 2 ^ 28 * 64 + w / 2 ^ 16 % 64)
+fields_of Brr w = fields (0) (w / 2 ^ 8 % 16) (w / 2 ^ 12 % 16) (0) (w / 2 ^ 16 % 2 ^ 15)
+fields_of Brc w = fields (0) (w / 2 ^ 8 % 16) (w / 2 ^ 12 % 16) (0) (w / 2 ^ 16 % 2 ^ 15)
+fields_of B w = fields (0) (0) (0) (0) (w / 2 ^ 8 % 256 * 2 ^ 16 + w / 2 ^ 16)
+fields_of Abs w = fields (0) (w / 2 ^ 8 % 16) (0) (0) (w / 2 ^ 28 * 64 + w / 2 ^ 22 % 16 * 1024 + w / 2 ^ 16 % 64 + w / 2 ^ 12 % 16 * 2 ^ 14)
+fields_of Sys w = fields (0) (0) (0) (0) (0)
+fields_of Sr w = fields (0) (w / 2 ^ 8 % 16) (0) (0) (0)
+fields_of Sc w = fields (0) (0) (0) (0) (w / 2 ^ 8 % 256)
+fields_of Sb w = fields (0) (0) (0) (0) (w / 2 ^ 8 % 256)
+fields_of Sbr w = fields (0) (0) (w / 2 ^ 12 % 16) (0) (w / 2 ^ 8 % 16)
+fields_of Src w = fields (0) (w / 2 ^ 8 % 16) (0) (0) (w / 2 ^ 12 % 16)
+fields_of Srr w = fields (0) (w / 2 ^ 8 % 16) (w / 2 ^ 12 % 16) (0) (0)
+fields_of Slr w = fields (0) (w / 2 ^ 8 % 16) (w / 2 ^ 12 % 16) (0) (0)
+fields_of Ssr w = fields (0) (w / 2 ^ 8 % 16) (w / 2 ^ 12 % 16) (0) (0)
+
+-- the second code of the number of an instruction
+unfoldable pub second_of : Form → ℕ → ℕ
+second_of Rlc w = 0
+second_of Rr w = w / 2 ^ 20 % 256
+second_of Rc w = w / 2 ^ 21 % 128
+second_of Bol w = 0
+second_of Bo w = w / 2 ^ 22 % 64
+second_of Brr w = w / 2 ^ 31
+second_of Brc w = w / 2 ^ 31
+second_of B w = 0
+second_of Abs w = w / 2 ^ 26 % 4
+second_of Sys w = w / 2 ^ 22 % 64
+second_of Sr w = w / 2 ^ 12 % 16
+second_of Sc w = 0
+second_of Sb w = 0
+second_of Sbr w = 0
+second_of Src w = 0
+second_of Srr w = 0
+second_of Slr w = 0
+second_of Ssr w = 0
+
+-- a form of 32 bits
+unfoldable pub is_long_form : Form → Bool
+is_long_form Rlc = true
+is_long_form Rr = true
+is_long_form Rc = true
+is_long_form Bol = true
+is_long_form Bo = true
+is_long_form Brr = true
+is_long_form Brc = true
+is_long_form B = true
+is_long_form Abs = true
+is_long_form Sys = true
+is_long_form Sr = false
+is_long_form Sc = false
+is_long_form Sb = false
+is_long_form Sbr = false
+is_long_form Src = false
+is_long_form Srr = false
+is_long_form Slr = false
+is_long_form Ssr = false
+
+-- the number of a form, so that forms can be compared
+unfoldable pub form_index : Form → ℕ
+form_index Rlc = 0
+form_index Rr = 1
+form_index Rc = 2
+form_index Bol = 3
+form_index Bo = 4
+form_index Brr = 5
+form_index Brc = 6
+form_index B = 7
+form_index Abs = 8
+form_index Sys = 9
+form_index Sr = 10
+form_index Sc = 11
+form_index Sb = 12
+form_index Sbr = 13
+form_index Src = 14
+form_index Srr = 15
+form_index Slr = 16
+form_index Ssr = 17
+
+-- the form of loads and stores with a long offset
+abbrev pub is_bol : Form → Bool
+is_bol form = form_index form == 3
+
+-- the form of calls and jumps of 32 bits
+abbrev pub is_b : Form → Bool
+is_b form = form_index form == 7
+
+-- the form with an absolute address
+abbrev pub is_abs : Form → Bool
+is_abs form = form_index form == 8
+
+-- the form of jumps of 16 bits that go both ways
+abbrev pub is_sb : Form → Bool
+is_sb form = form_index form == 12
+
+-- the form of branches of 16 bits, which only go forwards
+abbrev pub is_sbr : Form → Bool
+is_sbr form = form_index form == 13

@@ -1,0 +1,17 @@
+use Rattle.std.proofs.Common.{◌≡◌, ℕ, List, [], ◌∷◌, ◌<◌, length, get_or, drop, sym, ap, refl, length-drop, get_or-drop, ◌∙◌, arith}
+use Rattle.std.proofs.lemmas.List.{take_rest}
+use Rattle.tc_lex.specs.Cut.{front_of, front_at}
+use Rattle.tc_lex.proofs.longest_token.front.Goals as goal
+
+first_of : (text : List ℕ) (d : ℕ) → 0 < length text → front_at (get_or text 0 d) text ≡ front_of text
+first_of [] d h = absurd (omega arith)
+first_of (c ∷ cs) d h = refl
+
+pub returns-clause-value : goal.returns-clause-value
+returns-clause-value c =
+    let line = c.args.line.now in
+    let here : get_or line c.args.at 0 ≡ get_or (drop c.args.at line) 0 0 = sym (get_or-drop c.args.at line 0 0 ∙ ap (λ i. get_or line i 0) (omega arith)) in
+    c.front_at.ensures.value
+    ∙ ap (front_at (get_or line c.args.at 0)) (take_rest line c.args.at)
+    ∙ ap (λ b. front_at b (drop c.args.at line)) here
+    ∙ first_of (drop c.args.at line) 0 (omega (arith, length-drop c.args.at line))

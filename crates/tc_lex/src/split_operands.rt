@@ -1,0 +1,52 @@
+// Splits the tokens of a statement at its commas into operands.
+ghost use Rattle.std.specs.Prelude.{◌≡◌, ◌≤◌, ◌<◌, map, length, position, IfSome, take, drop, ◌+◌, ◌++◌, ◌∷◌, []};
+ghost use Rattle.tc_lex.specs.Pieces.{piece_of, kind_index};
+ghost use Rattle.tc_lex.specs.Operands.{operand_of, operands, is_comma, operand};
+
+use crate::operand::Operand;
+use crate::pieces::{Piece, kind_index};
+use crate::read_operand::put_operand;
+use arrayvec::ArrayVec;
+
+fn find_comma(ps: &[Piece]) -> Option<usize>
+    ensures value { result ≡ position (λ p. is_comma (piece_of p)) ps.now }
+    ensures within { IfSome result (λ i. i < length ps.now) }
+{
+    ps.iter().position(|p| kind_index(p.kind) == 2)
+}
+
+// Adds the operand that ends before token `i` to the list.
+fn put_before<'a>(ps: &[Piece<'a>], i: usize, out: &mut ArrayVec<Operand<'a>, 65>)
+    requires place { i ≤ length ps.now }
+    requires room { length out.old.items < 65 }
+    ensures operands { map operand_of out.new.items
+        ≡ map operand_of out.old.items ++ operand (take i (map piece_of ps.now)) ∷ [] }
+    ensures one_more { length out.new.items ≡ length out.old.items + 1 }
+{
+    put_operand(&ps[..i], out);
+}
+
+// The tokens after the comma at `i`.
+fn tokens_after<'b, 'a>(ps: &'b [Piece<'a>], i: usize) -> &'b [Piece<'a>]
+    requires { i < length ps.now }
+    ensures { result.now ≡ drop (i + 1) ps.now }
+{
+    &ps[i + 1..]
+}
+
+/// Replaces the contents of `out` by the operands that these tokens spell.
+pub fn operands<'a>(ps: &[Piece<'a>], out: &mut ArrayVec<Operand<'a>, 65>)
+    requires { length ps.now ≤ 64 }
+    ensures { map operand_of out.new.items ≡ operands (map piece_of ps.now) }
+{
+    out.clear();
+    if ps.is_empty() {
+        return;
+    }
+    let mut rest = ps;
+    'parts: while let Some(i) = find_comma(rest) {
+        put_before(rest, i, out);
+        rest = tokens_after(rest, i);
+    }
+    put_operand(rest, out);
+}

@@ -1,0 +1,59 @@
+-- The first fault of a layout, and the layout of a text without one.
+use Rattle.std.specs.Prelude.{◌≡◌, ◌+◌, nat_lt, nat_le, if◌then◌else◌, ℕ, List, ◌∷◌, ◌++◌, length, Option, Some, None, Result, Ok, Err}
+use Rattle.std.specs.Bool.{then_some}
+use Rattle.std.specs.Option.{option_or}
+use Rattle.std.specs.List.{list_any}
+use Rattle.tc_link.specs.Layouts.{PlaceData, LayoutData, shares, is_placed}
+use Rattle.tcd_base.specs.Refusing.{unless}
+use Rattle.tcd_text.specs.Lines.{lines_of}
+use Rattle.tc_link.specs.LayoutLines.{LineData, blank, entry, place, line_of, entries_of, places_of}
+use Rattle.tc_link.specs.declared.layout_errors.LayoutErr.{LayoutErr}
+use Rattle.tc_link.specs.declared.layout_errors.LayoutErr.TheVariants.{BadLine, Twice, TooMany, Overlap, NoMemory}
+
+-- the fault of line n with these contents, after lines with these entries and places
+abbrev pub fault_of : ℕ → List (List ℕ) → List PlaceData → Option LineData → Option LayoutErr
+fault_of n entries places None = Some (BadLine n)
+fault_of n entries places (Some blank) = None
+fault_of n entries places (Some (entry name)) = then_some (nat_lt 0 (length entries)) (Twice n)
+fault_of n entries places (Some (place p)) =
+    if is_placed places p.section then Some (Twice n)
+    else if nat_le 64 (length places) then Some (TooMany n)
+    else then_some (list_any (shares p) places) (Overlap n)
+
+-- the fault of a line after these lines, if it has one
+abbrev pub fault_after : List (List ℕ) → List ℕ → Option LayoutErr
+fault_after before line = fault_of (length before + 1) (entries_of before) (places_of before) (line_of line)
+
+-- the fault of the first line that has one, after these lines
+unfoldable pub first_fault : List (List ℕ) → List (List ℕ) → Option LayoutErr
+first_fault before [] = None
+first_fault before (line ∷ lines) = option_or (fault_after before line) (first_fault (before ++ line ∷ []) lines)
+
+-- the layout with its first entry; without an entry, a fault at the line after the last
+abbrev pub with_entry : ℕ → List (List ℕ) → List PlaceData → Result LayoutData LayoutErr
+with_entry n [] places = Err (BadLine (n + 1))
+with_entry n (name ∷ names) places = Ok (record { entry = name; places = places })
+
+-- the layout of these lines, or their first fault
+abbrev pub layout_in : List (List ℕ) → Result LayoutData LayoutErr
+layout_in lines = unless (first_fault [] lines) (with_entry (length lines) (entries_of lines) (places_of lines))
+
+-- the layout of a text, or its first fault
+abbrev pub layout_of : List ℕ → Result LayoutData LayoutErr
+layout_of text = layout_in (lines_of text)
+
+-- the error is this fault; out of memory says nothing of the text
+abbrev pub IsFault : Option LayoutErr → LayoutErr → Type 0
+IsFault fault (BadLine n) = fault ≡ Some (BadLine n)
+IsFault fault (Twice n) = fault ≡ Some (Twice n)
+IsFault fault (TooMany n) = fault ≡ Some (TooMany n)
+IsFault fault (Overlap n) = fault ≡ Some (Overlap n)
+IsFault fault NoMemory = Unit {0}
+
+-- the error is the fault in this answer; out of memory says nothing of the text
+abbrev pub IsFaultOf : Result LayoutData LayoutErr → LayoutErr → Type 0
+IsFaultOf answer (BadLine n) = answer ≡ Err (BadLine n)
+IsFaultOf answer (Twice n) = answer ≡ Err (Twice n)
+IsFaultOf answer (TooMany n) = answer ≡ Err (TooMany n)
+IsFaultOf answer (Overlap n) = answer ≡ Err (Overlap n)
+IsFaultOf answer NoMemory = Unit {0}

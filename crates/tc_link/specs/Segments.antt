@@ -1,0 +1,27 @@
+-- The bytes of places, and the segments of an image.
+use Rattle.std.specs.Prelude.{◌-◌, nat_lt, if◌then◌else◌, ℕ, List, ◌++◌, length, map, filter, fold, replicate}
+use Rattle.std.specs.Str.{bytes_eq}
+use Rattle.elf_image.specs.Images.{SegmentData}
+use Rattle.tc_object.specs.Objects.{SectionData}
+use Rattle.tc_link.specs.Layouts.{PlaceData}
+use Rattle.tc_link.specs.PlaceSizes.{round_up}
+
+-- zeros up to a multiple of 4
+abbrev pub with_padding : List ℕ → List ℕ
+with_padding bytes = bytes ++ replicate (round_up (length bytes) - length bytes) 0
+
+-- the bytes of a place after a further section, if it has the place's name
+abbrev pub with_section : List ℕ → List ℕ → SectionData → List ℕ
+with_section name bytes s = if bytes_eq name s.name then with_padding bytes ++ s.bytes else bytes
+
+-- the sections of one name, each at a multiple of 4, the gaps zero
+unfoldable pub joined_sections : List ℕ → List SectionData → List ℕ
+joined_sections name sections = fold (with_section name) [] sections
+
+-- the segment of a place: the sections with its name
+abbrev pub segment_of : List SectionData → PlaceData → SegmentData
+segment_of sections p = record { at = p.at; bytes = joined_sections p.section sections }
+
+-- the segments: one for each place with bytes
+unfoldable pub segments_of : List PlaceData → List SectionData → List SegmentData
+segments_of places sections = filter (λ s. nat_lt 0 (length s.bytes)) (map (segment_of sections) places)

@@ -1,0 +1,152 @@
+// A map of the global symbols of objects by name, so that each look-up is a few steps.
+ghost use Rattle.std.specs.Prelude.{◌≡◌, ◌+◌, ◌++◌, ◌∷◌, nat_lt, ◌==◌, ℕ, List, [], true, false, count_by, map, filter, slice_get, OnOk, IfOk, IfErr, if◌then◌else◌, None, Some};
+ghost use Rattle.std.specs.Str.{bytes_eq};
+ghost use Rattle.tc_object.specs.Objects.{ObjectData};
+ghost use Rattle.tc_link.specs.Placing.{PlacedData, GlobalData, is_global, global_data};
+ghost use Rattle.tc_link.specs.Names.{has_global_name, globals_named, at_name, twice_at, twice_of_count, address_of, AreGlobals, CountsGlobals, DefinesGlobals};
+ghost use Rattle.tc_link.specs.declared.errors.LinkErr.TheVariants.{NoMemory};
+
+use crate::LinkErr;
+use crate::definitions::Definition;
+use std::alloc::Global;
+use std::collections::HashMap;
+use tc_object::{GLOBAL_SYMBOL, ObjectRef, SymbolRef};
+
+// Adds a definition of this name. The first one keeps its place.
+fn add_name<'a>(
+    names: &mut HashMap<&'a str, Definition>,
+    name: &'a str,
+    definition: Definition,
+) -> Result<(), LinkErr>
+    requires { definition.is_twice ≡ false }
+    ensures counts { OnOk result ((q : List ℕ) (n : ℕ) → twice_at names.old q ≡ twice_of_count n
+        → twice_at names.new q ≡ twice_of_count (n + (if bytes_eq q name.now then 1 else 0))) }
+    ensures globals { OnOk result ((placed : List PlacedData) (before : List GlobalData)
+        → AreGlobals names.old placed before → AreGlobals names.new placed
+        (before ++ record { name = name.now; address = address_of placed definition } ∷ [])) }
+    ensures err { IfErr result (λ e. e ≡ NoMemory) }
+{
+    let old = names.insert(name, definition)?;
+    let Some(first) = old else {
+        return Ok(());
+    };
+    let twice = Definition {
+        object: first.object,
+        section: first.section,
+        offset: first.offset,
+        is_twice: true,
+    };
+    names.insert(name, twice)?;
+    Ok(())
+}
+
+// Adds a symbol of object number `object`, if it is global.
+fn add_symbol<'a>(
+    names: &mut HashMap<&'a str, Definition>,
+    object: usize,
+    symbol: &SymbolRef<'a>,
+) -> Result<(), LinkErr>
+    ensures counts { OnOk result ((q : List ℕ) (n : ℕ) → twice_at names.old q ≡ twice_of_count n
+        → twice_at names.new q
+        ≡ twice_of_count (n + (if has_global_name q symbol.now then 1 else 0))) }
+    ensures globals { OnOk result ((placed : List PlacedData) (p : PlacedData)
+        (before : List GlobalData) → slice_get placed object ≡ Some p
+        → AreGlobals names.old placed before → AreGlobals names.new placed
+        (before ++ map (global_data p.bases) (filter is_global (symbol.now ∷ [])))) }
+    ensures err { IfErr result (λ e. e ≡ NoMemory) }
+{
+    let is_global = symbol.kind == GLOBAL_SYMBOL;
+    if !is_global {
+        return Ok(());
+    }
+    let definition = Definition {
+        object,
+        section: symbol.section,
+        offset: symbol.offset,
+        is_twice: false,
+    };
+    add_name(names, symbol.name, definition)
+}
+
+// Adds the global symbols of object number `object`.
+fn add_symbols<'a>(
+    names: &mut HashMap<&'a str, Definition>,
+    object: usize,
+    symbols: &[SymbolRef<'a>],
+) -> Result<(), LinkErr>
+    ensures counts { OnOk result ((q : List ℕ) (n : ℕ) → twice_at names.old q ≡ twice_of_count n
+        → twice_at names.new q ≡ twice_of_count (n + count_by (has_global_name q) symbols.now)) }
+    ensures globals { OnOk result ((placed : List PlacedData) (p : PlacedData)
+        (before : List GlobalData) → slice_get placed object ≡ Some p
+        → AreGlobals names.old placed before → AreGlobals names.new placed
+        (before ++ map (global_data p.bases) (filter is_global symbols.now))) }
+    ensures err { IfErr result (λ e. e ≡ NoMemory) }
+{
+    for symbol in symbols {
+        add_symbol(names, object, symbol)?;
+    }
+    Ok(())
+}
+
+// The number of global symbols of all objects, which bounds the number of names.
+fn count_globals(objects: &[ObjectRef<'_>]) -> usize {
+    let mut count = 0usize;
+    for object in objects {
+        for symbol in &object.symbols {
+            if symbol.kind == GLOBAL_SYMBOL {
+                count = count.saturating_add(1);
+            }
+        }
+    }
+    count
+}
+
+// An empty map, with capacity for `count` names.
+fn no_names<'a>(alloc: Global, count: usize) -> Result<HashMap<&'a str, Definition>, LinkErr>
+    ensures none { IfOk result (λ names. (q : List ℕ) → at_name names q ≡ None) }
+    ensures err { IfErr result (λ e. e ≡ NoMemory) }
+{
+    let names = HashMap::with_capacity(alloc, count)?;
+    Ok(names)
+}
+
+/// The map of the global symbols of objects by name.
+pub(crate) fn names_of<'a>(
+    alloc: Global,
+    objects: &[ObjectRef<'a>],
+) -> Result<HashMap<&'a str, Definition>, LinkErr>
+    ensures counts { IfOk result (λ names. CountsGlobals names objects.now) }
+    ensures globals { IfOk result (λ names. DefinesGlobals names objects.now) }
+    ensures err { IfErr result (λ e. e ≡ NoMemory) }
+{
+    let mut names = no_names(alloc, count_globals(objects))?;
+    for (number, object) in objects.iter().enumerate() {
+        add_symbols(&mut names, number, &object.symbols)?;
+    }
+    Ok(names)
+}
+
+/// Whether no name has two definitions. This visits the names once, without look-ups.
+pub(crate) fn are_single(names: &HashMap<&str, Definition>) -> bool
+    ensures { result ≡ true → (objects : List ObjectData) → CountsGlobals names.now objects
+        → (q : List ℕ) → nat_lt 1 (globals_named objects q) ≡ false }
+{
+    names.values().all(|definition| !definition.is_twice)
+}
+
+/// Whether several global symbols have the name.
+pub(crate) fn is_twice(names: &HashMap<&str, Definition>, name: &str) -> bool
+    ensures { (n : ℕ) → twice_at names.now name.now ≡ twice_of_count n → result ≡ nat_lt 1 n }
+{
+    match names.get(name) {
+        Some(definition) => definition.is_twice,
+        None => false,
+    }
+}
+
+/// Whether no global symbol has the name.
+pub(crate) fn is_missing(names: &HashMap<&str, Definition>, name: &str) -> bool
+    ensures { (n : ℕ) → twice_at names.now name.now ≡ twice_of_count n → result ≡ (n == 0) }
+{
+    !names.contains_key(name)
+}

@@ -1,7 +1,0 @@
-use Rattle.std.proofs.Common.{◌≡◌, drop}
-use Rattle.csa_chain.specs.MemoryChanges.{HasBytes}
-use Rattle.tc_machine.specs.Starting.{with_images}
-use Rattle.tc_machine.proofs.filling.copy_image.Given as goal
-
-abbrev pub invariant-loop-range : goal.invariant-loop-range
-invariant-loop-range l = record { copied : with_images l.image l.mem (drop l.range-index l.ranges) ≡ with_images l.image l.fn.mem l.ranges; bytes : HasBytes l.fn.mem → HasBytes l.mem }

@@ -1,0 +1,131 @@
+// Fills the memory of a start state.
+ghost use Rattle.std.specs.Prelude.{◌≡◌, ◌<◌, ◌≤◌, ◌+◌, ◌*◌, ◌^◌, [], ◌∷◌, ◌++◌, map, length, All, IsTrue, IfOk};
+ghost use Rattle.std.specs.List.{list_all};
+ghost use Rattle.elf_image.specs.Images.{segment_data, is_segment};
+ghost use Rattle.csa_chain.specs.Memory.{HasBytes};
+ghost use Rattle.tc_machine.specs.Starting.{with_image, with_images, next_link, with_links, link_at, mapped_ranges_of, IsFilled, IsCopied};
+
+use crate::contexts::put_word;
+use elf_image::{Image, Segment};
+use std::alloc::Global;
+use tc_mem::Mem;
+use tcd_base::{NoMemory, Range};
+
+/// Returns the mapped ranges: rom, ram and the save areas.
+fn mapped_ranges(
+    alloc: Global,
+    rom: &[Range],
+    ram: &[Range],
+    areas: Range,
+) -> Result<Vec<Range>, NoMemory>
+    ensures { IfOk result (λ v. v.items ≡ rom.now ++ ram.now ++ areas ∷ []) }
+{
+    let mut ranges = Vec::new(alloc);
+    ranges.extend_from_slice(rom)?;
+    ranges.extend_from_slice(ram)?;
+    ranges.push(areas)?;
+    Ok(ranges)
+}
+
+/// Copies the bytes of a segment that are in a range.
+fn copy_segment(mem: &mut Mem, segment: &Segment, range: &Range)
+    requires segment { segment.now.at + length segment.now.bytes.items ≤ 2 ^ 32 }
+    requires range { range.now.at + range.now.len ≤ 2 ^ 32 }
+    ensures copied { IsCopied (segment_data segment.now ∷ []) range.now mem.old mem.new }
+    ensures bytes { HasBytes mem.old → HasBytes mem.new }
+{
+    let from = segment.at.max(range.at);
+    let end = u64::from(segment.at) + segment.bytes.len() as u64;
+    let to = end.min(u64::from(range.at) + u64::from(range.len));
+    if u64::from(from) < to {
+        let first = (from - segment.at) as usize;
+        let last = (to - u64::from(segment.at)) as usize;
+        mem.set_bytes(from, &segment.bytes[first..last]);
+    }
+}
+
+/// Copies the bytes of segments that are in a range, those of the first segment last.
+fn copy_segments(mem: &mut Mem, segments: &[Segment], range: &Range)
+    requires segments { IsTrue (list_all is_segment (map segment_data segments.now)) }
+    requires range { range.now.at + range.now.len ≤ 2 ^ 32 }
+    ensures copied { IsCopied (map segment_data segments.now) range.now mem.old mem.new }
+    ensures bytes { HasBytes mem.old → HasBytes mem.new }
+{
+    let mut rest = segments.len();
+    while rest > 0 {
+        rest -= 1;
+        copy_segment(mem, &segments[rest], range);
+    }
+}
+
+/// Copies the image's bytes into a range.
+fn copy_range(mem: &mut Mem, image: &Image, range: &Range)
+    requires { range.now.at + range.now.len ≤ 2 ^ 32 }
+    ensures copied { mem.new ≡ with_image image.now mem.old range.now.at range.now.len }
+    ensures bytes { HasBytes mem.old → HasBytes mem.new }
+{
+    copy_segments(mem, &image.segments, range);
+}
+
+/// Copies the image's bytes into the ranges.
+fn copy_image(mem: &mut Mem, image: &Image, ranges: &[Range])
+    requires { All (λ r. r.at + r.len ≤ 2 ^ 32) ranges.now }
+    ensures copied { mem.new ≡ with_images image.now mem.old ranges.now }
+    ensures bytes { HasBytes mem.old → HasBytes mem.new }
+{
+    for range in ranges {
+        copy_range(mem, image, range);
+    }
+}
+
+/// Returns the link of the area after area `i` of `n`, or 0 after the last one.
+fn next_link(first: u32, n: u32, i: u32) -> u32
+    requires i { i < n }
+    requires first { first + n < 2 ^ 32 }
+    ensures { result ≡ next_link first n i }
+{
+    if i + 1 < n { first + (i + 1) } else { 0 }
+}
+
+/// Links `n` areas from the address `at` on; `first` is the link of the first.
+#[tactic(auto, unfolding(crate::specs::Starting::with_links, csa_chain::specs::Memory::with_words))]
+fn link_areas(mem: &mut Mem, at: u32, first: u32, n: u32)
+    requires areas { at + 64 * n ≤ 2 ^ 32 }
+    requires links { first + n < 2 ^ 32 }
+    ensures { mem.new ≡ with_links at first n mem.old n }
+{
+    for i in 0..n {
+        put_word(mem, at + 64 * i, next_link(first, n, i));
+    }
+}
+
+/// Returns the link of the area at an address.
+pub(crate) fn area_link(at: u32) -> u32
+    ensures { result ≡ link_at at }
+{
+    at / 0x1000_0000 * 0x1_0000 + at % 0x1000_0000 / 64
+}
+
+/// Returns the memory of a start state: zeros in rom, ram and `n` save areas, then the image's
+/// bytes in rom, and in each area the link of the next one.
+pub(crate) fn start_memory(
+    alloc: Global,
+    image: &Image,
+    rom: &[Range],
+    ram: &[Range],
+    at: u32,
+    n: u32,
+) -> Result<Mem, NoMemory>
+    requires rom { All (λ r. r.at + r.len ≤ 2 ^ 32) rom.now }
+    requires all { All (λ r. r.at + r.len ≤ 2 ^ 32) (mapped_ranges_of rom.now ram.now at n) }
+    requires areas { at + 64 * n ≤ 2 ^ 32 }
+    requires few { n ≤ 4096 }
+    requires links { link_at at + n < 2 ^ 32 }
+    ensures { IfOk result (λ mem. IsFilled image.now rom.now ram.now at n mem) }
+{
+    let ranges = mapped_ranges(alloc, rom, ram, Range { at, len: 64 * n })?;
+    let mut mem = Mem::of(alloc, &ranges)?;
+    copy_image(&mut mem, image, rom);
+    link_areas(&mut mem, at, area_link(at), n);
+    Ok(mem)
+}

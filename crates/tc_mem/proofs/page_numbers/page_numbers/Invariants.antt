@@ -1,0 +1,6 @@
+use Rattle.std.proofs.Common.{◌/◌, ℕ, Contains, IsTrue, take}
+use Rattle.tc_mem.specs.Pages.{is_in}
+use Rattle.tc_mem.proofs.page_numbers.page_numbers.Given as goal
+
+abbrev pub invariant-loop-range : goal.invariant-loop-range
+invariant-loop-range l = (q : ℕ) → IsTrue (is_in (take l.range-index l.ranges) q) → Contains l.numbers.items (q / 4096)

@@ -1,0 +1,236 @@
+// Readers of relocations.
+ghost use Rattle.std.specs.Prelude.{◌≡◌, ◌≤◌, ◌+◌, ◌^◌, ◌-◌, [], length, slice_index, Ok, Err, Some, None, IfOk, IfErr, MatchResult};
+ghost use Rattle.tcd_base.specs.Bytes.{half_at, word_at};
+ghost use Rattle.tcd_base.specs.FieldReaders.{Reads, many_at};
+ghost use Rattle.tc_object.specs.Answers.{IsFaultOf};
+ghost use Rattle.tc_object.specs.Objects.{size_at, last_of, is_not_below, is_behind};
+ghost use Rattle.tc_object.specs.Grammar.{reloc_section_at, reloc_offset_at, reloc_symbol_at, reloc_after};
+ghost use Rattle.tc_object.specs.Faults.{reloc_fault};
+
+use crate::fields::{is_kind, read_kind};
+use crate::symbol_reader::size_at;
+use crate::{ObjErr, Reloc, SectionRef};
+use std::alloc::Global;
+use tcd_base::{BAD_ORDER, BAD_VALUE, Cursor, FormErr, fault, read_u16, read_u32};
+
+// The least kind of relocations.
+const FIRST_KIND: u8 = 1;
+
+// The greatest kind of relocations.
+const LAST_KIND: u8 = 7;
+
+// The size of a relocation in the file.
+const RELOC_BYTES: usize = 13;
+
+// Whether a section isn't below the section of the last relocation.
+fn is_not_below(before: &[Reloc], section: u16) -> bool
+    ensures { result ≡ is_not_below (last_of before.now) section }
+{
+    match before.last() {
+        None => true,
+        Some(last) => last.section <= section,
+    }
+}
+
+// Whether an offset of a section comes after the place of the last relocation.
+fn is_behind(before: &[Reloc], section: u16, offset: u32) -> bool
+    ensures { result ≡ is_behind (last_of before.now) section offset }
+{
+    match before.last() {
+        None => true,
+        Some(last) => last.section < section || (last.section == section && last.offset < offset),
+    }
+}
+
+/// Reads the section of the relocation after these.
+#[tactic(auto, unfolding(crate::specs::Grammar::reloc_section_at))]
+fn read_section_number(
+    c: &mut Cursor<'_>,
+    sections: &[SectionRef<'_>],
+    before: &[Reloc],
+) -> Result<u16, FormErr>
+    requires { length c.old.bytes ≤ 2 ^ 30 }
+    ensures read { Reads result c.new (reloc_section_at sections.now before.now c.old) }
+    ensures bytes { c.new.bytes ≡ c.old.bytes }
+{
+    let start = c.place();
+    let section = read_u16(c)?;
+    if !is_not_below(before, section) {
+        return Err(fault(BAD_ORDER, start));
+    }
+    if section as usize >= sections.len() {
+        return Err(fault(BAD_VALUE, start));
+    }
+    Ok(section)
+}
+
+/// Reads the offset of the relocation after these. The fault of a wrong order is at `section_at`,
+/// the byte offset of the relocation's section field.
+#[tactic(auto, unfolding(crate::specs::Grammar::reloc_offset_at))]
+fn read_offset(
+    c: &mut Cursor<'_>,
+    sections: &[SectionRef<'_>],
+    before: &[Reloc],
+    section: u16,
+    section_at: usize,
+) -> Result<u32, FormErr>
+    requires short { length c.old.bytes ≤ 2 ^ 30 }
+    requires start { section_at ≤ length c.old.bytes }
+    ensures read { Reads result c.new
+        (reloc_offset_at sections.now before.now section
+        (record { bytes = c.old.bytes; place = section_at }) c.old) }
+    ensures bytes { c.new.bytes ≡ c.old.bytes }
+{
+    let start = c.place();
+    let offset = read_u32(c)?;
+    if !is_behind(before, section, offset) {
+        return Err(fault(BAD_ORDER, section_at));
+    }
+    if offset as usize + 4 > size_at(sections, section) {
+        return Err(fault(BAD_VALUE, start));
+    }
+    Ok(offset)
+}
+
+/// Reads the number of a symbol, which must be below `symbols`.
+#[tactic(auto, unfolding(crate::specs::Grammar::reloc_symbol_at))]
+fn read_symbol_number(c: &mut Cursor<'_>, symbols: u16) -> Result<u16, FormErr>
+    requires { length c.old.bytes ≤ 2 ^ 30 }
+    ensures read { Reads result c.new (reloc_symbol_at symbols c.old) }
+    ensures bytes { c.new.bytes ≡ c.old.bytes }
+{
+    let start = c.place();
+    let symbol = read_u16(c)?;
+    if symbol >= symbols {
+        return Err(fault(BAD_VALUE, start));
+    }
+    Ok(symbol)
+}
+
+/// Reads the relocation after these field by field. `read_reloc` calls it if the file ends within
+/// the relocation, so that the fault is at the first field that is cut off.
+#[inline(never)]
+#[tactic(auto, unfolding(crate::specs::Grammar::reloc_after))]
+fn read_reloc_fields(
+    c: &mut Cursor<'_>,
+    sections: &[SectionRef<'_>],
+    symbols: u16,
+    before: &[Reloc],
+) -> Result<Reloc, FormErr>
+    requires { length c.old.bytes ≤ 2 ^ 30 }
+    ensures read { Reads result c.new (reloc_after sections.now symbols before.now c.old) }
+    ensures bytes { c.new.bytes ≡ c.old.bytes }
+{
+    let start = c.place();
+    let section = read_section_number(c, sections, before)?;
+    let offset = read_offset(c, sections, before, section, start)?;
+    let kind = read_kind(c, FIRST_KIND, LAST_KIND)?;
+    let symbol = read_symbol_number(c, symbols)?;
+    let addend = read_u32(c)?;
+    Ok(Reloc {
+        section,
+        offset,
+        kind,
+        symbol,
+        addend,
+    })
+}
+
+// The relocation in these 13 bytes.
+fn reloc_of(bytes: &[u8]) -> Reloc
+    requires { length bytes.now ≡ 13 }
+    ensures { result ≡ record {
+      section = half_at bytes.now 0;
+      offset = word_at bytes.now 2;
+      kind = slice_index bytes.now 6;
+      symbol = half_at bytes.now 7;
+      addend = word_at bytes.now 9;
+    } }
+{
+    Reloc {
+        section: u16::from_le_bytes([bytes[0], bytes[1]]),
+        offset: u32::from_le_bytes([bytes[2], bytes[3], bytes[4], bytes[5]]),
+        kind: bytes[6],
+        symbol: u16::from_le_bytes([bytes[7], bytes[8]]),
+        addend: u32::from_le_bytes([bytes[9], bytes[10], bytes[11], bytes[12]]),
+    }
+}
+
+// The first fault of the relocation after these, whose bytes begin at the byte offset `start`.
+#[tactic(auto, unfolding(crate::specs::Faults::reloc_fault))]
+fn check_reloc(
+    sections: &[SectionRef<'_>],
+    symbols: u16,
+    before: &[Reloc],
+    reloc: &Reloc,
+    start: usize,
+) -> Result<(), FormErr>
+    requires { start + 13 ≤ 2 ^ 30 }
+    ensures { MatchResult result
+        (λ _. reloc_fault sections.now symbols before.now reloc.now start ≡ None)
+        (λ e. reloc_fault sections.now symbols before.now reloc.now start ≡ Some e) }
+{
+    if !is_not_below(before, reloc.section) {
+        return Err(fault(BAD_ORDER, start));
+    }
+    if reloc.section as usize >= sections.len() {
+        return Err(fault(BAD_VALUE, start));
+    }
+    if !is_behind(before, reloc.section, reloc.offset) {
+        return Err(fault(BAD_ORDER, start));
+    }
+    if reloc.offset as usize + 4 > size_at(sections, reloc.section) {
+        return Err(fault(BAD_VALUE, start + 2));
+    }
+    if !is_kind(FIRST_KIND, LAST_KIND, reloc.kind) {
+        return Err(fault(BAD_VALUE, start + 6));
+    }
+    if reloc.symbol >= symbols {
+        return Err(fault(BAD_VALUE, start + 7));
+    }
+    Ok(())
+}
+
+/// Reads the relocation after these from its 13 bytes at once, if the file holds all of them.
+fn read_reloc(
+    c: &mut Cursor<'_>,
+    sections: &[SectionRef<'_>],
+    symbols: u16,
+    before: &[Reloc],
+) -> Result<Reloc, FormErr>
+    requires { length c.old.bytes ≤ 2 ^ 30 }
+    ensures read { Reads result c.new (reloc_after sections.now symbols before.now c.old) }
+    ensures bytes { c.new.bytes ≡ c.old.bytes }
+{
+    let start = c.place();
+    let Some(bytes) = c.take(RELOC_BYTES) else {
+        return read_reloc_fields(c, sections, symbols, before);
+    };
+    let reloc = reloc_of(bytes);
+    check_reloc(sections, symbols, before, &reloc, start)?;
+    Ok(reloc)
+}
+
+/// Reads `count` relocations.
+#[inline(never)]
+pub(crate) fn read_relocs(
+    alloc: Global,
+    c: &mut Cursor<'_>,
+    sections: &[SectionRef<'_>],
+    symbols: u16,
+    count: u16,
+) -> Result<Vec<Reloc>, ObjErr>
+    requires { length c.old.bytes ≤ 2 ^ 30 }
+    ensures ok { IfOk result
+        (λ rs. many_at (reloc_after sections.now symbols) count [] c.old ≡ Ok (rs.items, c.new)) }
+    ensures err { IfErr result
+        (IsFaultOf (many_at (reloc_after sections.now symbols) count [] c.old)) }
+    ensures bytes { c.new.bytes ≡ c.old.bytes }
+{
+    let mut relocs = Vec::with_capacity(alloc, count as usize)?;
+    for _i in 0..count {
+        let reloc = read_reloc(c, sections, symbols, &relocs)?;
+        relocs.push(reloc)?;
+    }
+    Ok(relocs)
+}

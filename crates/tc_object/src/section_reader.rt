@@ -1,0 +1,71 @@
+// Readers of sections.
+ghost use Rattle.std.specs.Prelude.{◌≡◌, ◌≤◌, ◌^◌, ◌-◌, [], length, Ok, Err, IfOk, IfErr, MatchResult};
+ghost use Rattle.tc_object.specs.Answers.{IsFaultOf};
+ghost use Rattle.tcd_base.specs.FieldReaders.{Reads, many_at};
+ghost use Rattle.tc_object.specs.Objects.{is_section_name};
+ghost use Rattle.tc_object.specs.Grammar.{name_after, section_after};
+
+use crate::names::{read_name_bytes, read_name_length};
+use crate::{ObjErr, SectionRef};
+use std::alloc::Global;
+use tcd_base::{BAD_VALUE, Cursor, FormErr, fault, read_bytes, read_u32};
+
+// Whether one of these sections has the name. A search by hand is enough: there are at most 64.
+fn is_section_name(sections: &[SectionRef<'_>], name: &str) -> bool
+    ensures { result ≡ is_section_name sections.now name.now }
+{
+    sections.iter().any(|section| name == section.name)
+}
+
+/// Reads a name that none of these sections has.
+#[tactic(auto, unfolding(crate::specs::Grammar::name_after))]
+fn read_section_name<'a>(c: &mut Cursor<'a>, before: &[SectionRef<'_>]) -> Result<&'a str, FormErr>
+    requires { length c.old.bytes ≤ 2 ^ 30 }
+    ensures read { MatchResult result
+        (λ name. name_after (is_section_name before.now) c.old ≡ Ok (name.now, c.new))
+        (λ e. name_after (is_section_name before.now) c.old ≡ Err e) }
+    ensures bytes { c.new.bytes ≡ c.old.bytes }
+{
+    let count = read_name_length(c)?;
+    let start = c.place();
+    let name = read_name_bytes(c, count)?;
+    if is_section_name(before, name) {
+        return Err(fault(BAD_VALUE, start));
+    }
+    Ok(name)
+}
+
+/// Reads the section after these.
+#[tactic(auto, unfolding(crate::specs::Grammar::section_after, crate::specs::Grammar::section_with))]
+fn read_section<'a>(
+    c: &mut Cursor<'a>,
+    before: &[SectionRef<'_>],
+) -> Result<SectionRef<'a>, FormErr>
+    requires { length c.old.bytes ≤ 2 ^ 30 }
+    ensures read { Reads result c.new (section_after before.now c.old) }
+    ensures bytes { c.new.bytes ≡ c.old.bytes }
+{
+    let name = read_section_name(c, before)?;
+    let size = read_u32(c)?;
+    let bytes = read_bytes(c, size as usize)?;
+    Ok(SectionRef { name, bytes })
+}
+
+/// Reads `count` sections.
+pub(crate) fn read_sections<'a>(
+    alloc: Global,
+    c: &mut Cursor<'a>,
+    count: u16,
+) -> Result<Vec<SectionRef<'a>>, ObjErr>
+    requires { length c.old.bytes ≤ 2 ^ 30 }
+    ensures ok { IfOk result (λ ss. many_at section_after count [] c.old ≡ Ok (ss.items, c.new)) }
+    ensures err { IfErr result (IsFaultOf (many_at section_after count [] c.old)) }
+    ensures bytes { c.new.bytes ≡ c.old.bytes }
+{
+    let mut sections = Vec::with_capacity(alloc, count as usize)?;
+    for _i in 0..count {
+        let section = read_section(c, &sections)?;
+        sections.push(section)?;
+    }
+    Ok(sections)
+}

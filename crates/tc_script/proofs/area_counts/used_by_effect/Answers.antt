@@ -1,0 +1,18 @@
+use Rattle.std.proofs.Common.{arith}
+use Rattle.tc_script.proofs.AreaLaws.{as_told}
+use Rattle.tc_script.proofs.area_counts.used_by_effect.Goals as goal
+
+pub returns-in-Stays : goal.returns-in-Stays
+returns-in-Stays c = as_told _ _ c.args.used.now c.args.m.now c.in-Stays.is c.requires
+
+pub overflow_add-used : goal.overflow_add-used
+overflow_add-used c = let few = (as_told _ _ c.args.used.now c.args.m.now c.in-Saves.is c.requires).0 in omega arith
+
+pub returns-in-Saves : goal.returns-in-Saves
+returns-in-Saves c = (as_told _ _ c.args.used.now c.args.m.now c.in-Saves.is c.requires).1
+
+pub overflow_sub-used : goal.overflow_sub-used
+overflow_sub-used c = let some = (as_told _ _ c.args.used.now c.args.m.now c.in-Restores.is c.requires).0 in omega arith
+
+pub returns-in-Restores : goal.returns-in-Restores
+returns-in-Restores c = (as_told _ _ c.args.used.now c.args.m.now c.in-Restores.is c.requires).1

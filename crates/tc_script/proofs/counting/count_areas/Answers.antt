@@ -1,7 +1,0 @@
-use Rattle.std.proofs.Common.{refl}
-use Rattle.std.proofs.lemmas.Bool.{eqb-true}
-use Rattle.tc_script.proofs.AreaLaws.{counted_anew}
-use Rattle.tc_script.proofs.counting.count_areas.Goals as goal
-
-pub returns : goal.returns
-returns c = counted_anew c.args.m.now _ c.used-count.ensures refl (λ e. eqb-true _ _ e)

@@ -1,4 +1,0 @@
-use Rattle.tc_script.proofs.counting.used_after.Goals as goal
-
-pub used_by_effect-requires : goal.used_by_effect-requires
-used_by_effect-requires c = c.requires c.in-Running.is

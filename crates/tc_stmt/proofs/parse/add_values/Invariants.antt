@@ -1,8 +1,0 @@
-use Rattle.std.proofs.Common.{◌≡◌, ◌++◌, take, map}
-use Rattle.tc_lex.specs.Operands.{operand_of}
-use Rattle.tc_stmt.specs.Items.{item_of}
-use Rattle.tc_stmt.specs.Values.{value_item}
-use Rattle.tc_stmt.proofs.parse.add_values.Given as goal
-
-abbrev pub invariant-loop-o : goal.invariant-loop-o
-invariant-loop-o l = map item_of l.items.items ≡ map item_of l.initial.items.items ++ map (value_item l.width) (take l.o-index (map operand_of l.os))

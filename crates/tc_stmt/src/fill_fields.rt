@@ -1,0 +1,463 @@
+// Fills the fields of a row from the operands of a statement.
+ghost use Rattle.std.specs.Prelude.{◌≡◌, ◌<◌, ◌≤◌, ◌+◌, ◌^◌, map, length, true, if◌then◌else◌, ◌==◌, false, ◌*◌};
+ghost use Rattle.tc_isa.specs.Rows.{row_of};
+ghost use Rattle.tc_isa.specs.Forms.{bounds};
+ghost use Rattle.tc_lex.specs.Operands.{value_of, operand_of};
+ghost use Rattle.tc_stmt.specs.SourceRules.{no_rule};
+ghost use Rattle.tc_stmt.specs.RowFields.{Fills, row_fields_of, set_field, field_of, with_value as put_in};
+ghost use Rattle.tc_stmt.specs.Filling.{put_register, put_number, half_kind, fill_value, fill_memory, fill_target, put_absolute, fill_absolute, fill_register, fill_a10, fill_plain, fill, is_named as named};
+ghost use Rattle.tc_stmt.specs.Displacements.{displacement_rule, with_displacement, target_kind, is_far};
+ghost use Rattle.tc_stmt.specs.Values.{register_of, fits, wrap};
+
+use crate::form_index::{ABS, B, BOL, SBR, form_index};
+use crate::row_fields::{NO_RELOC, RowFields};
+use crate::shape_index::{ABSENT, HIGH, HUGE, LOW, NUMBER, SUM, WORD, shape_index};
+use crate::source_rules::{FAR_TARGET, NO_RULE, ODD_DISPLACEMENT, WIDE_NUMBER, WRONG_REGISTER};
+use crate::symbols::{break_rule, misplace, with_symbol};
+use crate::want::{Field, Want};
+use tc_isa::{ABS24, Fields, Form, HI16, LO16, OFFSET16, REL15, REL24, Row, bounds_of};
+use tc_lex::{Operand, Shape, Value, is_text};
+
+// The number of a name that is no register: above the numbers of all registers.
+const NO_REGISTER: u8 = 64;
+
+#[tactic(auto, unfolding(crate::specs::RowFields::set_field))]
+fn set_field(field: Field, v: u32, f: &mut Fields)
+    ensures { f.new ≡ set_field field v f.old }
+{
+    match field {
+        Field::C => f.c = (v % 256) as u8,
+        Field::S1 => f.s1 = (v % 256) as u8,
+        Field::S2 => f.s2 = (v % 256) as u8,
+        Field::N => f.n = (v % 256) as u8,
+        Field::K => f.k = v,
+    }
+}
+
+/// The value in a field.
+#[tactic(auto, unfolding(crate::specs::RowFields::field_of))]
+pub fn field_of(field: Field, f: &Fields) -> u32
+    ensures { result ≡ field_of field f.now }
+{
+    match field {
+        Field::C => u32::from(f.c),
+        Field::S1 => u32::from(f.s1),
+        Field::S2 => u32::from(f.s2),
+        Field::N => u32::from(f.n),
+        Field::K => f.k,
+    }
+}
+
+fn bank_of(c: u8) -> u8
+    ensures { result ≡ (if c == 100 then 0 else (if c == 97 then 16 else 64)) }
+{
+    if c == b'd' {
+        0
+    } else if c == b'a' {
+        16
+    } else {
+        NO_REGISTER
+    }
+}
+
+// The number of a register: 0 to 15 for d0 to d15, 16 to 31 for a0 to a15, and `NO_REGISTER` or
+// more for any other name.
+#[tactic(auto, unfolding(crate::specs::RowFields::register_of, tc_lex::specs::Bytes::is_digit))]
+fn register_of(name: &[u8]) -> u8
+    ensures value { result ≡ register_of name.now }
+{
+    if name.len() == 2 && b'0' <= name[1] && name[1] <= b'9' {
+        bank_of(name[0]) + (name[1] - b'0')
+    } else if name.len() == 3 && name[1] == b'1' && b'0' <= name[2] && name[2] <= b'5' {
+        bank_of(name[0]) + (name[2] - (b'0' - 10))
+    } else if name.is_empty() {
+        NO_REGISTER + NO_REGISTER
+    } else {
+        bank_of(name[0]) + NO_REGISTER
+    }
+}
+
+fn put(field: Field, v: u32, acc: &mut RowFields<'_>)
+    ensures { row_fields_of acc.new ≡ put_in field v (row_fields_of acc.old) }
+{
+    set_field(field, v, &mut acc.fields);
+}
+
+#[tactic(auto, unfolding(crate::specs::RowFields::put_register))]
+fn put_register(bank: bool, field: Field, name: &[u8], acc: &mut RowFields<'_>)
+    ensures { row_fields_of acc.new
+        ≡ put_register bank field name.now (row_fields_of acc.old) }
+{
+    let reg = register_of(name);
+    if reg / 16 == (if bank { 1 } else { 0 }) {
+        put(field, u32::from(reg % 16), acc);
+    } else {
+        break_rule(WRONG_REGISTER, acc);
+    }
+}
+
+#[tactic(auto, unfolding(crate::specs::RowFields::fits))]
+fn fits(signed: bool, bound: u32, minus: bool, size: u128) -> bool
+    ensures value { result ≡ fits signed bound minus size }
+    ensures within { result ≡ true → size ≤ bound }
+{
+    if signed {
+        if minus {
+            size <= u128::from(bound / 2)
+        } else {
+            size < u128::from(bound / 2)
+        }
+    } else if minus {
+        size == 0
+    } else {
+        size < u128::from(bound)
+    }
+}
+
+fn wrap(bound: u32, minus: bool, size: u32) -> u32
+    requires { size ≤ bound }
+    ensures { result ≡ wrap bound minus size }
+{
+    if minus && size != 0 {
+        bound - size
+    } else {
+        size
+    }
+}
+
+#[tactic(auto, unfolding(crate::specs::RowFields::put_number))]
+fn put_number(
+    form: Form,
+    signed: bool,
+    field: Field,
+    minus: bool,
+    size: u128,
+    acc: &mut RowFields<'_>,
+)
+    ensures { row_fields_of acc.new
+        ≡ put_number form signed field minus size (row_fields_of acc.old) }
+{
+    let bound = field_of(field, &bounds_of(form));
+    if fits(signed, bound, minus, size) {
+        put(field, wrap(bound, minus, size as u32), acc);
+    } else {
+        break_rule(WIDE_NUMBER, acc);
+    }
+}
+
+fn is_named(row: &Row, name: &str) -> bool
+    ensures { result ≡ named (row_of row.now) name.now }
+{
+    is_text(row.name.as_bytes(), name)
+}
+
+#[tactic(auto, unfolding(crate::specs::RowFields::half_kind))]
+fn half_kind(row: &Row, shape: Shape) -> u8
+    ensures { result ≡ half_kind (row_of row.now) shape }
+{
+    if shape_index(shape) == HIGH {
+        if is_named(row, "movh")
+            || is_named(row, "movh.a")
+            || is_named(row, "addih")
+            || is_named(row, "addih.a")
+        {
+            HI16
+        } else {
+            NO_RELOC
+        }
+    } else if is_named(row, "addi") {
+        LO16
+    } else if form_index(row.form) == BOL {
+        OFFSET16
+    } else {
+        NO_RELOC
+    }
+}
+
+#[tactic(auto, unfolding(crate::specs::RowFields::fill_value))]
+fn fill_value<'a>(
+    row: &Row,
+    signed: bool,
+    field: Field,
+    v: &Value<'a>,
+    acc: &mut RowFields<'a>,
+) -> bool
+    ensures { Fills result acc.new
+        (fill_value (row_of row.now) signed field (value_of v.now) (row_fields_of acc.old)) }
+{
+    let shape = shape_index(v.shape);
+    if shape == NUMBER {
+        put_number(row.form, signed, field, v.minus, v.size, acc);
+        true
+    } else if shape == HUGE {
+        break_rule(WIDE_NUMBER, acc);
+        true
+    } else if shape == WORD || shape == SUM {
+        misplace(v, acc);
+        true
+    } else if shape == HIGH || shape == LOW {
+        let kind = half_kind(row, v.shape);
+        if kind == NO_RELOC {
+            misplace(v, acc);
+        } else {
+            with_symbol(kind, v, acc);
+        }
+        true
+    } else {
+        false
+    }
+}
+
+#[tactic(auto, unfolding(crate::specs::RowFields::fill_memory))]
+fn fill_memory<'a>(
+    row: &Row,
+    plus: bool,
+    offset: bool,
+    o: &Operand<'a>,
+    acc: &mut RowFields<'a>,
+) -> bool
+    ensures { Fills result acc.new
+        (fill_memory (row_of row.now) plus offset (operand_of o.now) (row_fields_of acc.old)) }
+{
+    if o.is_memory && (if o.plus { plus } else { !plus }) {
+        if shape_index(o.value.shape) == ABSENT {
+            put_register(true, Field::S2, o.base, acc);
+            true
+        } else if offset {
+            put_register(true, Field::S2, o.base, acc);
+            fill_value(row, true, Field::K, &o.value, acc)
+        } else {
+            false
+        }
+    } else {
+        false
+    }
+}
+
+// The number of constants that a form with a target can hold.
+#[tactic(auto, unfolding(tc_isa::specs::Words::bounds))]
+fn bound_of(form: Form) -> u32
+    ensures value { result ≡ (bounds form).k }
+    ensures small { result < 2 ^ 31 }
+    ensures some { 1 ≤ result }
+{
+    bounds_of(form).k
+}
+
+fn is_far(form: Form, bound: u32, minus: bool, size: u128) -> bool
+    requires { 1 ≤ bound }
+    ensures value { result ≡ is_far form bound minus size }
+    ensures near { result ≡ false → size ≤ 2 * bound }
+{
+    let bound = u128::from(bound);
+    if form_index(form) == SBR {
+        if minus {
+            size != 0
+        } else {
+            2 * (bound - 1) < size
+        }
+    } else if minus {
+        bound < size
+    } else {
+        bound.saturating_sub(2) < size
+    }
+}
+
+// The least rule that a displacement of `size` bytes breaks, or no rule.
+#[tactic(auto, unfolding(crate::specs::RowFields::displacement_rule))]
+fn displacement_rule(row: &Row, minus: bool, size: u128) -> u8
+    ensures value { result ≡ displacement_rule (row_of row.now) minus size }
+    ensures near { result ≡ no_rule → size ≤ 2 * (bounds row.now.form).k }
+{
+    let by_odd = if size % 2 == 1 {
+        ODD_DISPLACEMENT
+    } else {
+        NO_RULE
+    };
+    let too_far = if row.op1 % 2 == 1 {
+        WIDE_NUMBER
+    } else {
+        FAR_TARGET
+    };
+    let by_far: u8 = if is_far(row.form, bound_of(row.form), minus, size) {
+        too_far
+    } else {
+        NO_RULE
+    };
+    by_far.min(by_odd)
+}
+
+#[tactic(auto, unfolding(crate::specs::RowFields::with_displacement))]
+fn displace(row: &Row, minus: bool, size: u128, acc: &mut RowFields<'_>)
+    ensures { row_fields_of acc.new
+        ≡ with_displacement (row_of row.now) minus size (row_fields_of acc.old) }
+{
+    let rule = displacement_rule(row, minus, size);
+    if rule == NO_RULE {
+        put(
+            Field::K,
+            wrap(bound_of(row.form), minus, (size / 2) as u32),
+            acc,
+        );
+    } else {
+        break_rule(rule, acc);
+    }
+}
+
+/// The row's fields with a displacement of `size` bytes, and the least rule that is broken then.
+pub fn with_displacement<'a>(
+    row: &Row,
+    minus: bool,
+    size: u128,
+    acc: RowFields<'a>,
+) -> RowFields<'a>
+    ensures { row_fields_of result
+        ≡ with_displacement (row_of row.now) minus size (row_fields_of acc.entry) }
+{
+    let mut made = acc;
+    displace(row, minus, size, &mut made);
+    made
+}
+
+#[tactic(auto, unfolding(crate::specs::RowFields::target_kind))]
+fn target_kind(row: &Row) -> u8
+    ensures { result ≡ target_kind (row_of row.now) }
+{
+    if row.op1 % 2 == 1 {
+        if form_index(row.form) == B {
+            REL24
+        } else {
+            REL15
+        }
+    } else {
+        NO_RELOC
+    }
+}
+
+#[tactic(auto, unfolding(crate::specs::RowFields::fill_target))]
+fn fill_target<'a>(row: &Row, v: &Value<'a>, acc: &mut RowFields<'a>) -> bool
+    ensures { Fills result acc.new
+        (fill_target (row_of row.now) (value_of v.now) (row_fields_of acc.old)) }
+{
+    let shape = shape_index(v.shape);
+    if shape == SUM && is_text(v.name, ".") {
+        if v.wide {
+            break_rule(WIDE_NUMBER, acc);
+        } else {
+            displace(row, v.minus, v.size, acc);
+        }
+        true
+    } else if shape == WORD || shape == SUM {
+        with_symbol(target_kind(row), v, acc);
+        true
+    } else if shape == HIGH || shape == LOW {
+        misplace(v, acc);
+        true
+    } else {
+        false
+    }
+}
+
+#[tactic(auto, unfolding(crate::specs::RowFields::put_absolute))]
+fn put_absolute(form: Form, minus: bool, size: u128, acc: &mut RowFields<'_>)
+    ensures { row_fields_of acc.new ≡ put_absolute form minus size (row_fields_of acc.old) }
+{
+    if (minus && size != 0) || 0x1_0000_0000 <= size {
+        break_rule(WIDE_NUMBER, acc);
+    } else if form_index(form) == ABS {
+        if size / 16384 % 16384 == 0 {
+            put(
+                Field::K,
+                (size / 268435456 * 16384 + size % 16384) as u32,
+                acc,
+            );
+        } else {
+            break_rule(WIDE_NUMBER, acc);
+        }
+    } else if size / 2097152 % 128 == 0 && size % 2 == 0 {
+        put(
+            Field::K,
+            (size / 268435456 * 1048576 + size % 2097152 / 2) as u32,
+            acc,
+        );
+    } else {
+        break_rule(WIDE_NUMBER, acc);
+    }
+}
+
+#[tactic(auto, unfolding(crate::specs::RowFields::fill_absolute))]
+fn fill_absolute<'a>(row: &Row, v: &Value<'a>, acc: &mut RowFields<'a>) -> bool
+    ensures { Fills result acc.new
+        (fill_absolute (row_of row.now) (value_of v.now) (row_fields_of acc.old)) }
+{
+    let shape = shape_index(v.shape);
+    if shape == NUMBER {
+        put_absolute(row.form, v.minus, v.size, acc);
+        true
+    } else if shape == HUGE {
+        break_rule(WIDE_NUMBER, acc);
+        true
+    } else if shape == WORD || shape == SUM {
+        if form_index(row.form) == ABS {
+            misplace(v, acc);
+        } else {
+            with_symbol(ABS24, v, acc);
+        }
+        true
+    } else if shape == HIGH || shape == LOW {
+        misplace(v, acc);
+        true
+    } else {
+        false
+    }
+}
+
+#[tactic(auto, unfolding(crate::specs::RowFields::fill_register))]
+fn fill_register(bank: bool, field: Field, v: &Value<'_>, acc: &mut RowFields<'_>) -> bool
+    ensures { Fills result acc.new
+        (fill_register bank field (value_of v.now) (row_fields_of acc.old)) }
+{
+    if shape_index(v.shape) == WORD {
+        put_register(bank, field, v.name, acc);
+        true
+    } else {
+        false
+    }
+}
+
+#[tactic(auto, unfolding(crate::specs::RowFields::fill_a10))]
+fn fill_a10(v: &Value<'_>, acc: &mut RowFields<'_>) -> bool
+    ensures { Fills result acc.new (fill_a10 (value_of v.now) (row_fields_of acc.old)) }
+{
+    if shape_index(v.shape) == WORD {
+        if !is_text(v.name, "a10") {
+            break_rule(WRONG_REGISTER, acc);
+        }
+        true
+    } else {
+        false
+    }
+}
+
+/// Fills the fields of an operand that the row wants here. Returns false if the operand has another
+/// form.
+#[tactic(auto, unfolding(crate::specs::RowFields::fill, crate::specs::RowFields::fill_plain))]
+pub(crate) fn fill<'a>(row: &Row, want: Want, o: &Operand<'a>, acc: &mut RowFields<'a>) -> bool
+    ensures { Fills result acc.new
+        (fill (row_of row.now) want (operand_of o.now) (row_fields_of acc.old)) }
+{
+    if let Want::Memory(plus, offset) = want {
+        return fill_memory(row, plus, offset, o, acc);
+    }
+    if o.is_memory {
+        return false;
+    }
+    match want {
+        Want::Reg(bank, field) => fill_register(bank, field, &o.value, acc),
+        Want::A10 => fill_a10(&o.value, acc),
+        Want::Number(signed, field) => fill_value(row, signed, field, &o.value, acc),
+        Want::Target => fill_target(row, &o.value, acc),
+        Want::Absolute => fill_absolute(row, &o.value, acc),
+        Want::Memory(_, _) => false,
+    }
+}

@@ -1,0 +1,401 @@
+// Reads a line: its label, its statement and its operands.
+ghost use Rattle.std.specs.Prelude.{◌≡◌, ◌++◌, OnOk, IfOk, ◌≤◌, ◌<◌, ◌+◌, map, length, find, option_map, drop, true, [], ◌∷◌, ◌⊎◌, ◌==◌, if◌then◌else◌, min};
+ghost use Rattle.std.specs.Option.{option_copied};
+ghost use Rattle.std.specs.Str.{bytes_eq};
+ghost use Rattle.tc_lex.specs.Cut.{tokens_of};
+ghost use Rattle.tc_isa.specs.Rows.{row_of, listed};
+ghost use Rattle.tc_stmt.specs.StatementRow.{statement as statement_of};
+ghost use Rattle.tc_lex.specs.Pieces.{piece_of, text_at as text_in_pieces};
+ghost use Rattle.tc_lex.specs.Operands.{operand_of, operands as operands_in};
+ghost use Rattle.tc_stmt.specs.Items.{item_of, label, section, global};
+ghost use Rattle.tc_stmt.specs.DataDirectives.{value_rule as value_rule_of, value_item, space_rule as space_rule_of, space_item as space_item_of};
+ghost use Rattle.tc_stmt.specs.Lines.{line_data, Adds, behind, named_line, is_word_operand, word_of, space_line, values_rule, values_line, size_of_name, stated_line, line_from, line_with_label, pieces_line, has_label, label_of, label_before, line_in, code_line};
+
+use crate::data::{space_item, space_rule, value_item, value_rule};
+use crate::item::Item;
+use crate::shape_index::WORD;
+use crate::source::Line;
+use crate::source_rules::{BAD_TOKEN, NO_RULE, WRONG_OPERANDS};
+use crate::{shape_index, statement};
+use arrayvec::ArrayVec;
+use std::alloc::AllocError;
+use tc_isa::{Row, rows};
+use tc_lex::{Operand, Piece, TokenKind, cut_pieces, is_kind, is_text, operands, text_at};
+
+// Adds no item, and returns the rule.
+fn add_nothing(rule: u8, items: &mut Vec<Item<'_>>) -> Result<u8, AllocError>
+    ensures { Adds (line_data rule []) result items.old.items items.new.items }
+{
+    Ok(rule)
+}
+
+// Adds one item, and returns the rule.
+fn add_item<'a>(rule: u8, item: Item<'a>, items: &mut Vec<Item<'a>>) -> Result<u8, AllocError>
+    ensures { Adds (line_data rule
+        (item_of item.entry ∷ [])) result items.old.items items.new.items }
+{
+    items.push(item)?;
+    Ok(rule)
+}
+
+#[tactic(auto, unfolding(crate::specs::Lines::is_word_operand))]
+fn is_word_operand(o: Operand<'_>) -> bool
+    ensures { result ≡ is_word_operand (operand_of o.entry) }
+{
+    !o.is_memory && shape_index(o.value.shape) == WORD
+}
+
+// The name that is the only operand, if it is so.
+fn word_of<'a>(os: &[Operand<'a>]) -> Option<&'a [u8]>
+    ensures { option_copied result ≡ word_of (map operand_of os.now) }
+{
+    if os.len() != 1 {
+        return None;
+    }
+    let operand = os[0];
+    if is_word_operand(operand) {
+        Some(operand.value.name)
+    } else {
+        None
+    }
+}
+
+#[tactic(auto, unfolding(crate::specs::Lines::named_line))]
+fn section_line<'a>(os: &[Operand<'a>], items: &mut Vec<Item<'a>>) -> Result<u8, AllocError>
+    ensures { Adds (named_line section
+        (map operand_of os.now)) result items.old.items items.new.items }
+{
+    match word_of(os) {
+        None => add_nothing(WRONG_OPERANDS, items),
+        Some(name) => add_item(NO_RULE, Item::Section(name), items),
+    }
+}
+
+#[tactic(auto, unfolding(crate::specs::Lines::named_line))]
+fn global_line<'a>(os: &[Operand<'a>], items: &mut Vec<Item<'a>>) -> Result<u8, AllocError>
+    ensures { Adds (named_line global
+        (map operand_of os.now)) result items.old.items items.new.items }
+{
+    match word_of(os) {
+        None => add_nothing(WRONG_OPERANDS, items),
+        Some(name) => add_item(NO_RULE, Item::Global(name), items),
+    }
+}
+
+fn one_space<'a>(o: Operand<'a>, items: &mut Vec<Item<'a>>) -> Result<u8, AllocError>
+    ensures { Adds (line_data (space_rule_of (operand_of o.entry))
+        (space_item_of (operand_of o.entry) ∷ []))
+        result items.old.items items.new.items }
+{
+    add_item(space_rule(o), space_item(o), items)
+}
+
+fn space_line<'a>(os: &[Operand<'a>], items: &mut Vec<Item<'a>>) -> Result<u8, AllocError>
+    ensures { Adds (space_line (map operand_of os.now)) result items.old.items items.new.items }
+{
+    if os.len() != 1 {
+        return add_item(WRONG_OPERANDS, Item::Zeros(0), items);
+    }
+    one_space(os[0], items)
+}
+
+// The rule that an empty list of values breaks, or no rule.
+fn count_rule(os: &[Operand<'_>]) -> u8
+    ensures { result ≡ (if length (map operand_of os.now) == 0 then 3 else 15) }
+{
+    if os.is_empty() {
+        WRONG_OPERANDS
+    } else {
+        NO_RULE
+    }
+}
+
+fn least_rule(rule: u8, width: u8, o: Operand<'_>) -> u8
+    requires { (width ≡ 1) ⊎ ((width ≡ 2) ⊎ (width ≡ 4)) }
+    ensures { result ≡ min rule (value_rule_of width (operand_of o.entry)) }
+{
+    rule.min(value_rule(width, o))
+}
+
+#[tactic(auto, unfolding(crate::specs::Lines::values_rule))]
+fn values_rule(width: u8, os: &[Operand<'_>]) -> u8
+    requires { (width ≡ 1) ⊎ ((width ≡ 2) ⊎ (width ≡ 4)) }
+    ensures { result ≡ values_rule width (map operand_of os.now) }
+{
+    let mut rule = count_rule(os);
+    for o in os {
+        rule = least_rule(rule, width, *o);
+    }
+    rule
+}
+
+fn add_values<'a>(
+    width: u8,
+    os: &[Operand<'a>],
+    items: &mut Vec<Item<'a>>,
+) -> Result<(), AllocError>
+    requires { (width ≡ 1) ⊎ ((width ≡ 2) ⊎ (width ≡ 4)) }
+    ensures { OnOk result (map item_of items.new.items
+        ≡ map item_of items.old.items ++ map (value_item width) (map operand_of os.now)) }
+{
+    for o in os {
+        items.push(value_item(width, *o))?;
+    }
+    Ok(())
+}
+
+#[tactic(auto, unfolding(crate::specs::Lines::values_line))]
+fn values_line<'a>(
+    width: u8,
+    os: &[Operand<'a>],
+    items: &mut Vec<Item<'a>>,
+) -> Result<u8, AllocError>
+    requires { (width ≡ 1) ⊎ ((width ≡ 2) ⊎ (width ≡ 4)) }
+    ensures { Adds (values_line width
+        (map operand_of os.now)) result items.old.items items.new.items }
+{
+    add_values(width, os, items)?;
+    Ok(values_rule(width, os))
+}
+
+fn find_row<'a>(rows: &'a [Row], name: &[u8]) -> Option<&'a Row>
+    ensures { option_map (λ r. r.now) result ≡ find (λ r. bytes_eq r.name.now name.now) rows.now }
+{
+    rows.iter().find(|r| r.name.as_bytes() == name)
+}
+
+// The first row of an instruction's name.
+fn row_of_name(name: &[u8]) -> Option<&'static Row>
+    ensures { option_map (λ r. row_of r.now) result ≡ find (λ r. bytes_eq r.name name.now) listed }
+{
+    find_row(rows(), name)
+}
+
+#[tactic(auto, unfolding(crate::specs::Lines::size_of_name))]
+fn size_of_name(name: &[u8]) -> u32
+    ensures { result ≡ size_of_name name.now }
+{
+    match row_of_name(name) {
+        None => 0,
+        Some(row) => { if row.op1 % 2 == 1 { 4 } else { 2 } }
+    }
+}
+
+fn code_line<'a>(
+    name: &[u8],
+    os: &[Operand<'a>],
+    items: &mut Vec<Item<'a>>,
+) -> Result<u8, AllocError>
+    ensures { Adds (code_line name.now
+        (statement_of name.now (map operand_of os.now))) result items.old.items items.new.items }
+{
+    match statement(name, os) {
+        Ok((row, found)) => add_item(
+            NO_RULE,
+            Item::Code(row, found.fields, found.reference),
+            items,
+        ),
+        Err(rule) => add_item(rule, Item::Zeros(size_of_name(name)), items),
+    }
+}
+
+#[tactic(auto, unfolding(crate::specs::Lines::stated_line))]
+fn stated_line<'a>(
+    name: &[u8],
+    os: &[Operand<'a>],
+    items: &mut Vec<Item<'a>>,
+) -> Result<u8, AllocError>
+    ensures { Adds (stated_line name.now
+        (map operand_of os.now)) result items.old.items items.new.items }
+{
+    if is_text(name, ".section") {
+        section_line(os, items)
+    } else if is_text(name, ".global") {
+        global_line(os, items)
+    } else if is_text(name, ".byte") {
+        values_line(1, os, items)
+    } else if is_text(name, ".half") {
+        values_line(2, os, items)
+    } else if is_text(name, ".word") {
+        values_line(4, os, items)
+    } else if is_text(name, ".space") {
+        space_line(os, items)
+    } else {
+        code_line(name, os, items)
+    }
+}
+
+// The tokens after token `at`.
+fn pieces_behind<'p, 'a>(ps: &'p [Piece<'a>], at: usize) -> &'p [Piece<'a>]
+    requires { at < length ps.now }
+    ensures { result.now ≡ drop (at + 1) ps.now }
+{
+    &ps[at + 1..]
+}
+
+// Reads the operands after token `at`.
+fn operands_behind<'a>(ps: &[Piece<'a>], at: usize, out: &mut ArrayVec<Operand<'a>, 65>)
+    requires few { length ps.now ≤ 64 }
+    requires place { at < length ps.now }
+    ensures { map operand_of out.new.items ≡ operands_in (drop (at + 1) (map piece_of ps.now)) }
+{
+    operands(pieces_behind(ps, at), out)
+}
+
+// Reads the statement whose name is token `at`.
+fn statement_at<'a>(
+    ps: &[Piece<'a>],
+    at: usize,
+    operands: &mut ArrayVec<Operand<'a>, 65>,
+    items: &mut Vec<Item<'a>>,
+) -> Result<u8, AllocError>
+    requires few { length ps.now ≤ 64 }
+    requires place { at < length ps.now }
+    ensures { Adds (stated_line (text_in_pieces (map piece_of ps.now) at)
+        (operands_in (drop (at + 1) (map piece_of ps.now))))
+        result items.old.items items.new.items }
+{
+    operands_behind(ps, at, operands);
+    stated_line(text_at(ps, at), operands.as_slice(), items)
+}
+
+#[tactic(auto, unfolding(crate::specs::Lines::line_from))]
+fn line_from<'a>(
+    ps: &[Piece<'a>],
+    at: usize,
+    operands: &mut ArrayVec<Operand<'a>, 65>,
+    items: &mut Vec<Item<'a>>,
+) -> Result<u8, AllocError>
+    requires few { length ps.now ≤ 64 }
+    requires place { at ≤ length ps.now }
+    ensures { Adds (line_from (map piece_of ps.now) at) result items.old.items items.new.items }
+{
+    if ps.len() == at {
+        add_nothing(NO_RULE, items)
+    } else if is_kind(ps, at, TokenKind::Word) {
+        statement_at(ps, at, operands, items)
+    } else {
+        add_nothing(BAD_TOKEN, items)
+    }
+}
+
+// Whether these tokens begin with a label.
+fn has_label(ps: &[Piece]) -> bool
+    ensures value { result ≡ has_label (map piece_of ps.now) }
+    ensures long { result ≡ true → 2 ≤ length ps.now }
+{
+    is_kind(ps, 0, TokenKind::Word) && is_kind(ps, 1, TokenKind::Colon)
+}
+
+fn add_label<'a>(name: &'a [u8], items: &mut Vec<Item<'a>>) -> Result<(), AllocError>
+    ensures { OnOk result
+        (map item_of items.new.items ≡ map item_of items.old.items ++ label name.entry.now ∷ []) }
+{
+    items.push(Item::Label(name))?;
+    Ok(())
+}
+
+// Reads a line that begins with a label.
+fn labelled_line<'a>(
+    ps: &[Piece<'a>],
+    operands: &mut ArrayVec<Operand<'a>, 65>,
+    items: &mut Vec<Item<'a>>,
+) -> Result<u8, AllocError>
+    requires few { length ps.now ≤ 64 }
+    requires label { 2 ≤ length ps.now }
+    ensures { Adds (line_with_label (text_in_pieces (map piece_of ps.now) 0)
+        (line_from (map piece_of ps.now) 2))
+        result items.old.items items.new.items }
+{
+    add_label(text_at(ps, 0), items)?;
+    line_from(ps, 2, operands, items)
+}
+
+#[tactic(auto, unfolding(crate::specs::Lines::pieces_line))]
+fn pieces_line<'a>(
+    ps: &[Piece<'a>],
+    operands: &mut ArrayVec<Operand<'a>, 65>,
+    items: &mut Vec<Item<'a>>,
+) -> Result<u8, AllocError>
+    requires { length ps.now ≤ 64 }
+    ensures { Adds (pieces_line (map piece_of ps.now)) result items.old.items items.new.items }
+{
+    if has_label(ps) {
+        labelled_line(ps, operands, items)
+    } else {
+        line_from(ps, 0, operands, items)
+    }
+}
+
+// Adds the label of a line that breaks rule 1.
+fn broken_label<'a>(name: &'a [u8], items: &mut Vec<Item<'a>>) -> Result<u8, AllocError>
+    ensures { Adds (line_data 1
+        (label name.entry.now ∷ [])) result items.old.items items.new.items }
+{
+    add_item(BAD_TOKEN, Item::Label(name), items)
+}
+
+// Adds the label that these tokens begin with, if there is one. Their line breaks rule 1.
+#[tactic(auto, unfolding(crate::specs::Lines::label_of))]
+fn label_line<'a>(ps: &[Piece<'a>], items: &mut Vec<Item<'a>>) -> Result<u8, AllocError>
+    ensures { Adds (line_data 1
+        (label_of (map piece_of ps.now))) result items.old.items items.new.items }
+{
+    let name = text_at(ps, 0);
+    if has_label(ps) {
+        broken_label(name, items)
+    } else {
+        add_nothing(BAD_TOKEN, items)
+    }
+}
+
+// Reads a line that can't be cut into tokens; `front` is its text before the first bad byte.
+#[tactic(auto, using(crate::proofs::PieceLines::label_pieces, crate::proofs::PieceLines::label_unread))]
+fn uncut_line<'a>(
+    front: &'a [u8],
+    pieces: &mut ArrayVec<Piece<'a>, 64>,
+    items: &mut Vec<Item<'a>>,
+) -> Result<u8, AllocError>
+    ensures { Adds (line_data 1
+        (label_before front.now (tokens_of front.now))) result items.old.items items.new.items }
+{
+    match cut_pieces(front, pieces) {
+        Ok(()) => label_line(pieces.as_slice(), items),
+        Err(_) => add_nothing(BAD_TOKEN, items),
+    }
+}
+
+// Adds the items of a line, and returns the least rule that the line breaks by itself.
+#[tactic(auto, using(crate::proofs::PieceLines::line_pieces, crate::proofs::PieceLines::line_unread))]
+fn line_rule<'a>(
+    line: &'a [u8],
+    pieces: &mut ArrayVec<Piece<'a>, 64>,
+    operands: &mut ArrayVec<Operand<'a>, 65>,
+    items: &mut Vec<Item<'a>>,
+) -> Result<u8, AllocError>
+    ensures { Adds (line_in line.now) result items.old.items items.new.items }
+{
+    match cut_pieces(line, pieces) {
+        Ok(()) => pieces_line(pieces.as_slice(), operands, items),
+        Err(at) => uncut_line(&line[..at], pieces, items),
+    }
+}
+
+/// Reads a line: adds its items, and returns the least rule that it breaks by itself. The two lists
+/// are scratch space, which each line uses again.
+pub(crate) fn read_line<'a>(
+    line: &'a [u8],
+    pieces: &mut ArrayVec<Piece<'a>, 64>,
+    operands: &mut ArrayVec<Operand<'a>, 65>,
+    items: &mut Vec<Item<'a>>,
+) -> Result<Line, AllocError>
+    ensures rule { IfOk result (λ l. l.rule ≡ (line_in line.now).rule) }
+    ensures count { IfOk result (λ l. l.count ≡ length (line_in line.now).items) }
+    ensures items { OnOk result
+        (map item_of items.new.items ≡ map item_of items.old.items ++ (line_in line.now).items) }
+{
+    let before = items.len();
+    let rule = line_rule(line, pieces, operands, items)?;
+    let count = (items.len() - before) as u8;
+    Ok(Line { rule, count })
+}

@@ -1,0 +1,364 @@
+// The printed lines on inputs that are refused, and on rules that fail.
+ghost use Rattle.std.specs.Prelude.{◌≡◌, ◌<◌, ◌++◌, ◌∷◌, [], if◌then◌else◌, length, codes, IsErr, IfOk, IfSome, OnOk};
+ghost use Rattle.std.specs.Fmt.{decimal};
+ghost use Rattle.tcd_forms.specs.Lines.{long_elf_line, long_plan_line, long_cert_line, long_script_line, long_source_line, kind_text, key_line, at_key, elf_line, plan_line, cert_line, script_line, source_line, long_layout_line, long_cells_line, long_tasks_line, layout_line, long_object_line, object_line, at_name, field_fault, link_line, refused_line, switch_line, of_task, refused_task_line, sum_line};
+ghost use Rattle.tcd_text.specs.Digits.{hex_word};
+ghost use Rattle.tcd_plan.specs.Plans.{HasText};
+ghost use Rattle.tc_link.specs.Errors.{refusal_of};
+ghost use Rattle.tcd_plan.specs.Keys.{key_texts};
+
+use depth_cert::{CALL, IRQ, Key, START, SYS};
+use elf_image::ImageErr;
+use std::alloc::Global;
+use tc_link::{LayoutErr, LinkErr};
+use tc_reloc::RelocErr;
+use tc_script::ScriptErr;
+use tcd_base::{FormErr, NoMemory};
+use tcd_plan::{PlanErr, PlanKey, key_text};
+use tcd_text::hex_word;
+
+/// Appends bytes to a line.
+pub fn append(line: &mut Vec<u8>, bytes: &[u8]) -> Result<(), NoMemory>
+    ensures { OnOk result (line.new.items ≡ line.old.items ++ bytes.now) }
+{
+    line.extend_from_slice(bytes)?;
+    Ok(())
+}
+
+// Appends the kind of a key and a blank.
+#[tactic(auto, unfolding(crate::specs::Lines::kind_text))]
+fn append_kind(line: &mut Vec<u8>, kind: u8) -> Result<(), NoMemory>
+    ensures { OnOk result (line.new.items ≡ line.old.items ++ kind_text kind) }
+{
+    match kind {
+        START => append(line, b"start "),
+        CALL => append(line, b"call "),
+        IRQ => append(line, b"irq "),
+        SYS => append(line, b"sys "),
+        _ => append(line, b"aln "),
+    }
+}
+
+// The digit for the interrupt stack (1: in use), and the line feed.
+fn stack_text(is: bool) -> &'static [u8]
+    ensures { result.now ≡ (if is then 49 else 48) ∷ 10 ∷ [] }
+{
+    if is { b"1\n" } else { b"0\n" }
+}
+
+/// A copy of a fixed line.
+pub fn line_of(alloc: Global, text: &[u8]) -> Result<Vec<u8>, NoMemory>
+    ensures { IfOk result (λ line. line.items ≡ text.now) }
+{
+    Ok(Vec::from_slice(alloc, text)?)
+}
+
+/// The line for an executable above its limit.
+#[tactic(auto, unfolding(crate::specs::Lines::long_elf_line))]
+pub fn long_elf_line() -> &'static [u8]
+    ensures { result.now ≡ long_elf_line }
+{
+    b"bad elf 0\n"
+}
+
+/// The line for a plan above its limit.
+#[tactic(auto, unfolding(crate::specs::Lines::long_plan_line))]
+pub fn long_plan_line() -> &'static [u8]
+    ensures { result.now ≡ long_plan_line }
+{
+    b"bad plan 0\n"
+}
+
+/// The line for a certificate above its limit.
+#[tactic(auto, unfolding(crate::specs::Lines::long_cert_line))]
+pub fn long_cert_line() -> &'static [u8]
+    ensures { result.now ≡ long_cert_line }
+{
+    b"bad cert 0\n"
+}
+
+/// The line for a script above its limit.
+#[tactic(auto, unfolding(crate::specs::Lines::long_script_line))]
+pub fn long_script_line() -> &'static [u8]
+    ensures { result.now ≡ long_script_line }
+{
+    b"bad script 0\n"
+}
+
+/// The line for a layout above its limit.
+#[tactic(auto, unfolding(crate::specs::Lines::long_layout_line))]
+pub fn long_layout_line() -> &'static [u8]
+    ensures { result.now ≡ long_layout_line }
+{
+    b"bad layout 0\n"
+}
+
+/// The line for a file of cells above its limit.
+#[tactic(auto, unfolding(crate::specs::Lines::long_cells_line))]
+pub fn long_cells_line() -> &'static [u8]
+    ensures { result.now ≡ long_cells_line }
+{
+    b"bad cells 0\n"
+}
+
+/// The line for a file of tasks above its limit.
+#[tactic(auto, unfolding(crate::specs::Lines::long_tasks_line))]
+pub fn long_tasks_line() -> &'static [u8]
+    ensures { result.now ≡ long_tasks_line }
+{
+    b"bad tasks 0\n"
+}
+
+/// The line that says why a file is no executable.
+#[tactic(auto, unfolding(crate::specs::Lines::elf_line, crate::specs::Lines::at_one, crate::specs::Lines::at_two))]
+pub fn elf_line(alloc: Global, e: ImageErr) -> Result<Vec<u8>, NoMemory>
+    ensures line { IfOk result (λ line. line.items ≡ elf_line e) }
+    ensures memory { e ≡ ImageErr.NoMemory → IsErr result }
+{
+    match e {
+        ImageErr::Short => line_of(alloc, b"bad elf 1\n"),
+        ImageErr::NotElf32Le => line_of(alloc, b"bad elf 2\n"),
+        ImageErr::NotTriCore => line_of(alloc, b"bad elf 3\n"),
+        ImageErr::NotExec => line_of(alloc, b"bad elf 4\n"),
+        ImageErr::BadSegment(i) => Ok(format!(in alloc; "bad elf 5 at {i}\n")?.into_bytes()),
+        ImageErr::TooLarge => line_of(alloc, b"bad elf 6\n"),
+        ImageErr::Overlap(i, j) => Ok(format!(in alloc; "bad elf 7 at {i} {j}\n")?.into_bytes()),
+        ImageErr::NoMemory => Err(NoMemory),
+    }
+}
+
+// The line of a refusal that names a key of the plan.
+#[tactic(auto, unfolding(crate::specs::Lines::at_key))]
+fn plan_key_line(alloc: Global, front: &str, key: PlanKey) -> Result<Vec<u8>, NoMemory>
+    requires { key.0 < length key_texts }
+    ensures { IfOk result (λ line. line.items ≡ front.now ++ at_key key) }
+{
+    let text = key_text(key);
+    Ok(format!(in alloc; "{front} key {text}\n")?.into_bytes())
+}
+
+/// The line that says why a file is no plan.
+#[tactic(auto, unfolding(crate::specs::Lines::plan_line, crate::specs::Lines::at_two))]
+pub fn plan_line(alloc: Global, e: PlanErr) -> Result<Vec<u8>, NoMemory>
+    requires { HasText e }
+    ensures line { IfOk result (λ line. line.items ≡ plan_line e) }
+    ensures memory { e ≡ PlanErr.NoMemory → IsErr result }
+{
+    match e {
+        PlanErr::NotJson => line_of(alloc, b"bad plan 1\n"),
+        PlanErr::Missing(key) => plan_key_line(alloc, "bad plan 2", key),
+        PlanErr::Unknown(key) => plan_key_line(alloc, "bad plan 3", key),
+        PlanErr::BadValue(key) => plan_key_line(alloc, "bad plan 4", key),
+        PlanErr::TooMany(key) => plan_key_line(alloc, "bad plan 5", key),
+        PlanErr::BadCsa => line_of(alloc, b"bad plan 6\n"),
+        PlanErr::BadVector => line_of(alloc, b"bad plan 7\n"),
+        PlanErr::Overlap(i, j) => Ok(format!(in alloc; "bad plan 8 at {i} {j}\n")?.into_bytes()),
+        PlanErr::NoMemory => Err(NoMemory),
+    }
+}
+
+/// The line that says why a file is no certificate.
+#[tactic(auto, unfolding(crate::specs::Lines::cert_line, crate::specs::Lines::at_one))]
+pub fn cert_line(alloc: Global, e: FormErr) -> Result<Vec<u8>, NoMemory>
+    ensures { IfOk result (λ line. line.items ≡ cert_line e) }
+{
+    let kind = e.kind;
+    let at = e.at;
+    Ok(format!(in alloc; "bad cert {kind} at {at}\n")?.into_bytes())
+}
+
+// The start of a line on a rule that fails.
+fn refused_front(alloc: Global, rule: u8) -> Result<Vec<u8>, NoMemory>
+    ensures { IfOk result
+        (λ line. line.items ≡ codes "refused K" ++ (decimal rule ++ codes " at ")) }
+{
+    Ok(format!(in alloc; "refused K{rule} at ")?.into_bytes())
+}
+
+// The priority in a key.
+fn prio_text(alloc: Global, prio: u8) -> Result<Vec<u8>, NoMemory>
+    ensures { IfOk result (λ text. text.items ≡ codes " prio " ++ (decimal prio ++ codes " is ")) }
+{
+    Ok(format!(in alloc; " prio {prio} is ")?.into_bytes())
+}
+
+// Appends a key and the line feed.
+#[tactic(auto, unfolding(crate::specs::Lines::key_line))]
+fn append_key(alloc: Global, line: &mut Vec<u8>, key: Key) -> Result<(), NoMemory>
+    ensures { OnOk result (line.new.items ≡ line.old.items ++ key_line key) }
+{
+    append_kind(line, key.kind)?;
+    append(line, &hex_word(key.entry))?;
+    let prio = prio_text(alloc, key.prio)?;
+    append(line, &prio)?;
+    append(line, stack_text(key.is))
+}
+
+/// The line on a rule that fails, with the address and the key.
+#[tactic(auto, unfolding(crate::specs::Lines::refused_line))]
+pub fn refused_line(alloc: Global, rule: u8, key: Key, addr: u32) -> Result<Vec<u8>, NoMemory>
+    ensures { IfOk result (λ line. line.items ≡ refused_line rule key addr) }
+{
+    let mut line = refused_front(alloc, rule)?;
+    append(&mut line, &hex_word(addr))?;
+    append(&mut line, b" in ")?;
+    append_key(alloc, &mut line, key)?;
+    Ok(line)
+}
+
+/// The line that says why a file is no script.
+#[tactic(auto, unfolding(crate::specs::Lines::script_line, crate::specs::Lines::at_one))]
+pub fn script_line(alloc: Global, e: ScriptErr) -> Result<Vec<u8>, NoMemory>
+    ensures line { IfOk result (λ line. line.items ≡ script_line e) }
+    ensures memory { e ≡ ScriptErr.NoMemory → IsErr result }
+{
+    match e {
+        ScriptErr::BadLine(n) => Ok(format!(in alloc; "bad script 1 at {n}\n")?.into_bytes()),
+        ScriptErr::NoSource(n) => Ok(format!(in alloc; "bad script 2 at {n}\n")?.into_bytes()),
+        ScriptErr::OutOfRange(n) => Ok(format!(in alloc; "bad script 3 at {n}\n")?.into_bytes()),
+        ScriptErr::TooMany(n) => Ok(format!(in alloc; "bad script 4 at {n}\n")?.into_bytes()),
+        ScriptErr::NoMemory => Err(NoMemory),
+    }
+}
+
+/// The line on a source that breaks a rule: the place of the source, the least bad line and the
+/// least rule there.
+#[tactic(auto, unfolding(crate::specs::Lines::source_line, crate::specs::Lines::at_two))]
+pub fn source_line(alloc: Global, place: u32, rule: u8, line: u32) -> Result<Vec<u8>, NoMemory>
+    ensures { IfOk result (λ text. text.items ≡ source_line place rule line) }
+{
+    Ok(format!(in alloc; "bad source {rule} at {place} {line}\n")?.into_bytes())
+}
+
+/// The line that says why a file is no layout.
+#[tactic(auto, unfolding(crate::specs::Lines::layout_line, crate::specs::Lines::at_one))]
+pub fn layout_line(alloc: Global, e: LayoutErr) -> Result<Vec<u8>, NoMemory>
+    ensures line { IfOk result (λ line. line.items ≡ layout_line e) }
+    ensures memory { e ≡ LayoutErr.NoMemory → IsErr result }
+{
+    match e {
+        LayoutErr::BadLine(n) => Ok(format!(in alloc; "bad layout 1 at {n}\n")?.into_bytes()),
+        LayoutErr::Twice(n) => Ok(format!(in alloc; "bad layout 2 at {n}\n")?.into_bytes()),
+        LayoutErr::TooMany(n) => Ok(format!(in alloc; "bad layout 3 at {n}\n")?.into_bytes()),
+        LayoutErr::Overlap(n) => Ok(format!(in alloc; "bad layout 4 at {n}\n")?.into_bytes()),
+        LayoutErr::NoMemory => Err(NoMemory),
+    }
+}
+
+/// The line for the source at this place, if it is above its limit.
+#[tactic(auto, unfolding(crate::specs::Lines::long_source_line, crate::specs::Lines::at_one))]
+pub fn long_source_line(alloc: Global, place: u32) -> Result<Vec<u8>, NoMemory>
+    ensures { IfOk result (λ line. line.items ≡ long_source_line place) }
+{
+    Ok(format!(in alloc; "bad source 0 at {place}\n")?.into_bytes())
+}
+
+/// The line for the object at this place, if it is above its limit.
+#[tactic(auto, unfolding(crate::specs::Lines::long_object_line, crate::specs::Lines::at_one))]
+pub fn long_object_line(alloc: Global, place: u32) -> Result<Vec<u8>, NoMemory>
+    ensures { IfOk result (λ line. line.items ≡ long_object_line place) }
+{
+    Ok(format!(in alloc; "bad object 0 at {place}\n")?.into_bytes())
+}
+
+/// The line that says why the file at this place is no object.
+#[tactic(auto, unfolding(crate::specs::Lines::object_line, crate::specs::Lines::at_two))]
+pub fn object_line(alloc: Global, place: u32, e: FormErr) -> Result<Vec<u8>, NoMemory>
+    ensures { IfOk result (λ line. line.items ≡ object_line place e) }
+{
+    let kind = e.kind;
+    let offset = e.at;
+    Ok(format!(in alloc; "bad object {kind} at {place} {offset}\n")?.into_bytes())
+}
+
+// The line of a refusal to link that names a symbol or a section.
+#[tactic(auto, unfolding(crate::specs::Lines::at_name))]
+fn name_line(alloc: Global, front: &str, name: &str) -> Result<Vec<u8>, NoMemory>
+    ensures { IfOk result (λ line. line.items ≡ front.now ++ at_name name.now) }
+{
+    Ok(format!(in alloc; "{front} name {name}\n")?.into_bytes())
+}
+
+// The number of a reason why a field can't be filled.
+#[tactic(auto, unfolding(crate::specs::Lines::field_fault))]
+fn field_fault(err: RelocErr) -> u8
+    ensures { result ≡ field_fault err }
+{
+    match err {
+        RelocErr::Odd => 1,
+        RelocErr::FarOff => 2,
+        RelocErr::Segment => 3,
+    }
+}
+
+/// The line that says why objects can't be linked.
+#[tactic(auto, unfolding(crate::specs::Lines::link_line))]
+pub fn link_line(alloc: Global, e: LinkErr) -> Result<Vec<u8>, NoMemory>
+    ensures line { IfOk result (λ line. IfSome (refusal_of e) (λ r. line.items ≡ link_line r)) }
+    ensures memory { e ≡ LinkErr.NoMemory → IsErr result }
+{
+    match e {
+        LinkErr::Twice(name) => name_line(alloc, "bad link 1", name.as_str()),
+        LinkErr::Missing(name) => name_line(alloc, "bad link 2", name.as_str()),
+        LinkErr::NoPlace(name) => name_line(alloc, "bad link 3", name.as_str()),
+        LinkErr::NoRoom(name) => name_line(alloc, "bad link 4", name.as_str()),
+        LinkErr::Reloc {
+            object,
+            section,
+            offset,
+            err,
+        } => {
+            let fault = field_fault(err);
+            Ok(format!(in alloc;
+                "bad link 5 at {object} {section} {offset} {fault}\n"
+            )?.into_bytes())
+        }
+        LinkErr::NoEntry => line_of(alloc, b"bad link 6\n"),
+        LinkErr::NoMemory => Err(NoMemory),
+    }
+}
+
+/// The line for an image without the switch routine at this address.
+#[tactic(auto, unfolding(crate::specs::Results::switch_line))]
+pub fn switch_line(alloc: Global, addr: u32) -> Result<Vec<u8>, NoMemory>
+    ensures { IfOk result (λ line. line.items ≡ switch_line addr) }
+{
+    let mut line = line_of(alloc, b"refused switch at ")?;
+    append(&mut line, &hex_word(addr))?;
+    append(&mut line, b"\n")?;
+    Ok(line)
+}
+
+// The number of a task, and the line feed.
+fn task_text(alloc: Global, u: usize) -> Result<Vec<u8>, NoMemory>
+    ensures { IfOk result
+        (λ line. line.items ≡ codes " of task " ++ (decimal u ++ 10 ∷ [])) }
+{
+    Ok(format!(in alloc; " of task {u}\n")?.into_bytes())
+}
+
+/// The line on a rule that fails in a task's certificate.
+#[tactic(auto, unfolding(crate::specs::Results::of_task))]
+pub fn refused_task_line(
+    alloc: Global,
+    rule: u8,
+    key: Key,
+    addr: u32,
+    u: usize,
+) -> Result<Vec<u8>, NoMemory>
+    ensures { IfOk result (λ line. line.items ≡ refused_task_line rule key addr u) }
+{
+    let mut line = refused_line(alloc, rule, key, addr)?;
+    let _end = line.pop();
+    let text = task_text(alloc, u)?;
+    append(&mut line, &text)?;
+    Ok(line)
+}
+
+/// The line for tasks whose needs together exceed the CSAs of the plan.
+#[tactic(auto, unfolding(crate::specs::Results::sum_line))]
+pub fn sum_line(alloc: Global, sum: u64, areas: u32) -> Result<Vec<u8>, NoMemory>
+    ensures { IfOk result (λ line. line.items ≡ sum_line sum areas) }
+{
+    Ok(format!(in alloc; "refused sum {sum} of {areas} areas\n")?.into_bytes())
+}

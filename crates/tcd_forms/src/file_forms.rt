@@ -1,0 +1,302 @@
+// The forms of input files, from executables to objects.
+use crate::error_lines::{
+    cert_line, elf_line, layout_line, line_of, long_cert_line, long_elf_line, long_layout_line,
+    long_object_line, long_plan_line, long_script_line, long_source_line, object_line, plan_line,
+    script_line, source_line,
+};
+use bumpalo::Bump;
+use depth_cert::CertErr;
+use elf_image::Image;
+use packed_cert::PackedCert;
+use std::alloc::Global;
+use std::marker::Model;
+use tc_asm::{AsmErr, assemble};
+use tc_link::Layout;
+use tc_object::{ObjErr, Object, ObjectRef};
+use tc_script::Script;
+use tcd_base::NoMemory;
+use tcd_plan::Plan;
+use tcd_reading::{Form, Outcome, bad_input};
+
+/// The most bytes of a file other than a certificate.
+pub const LIMIT: u32 = 16_777_216;
+
+// The most bytes of a certificate.
+const CERT_LIMIT: u32 = 1_073_741_824;
+
+/// An executable.
+#[derive(Clone, Copy)]
+pub struct ElfFile;
+
+impl Form for ElfFile {
+    ghost use Rattle.tcd_forms.specs.Forms.{elf_form};
+
+    type Out = Image;
+
+    ghost form = { λ _. elf_form };
+
+    ghost Fits = { λ _ _. Unit {0} };
+
+    fn limit(&self) -> u32 {
+        LIMIT
+    }
+
+    fn long_line(&self, alloc: Global) -> Result<Vec<u8>, NoMemory> {
+        line_of(alloc, long_elf_line())
+    }
+
+    fn value(&self, alloc: Global, bytes: Vec<u8>) -> Result<Image, Outcome> {
+        match Image::read(alloc, &bytes) {
+            Ok(image) => Ok(image),
+            Err(e) => Err(bad_input(alloc, elf_line(alloc, e))),
+        }
+    }
+}
+
+/// A plan.
+#[derive(Clone, Copy)]
+pub struct PlanFile;
+
+impl Form for PlanFile {
+    ghost use Rattle.tcd_forms.specs.Forms.{plan_form};
+
+    type Out = Plan;
+
+    ghost form = { λ _. plan_form };
+
+    ghost Fits = { λ _ _. Unit {0} };
+
+    fn limit(&self) -> u32 {
+        LIMIT
+    }
+
+    fn long_line(&self, alloc: Global) -> Result<Vec<u8>, NoMemory> {
+        line_of(alloc, long_plan_line())
+    }
+
+    fn value(&self, alloc: Global, bytes: Vec<u8>) -> Result<Plan, Outcome> {
+        match Plan::read(alloc, &bytes) {
+            Ok(plan) => Ok(plan),
+            Err(e) => Err(bad_input(alloc, plan_line(alloc, e))),
+        }
+    }
+}
+
+/// A certificate, which keeps the bytes of its file.
+#[derive(Clone, Copy)]
+pub struct CertFile;
+
+impl Form for CertFile {
+    ghost use Rattle.tcd_forms.specs.Forms.{cert_form};
+
+    type Out = PackedCert;
+
+    ghost form = { λ _. cert_form };
+
+    ghost Fits = { λ _ _. Unit {0} };
+
+    fn limit(&self) -> u32 {
+        CERT_LIMIT
+    }
+
+    fn long_line(&self, alloc: Global) -> Result<Vec<u8>, NoMemory> {
+        line_of(alloc, long_cert_line())
+    }
+
+    fn value(&self, alloc: Global, bytes: Vec<u8>) -> Result<PackedCert, Outcome> {
+        match PackedCert::read(alloc, bytes) {
+            Ok(cert) => Ok(cert),
+            Err(CertErr::Bad(e)) => Err(bad_input(alloc, cert_line(alloc, e))),
+            Err(CertErr::NoMemory) => Err(Outcome::NoMemory),
+        }
+    }
+}
+
+/// A script for a plan.
+#[derive(Clone, Copy)]
+pub struct ScriptFile<'a> {
+    /// The plan of the machine that the script drives.
+    pub plan: &'a Plan,
+}
+
+impl<'a> Form for ScriptFile<'a> {
+    ghost use Rattle.tc_script.specs.Fitting.{FitsPlan};
+    ghost use Rattle.tcd_forms.specs.Forms.{script_form};
+
+    type Out = Script;
+
+    ghost form = { λ f. script_form f.plan.now };
+
+    ghost Fits = { λ f script. FitsPlan f.plan.now script };
+
+    fn limit(&self) -> u32 {
+        LIMIT
+    }
+
+    fn long_line(&self, alloc: Global) -> Result<Vec<u8>, NoMemory> {
+        line_of(alloc, long_script_line())
+    }
+
+    fn value(&self, alloc: Global, bytes: Vec<u8>) -> Result<Script, Outcome> {
+        match Script::read(alloc, &bytes, self.plan) {
+            Ok(script) => Ok(script),
+            Err(e) => Err(bad_input(alloc, script_line(alloc, e))),
+        }
+    }
+}
+
+/// A single source, whose value is its object.
+#[derive(Clone, Copy)]
+pub struct SourceFile;
+
+impl Form for SourceFile {
+    ghost use Rattle.tcd_forms.specs.Forms.{source_form};
+
+    type Out = Object;
+
+    ghost form = { λ _. source_form };
+
+    ghost Fits = { λ _ _. Unit {0} };
+
+    fn limit(&self) -> u32 {
+        LIMIT
+    }
+
+    fn long_line(&self, alloc: Global) -> Result<Vec<u8>, NoMemory> {
+        long_source_line(alloc, 0)
+    }
+
+    fn value(&self, alloc: Global, bytes: Vec<u8>) -> Result<Object, Outcome> {
+        match assemble(alloc, &bytes) {
+            Ok(object) => Ok(object),
+            Err(AsmErr::Bad { line, rule }) => {
+                Err(bad_input(alloc, source_line(alloc, 0, rule, line)))
+            }
+            Err(AsmErr::NoMemory) => Err(Outcome::NoMemory),
+        }
+    }
+}
+
+/// The value of a source among several: its text and its object.
+#[derive(Drop)]
+pub struct Source {
+    /// The bytes of the source.
+    pub text: Vec<u8>,
+    /// The object that it is assembled to.
+    pub object: Object,
+}
+
+impl Model for Source {
+    ghost use Rattle.tcd_forms.specs.Forms.{IsSource, SourceData};
+
+    ghost Value = { SourceData };
+
+    ghost view = { λ s. record { text = s.text.items; object = s.object } };
+
+    ghost invariant = { λ s. IsSource s.text.items s.object };
+}
+
+/// A source among several, with its place among them.
+#[derive(Clone, Copy)]
+pub struct PlacedSourceFile {
+    /// The place among the sources, from 0.
+    pub place: u32,
+}
+
+impl Form for PlacedSourceFile {
+    ghost use Rattle.tcd_forms.specs.Forms.{placed_source_form};
+
+    type Out = Source;
+
+    ghost form = { λ f. placed_source_form f.place };
+
+    ghost Fits = { λ _ _. Unit {0} };
+
+    fn limit(&self) -> u32 {
+        LIMIT
+    }
+
+    fn long_line(&self, alloc: Global) -> Result<Vec<u8>, NoMemory> {
+        long_source_line(alloc, self.place)
+    }
+
+    fn value(&self, alloc: Global, bytes: Vec<u8>) -> Result<Source, Outcome> {
+        match assemble(alloc, &bytes) {
+            Ok(object) => Ok(Source {
+                text: bytes,
+                object,
+            }),
+            Err(AsmErr::Bad { line, rule }) => {
+                Err(bad_input(alloc, source_line(alloc, self.place, rule, line)))
+            }
+            Err(AsmErr::NoMemory) => Err(Outcome::NoMemory),
+        }
+    }
+}
+
+/// A layout.
+#[derive(Clone, Copy)]
+pub struct LayoutFile;
+
+impl Form for LayoutFile {
+    ghost use Rattle.tcd_forms.specs.Forms.{layout_form};
+
+    type Out = Layout;
+
+    ghost form = { λ _. layout_form };
+
+    ghost Fits = { λ _ _. Unit {0} };
+
+    fn limit(&self) -> u32 {
+        LIMIT
+    }
+
+    fn long_line(&self, alloc: Global) -> Result<Vec<u8>, NoMemory> {
+        line_of(alloc, long_layout_line())
+    }
+
+    fn value(&self, alloc: Global, bytes: Vec<u8>) -> Result<Layout, Outcome> {
+        match Layout::read(alloc, &bytes) {
+            Ok(layout) => Ok(layout),
+            Err(e) => Err(bad_input(alloc, layout_line(alloc, e))),
+        }
+    }
+}
+
+/// An object among several, with its place among them. Its bytes are kept in the arena.
+#[derive(Clone, Copy)]
+pub struct ObjectFile<'a> {
+    /// The place among the objects, from 0.
+    pub place: u32,
+    /// The arena that keeps the bytes.
+    pub arena: &'a Bump,
+}
+
+impl<'a> Form for ObjectFile<'a> {
+    ghost use Rattle.tcd_forms.specs.Forms.{object_form};
+
+    type Out = ObjectRef<'a>;
+
+    ghost form = { λ f. object_form f.place };
+
+    ghost Fits = { λ _ _. Unit {0} };
+
+    fn limit(&self) -> u32 {
+        LIMIT
+    }
+
+    fn long_line(&self, alloc: Global) -> Result<Vec<u8>, NoMemory> {
+        long_object_line(alloc, self.place)
+    }
+
+    fn value(&self, alloc: Global, bytes: Vec<u8>) -> Result<ObjectRef<'a>, Outcome> {
+        let Ok(kept) = self.arena.try_alloc_slice_copy(&bytes) else {
+            return Err(Outcome::NoMemory);
+        };
+        match ObjectRef::read(alloc, kept) {
+            Ok(object) => Ok(object),
+            Err(ObjErr::Bad(e)) => Err(bad_input(alloc, object_line(alloc, self.place, e))),
+            Err(ObjErr::NoMemory) => Err(Outcome::NoMemory),
+        }
+    }
+}

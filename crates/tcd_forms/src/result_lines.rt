@@ -1,0 +1,163 @@
+// The printed lines on success: runs, files that were written, and certified needs.
+ghost use Rattle.std.specs.Prelude.{◌≡◌, ◌++◌, ◌∷◌, [], length, codes, IfOk, ◌<◌, OnOk};
+ghost use Rattle.std.specs.Fmt.{decimal};
+ghost use Rattle.depth_cert.specs.Certs.{count_points};
+ghost use Rattle.tcd_forms.specs.Lines.{boots_line, generated_boot_line, certified_cells_line, certified_tasks_line, generated_line, assembled_line, linked_line, cause_text, end_text, run_line, certified_line};
+ghost use Rattle.tcd_text.specs.Digits.{hex_word};
+
+use crate::error_lines::append;
+use packed_cert::PackedCert;
+use std::alloc::Global;
+use tc_machine::{Cause, End, Machine};
+use tcd_base::NoMemory;
+use tcd_text::hex_word;
+
+/// The line on a boot sequence: its events, the needed CSAs, and those of the plan.
+#[tactic(auto, unfolding(crate::specs::Results::boots_line))]
+pub fn boots_line(alloc: Global, events: u32, need: u32, areas: u32) -> Result<Vec<u8>, NoMemory>
+    ensures { IfOk result (λ line. line.items ≡ boots_line events need areas) }
+{
+    let text = format!(in alloc; "boot {events} events certified {need} of {areas} areas\n")?;
+    Ok(text.into_bytes())
+}
+
+/// The line on a boot sequence that was written.
+#[tactic(auto, unfolding(crate::specs::Results::generated_boot_line))]
+pub fn generated_boot_line() -> &'static [u8]
+    ensures { result.now ≡ generated_boot_line }
+{
+    b"boot 56 instructions\n"
+}
+
+/// The line with the needed CSAs, those of the plan, and the number of cells that must keep their
+/// bounds.
+#[tactic(auto, unfolding(crate::specs::Results::certified_cells_line))]
+pub fn certified_cells_line(
+    alloc: Global,
+    need: u32,
+    areas: u32,
+    count: usize,
+) -> Result<Vec<u8>, NoMemory>
+    ensures { IfOk result
+        (λ line. line.items ≡ certified_cells_line need areas count) }
+{
+    let text = format!(in alloc; "certified {need} of {areas} areas with {count} cells\n")?;
+    Ok(text.into_bytes())
+}
+
+/// The line with the CSAs that all tasks need together, and those of the plan.
+#[tactic(auto, unfolding(crate::specs::Results::certified_tasks_line))]
+pub fn certified_tasks_line(
+    alloc: Global,
+    sum: u64,
+    areas: u32,
+    n: usize,
+) -> Result<Vec<u8>, NoMemory>
+    ensures { IfOk result (λ line. line.items ≡ certified_tasks_line sum areas n) }
+{
+    let text = format!(in alloc; "certified {sum} of {areas} areas in {n} tasks\n")?;
+    Ok(text.into_bytes())
+}
+
+/// The line on a generated image: its functions, the nodes and points of its certificate, and the
+/// needed CSAs.
+#[tactic(auto, unfolding(crate::specs::Results::generated_line))]
+pub fn generated_line(
+    alloc: Global,
+    functions: u32,
+    cert: &PackedCert,
+    need: u32,
+    areas: u32,
+) -> Result<Vec<u8>, NoMemory>
+    ensures { IfOk result (λ line. line.items ≡
+        generated_line functions (length cert.now.nodes) (count_points cert.now.nodes) need areas) }
+{
+    let nodes = cert.len();
+    let points = cert.count_points();
+    let text = format!(in alloc;
+        "functions {functions} nodes {nodes} points {points} certified {need} of {areas} areas\n"
+    )?;
+    Ok(text.into_bytes())
+}
+
+/// The line with the needed CSAs, and those of the plan.
+#[tactic(auto, unfolding(crate::specs::Lines::certified_line))]
+pub fn certified_line(alloc: Global, need: u32, areas: u32) -> Result<Vec<u8>, NoMemory>
+    ensures { IfOk result (λ line. line.items ≡ certified_line need areas) }
+{
+    Ok(format!(in alloc; "certified {need} of {areas} areas\n")?.into_bytes())
+}
+
+// The word for a cause of death.
+#[tactic(auto, unfolding(crate::specs::Lines::cause_text))]
+fn cause_text(cause: Cause) -> &'static [u8]
+    ensures { result.now ≡ cause_text cause }
+{
+    match cause {
+        Cause::Fcd => b"fcd",
+        Cause::Fcu => b"fcu",
+        Cause::Csu => b"csu",
+        Cause::Ctyp => b"ctyp",
+        Cause::NotListed => b"notlisted",
+        Cause::NoCode => b"nocode",
+        Cause::NoArea => b"noarea",
+    }
+}
+
+// Appends whether the machine runs, or the cause and the address of its death, and the line feed.
+#[tactic(auto, unfolding(crate::specs::Lines::end_text))]
+fn append_end(line: &mut Vec<u8>, end: End, pc: u32) -> Result<(), NoMemory>
+    ensures { OnOk result (line.new.items ≡ line.old.items ++ end_text end pc) }
+{
+    match end {
+        End::Running => append(line, b"running\n"),
+        End::Dead(cause) => append_death(line, cause, pc),
+    }
+}
+
+fn append_death(line: &mut Vec<u8>, cause: Cause, pc: u32) -> Result<(), NoMemory>
+    ensures { OnOk result (line.new.items ≡ line.old.items ++ (codes "dead "
+        ++ (cause_text cause ++ (codes " at " ++ (hex_word pc ++ 10 ∷ []))))) }
+{
+    append(line, b"dead ")?;
+    append(line, cause_text(cause))?;
+    append(line, b" at ")?;
+    append(line, &hex_word(pc))?;
+    append(line, b"\n")
+}
+
+// The start of a line on a run.
+fn run_front(alloc: Global, events: u32, peak: u32) -> Result<Vec<u8>, NoMemory>
+    ensures { IfOk result (λ line. line.items ≡ codes "events "
+        ++ (decimal events ++ (codes " peak " ++ (decimal peak ++ codes " ")))) }
+{
+    Ok(format!(in alloc; "events {events} peak {peak} ")?.into_bytes())
+}
+
+/// The line on a run: its events, the peak of CSAs in use, and the state of the machine at its end.
+#[tactic(auto, unfolding(crate::specs::Lines::run_line))]
+pub fn run_line(alloc: Global, events: u32, peak: u32, m: &Machine) -> Result<Vec<u8>, NoMemory>
+    ensures { IfOk result (λ line. line.items ≡ run_line events peak m.now) }
+{
+    let mut line = run_front(alloc, events, peak)?;
+    append_end(&mut line, m.end, m.pc)?;
+    Ok(line)
+}
+
+/// The line on an object that was written, with its size in bytes.
+#[tactic(auto, unfolding(crate::specs::Lines::assembled_line))]
+pub fn assembled_line(alloc: Global, bytes: &[u8]) -> Result<Vec<u8>, NoMemory>
+    ensures { IfOk result (λ text. text.items ≡ assembled_line (length bytes.now)) }
+{
+    let size = bytes.len();
+    Ok(format!(in alloc; "object {size} bytes\n")?.into_bytes())
+}
+
+/// The line on an image that was written, with its size in bytes.
+#[tactic(auto, unfolding(crate::specs::Lines::linked_line))]
+pub fn linked_line(alloc: Global, bytes: &[u8]) -> Result<Vec<u8>, NoMemory>
+    ensures { IfOk result (λ text. text.items ≡ linked_line (length bytes.now)) }
+{
+    let size = bytes.len();
+    Ok(format!(in alloc; "image {size} bytes\n")?.into_bytes())
+}

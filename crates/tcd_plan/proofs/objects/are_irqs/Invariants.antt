@@ -1,8 +1,0 @@
-use Rattle.std.proofs.Common.{◌≡◌, drop, map}
-use Rattle.serde_json.specs.View.{view}
-use Rattle.tcd_plan.specs.Objects.{ascend_above}
-use Rattle.tcd_plan.proofs.objects.are_irqs.Given as goal
-
-abbrev pub invariant-loop-place : goal.invariant-loop-place
-invariant-loop-place l =
-    ascend_above 0 (map view l.places) ≡ ascend_above l.low (map view (drop l.place-index l.places))

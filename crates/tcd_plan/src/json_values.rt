@@ -1,0 +1,87 @@
+// Reads the values of a JSON document: arrays, texts, and numbers of 32 bits.
+ghost use Rattle.std.specs.Prelude.{◌≡◌, ◌<◌, ◌≤◌, ◌^◌, Some, None, length, map, is_some, option_map, if◌then◌else◌};
+ghost use Rattle.std.specs.List.{list_all};
+ghost use Rattle.std.specs.Str.Parse.{digits_value};
+ghost use Rattle.serde_json.specs.View.{view};
+ghost use Rattle.tcd_plan.specs.JsonValues.{is_hex, is_text, number_of, number_at, places_at, text_word, word_at, word_in};
+
+use serde_json::Value;
+
+#[tactic(auto, using(crate::proofs::ViewLemmas::list_of_items))]
+/// Returns the elements of the array at a key.
+pub fn places_at<'a>(value: &'a Value, name: &str) -> Option<&'a [Value]>
+    ensures { option_map (λ s. map view s.now) result ≡ places_at name.now (view value.now) }
+{
+    let list = value.get(name)?.as_array()?;
+    Some(list.as_slice())
+}
+
+/// Returns true if the value is this text.
+pub fn is_text(value: &Value, text: &str) -> bool
+    ensures { result ≡ is_text text.now (view value.now) }
+{
+    match value {
+        Value::String(string) => string.as_str() == text,
+        _ => false,
+    }
+}
+
+/// Returns the number at a key, or 0 if there is none.
+pub fn word_at(value: &Value, name: &str) -> u32
+    ensures { result ≡ word_at name.now (view value.now) }
+{
+    number_at(value, name).unwrap_or(0)
+}
+
+/// Returns the number at a key of the object at another key, or 0 if there is none.
+pub fn word_in(value: &Value, outer: &str, name: &str) -> u32
+    ensures { result ≡ word_in outer.now name.now (view value.now) }
+{
+    match value.get(outer) {
+        Some(inner) => word_at(inner, name),
+        None => 0,
+    }
+}
+
+/// Returns the number at a key.
+pub fn number_at(value: &Value, name: &str) -> Option<u32>
+    ensures { result ≡ number_at name.now (view value.now) }
+{
+    value.get(name).and_then(number_of)
+}
+
+/// Returns the number that a value is: a JSON number that is an unsigned integer of 32 bits, or a
+/// text `0x` with 1 to 8 hex digits.
+pub fn number_of(value: &Value) -> Option<u32>
+    ensures { result ≡ number_of (view value.now) }
+{
+    match value {
+        Value::Number(n) => n.as_u64().and_then(|n| u32::try_from(n).ok()),
+        Value::String(text) => text_word(text.as_bytes()),
+        _ => None,
+    }
+}
+
+fn text_word(text: &[u8]) -> Option<u32>
+    ensures { result ≡ text_word text.now }
+{
+    match text {
+        [b'0', b'x', digits @ ..] if !digits.is_empty() && digits.len() <= 8 => hex_digits(digits),
+        _ => None,
+    }
+}
+
+fn hex_digits(digits: &[u8]) -> Option<u32>
+    requires { length digits.now ≤ 8 }
+    ensures { result ≡
+        (if list_all is_hex digits.now then Some (digits_value 16 digits.now) else None) }
+{
+    let mut value = 0u32;
+    for c in digits {
+        let Some(digit) = char::from(*c).to_digit(16) else {
+            return None;
+        };
+        value = value * 16 + digit;
+    }
+    Some(value)
+}

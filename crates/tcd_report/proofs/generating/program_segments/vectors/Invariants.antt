@@ -1,0 +1,7 @@
+use Rattle.std.proofs.Common.{◌≡◌, ◌+◌, ◌*◌}
+use Rattle.std.specs.List.{flat_map, range_with_len}
+use Rattle.tcd_report.specs.Generated.{filled, handler}
+use Rattle.tcd_report.proofs.generating.program_segments.vectors.Given as goal
+
+abbrev pub invariant-loop-j : goal.invariant-loop-j
+invariant-loop-j l = l.out.items ≡ flat_map (λ j. filled 320 (handler l.n (10 * j + 10))) (range_with_len 0 l.j)

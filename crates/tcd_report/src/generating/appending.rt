@@ -1,0 +1,43 @@
+// Bytes, zeros and calls, appended to the bytes of a segment.
+ghost use Rattle.std.specs.Prelude.{◌≡◌, ◌≤◌, ◌<◌, ◌+◌, ◌-◌, ◌/◌, ◌^◌, ◌++◌, OnOk, replicate};
+ghost use Rattle.tc_isa.specs.declared.table.Form.TheVariants.{B};
+ghost use Rattle.tc_isa.specs.Forms.{fields, word};
+ghost use Rattle.tcd_report.specs.Generated.{call_from};
+
+use tcd_base::{NoMemory, put_u32};
+
+/// Appends bytes.
+pub(crate) fn append(out: &mut Vec<u8>, more: &[u8]) -> Result<(), NoMemory>
+    ensures { OnOk result (out.new.items ≡ out.old.items ++ more.now) }
+{
+    out.extend_from_slice(more)?;
+    Ok(())
+}
+
+/// Appends zeros.
+pub(crate) fn append_zeros(out: &mut Vec<u8>, count: usize) -> Result<(), NoMemory>
+    ensures { OnOk result (out.new.items ≡ out.old.items ++ replicate count 0) }
+{
+    for _i in 0..count {
+        out.push(0)?;
+    }
+    Ok(())
+}
+
+/// Appends the call instruction at one address to a later one.
+pub(crate) fn append_call(out: &mut Vec<u8>, at: u32, to: u32) -> Result<(), NoMemory>
+    requires forward { at ≤ to }
+    requires near { to < at + 2 ^ 24 }
+    ensures { OnOk result (out.new.items ≡ out.old.items ++ call_from at to) }
+{
+    put_u32(out, call_word((to - at) / 2))
+}
+
+// The word of a call with this displacement in halfwords.
+#[tactic(auto, unfolding(tc_isa::specs::Words::word))]
+fn call_word(k: u32) -> u32
+    requires { k < 2 ^ 24 }
+    ensures { result ≡ word B 0x6d 0 (fields 0 0 0 0 k) }
+{
+    k % 65536 * 65536 + k / 65536 * 256 + 0x6d
+}

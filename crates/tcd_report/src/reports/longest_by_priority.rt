@@ -1,0 +1,94 @@
+// The longest call chain of each priority.
+ghost use Rattle.std.specs.Prelude.{◌≡◌, ◌++◌, ℕ, Some, Contains, OnOk, IfOk, nat_eq};
+ghost use Rattle.std.specs.HashMap.{get};
+ghost use Rattle.std.specs.Option.{option_copied};
+ghost use Rattle.depth_cert.specs.Nodes.{NodeData};
+ghost use Rattle.tcd_report.specs.Reports.Heights.{key_eq, IsGreatest};
+ghost use Rattle.tcd_report.specs.Reports.Longest.{priorities, AtPrio, greater, row_of};
+ghost use Rattle.tcd_report.specs.Reports.Longest as spec;
+
+use depth_cert::Key;
+use packed_cert::PackedCert;
+use std::alloc::Global;
+use std::collections::HashMap;
+use tcd_base::NoMemory;
+
+/// A priority, and the length of its longest call chain.
+#[derive(Clone, Copy)]
+pub(crate) struct LongestCalls {
+    pub(crate) longest: u32,
+    pub(crate) prio: u16,
+}
+
+/// The length of the longest call chain of each priority that has nodes.
+pub(crate) fn longest_by_priority(
+    alloc: Global,
+    cert: &PackedCert,
+    heights: &HashMap<Key, u32>,
+) -> Result<HashMap<u16, u32>, NoMemory>
+    requires { (n : NodeData) → Contains cert.now.nodes n
+        → (h : ℕ) × (get key_eq heights.now n.key ≡ Some h) }
+    ensures { IfOk result
+        (λ rows. (p : ℕ) → IsGreatest (AtPrio heights.now cert.now.nodes p) (get nat_eq rows p)) }
+{
+    let mut rows = HashMap::new(alloc);
+    for i in 0..cert.len() {
+        let Some(node) = cert.get(i) else {
+            unreachable!()
+        };
+        let Some(height) = heights.get(&node.key) else {
+            unreachable!()
+        };
+        let prio = u16::from(node.key.prio);
+        let most = greater_of(rows.get(&prio), *height);
+        rows.insert(prio, most)?;
+    }
+    Ok(rows)
+}
+
+// The greater of a number, if there is one, and another number.
+fn greater_of(known: Option<&u32>, height: u32) -> u32
+    ensures { result ≡ greater (option_copied known.entry) height }
+{
+    match known {
+        None => height,
+        Some(most) => height.max(*most),
+    }
+}
+
+/// The number of priorities.
+#[tactic(auto, unfolding(crate::specs::Reports::Calls::priorities))]
+pub(crate) fn priority_count() -> u16
+    ensures { result ≡ priorities }
+{
+    256
+}
+
+/// The longest call chains of the priorities below a number, by ascending priority.
+pub(crate) fn rows_below(
+    alloc: Global,
+    known: &HashMap<u16, u32>,
+    count: u16,
+) -> Result<Vec<LongestCalls>, NoMemory>
+    ensures { IfOk result (λ v. v.items ≡ spec.rows_below (get nat_eq known.now) count) }
+{
+    let mut rows = Vec::new(alloc);
+    for prio in 0..count {
+        push_row(&mut rows, prio, known.get(&prio))?;
+    }
+    Ok(rows)
+}
+
+// Appends the longest chain of a priority, if it has nodes.
+fn push_row(rows: &mut Vec<LongestCalls>, prio: u16, row: Option<&u32>) -> Result<(), NoMemory>
+    ensures { OnOk result
+        (rows.new.items ≡ rows.old.items ++ row_of prio (option_copied row.entry)) }
+{
+    if let Some(longest) = row {
+        rows.push(LongestCalls {
+            longest: *longest,
+            prio,
+        })?;
+    }
+    Ok(())
+}

@@ -1,0 +1,84 @@
+-- What an instruction does to a state.
+use Rattle.std.specs.Prelude.{◌+◌, ◌-◌, ◌<◌, ◌≤◌, ℕ, Bool, true, false, if◌then◌else◌, List, ◌∷◌, ◌++◌, length, take, slice_index_or}
+use Rattle.tcd_plan.specs.PlanData.{PlanData}
+use Rattle.tc_isa.specs.declared.shapes.Op.TheVariants.{Add, Sh}
+use Rattle.tc_isa.specs.declared.shapes.Arg.{Arg}
+use Rattle.tc_isa.specs.declared.shapes.Arg.TheVariants.{Reg, Word}
+use Rattle.tc_isa.specs.declared.shapes.Shape.{Shape}
+use Rattle.tc_isa.specs.declared.shapes.Shape.TheVariants.{Compute, Scaled, Load, Store, Branch, Jump, Call, Ret, Rfe, Svlcx, Rslcx, Bisr, Enable, Disable, Syscall, Mfcr, Mtcr, Nothing}
+use Rattle.value_domain.specs.declared.values.Val.{Val}
+use Rattle.value_domain.specs.declared.states.State.{State}
+use Rattle.value_domain.specs.Values.{any_val, IsValue}
+use Rattle.value_domain.specs.Limits.{Limits}
+use Rattle.vd_transfer.specs.Operations.{value_of}
+use Rattle.vd_transfer.specs.Registers.{reg_of, arg_of, write_reg, word_val}
+use Rattle.value_domain.specs.State.{is_lower_slot}
+
+-- the base register is increased by the offset, if the access does that
+abbrev pub with_base : Limits → PlanData → State → Arg → ℕ → Bool → State
+with_base b p s (Reg r) offset after = if after then write_reg s r (value_of b Add (reg_of p s r) (word_val offset)) else s
+with_base b p s (Word w) offset after = s
+
+-- the address of an access: the base, or base plus offset
+abbrev pub access_of : Limits → PlanData → State → Arg → ℕ → Bool → Val
+access_of b p s base offset after = if after then arg_of p s base else value_of b Add (arg_of p s base) (word_val offset)
+
+-- a lower context is saved: the mark that the lower registers are those of the entry becomes a
+-- local
+abbrev pub saved_lower : State → State
+saved_lower s = record s { locals = record { items = s.locals.items ++ s.lower ∷ [] } }
+
+-- values from place i on, those of lower registers unknown
+unfoldable pub forgotten_from : ℕ → List Val → List Val
+forgotten_from i [] = []
+forgotten_from i (v ∷ vs) = (if is_lower_slot i then any_val else v) ∷ forgotten_from (i + 1) vs
+
+-- the last lower context is restored: the lower registers are unknown, and they are those of the
+-- entry if its local says so
+abbrev pub restored_lower : State → State
+restored_lower s = record s {
+  regs = forgotten_from 0 s.regs;
+  lower = slice_index_or s.locals.items (length s.locals.items - 1) false;
+  locals = record { items = take (length s.locals.items - 1) s.locals.items };
+}
+
+-- the state after an instruction that stays in its frame and isn't a branch or a jump; a load
+-- writes the value that was loaded
+unfoldable pub transfer_of : Limits → PlanData → Shape → State → Val → State
+transfer_of b p (Compute op dst x y) s loaded = write_reg s dst (value_of b op (arg_of p s x) (arg_of p s y))
+transfer_of b p (Scaled dst base index n) s loaded = write_reg s dst (value_of b Add (reg_of p s base) (value_of b Sh (reg_of p s index) (word_val n)))
+transfer_of b p (Load dst base offset size signed after) s loaded = write_reg (with_base b p s base offset after) dst loaded
+transfer_of b p (Store src base offset size after) s loaded = with_base b p s base offset after
+transfer_of b p (Branch cond x y by lowers) s loaded = s
+transfer_of b p (Jump to) s loaded = s
+transfer_of b p (Call to) s loaded = s
+transfer_of b p Ret s loaded = s
+transfer_of b p Rfe s loaded = s
+transfer_of b p Svlcx s loaded = saved_lower s
+transfer_of b p Rslcx s loaded = restored_lower s
+transfer_of b p (Bisr c) s loaded = record (saved_lower s) { ie = true; ccpn = c }
+transfer_of b p Enable s loaded = record s { ie = true }
+transfer_of b p Disable s loaded = record s { ie = false }
+transfer_of b p (Syscall tin) s loaded = s
+transfer_of b p (Mfcr dst number) s loaded = write_reg s dst any_val
+transfer_of b p (Mtcr src number) s loaded = s
+transfer_of b p Nothing s loaded = s
+
+-- the addresses of a load or a store
+unfoldable pub address_of : Limits → PlanData → Shape → State → Val
+address_of b p (Load dst base offset size signed after) s = access_of b p s base offset after
+address_of b p (Store src base offset size after) s = access_of b p s base offset after
+address_of b p _ s = any_val
+
+-- an instruction that saves a lower context has room for a local, and one that restores one has a
+-- local
+abbrev pub HasRoom : Limits → Shape → State → Type 0
+HasRoom b Svlcx s = length s.locals.items < b.most_locals
+HasRoom b (Bisr c) s = length s.locals.items < b.most_locals
+HasRoom b Rslcx s = 1 ≤ length s.locals.items
+HasRoom b _ s = Unit {0}
+
+-- what was loaded is a value of the limits, if an instruction of this shape writes it
+abbrev pub HasLoaded : Limits → Shape → Val → Type 0
+HasLoaded b (Load dst base offset size signed after) loaded = IsValue b loaded
+HasLoaded b _ loaded = Unit {0}

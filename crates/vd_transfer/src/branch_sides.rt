@@ -1,0 +1,385 @@
+// The change of a state on a side of a branch.
+ghost use Rattle.std.specs.Prelude.{◌≡◌, ◌<◌, ◌∷◌, [], IfSome, Some, None};
+ghost use Rattle.value_domain.specs.Values.{IsValue, members};
+ghost use Rattle.value_domain.specs.State.{AreValues};
+ghost use Rattle.tc_isa.specs.Bounded.{IsArg, IsShape};
+ghost use Rattle.tc_isa.specs.declared.shapes.Arg.TheVariants.{Word};
+ghost use Rattle.tc_isa.specs.declared.shapes.Op.TheVariants.{Sub};
+ghost use Rattle.vd_transfer.specs.Refinement.{holds, kept_left, kept_right};
+ghost use Rattle.value_domain.specs.Meets.{cover_some};
+ghost use Rattle.vd_transfer.specs.Relations.{relation_of, is_signed, converse, self_holds};
+ghost use Rattle.vd_transfer.specs.Registers.{reg_of, arg_of, write_reg, word_val};
+ghost use Rattle.vd_transfer.specs.Operations.{value_of};
+ghost use Rattle.vd_transfer.specs.Branches.{is_reg, refine_of, possible, with_one, with_two, state_on_side, with_lowered_counter};
+ghost use Rattle.vd_transfer.specs.Changes.{state_after};
+
+use crate::change::{Change, write_last};
+use crate::changed_states::changed_reg;
+use crate::operands::{arg, arg_word, constant, operand_slot};
+use crate::operations::operation;
+use crate::refinement::{Relation, narrow};
+use crate::registers::{reg_in, reg_value, slot_of};
+use crate::signed_refinement::narrow_signed;
+use tc_isa::{Arg, Cond, Op, Shape, taken};
+use tcd_plan::Plan;
+use value_domain::{Bounds, State, Val};
+
+/// A side of a branch's condition, with the register and the operand that it compares.
+#[derive(Clone, Copy)]
+struct Comparison {
+    cond: Cond,
+    side: bool,
+    x: u8,
+    y: Arg,
+}
+
+/// Returns the relation between the operands on a side of a condition.
+#[tactic(auto, unfolding(crate::specs::Relations::relation_of))]
+fn relation(cond: Cond, side: bool) -> Relation
+    ensures { result ≡ relation_of cond side }
+{
+    match cond {
+        Cond::Eq => {
+            if side {
+                Relation::Same
+            } else {
+                Relation::Other
+            }
+        }
+        Cond::Ne => {
+            if side {
+                Relation::Other
+            } else {
+                Relation::Same
+            }
+        }
+        Cond::Lt | Cond::LtU => {
+            if side {
+                Relation::Less
+            } else {
+                Relation::AtLeast
+            }
+        }
+        Cond::Ge | Cond::GeU => {
+            if side {
+                Relation::AtLeast
+            } else {
+                Relation::Less
+            }
+        }
+    }
+}
+
+/// Returns true if a condition is of the signed order.
+#[tactic(auto, unfolding(crate::specs::Relations::is_signed))]
+fn is_signed(cond: Cond) -> bool
+    ensures { result ≡ is_signed cond }
+{
+    match cond {
+        Cond::Lt | Cond::Ge => true,
+        Cond::Eq | Cond::Ne | Cond::LtU | Cond::GeU => false,
+    }
+}
+
+/// Returns the relation with its operands exchanged.
+#[tactic(auto, unfolding(crate::specs::Relations::converse))]
+fn converse(rel: Relation) -> Relation
+    ensures { result ≡ converse rel }
+{
+    match rel {
+        Relation::Same => Relation::Same,
+        Relation::Other => Relation::Other,
+        Relation::Less => Relation::More,
+        Relation::AtLeast => Relation::AtMost,
+        Relation::More => Relation::Less,
+        Relation::AtMost => Relation::AtLeast,
+    }
+}
+
+/// Returns the cover of the members of `v` for which some member of `w` makes the condition go to
+/// the side.
+pub(crate) fn narrow_left(b: &Bounds, cond: Cond, side: bool, v: &Val, w: &Val) -> Option<Val>
+    requires left { IsValue b.now v.now }
+    requires right { IsValue b.now w.now }
+    ensures kept { result ≡ cover_some b.now (kept_left cond side (members v.now) (members w.now)) }
+    ensures value { IfSome result (IsValue b.now) }
+{
+    let rel = relation(cond, side);
+    if is_signed(cond) {
+        narrow_signed(b, rel, v, w)
+    } else {
+        narrow(b, rel, v, w)
+    }
+}
+
+/// Returns the cover of the members of `w` for which some member of `v` makes the condition go to
+/// the side.
+pub(crate) fn narrow_right(b: &Bounds, cond: Cond, side: bool, v: &Val, w: &Val) -> Option<Val>
+    requires left { IsValue b.now v.now }
+    requires right { IsValue b.now w.now }
+    ensures kept { result
+        ≡ cover_some b.now (kept_right cond side (members v.now) (members w.now)) }
+    ensures value { IfSome result (IsValue b.now) }
+{
+    let rel = converse(relation(cond, side));
+    if is_signed(cond) {
+        narrow_signed(b, rel, w, v)
+    } else {
+        narrow(b, rel, w, v)
+    }
+}
+
+/// Returns true if a condition goes to the side for a word and itself.
+#[tactic(auto, unfolding(crate::specs::Relations::self_holds))]
+fn holds_itself(cond: Cond, side: bool) -> bool
+    ensures { result ≡ self_holds cond side }
+{
+    match cond {
+        Cond::Eq | Cond::Ge | Cond::GeU => side,
+        Cond::Ne | Cond::Lt | Cond::LtU => !side,
+    }
+}
+
+/// Returns true if a condition goes to the side for two words.
+fn goes(cond: Cond, side: bool, x: u32, y: u32) -> bool
+    ensures { result ≡ holds cond side x y }
+{
+    if side {
+        taken(cond, x, y)
+    } else {
+        !taken(cond, x, y)
+    }
+}
+
+pub(crate) fn is_same(x: u8, y: Arg) -> bool
+    ensures { result ≡ is_reg x y }
+{
+    match y {
+        Arg::Reg(r) => x == r,
+        Arg::Word(_) => false,
+    }
+}
+
+// The functions below write the change of a side into the caller's `Change`, whatever it held. A
+// function that builds a value is a function of its own, so that its callers need no stack for it.
+
+/// Narrows the register to the members that are possible. Returns false if there are none.
+#[inline(never)]
+fn narrow_one(b: &Bounds, test: Comparison, s: &State, v: &Val, w: &Val, c: &mut Change) -> bool
+    requires values { AreValues b.now s.now.regs }
+    requires left { IsValue b.now v.now }
+    requires right { IsValue b.now w.now }
+    ensures one { possible result (state_after s.now c.new)
+        ≡ with_one s.now test.x
+        (cover_some b.now (kept_left test.cond test.side (members v.now) (members w.now))) }
+    ensures values { AreValues b.now (state_after s.now c.new).regs }
+    ensures free { (c.new.second.at ≡ None) × (c.new.third.at ≡ None) }
+{
+    c.keep(s);
+    match narrow_left(b, test.cond, test.side, v, w) {
+        Some(kept) => {
+            c.first.at = slot_of(test.x);
+            c.first.value = kept;
+            true
+        }
+        None => false,
+    }
+}
+
+/// Narrows both operands to the members that are possible. Returns false if one has none.
+#[inline(never)]
+fn narrow_two(b: &Bounds, test: Comparison, s: &State, v: &Val, w: &Val, c: &mut Change) -> bool
+    requires values { AreValues b.now s.now.regs }
+    requires left { IsValue b.now v.now }
+    requires right { IsValue b.now w.now }
+    ensures two { possible result (state_after s.now c.new)
+        ≡ with_two s.now test.x test.y
+        (cover_some b.now (kept_left test.cond test.side (members v.now) (members w.now)))
+        (cover_some b.now (kept_right test.cond test.side (members v.now) (members w.now))) }
+    ensures values { AreValues b.now (state_after s.now c.new).regs }
+    ensures free { c.new.third.at ≡ None }
+{
+    if !narrow_one(b, test, s, v, w, c) {
+        return false;
+    }
+    match narrow_right(b, test.cond, test.side, v, w) {
+        Some(kept) => {
+            c.second.at = operand_slot(test.y);
+            c.second.value = kept;
+            true
+        }
+        None => false,
+    }
+}
+
+/// Narrows the register of a comparison with a constant. Returns false if no member is possible.
+#[inline(never)]
+fn narrow_constant(b: &Bounds, test: Comparison, s: &State, v: &Val, z: u32, c: &mut Change) -> bool
+    requires values { AreValues b.now s.now.regs }
+    requires left { IsValue b.now v.now }
+    ensures two { possible result (state_after s.now c.new)
+        ≡ with_two s.now test.x (Word z)
+        (cover_some b.now (kept_left test.cond test.side (members v.now) (z ∷ [])))
+        (cover_some b.now (kept_right test.cond test.side (members v.now) (z ∷ []))) }
+    ensures values { AreValues b.now (state_after s.now c.new).regs }
+    ensures free { c.new.third.at ≡ None }
+{
+    narrow_one(b, test, s, v, &constant(b, z), c)
+}
+
+/// Narrows operands whose values have to be built. Returns false if the side isn't possible.
+#[inline(never)]
+fn narrow_made(b: &Bounds, plan: &Plan, test: Comparison, s: &State, c: &mut Change) -> bool
+    requires operands { (test.x < 32) × IsArg test.y }
+    requires values { AreValues b.now s.now.regs }
+    ensures two { possible result (state_after s.now c.new)
+        ≡ with_two s.now test.x test.y
+        (cover_some b.now (kept_left test.cond test.side (members (reg_of plan.now s.now test.x))
+        (members (arg_of plan.now s.now test.y))))
+        (cover_some b.now (kept_right test.cond test.side (members (reg_of plan.now s.now test.x))
+        (members (arg_of plan.now s.now test.y)))) }
+    ensures values { AreValues b.now (state_after s.now c.new).regs }
+    ensures free { c.new.third.at ≡ None }
+{
+    let v = reg_value(b, plan, s, test.x);
+    narrow_two(b, test, s, &v, &arg(b, plan, s, test.y), c)
+}
+
+/// Narrows operands by the state's own values if it has them. Returns false if the side isn't
+/// possible.
+fn narrow_values(b: &Bounds, plan: &Plan, test: Comparison, s: &State, c: &mut Change) -> bool
+    requires operands { (test.x < 32) × IsArg test.y }
+    requires values { AreValues b.now s.now.regs }
+    ensures two { possible result (state_after s.now c.new)
+        ≡ with_two s.now test.x test.y
+        (cover_some b.now (kept_left test.cond test.side (members (reg_of plan.now s.now test.x))
+        (members (arg_of plan.now s.now test.y))))
+        (cover_some b.now (kept_right test.cond test.side (members (reg_of plan.now s.now test.x))
+        (members (arg_of plan.now s.now test.y)))) }
+    ensures values { AreValues b.now (state_after s.now c.new).regs }
+    ensures free { c.new.third.at ≡ None }
+{
+    match reg_in(b, plan, s, test.x) {
+        Some(v) => match test.y {
+            Arg::Word(z) => narrow_constant(b, test, s, v, z, c),
+            Arg::Reg(r) => match reg_in(b, plan, s, r) {
+                Some(w) => narrow_two(b, test, s, v, w, c),
+                None => narrow_made(b, plan, test, s, c),
+            },
+        },
+        None => narrow_made(b, plan, test, s, c),
+    }
+}
+
+/// Writes the change on a side of a condition, and returns whether the side is possible. A
+/// comparison of two constants changes nothing.
+fn narrow_by(b: &Bounds, plan: &Plan, test: Comparison, s: &State, c: &mut Change) -> bool
+    requires operands { (test.x < 32) × IsArg test.y }
+    requires values { AreValues b.now s.now.regs }
+    ensures refined { possible result (state_after s.now c.new)
+        ≡ state_on_side b.now plan.now test.cond test.x test.y s.now test.side }
+    ensures values { AreValues b.now (state_after s.now c.new).regs }
+    ensures free { c.new.third.at ≡ None }
+{
+    let _most_words = b.most_words();
+    let _globals = &plan.globals;
+    if is_same(test.x, test.y) {
+        c.keep(s);
+        return holds_itself(test.cond, test.side);
+    }
+    match arg_word(b, plan, s, Arg::Reg(test.x)) {
+        Some(x) => match arg_word(b, plan, s, test.y) {
+            Some(y) => {
+                c.keep(s);
+                goes(test.cond, test.side, x, y)
+            }
+            None => narrow_values(b, plan, test, s, c),
+        },
+        None => narrow_values(b, plan, test, s, c),
+    }
+}
+
+/// Decrements a register by 1.
+#[inline(never)]
+fn lower(b: &Bounds, plan: &Plan, x: u8, s: &State, c: &mut Change)
+    requires register { x < 32 }
+    requires values { AreValues b.now (state_after s.now c.old).regs }
+    requires free { c.old.third.at ≡ None }
+    ensures lowered { state_after s.now c.new
+        ≡ write_reg (state_after s.now c.old) x
+        (value_of b.now Sub (reg_of plan.now (state_after s.now c.old) x) (word_val 1)) }
+    ensures values { AreValues b.now (state_after s.now c.new).regs }
+{
+    let v = changed_reg(b, plan, s, c, x);
+    operation(b, Op::Sub, &v, &constant(b, 1), &mut c.third.value);
+    write_last(b, s, c, x);
+}
+
+/// Decrements the register of a loop by 1.
+fn lower_counter(b: &Bounds, plan: &Plan, x: u8, lowers: bool, s: &State, c: &mut Change)
+    requires register { x < 32 }
+    requires values { AreValues b.now (state_after s.now c.old).regs }
+    requires free { c.old.third.at ≡ None }
+    ensures lowered { Some (state_after s.now c.new)
+        ≡ with_lowered_counter b.now plan.now x lowers (Some (state_after s.now c.old)) }
+    ensures values { AreValues b.now (state_after s.now c.new).regs }
+{
+    if lowers {
+        lower(b, plan, x, s, c);
+    }
+}
+
+/// Writes the change on a side of a branch, and returns whether the side is possible.
+fn change_by(
+    b: &Bounds,
+    plan: &Plan,
+    test: Comparison,
+    lowers: bool,
+    s: &State,
+    c: &mut Change,
+) -> bool
+    requires operands { (test.x < 32) × IsArg test.y }
+    requires values { AreValues b.now s.now.regs }
+    ensures refine { possible result (state_after s.now c.new)
+        ≡ with_lowered_counter b.now plan.now test.x lowers
+        (state_on_side b.now plan.now test.cond test.x test.y s.now test.side) }
+    ensures values { AreValues b.now (state_after s.now c.new).regs }
+{
+    if !narrow_by(b, plan, test, s, c) {
+        return false;
+    }
+    lower_counter(b, plan, test.x, lowers, s, c);
+    true
+}
+
+/// Writes the change on a side of a branch into `c`, whatever it held. Returns false if the side
+/// isn't possible.
+#[tactic(auto, unfolding(crate::specs::Branches::refine_of))]
+pub fn change_on(
+    b: &Bounds,
+    plan: &Plan,
+    shape: Shape,
+    s: &State,
+    side: bool,
+    c: &mut Change,
+) -> bool
+    requires shape { IsShape shape }
+    requires values { AreValues b.now s.now.regs }
+    ensures refine { possible result (state_after s.now c.new)
+        ≡ refine_of b.now plan.now shape s.now side }
+    ensures values { AreValues b.now (state_after s.now c.new).regs }
+{
+    match shape {
+        Shape::Branch {
+            cond,
+            x,
+            y,
+            lowers,
+            ..
+        } => change_by(b, plan, Comparison { cond, side, x, y }, lowers, s, c),
+        _ => {
+            c.keep(s);
+            false
+        }
+    }
+}
