@@ -1,5 +1,5 @@
 -- A bit that is set.
-use Rattle.std.proofs.Common.{◌≡◌, ◌≢◌, ◌*◌, ◌/◌, ◌%◌, ◌^◌, ◌+◌, ◌-◌, ◌<◌, ◌==◌, ◌||◌, ◌&&◌, ℕ, nat_le, nat_lt, Bool, true, false, List, length, get_or, set, replicate, bit_or, inl, inr, refl, sym, ap, ◌∙◌, arith}
+use Rattle.std.proofs.Common.{◌≡◌, ◌≢◌, ◌*◌, ◌/◌, ◌%◌, ◌^◌, ◌+◌, ◌-◌, ◌<◌, ◌≤◌, ◌==◌, ◌||◌, ◌&&◌, ℕ, nat_le, nat_lt, Bool, true, false, List, length, get_or, set, replicate, bit_or, inl, inr, refl, sym, ap, ◌∙◌, arith}
 use Rattle.std.specs.Int.{bit_at, w64}
 use Rattle.std.proofs.lemmas.Bool.{cases_eq, cases_lt, eq-eqb, ne_eqb, le-leb, lt-leb, lt-ltb, le-ltb}
 use Rattle.std.proofs.lemmas.List.{get_or-set_same, get_or-set_other, get_or-replicate}
@@ -47,6 +47,12 @@ is_set-zeros k lt =
     ap (λ (w : ℕ). bit_at w (k % 64) == 1) (get_or-replicate 64 (k / 64) 0 0 (omega arith))
     ∙ ap (λ (b : ℕ). b == 1) (bit_at-zero (k % 64))
 
+-- each bit is set in a page that is wholly mapped
+pub is_set-ones : (k : ℕ) → k < 4096 → is_set (replicate 64 (2 ^ 64 - 1)) k ≡ true
+is_set-ones k lt =
+    ap (λ (w : ℕ). bit_at w (k % 64) == 1) (get_or-replicate 64 (k / 64) (2 ^ 64 - 1) 0 (omega arith))
+    ∙ eq-eqb (bit_at (2 ^ 64 - 1) (k % 64)) 1 (bit_at_ones 64 (k % 64) (omega arith))
+
 -- ---- a whole word of bits
 or_one : (b c : Bool) → c ≡ true → true ≡ (b || c)
 or_one b c is = rw is (sym (or_true b))
@@ -84,3 +90,10 @@ is_set-filled ms o k size aligned lt =
           ∙ sym (or_false (is_set ms k))
           ∙ ap (λ (t : Bool). is_set ms k || t) (sym (beside_word o k aligned words))
     ]
+
+-- all bits are set, which are those from the first offset on to the last one
+pub is_set-whole : (ms new : List ℕ) (from to k : ℕ) → to - from ≡ 4096 → to ≤ 4096 → k < 4096 → is_set new k ≡ true → is_set new k ≡ (is_set ms k || (nat_le from k && nat_lt k to))
+is_set-whole ms new from to k whole within lt set =
+    let low : nat_le from k ≡ true = le-leb from k (omega arith) in
+    let high : nat_lt k to ≡ true = lt-ltb k to (omega arith) in
+    set ∙ or_one (is_set ms k) (nat_le from k && nat_lt k to) (rw (low, high) refl)

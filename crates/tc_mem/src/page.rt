@@ -1,5 +1,5 @@
 // One page: its bytes, their bits, and what reads and writes them.
-ghost use Rattle.std.specs.Prelude.{◌≡◌, ◌≢◌, ◌<◌, ◌≤◌, ◌+◌, ◌-◌, ◌==◌, [], ◌∷◌, ℕ, ◌*◌, ◌/◌, ◌%◌, ◌^◌, All, IfSome, IfNone, is_some, map, length, slice_index, slice_set, if◌then◌else◌, ◌||◌, ◌&&◌, nat_le, nat_lt};
+ghost use Rattle.std.specs.Prelude.{◌≡◌, ◌≢◌, ◌<◌, ◌≤◌, ◌+◌, ◌-◌, ◌==◌, [], ◌∷◌, ℕ, ◌*◌, ◌/◌, ◌%◌, ◌^◌, All, IfSome, IfNone, is_some, map, length, true, slice_index, slice_set, if◌then◌else◌, ◌||◌, ◌&&◌, nat_le, nat_lt};
 ghost use Rattle.tcd_base.specs.Bytes.{word_at, half_at};
 ghost use Rattle.tc_mem.specs.Pages.{is_set, byte_of, bytes_with, with_bytes_at, are_set};
 
@@ -281,13 +281,25 @@ fn mark_block(mapped: &mut [u64; 64], offset: usize)
     mapped[offset / 64] = u64::MAX;
 }
 
-// Sets the bits from one offset on up to before another.
+// Returns the bits of a page that is wholly mapped.
+fn all_bits() -> [u64; 64]
+    ensures size { length result ≡ 64 }
+    ensures set { (k : ℕ) → k < 4096 → is_set result k ≡ true }
+{
+    [u64::MAX; 64]
+}
+
+// Sets the bits from one offset on up to before another. Those of a whole page are set at once.
 fn mark_between(mapped: &mut [u64; 64], from: usize, to: usize)
     requires ordered { from ≤ to }
     requires within { to ≤ 4096 }
     ensures { (k : ℕ) → k < 4096
         → is_set mapped.new k ≡ (is_set mapped.old k || (nat_le from k && nat_lt k to)) }
 {
+    if to - from == 4096 {
+        *mapped = all_bits();
+        return;
+    }
     let mut offset = from;
     while offset < to {
         if offset % 64 == 0 && to - offset >= 64 {

@@ -140,7 +140,8 @@ fn page_numbers(alloc: Global, ranges: &[Range]) -> Result<Vec<u32>, NoMemory>
     Ok(numbers)
 }
 
-// Returns the pages of the ranges.
+// Returns the pages of the ranges. There is room for all of them before the first one is made, so
+// each is written where it stays.
 pub(crate) fn pages_of(alloc: Global, ranges: &[Range]) -> Result<Vec<Page>, NoMemory>
     ensures pages { IfOk result (λ v. IsMem v.items) }
     ensures bytes { IfOk result (λ v. HasBytes (memory_of v.items)) }
@@ -149,7 +150,7 @@ pub(crate) fn pages_of(alloc: Global, ranges: &[Range]) -> Result<Vec<Page>, NoM
     let numbers = page_numbers(alloc, ranges)?;
     let mut pages = Vec::with_capacity(alloc, numbers.len())?;
     for number in &numbers {
-        pages.push(page_of(*number, ranges))?;
+        pages.push_reserved(page_of(*number, ranges));
     }
     Ok(pages)
 }

@@ -7,7 +7,7 @@ use Rattle.tc_mem.proofs.page_numbers.pages_of.Goals as goal
 made : (c : goal.After-drop-numbers-2) → AreMade c.args.ranges.now c.in_ok-numbers.numbers.items c.loop-number.pages.items
 made c =
     let all = take_all c.loop-number.number-index c.deref-number-items.result.now c.loop-number-test.false ∙ c.deref-number-items.ensures.value in
-    subst (λ (ns : List ℕ). AreMade c.args.ranges.now ns c.loop-number.pages.items) all c.loop-number.invariant
+    subst (λ (ns : List ℕ). AreMade c.args.ranges.now ns c.loop-number.pages.items) all c.loop-number.invariant.made
 
 pub returns-clause-zeros : goal.returns-clause-zeros
 returns-clause-zeros c = made_zeros _ _ _ (made c) c.in_ok-numbers.ensures.rising c.in_ok-numbers.ensures.all
