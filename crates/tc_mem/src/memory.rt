@@ -22,6 +22,8 @@ use tcd_base::{NoMemory, Range};
 #[derive(Drop)]
 pub struct Mem {
     pages: Vec<Page>,
+    /// The place of the page to which an area was written last, near which the next one is. A hint.
+    near: usize,
 }
 
 impl Model for Mem {
@@ -48,6 +50,7 @@ impl Mem {
     {
         Ok(Mem {
             pages: pages_of(alloc, ranges)?,
+            near: 0,
         })
     }
 
@@ -56,7 +59,7 @@ impl Mem {
         ensures byte { result ≡ finite.get self.now addr }
         ensures bytes { HasBytes self.now }
     {
-        read(&self.pages, addr)
+        read(&self.pages, addr, self.near)
     }
 
     /// Writes a mapped byte. If it isn't mapped, the answer is false, and nothing changes.
@@ -66,7 +69,7 @@ impl Mem {
         ensures kept { OnFalse result (self.new ≡ self.old) }
         ensures bytes { HasBytes self.new }
     {
-        write(&mut self.pages, addr, byte)
+        write(&mut self.pages, addr, byte, self.near)
     }
 
     /// Writes bytes from an address on. Those at addresses that aren't mapped are dropped.
@@ -85,7 +88,7 @@ impl Mem {
         ensures words { result ≡ area_of self.now addr }
         ensures bytes { HasBytes self.now }
     {
-        read_area(&self.pages, addr)
+        read_area(&self.pages, addr, self.near)
     }
 
     /// Writes 16 words to the 64 bytes from an address on, each with its lowest byte first. If one
@@ -97,7 +100,7 @@ impl Mem {
         ensures kept { OnFalse result (self.new ≡ self.old) }
         ensures bytes { HasBytes self.new }
     {
-        write_area(&mut self.pages, addr, words)
+        write_area(&mut self.pages, addr, words, &mut self.near)
     }
 
     /// Returns the word of the four bytes from an address on, its lowest byte first. If one of them
@@ -106,7 +109,7 @@ impl Mem {
         ensures word { result ≡ word_of self.now addr }
         ensures bytes { HasBytes self.now }
     {
-        read_word(&self.pages, addr)
+        read_word(&self.pages, addr, self.near)
     }
 
     /// Returns the halfword of the two bytes from an address on, its lower byte first. If one of
@@ -115,7 +118,7 @@ impl Mem {
         ensures half { result ≡ half_of self.now addr }
         ensures bytes { HasBytes self.now }
     {
-        read_half(&self.pages, addr)
+        read_half(&self.pages, addr, self.near)
     }
 
     /// Writes a word to the four bytes from an address on, its lowest byte first. If one of them
@@ -125,7 +128,7 @@ impl Mem {
         ensures written { self.new ≡ with_word_in self.old addr word }
         ensures bytes { HasBytes self.new }
     {
-        write_word(&mut self.pages, addr, word)
+        write_word(&mut self.pages, addr, word, self.near)
     }
 
     /// Writes a halfword to the two bytes from an address on, its lower byte first. If one of them
@@ -135,7 +138,7 @@ impl Mem {
         ensures written { self.new ≡ with_half_in self.old addr half }
         ensures bytes { HasBytes self.new }
     {
-        write_half(&mut self.pages, addr, half)
+        write_half(&mut self.pages, addr, half, self.near)
     }
 
     /// Returns the first word of the 64 bytes from an address on, or `None` if one of the 64 isn't
@@ -151,19 +154,19 @@ impl Mem {
 }
 
 // Returns the byte at an address, or `None` if it isn't mapped.
-pub(crate) fn read(pages: &[Page], addr: u32) -> Option<u8>
+pub(crate) fn read(pages: &[Page], addr: u32, near: usize) -> Option<u8>
     requires { IsMem pages.now }
     ensures byte { result ≡ finite.get (memory_of pages.now) addr }
     ensures bytes { HasBytes (memory_of pages.now) }
 {
-    let Some(i) = find_page(pages, addr / 4096) else {
+    let Some(i) = find_page(pages, addr / 4096, near) else {
         return None;
     };
     byte(&pages[i], addr)
 }
 
 // Writes a byte if it is mapped, and returns whether it is.
-pub(crate) fn write(pages: &mut [Page], addr: u32, byte: u8) -> bool
+pub(crate) fn write(pages: &mut [Page], addr: u32, byte: u8, near: usize) -> bool
     requires { IsMem pages.old }
     ensures mapped { result ≡ has_byte (memory_of pages.old) addr }
     ensures written { memory_of pages.new ≡ with_byte (memory_of pages.old) addr byte }
@@ -171,7 +174,7 @@ pub(crate) fn write(pages: &mut [Page], addr: u32, byte: u8) -> bool
     ensures pages { IsMem pages.new }
     ensures bytes { HasBytes (memory_of pages.new) }
 {
-    let Some(i) = find_page(pages, addr / 4096) else {
+    let Some(i) = find_page(pages, addr / 4096, near) else {
         return false;
     };
     put_byte(&mut pages[i], (addr % 4096) as usize, byte)
@@ -184,7 +187,7 @@ fn write_in_page(pages: &mut [Page], addr: u32, bytes: &[u8])
     ensures written { IsWritten (memory_of pages.old) addr bytes.now (memory_of pages.new) }
     ensures pages { IsMem pages.new }
 {
-    let Some(i) = find_page(pages, addr / 4096) else {
+    let Some(i) = find_page(pages, addr / 4096, 0) else {
         return;
     };
     put_bytes(&mut pages[i], (addr % 4096) as usize, bytes);
@@ -208,20 +211,20 @@ pub(crate) fn write_bytes(pages: &mut [Page], addr: u32, bytes: &[u8])
 }
 
 // Returns the words of an area that is wholly mapped.
-pub(crate) fn read_area(pages: &[Page], addr: u32) -> Option<[u32; 16]>
+pub(crate) fn read_area(pages: &[Page], addr: u32, near: usize) -> Option<[u32; 16]>
     requires pages { IsMem pages.now }
     requires aligned { addr % 64 ≡ 0 }
     ensures words { result ≡ area_of (memory_of pages.now) addr }
     ensures bytes { HasBytes (memory_of pages.now) }
 {
-    let Some(i) = find_page(pages, addr / 4096) else {
+    let Some(i) = find_page(pages, addr / 4096, near) else {
         return None;
     };
     area_in(&pages[i], (addr % 4096) as usize)
 }
 
 // Writes an area if it is wholly mapped, and returns whether it is.
-pub(crate) fn write_area(pages: &mut [Page], addr: u32, words: &[u32; 16]) -> bool
+pub(crate) fn write_area(pages: &mut [Page], addr: u32, words: &[u32; 16], near: &mut usize) -> bool
     requires pages { IsMem pages.old }
     requires aligned { addr % 64 ≡ 0 }
     ensures mapped { result ≡ are_mapped (memory_of pages.old) addr 64 }
@@ -229,14 +232,15 @@ pub(crate) fn write_area(pages: &mut [Page], addr: u32, words: &[u32; 16]) -> bo
     ensures pages { IsMem pages.new }
     ensures bytes { HasBytes (memory_of pages.new) }
 {
-    let Some(i) = find_page(pages, addr / 4096) else {
+    let Some(i) = find_page(pages, addr / 4096, *near) else {
         return false;
     };
+    *near = i;
     put_area(&mut pages[i], (addr % 4096) as usize, words)
 }
 
 // Returns the word at an address if its bytes are mapped and in one block of 64.
-pub(crate) fn read_word(pages: &[Page], addr: u32) -> Option<u32>
+pub(crate) fn read_word(pages: &[Page], addr: u32, near: usize) -> Option<u32>
     requires { IsMem pages.now }
     ensures word { result ≡ word_of (memory_of pages.now) addr }
     ensures bytes { HasBytes (memory_of pages.now) }
@@ -244,14 +248,14 @@ pub(crate) fn read_word(pages: &[Page], addr: u32) -> Option<u32>
     if addr % 64 > 60 {
         return None;
     }
-    let Some(i) = find_page(pages, addr / 4096) else {
+    let Some(i) = find_page(pages, addr / 4096, near) else {
         return None;
     };
     mapped_word(&pages[i], (addr % 4096) as usize)
 }
 
 // Returns the halfword at an address if its bytes are mapped and in one block of 64.
-pub(crate) fn read_half(pages: &[Page], addr: u32) -> Option<u16>
+pub(crate) fn read_half(pages: &[Page], addr: u32, near: usize) -> Option<u16>
     requires { IsMem pages.now }
     ensures half { result ≡ half_of (memory_of pages.now) addr }
     ensures bytes { HasBytes (memory_of pages.now) }
@@ -259,14 +263,14 @@ pub(crate) fn read_half(pages: &[Page], addr: u32) -> Option<u16>
     if addr % 64 > 62 {
         return None;
     }
-    let Some(i) = find_page(pages, addr / 4096) else {
+    let Some(i) = find_page(pages, addr / 4096, near) else {
         return None;
     };
     mapped_half(&pages[i], (addr % 4096) as usize)
 }
 
 // Writes a word if its bytes are mapped and in one block of 64, and returns whether they are.
-pub(crate) fn write_word(pages: &mut [Page], addr: u32, word: u32) -> bool
+pub(crate) fn write_word(pages: &mut [Page], addr: u32, word: u32, near: usize) -> bool
     requires { IsMem pages.old }
     ensures mapped { result ≡ are_in_block (memory_of pages.old) addr 4 }
     ensures written { memory_of pages.new ≡ with_word_in (memory_of pages.old) addr word }
@@ -276,14 +280,14 @@ pub(crate) fn write_word(pages: &mut [Page], addr: u32, word: u32) -> bool
     if addr % 64 > 60 {
         return false;
     }
-    let Some(i) = find_page(pages, addr / 4096) else {
+    let Some(i) = find_page(pages, addr / 4096, near) else {
         return false;
     };
     put_mapped_word(&mut pages[i], (addr % 4096) as usize, word)
 }
 
 // Writes a halfword if its bytes are mapped and in one block of 64, and returns whether they are.
-pub(crate) fn write_half(pages: &mut [Page], addr: u32, half: u16) -> bool
+pub(crate) fn write_half(pages: &mut [Page], addr: u32, half: u16, near: usize) -> bool
     requires { IsMem pages.old }
     ensures mapped { result ≡ are_in_block (memory_of pages.old) addr 2 }
     ensures written { memory_of pages.new ≡ with_half_in (memory_of pages.old) addr half }
@@ -293,7 +297,7 @@ pub(crate) fn write_half(pages: &mut [Page], addr: u32, half: u16) -> bool
     if addr % 64 > 62 {
         return false;
     }
-    let Some(i) = find_page(pages, addr / 4096) else {
+    let Some(i) = find_page(pages, addr / 4096, near) else {
         return false;
     };
     put_mapped_half(&mut pages[i], (addr % 4096) as usize, half)

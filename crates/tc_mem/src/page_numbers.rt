@@ -45,9 +45,9 @@ pub(crate) fn find_near(pages: &[Page], number: u32, near: usize) -> Option<usiz
     search_page(pages, number)
 }
 
-// Returns the place of the page with this number if all pages between it and the first one, or the
-// last one, are there. A guess that saves the search.
-fn likely_place(pages: &[Page], number: u32) -> usize {
+// Returns a place at which the page with this number may be: its distance from the first page, or
+// from the last one if it is there, else `near`. A guess that saves the search.
+fn likely_place(pages: &[Page], number: u32, near: usize) -> usize {
     let count = pages.len();
     if count == 0 {
         return 0;
@@ -57,21 +57,21 @@ fn likely_place(pages: &[Page], number: u32) -> usize {
         return after_first;
     }
     let before_last = pages[count - 1].number.wrapping_sub(number) as usize;
-    if before_last < count {
-        count - 1 - before_last
-    } else {
-        0
+    if before_last < count && pages[count - 1 - before_last].number == number {
+        return count - 1 - before_last;
     }
+    near
 }
 
-// Returns the place of the page with this number.
-pub(crate) fn find_page(pages: &[Page], number: u32) -> Option<usize>
+// Returns the place of the page with this number. `near` is a hint for pages that are neither in
+// sequence with the first one nor with the last one.
+pub(crate) fn find_page(pages: &[Page], number: u32, near: usize) -> Option<usize>
     requires { IsStrictlyIncreasing (map number_of pages.now) }
     ensures within { IfSome result (λ i. i < length pages.now) }
     ensures found { IfSome result (λ i. slice_index (map number_of pages.now) i ≡ number) }
     ensures none { IfNone result (All (λ p. number_of p ≢ number) pages.now) }
 {
-    find_near(pages, number, likely_place(pages, number))
+    find_near(pages, number, likely_place(pages, number, near))
 }
 
 // Returns the bytes of a new page.
