@@ -18,6 +18,7 @@ use Rattle.cfg_recover.specs.Duties.{Owed, duties_of, OwesEntry, OwesJump}
 use Rattle.cfg_recover.specs.Accepting.{limits_in}
 use Rattle.cfg_recover.specs.Edges.{Way, aln, call, irq, ret, rfe, sys, to, way_of_step}
 use Rattle.cfg_recover.specs.Frames.{Standing, frames}
+
 -- its return.
 
 -- the frame before the newest one goes on at an address

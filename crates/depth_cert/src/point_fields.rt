@@ -29,7 +29,7 @@ pub fn read_locals(c: &mut Cursor<'_>, version: u8) -> Result<ArrayVec<bool, 8>,
     read_flags(c, count)
 }
 
-#[tactic(auto, unfolding(tcd_base::specs::Reading::many_at))]
+#[tactic(auto, unfolding(tcd_base::specs::FieldReaders::many_at))]
 fn read_flags(c: &mut Cursor<'_>, count: u8) -> Result<ArrayVec<bool, 8>, FormErr>
     requires short { length c.old.bytes ≤ 2 ^ 30 }
     requires few { count ≤ 8 }

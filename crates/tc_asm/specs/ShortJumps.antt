@@ -12,6 +12,7 @@ use Rattle.tc_asm.specs.Sources.{KeepsRules, symbols_in}
 use Rattle.tc_asm.specs.Objects.{addend_of}
 use Rattle.tc_asm.specs.Statements.{StatementData, offset_of, statements_in}
 use Rattle.tc_asm.specs.InstructionLaws.{Spells}
+
 -- labels.
 
 -- the distance of a jump or call of 16 bits, modulo 2^32: SBR (form 13) only goes forwards, SB both

@@ -80,7 +80,7 @@ fn later_items<'p, 'a>(items: &'p [Item<'a>], count: u8) -> &'p [Item<'a>]
 }
 
 // Adds a line, whose items are first in `items`, and returns the least rule that it breaks.
-#[tactic(auto, unfolding(crate::specs::Sources::with_line, crate::specs::Sources::line_rule))]
+#[tactic(auto, unfolding(crate::specs::Sources::with_line, crate::specs::Rules::line_rule))]
 fn add_line<'a>(
     alloc: Global,
     draft: &mut Draft<'a>,

@@ -35,7 +35,7 @@ fn append_number(text: &mut String, signed: bool, bound: u32, value: u32) -> Res
     }
 }
 
-#[tactic(auto, unfolding(crate::specs::Texts::is_two_way, tc_isa::specs::Words::form_index))]
+#[tactic(auto, unfolding(crate::specs::Texts::is_two_way, tc_isa::specs::Forms::form_index))]
 fn is_two_way(form: Form) -> bool
     ensures { result ≡ is_two_way form }
 {
@@ -64,7 +64,7 @@ fn append_target(text: &mut String, both: bool, bound: u32, k: u32) -> Result<()
     }
 }
 
-#[tactic(auto, unfolding(crate::specs::Texts::address_in, tc_isa::specs::Words::form_index))]
+#[tactic(auto, unfolding(crate::specs::Texts::address_in, tc_isa::specs::Forms::form_index))]
 fn address_in(form: Form, f: &Fields) -> u32
     ensures { result ≡ address_in form f.now }
 {

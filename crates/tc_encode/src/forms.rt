@@ -5,7 +5,7 @@ ghost use Rattle.tc_isa.specs.Forms.{IsBelow, bounds, second_bound, word, fields
 use tc_isa::{Fields, Form};
 
 /// Returns the fields of a word.
-#[tactic(auto, unfolding(tc_isa::specs::Words::fields_of))]
+#[tactic(auto, unfolding(tc_isa::specs::Forms::fields_of))]
 #[inline(always)]
 pub fn split(form: Form, w: u32) -> Fields
     requires { w < 2 ^ 32 }
@@ -117,7 +117,7 @@ pub fn split(form: Form, w: u32) -> Fields
 }
 
 /// Returns the second code of a word.
-#[tactic(auto, unfolding(tc_isa::specs::Words::second_of))]
+#[tactic(auto, unfolding(tc_isa::specs::Forms::second_of))]
 pub fn second_code(form: Form, w: u32) -> u8
     requires { w < 2 ^ 32 }
     ensures { result ≡ second_of form w }
@@ -134,7 +134,7 @@ pub fn second_code(form: Form, w: u32) -> u8
 }
 
 /// Returns the word of these codes and fields.
-#[tactic(auto, unfolding(tc_isa::specs::Words::word, tc_isa::specs::Words::bounds, tc_isa::specs::Words::second_bound))]
+#[tactic(auto, unfolding(tc_isa::specs::Forms::word, tc_isa::specs::Forms::bounds, tc_isa::specs::Forms::second_bound))]
 pub fn join(form: Form, op1: u8, op2: u8, f: &Fields) -> u32
     requires second { op2 < second_bound form }
     requires below { IsBelow f.now (bounds form) }

@@ -239,7 +239,7 @@ static PLAIN: [bool; ROW_COUNT] = [
 ];
 
 /// Returns for each row, in the order of the rows, whether it has all fields of its form.
-#[tactic(auto, unfolding(tc_isa::specs::Words::bounds))]
+#[tactic(auto, unfolding(tc_isa::specs::Forms::bounds))]
 pub fn plain_rows() -> &'static [bool; ROW_COUNT]
     ensures { result.now ≡ map names_all listed }
 {

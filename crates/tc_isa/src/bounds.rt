@@ -6,7 +6,7 @@ use crate::{Fields, Form};
 
 /// Returns the bounds of a form's fields, all exclusive. A field that the form doesn't have has the
 /// bound 1.
-#[tactic(auto, unfolding(crate::specs::Words::bounds))]
+#[tactic(auto, unfolding(crate::specs::Forms::bounds))]
 pub fn bounds_of(form: Form) -> Fields
     ensures { result ≡ bounds form }
 {

@@ -86,7 +86,7 @@ fn region_line<'a>(word: &[u8], section: &'a [u8], at: &[u8], most: &[u8]) -> Op
 }
 
 /// The contents of a line; None if it has none of the forms.
-#[tactic(auto, using(crate::proofs::LineLaws::more), unfolding(crate::specs::Lines::line_of))]
+#[tactic(auto, using(crate::proofs::LineLaws::more), unfolding(crate::specs::LayoutLines::line_of))]
 pub(crate) fn line_of(line: &[u8]) -> Option<Line<'_>>
     ensures line { option_map line_data result ≡ line_of line.now }
     ensures good { IfSome result (λ line. IsGood (line_data line)) }

@@ -47,7 +47,7 @@ fn add_size(places: &[Place], sizes: &mut [u64], section: &SectionRef<'_>)
 }
 
 // Whether a place is too small, or all places together are above the limit of an image.
-#[tactic(auto, unfolding(crate::specs::Linked::is_over, crate::specs::Linked::total))]
+#[tactic(auto, unfolding(crate::specs::Refusals::is_over, crate::specs::Refusals::total))]
 fn is_over(places: &[Place], sizes: &[u64]) -> bool
     requires count { length sizes.now ≡ length places.now }
     requires few { length places.now ≤ 64 }

@@ -179,7 +179,7 @@ fn append<'a>(
 }
 
 /// All sections with their relocations written, or the first relocation that is refused.
-#[tactic(auto, unfolding(crate::specs::Linked::contents_of, crate::specs::Linked::reloc_in))]
+#[tactic(auto, unfolding(crate::specs::Linked::contents_of, crate::specs::Refusals::reloc_in))]
 pub(crate) fn contents_of<'a>(
     alloc: Global,
     names: &HashMap<&str, Definition>,

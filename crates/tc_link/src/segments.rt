@@ -43,7 +43,7 @@ fn add_section(bytes: &mut Vec<u8>, name: &str, section: &WrittenSection<'_>) ->
 }
 
 // The sections of one name, each at a multiple of 4.
-#[tactic(auto, unfolding(crate::specs::Relocated::joined_sections))]
+#[tactic(auto, unfolding(crate::specs::Segments::joined_sections))]
 fn join_sections(
     alloc: Global,
     name: &str,
@@ -75,7 +75,7 @@ fn add_segment(segments: &mut Vec<Segment>, at: u32, bytes: Vec<u8>) -> Result<(
 }
 
 /// The segments of an image: one for each place with bytes.
-#[tactic(auto, unfolding(crate::specs::Relocated::segments_of))]
+#[tactic(auto, unfolding(crate::specs::Segments::segments_of))]
 pub(crate) fn segments_of(
     alloc: Global,
     places: &[Place],

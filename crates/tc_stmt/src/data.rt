@@ -44,7 +44,7 @@ fn fits_width(width: u8, minus: bool, size: u128) -> bool
 }
 
 /// The least rule that a value of `width` bytes breaks, or no rule.
-#[tactic(auto, unfolding(crate::specs::Values::value_rule))]
+#[tactic(auto, unfolding(crate::specs::DataDirectives::value_rule))]
 pub(crate) fn value_rule(width: u8, o: Operand<'_>) -> u8
     requires { (width ≡ 1) ⊎ ((width ≡ 2) ⊎ (width ≡ 4)) }
     ensures value { result ≡ value_rule width (operand_of o.entry) }
@@ -76,7 +76,7 @@ pub(crate) fn value_rule(width: u8, o: Operand<'_>) -> u8
 }
 
 /// The item for a value of `width` bytes. If the value breaks a rule, its bytes are zeros.
-#[tactic(auto, unfolding(crate::specs::Values::value_item))]
+#[tactic(auto, unfolding(crate::specs::DataDirectives::value_item))]
 pub(crate) fn value_item<'a>(width: u8, o: Operand<'a>) -> Item<'a>
     requires { (width ≡ 1) ⊎ ((width ≡ 2) ⊎ (width ≡ 4)) }
     ensures { item_of result ≡ value_item width (operand_of o.entry) }
@@ -98,7 +98,7 @@ pub(crate) fn value_item<'a>(width: u8, o: Operand<'a>) -> Item<'a>
 }
 
 /// The least rule that the operand of `.space` breaks by itself, or no rule.
-#[tactic(auto, unfolding(crate::specs::Values::space_rule))]
+#[tactic(auto, unfolding(crate::specs::DataDirectives::space_rule))]
 pub(crate) fn space_rule(o: Operand<'_>) -> u8
     ensures value { result ≡ space_rule (operand_of o.entry) }
     ensures small { result ≡ no_rule → o.entry.value.size ≤ 2 ^ 24 }
@@ -124,7 +124,7 @@ pub(crate) fn space_rule(o: Operand<'_>) -> u8
 }
 
 /// The item for `.space`: zeros, and none of them if the operand breaks a rule.
-#[tactic(auto, unfolding(crate::specs::Values::space_item))]
+#[tactic(auto, unfolding(crate::specs::DataDirectives::space_item))]
 pub(crate) fn space_item<'a>(o: Operand<'a>) -> Item<'a>
     ensures { item_of result ≡ space_item (operand_of o.entry) }
 {

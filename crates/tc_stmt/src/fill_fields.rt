@@ -62,7 +62,7 @@ fn bank_of(c: u8) -> u8
 
 // The number of a register: 0 to 15 for d0 to d15, 16 to 31 for a0 to a15, and `NO_REGISTER` or
 // more for any other name.
-#[tactic(auto, unfolding(crate::specs::RowFields::register_of, tc_lex::specs::Bytes::is_digit))]
+#[tactic(auto, unfolding(crate::specs::Values::register_of, tc_lex::specs::Bytes::is_digit))]
 fn register_of(name: &[u8]) -> u8
     ensures value { result ≡ register_of name.now }
 {
@@ -83,7 +83,7 @@ fn put(field: Field, v: u32, acc: &mut RowFields<'_>)
     set_field(field, v, &mut acc.fields);
 }
 
-#[tactic(auto, unfolding(crate::specs::RowFields::put_register))]
+#[tactic(auto, unfolding(crate::specs::Filling::put_register))]
 fn put_register(bank: bool, field: Field, name: &[u8], acc: &mut RowFields<'_>)
     ensures { row_fields_of acc.new
         ≡ put_register bank field name.now (row_fields_of acc.old) }
@@ -96,7 +96,7 @@ fn put_register(bank: bool, field: Field, name: &[u8], acc: &mut RowFields<'_>)
     }
 }
 
-#[tactic(auto, unfolding(crate::specs::RowFields::fits))]
+#[tactic(auto, unfolding(crate::specs::Values::fits))]
 fn fits(signed: bool, bound: u32, minus: bool, size: u128) -> bool
     ensures value { result ≡ fits signed bound minus size }
     ensures within { result ≡ true → size ≤ bound }
@@ -125,7 +125,7 @@ fn wrap(bound: u32, minus: bool, size: u32) -> u32
     }
 }
 
-#[tactic(auto, unfolding(crate::specs::RowFields::put_number))]
+#[tactic(auto, unfolding(crate::specs::Filling::put_number))]
 fn put_number(
     form: Form,
     signed: bool,
@@ -151,7 +151,7 @@ fn is_named(row: &Row, name: &str) -> bool
     is_text(row.name.as_bytes(), name)
 }
 
-#[tactic(auto, unfolding(crate::specs::RowFields::half_kind))]
+#[tactic(auto, unfolding(crate::specs::Filling::half_kind))]
 fn half_kind(row: &Row, shape: Shape) -> u8
     ensures { result ≡ half_kind (row_of row.now) shape }
 {
@@ -174,7 +174,7 @@ fn half_kind(row: &Row, shape: Shape) -> u8
     }
 }
 
-#[tactic(auto, unfolding(crate::specs::RowFields::fill_value))]
+#[tactic(auto, unfolding(crate::specs::Filling::fill_value))]
 fn fill_value<'a>(
     row: &Row,
     signed: bool,
@@ -208,7 +208,7 @@ fn fill_value<'a>(
     }
 }
 
-#[tactic(auto, unfolding(crate::specs::RowFields::fill_memory))]
+#[tactic(auto, unfolding(crate::specs::Filling::fill_memory))]
 fn fill_memory<'a>(
     row: &Row,
     plus: bool,
@@ -235,7 +235,7 @@ fn fill_memory<'a>(
 }
 
 // The number of constants that a form with a target can hold.
-#[tactic(auto, unfolding(tc_isa::specs::Words::bounds))]
+#[tactic(auto, unfolding(tc_isa::specs::Forms::bounds))]
 fn bound_of(form: Form) -> u32
     ensures value { result ≡ (bounds form).k }
     ensures small { result < 2 ^ 31 }
@@ -264,7 +264,7 @@ fn is_far(form: Form, bound: u32, minus: bool, size: u128) -> bool
 }
 
 // The least rule that a displacement of `size` bytes breaks, or no rule.
-#[tactic(auto, unfolding(crate::specs::RowFields::displacement_rule))]
+#[tactic(auto, unfolding(crate::specs::Displacements::displacement_rule))]
 fn displacement_rule(row: &Row, minus: bool, size: u128) -> u8
     ensures value { result ≡ displacement_rule (row_of row.now) minus size }
     ensures near { result ≡ no_rule → size ≤ 2 * (bounds row.now.form).k }
@@ -287,7 +287,7 @@ fn displacement_rule(row: &Row, minus: bool, size: u128) -> u8
     by_far.min(by_odd)
 }
 
-#[tactic(auto, unfolding(crate::specs::RowFields::with_displacement))]
+#[tactic(auto, unfolding(crate::specs::Displacements::with_displacement))]
 fn displace(row: &Row, minus: bool, size: u128, acc: &mut RowFields<'_>)
     ensures { row_fields_of acc.new
         ≡ with_displacement (row_of row.now) minus size (row_fields_of acc.old) }
@@ -319,7 +319,7 @@ pub fn with_displacement<'a>(
     made
 }
 
-#[tactic(auto, unfolding(crate::specs::RowFields::target_kind))]
+#[tactic(auto, unfolding(crate::specs::Displacements::target_kind))]
 fn target_kind(row: &Row) -> u8
     ensures { result ≡ target_kind (row_of row.now) }
 {
@@ -334,7 +334,7 @@ fn target_kind(row: &Row) -> u8
     }
 }
 
-#[tactic(auto, unfolding(crate::specs::RowFields::fill_target))]
+#[tactic(auto, unfolding(crate::specs::Filling::fill_target))]
 fn fill_target<'a>(row: &Row, v: &Value<'a>, acc: &mut RowFields<'a>) -> bool
     ensures { Fills result acc.new
         (fill_target (row_of row.now) (value_of v.now) (row_fields_of acc.old)) }
@@ -358,7 +358,7 @@ fn fill_target<'a>(row: &Row, v: &Value<'a>, acc: &mut RowFields<'a>) -> bool
     }
 }
 
-#[tactic(auto, unfolding(crate::specs::RowFields::put_absolute))]
+#[tactic(auto, unfolding(crate::specs::Filling::put_absolute))]
 fn put_absolute(form: Form, minus: bool, size: u128, acc: &mut RowFields<'_>)
     ensures { row_fields_of acc.new ≡ put_absolute form minus size (row_fields_of acc.old) }
 {
@@ -385,7 +385,7 @@ fn put_absolute(form: Form, minus: bool, size: u128, acc: &mut RowFields<'_>)
     }
 }
 
-#[tactic(auto, unfolding(crate::specs::RowFields::fill_absolute))]
+#[tactic(auto, unfolding(crate::specs::Filling::fill_absolute))]
 fn fill_absolute<'a>(row: &Row, v: &Value<'a>, acc: &mut RowFields<'a>) -> bool
     ensures { Fills result acc.new
         (fill_absolute (row_of row.now) (value_of v.now) (row_fields_of acc.old)) }
@@ -412,7 +412,7 @@ fn fill_absolute<'a>(row: &Row, v: &Value<'a>, acc: &mut RowFields<'a>) -> bool
     }
 }
 
-#[tactic(auto, unfolding(crate::specs::RowFields::fill_register))]
+#[tactic(auto, unfolding(crate::specs::Filling::fill_register))]
 fn fill_register(bank: bool, field: Field, v: &Value<'_>, acc: &mut RowFields<'_>) -> bool
     ensures { Fills result acc.new
         (fill_register bank field (value_of v.now) (row_fields_of acc.old)) }
@@ -425,7 +425,7 @@ fn fill_register(bank: bool, field: Field, v: &Value<'_>, acc: &mut RowFields<'_
     }
 }
 
-#[tactic(auto, unfolding(crate::specs::RowFields::fill_a10))]
+#[tactic(auto, unfolding(crate::specs::Filling::fill_a10))]
 fn fill_a10(v: &Value<'_>, acc: &mut RowFields<'_>) -> bool
     ensures { Fills result acc.new (fill_a10 (value_of v.now) (row_fields_of acc.old)) }
 {
@@ -441,7 +441,7 @@ fn fill_a10(v: &Value<'_>, acc: &mut RowFields<'_>) -> bool
 
 /// Fills the fields of an operand that the row wants here. Returns false if the operand has another
 /// form.
-#[tactic(auto, unfolding(crate::specs::RowFields::fill, crate::specs::RowFields::fill_plain))]
+#[tactic(auto, unfolding(crate::specs::Filling::fill, crate::specs::Filling::fill_plain))]
 pub(crate) fn fill<'a>(row: &Row, want: Want, o: &Operand<'a>, acc: &mut RowFields<'a>) -> bool
     ensures { Fills result acc.new
         (fill (row_of row.now) want (operand_of o.now) (row_fields_of acc.old)) }

@@ -17,7 +17,7 @@ pub(crate) const ABS: u8 = 8;
 pub(crate) const SBR: u8 = 13;
 
 /// A number for each form, so that forms can be compared.
-#[tactic(auto, unfolding(tc_isa::specs::Words::form_index))]
+#[tactic(auto, unfolding(tc_isa::specs::Forms::form_index))]
 pub(crate) fn form_index(form: Form) -> u8
     ensures { result ≡ form_index form }
 {

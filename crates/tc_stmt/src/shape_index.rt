@@ -29,7 +29,7 @@ const BAD: u8 = 6;
 pub(crate) const HUGE: u8 = 7;
 
 /// A number for each form of values, so that forms can be compared.
-#[tactic(auto, unfolding(crate::specs::RowFields::shape_index))]
+#[tactic(auto, unfolding(crate::specs::Values::shape_index))]
 pub fn shape_index(shape: Shape) -> u8
     ensures { result ≡ shape_index shape }
 {

@@ -60,7 +60,7 @@ fn keep_apart(row: &Row, f: &mut RowFields<'_>)
     }
 }
 
-#[tactic(auto, unfolding(crate::specs::RowFields::fields_of_row))]
+#[tactic(auto, unfolding(crate::specs::Filling::fields_of_row))]
 fn judge_row<'a>(row: &Row, wants: &[Want], os: &[Operand<'a>]) -> Option<RowFields<'a>>
     ensures { option_map row_fields_of result
         ≡ fields_of_row (row_of row.now) wants.now (map operand_of os.now) }

@@ -24,7 +24,7 @@ pub fn is_name(bytes: &[u8]) -> bool
 }
 
 /// The least rule that a symbol breaks in every place, or `NO_RULE`.
-#[tactic(auto, unfolding(crate::specs::RowFields::symbol_rule))]
+#[tactic(auto, unfolding(crate::specs::Filling::symbol_rule))]
 pub fn symbol_rule(v: Value<'_>) -> u8
     ensures value { result ≡ symbol_rule (value_of v.entry) }
     ensures small { result ≡ no_rule → v.entry.size < 2 ^ 32 }
@@ -46,7 +46,7 @@ pub(crate) fn break_rule(rule: u8, acc: &mut RowFields<'_>)
 }
 
 /// Notes a symbol in a place that takes one.
-#[tactic(auto, unfolding(crate::specs::RowFields::with_symbol))]
+#[tactic(auto, unfolding(crate::specs::Filling::with_symbol))]
 pub(crate) fn with_symbol<'a>(kind: u8, v: &Value<'a>, acc: &mut RowFields<'a>)
     ensures { row_fields_of acc.new
         ≡ with_symbol kind (value_of v.now) (row_fields_of acc.old) }

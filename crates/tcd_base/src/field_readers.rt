@@ -6,7 +6,7 @@ use crate::errors::{SHORT, fault};
 use crate::{Cursor, FormErr};
 
 /// Reads a field of one byte.
-#[tactic(auto, unfolding(crate::specs::Reading::u8_at))]
+#[tactic(auto, unfolding(crate::specs::FieldReaders::u8_at))]
 pub fn read_u8(c: &mut Cursor<'_>) -> Result<u8, FormErr>
     requires { length c.old.bytes ≤ 2 ^ 30 }
     ensures read { Reads result c.new (u8_at c.old) }
@@ -20,7 +20,7 @@ pub fn read_u8(c: &mut Cursor<'_>) -> Result<u8, FormErr>
 }
 
 /// Reads a field of two bytes, little-endian.
-#[tactic(auto, unfolding(crate::specs::Reading::u16_at))]
+#[tactic(auto, unfolding(crate::specs::FieldReaders::u16_at))]
 pub fn read_u16(c: &mut Cursor<'_>) -> Result<u16, FormErr>
     requires { length c.old.bytes ≤ 2 ^ 30 }
     ensures read { Reads result c.new (u16_at c.old) }
@@ -34,7 +34,7 @@ pub fn read_u16(c: &mut Cursor<'_>) -> Result<u16, FormErr>
 }
 
 /// Reads a field of four bytes, little-endian.
-#[tactic(auto, unfolding(crate::specs::Reading::u32_at))]
+#[tactic(auto, unfolding(crate::specs::FieldReaders::u32_at))]
 pub fn read_u32(c: &mut Cursor<'_>) -> Result<u32, FormErr>
     requires { length c.old.bytes ≤ 2 ^ 30 }
     ensures read { Reads result c.new (u32_at c.old) }
@@ -48,7 +48,7 @@ pub fn read_u32(c: &mut Cursor<'_>) -> Result<u32, FormErr>
 }
 
 /// Reads a field of `n` bytes.
-#[tactic(auto, unfolding(crate::specs::Reading::bytes_at))]
+#[tactic(auto, unfolding(crate::specs::FieldReaders::bytes_at))]
 pub fn read_bytes<'a>(c: &mut Cursor<'a>, n: usize) -> Result<&'a [u8], FormErr>
     requires { length c.old.bytes ≤ 2 ^ 30 }
     ensures read { MatchResult result (λ r. bytes_at n c.old ≡ Ok (r.now, c.new))

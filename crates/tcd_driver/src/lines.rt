@@ -13,7 +13,7 @@ use tcd_text::hex_word;
 use value_cells::CellsErr;
 
 // The line for words that are no command.
-#[tactic(auto, unfolding(crate::specs::Lines::bad_words_line))]
+#[tactic(auto, unfolding(crate::specs::BadInputLines::bad_words_line))]
 pub(crate) fn bad_words_line() -> &'static [u8]
     ensures { result.now ≡ bad_words_line }
 {
@@ -32,7 +32,7 @@ fn differing_line(alloc: Global, addr: u32) -> Result<Vec<u8>, NoMemory>
 }
 
 // The line on a boot sequence that is refused.
-#[tactic(auto, unfolding(crate::specs::Lines::unbooted_line))]
+#[tactic(auto, unfolding(crate::specs::BadInputLines::unbooted_line))]
 pub(crate) fn unbooted_line(alloc: Global, e: BootErr) -> Result<Vec<u8>, NoMemory>
     ensures { IfOk result (λ line. line.items ≡ unbooted_line e) }
 {
@@ -45,7 +45,7 @@ pub(crate) fn unbooted_line(alloc: Global, e: BootErr) -> Result<Vec<u8>, NoMemo
 }
 
 // The line that says why a file isn't in the form of cells.
-#[tactic(auto, unfolding(crate::specs::Lines::cells_line, tcd_forms::specs::Lines::at_one))]
+#[tactic(auto, unfolding(crate::specs::BadInputLines::cells_line, tcd_forms::specs::Lines::at_one))]
 pub(crate) fn cells_line(alloc: Global, e: CellsErr) -> Result<Vec<u8>, NoMemory>
     ensures { IfOk result (λ line. line.items ≡ cells_line e) }
 {
@@ -58,7 +58,7 @@ pub(crate) fn cells_line(alloc: Global, e: CellsErr) -> Result<Vec<u8>, NoMemory
 }
 
 // The line that says why a file isn't in the form of tasks.
-#[tactic(auto, unfolding(crate::specs::Lines::tasks_line, tcd_forms::specs::Lines::at_one))]
+#[tactic(auto, unfolding(crate::specs::BadInputLines::tasks_line, tcd_forms::specs::Lines::at_one))]
 pub(crate) fn tasks_line(alloc: Global, e: TasksErr) -> Result<Vec<u8>, NoMemory>
     ensures { IfOk result (λ line. line.items ≡ tasks_line e) }
 {

@@ -319,7 +319,7 @@ pub fn link_line(alloc: Global, e: LinkErr) -> Result<Vec<u8>, NoMemory>
 }
 
 /// The line for an image without the switch routine at this address.
-#[tactic(auto, unfolding(crate::specs::Results::switch_line))]
+#[tactic(auto, unfolding(crate::specs::Lines::switch_line))]
 pub fn switch_line(alloc: Global, addr: u32) -> Result<Vec<u8>, NoMemory>
     ensures { IfOk result (λ line. line.items ≡ switch_line addr) }
 {
@@ -338,7 +338,7 @@ fn task_text(alloc: Global, u: usize) -> Result<Vec<u8>, NoMemory>
 }
 
 /// The line on a rule that fails in a task's certificate.
-#[tactic(auto, unfolding(crate::specs::Results::of_task))]
+#[tactic(auto, unfolding(crate::specs::Lines::of_task))]
 pub fn refused_task_line(
     alloc: Global,
     rule: u8,
@@ -356,7 +356,7 @@ pub fn refused_task_line(
 }
 
 /// The line for tasks whose needs together exceed the CSAs of the plan.
-#[tactic(auto, unfolding(crate::specs::Results::sum_line))]
+#[tactic(auto, unfolding(crate::specs::Lines::sum_line))]
 pub fn sum_line(alloc: Global, sum: u64, areas: u32) -> Result<Vec<u8>, NoMemory>
     ensures { IfOk result (λ line. line.items ≡ sum_line sum areas) }
 {

@@ -13,7 +13,7 @@ use tcd_base::NoMemory;
 use tcd_text::hex_word;
 
 /// The line on a boot sequence: its events, the needed CSAs, and those of the plan.
-#[tactic(auto, unfolding(crate::specs::Results::boots_line))]
+#[tactic(auto, unfolding(crate::specs::Lines::boots_line))]
 pub fn boots_line(alloc: Global, events: u32, need: u32, areas: u32) -> Result<Vec<u8>, NoMemory>
     ensures { IfOk result (λ line. line.items ≡ boots_line events need areas) }
 {
@@ -22,7 +22,7 @@ pub fn boots_line(alloc: Global, events: u32, need: u32, areas: u32) -> Result<V
 }
 
 /// The line on a boot sequence that was written.
-#[tactic(auto, unfolding(crate::specs::Results::generated_boot_line))]
+#[tactic(auto, unfolding(crate::specs::Lines::generated_boot_line))]
 pub fn generated_boot_line() -> &'static [u8]
     ensures { result.now ≡ generated_boot_line }
 {
@@ -31,7 +31,7 @@ pub fn generated_boot_line() -> &'static [u8]
 
 /// The line with the needed CSAs, those of the plan, and the number of cells that must keep their
 /// bounds.
-#[tactic(auto, unfolding(crate::specs::Results::certified_cells_line))]
+#[tactic(auto, unfolding(crate::specs::Lines::certified_cells_line))]
 pub fn certified_cells_line(
     alloc: Global,
     need: u32,
@@ -46,7 +46,7 @@ pub fn certified_cells_line(
 }
 
 /// The line with the CSAs that all tasks need together, and those of the plan.
-#[tactic(auto, unfolding(crate::specs::Results::certified_tasks_line))]
+#[tactic(auto, unfolding(crate::specs::Lines::certified_tasks_line))]
 pub fn certified_tasks_line(
     alloc: Global,
     sum: u64,
@@ -61,7 +61,7 @@ pub fn certified_tasks_line(
 
 /// The line on a generated image: its functions, the nodes and points of its certificate, and the
 /// needed CSAs.
-#[tactic(auto, unfolding(crate::specs::Results::generated_line))]
+#[tactic(auto, unfolding(crate::specs::Lines::generated_line))]
 pub fn generated_line(
     alloc: Global,
     functions: u32,

@@ -16,7 +16,7 @@ use serde_json::Value;
 use tcd_base::Range;
 
 /// Returns the first array with too many elements, or with too many bytes in its ranges.
-#[tactic(auto, unfolding(crate::specs::Plans::plan_in, crate::specs::Plans::too_many_of))]
+#[tactic(auto, unfolding(crate::specs::Plans::plan_in, crate::specs::PlanLimits::too_many_of))]
 pub fn too_many(value: &Value) -> Option<PlanKey>
     ensures { result ≡ too_many_of (plan_in (view value.now)) }
 {
@@ -55,7 +55,7 @@ fn total_len(objects: &[Value]) -> u64
 }
 
 /// Returns true if the save areas are within their limits.
-#[tactic(auto, unfolding(crate::specs::Plans::plan_in, crate::specs::Plans::has_areas))]
+#[tactic(auto, unfolding(crate::specs::Plans::plan_in, crate::specs::PlanLimits::has_areas))]
 pub fn has_areas(value: &Value) -> bool
     ensures { result ≡ has_areas (plan_in (view value.now)) }
 {
@@ -82,7 +82,7 @@ fn are_areas(at: u32, areas: u32, reserve: u32) -> bool
 }
 
 /// Returns true if BIV and BTV are even.
-#[tactic(auto, unfolding(crate::specs::Plans::plan_in, crate::specs::Plans::has_vectors))]
+#[tactic(auto, unfolding(crate::specs::Plans::plan_in, crate::specs::PlanLimits::has_vectors))]
 pub fn has_vectors(value: &Value) -> bool
     ensures { result ≡ has_vectors (plan_in (view value.now)) }
 {

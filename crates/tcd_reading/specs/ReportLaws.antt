@@ -4,6 +4,7 @@ use Rattle.std.specs.FinMap.{get}
 use Rattle.tcd_base.specs.Files.{Map}
 use Rattle.tcd_reading.specs.Reports.{Report, IsLineOf}
 use Rattle.tcd_reading.specs.Inputs.{FormSeen, answer, input, Says, HoldsAsked}
+
 -- statements of guard laws.
 
 -- The bytes of a file are within its form's limit, and have this value.

@@ -34,7 +34,7 @@ impl Addressing {
 }
 
 /// Overwrites a value with the addresses of an access of this shape.
-#[tactic(auto, unfolding(crate::specs::Effects::address_of))]
+#[tactic(auto, unfolding(crate::specs::EffectsOnStates::address_of))]
 pub fn write_address(b: &Bounds, plan: &Plan, shape: Shape, s: &State, out: &mut Val)
     requires shape { IsShape shape }
     requires values { AreValues b.now s.now.regs }

@@ -165,7 +165,7 @@ fn set_enable(s: &State, ie: bool, c: &mut Change)
 /// A load writes the third value of `c` to its register; all else that `c` held is ignored.
 /// An instruction that saves a lower context needs room for a local, one that restores one needs a
 /// local.
-#[tactic(auto, unfolding(crate::specs::Effects::transfer_of))]
+#[tactic(auto, unfolding(crate::specs::EffectsOnStates::transfer_of))]
 pub fn change_of(b: &Bounds, plan: &Plan, shape: Shape, s: &State, c: &mut Change)
     requires shape { IsShape shape }
     requires values { AreValues b.now s.now.regs }

@@ -64,7 +64,7 @@ fn words_past(low: u32) -> Interval
 }
 
 /// Returns the words that are in a relation to some word from `low` to `high`, as two intervals.
-#[tactic(auto, unfolding(crate::specs::Intervals::Reaches))]
+#[tactic(auto, unfolding(crate::specs::Relations::Reaches))]
 pub(crate) fn words_reached(rel: Relation, low: u32, high: u32) -> (Interval, Interval)
     ensures { (x : ℕ) → x < 2 ^ 32 → (IsIn result.0 x ⊎ IsIn result.1 x) ↔ Reaches rel low high x }
 {

@@ -23,7 +23,7 @@ const ANY: StridedInterval = StridedInterval {
 };
 
 /// Returns the multiples that a row covers.
-#[tactic(auto, unfolding(crate::specs::Operations::runs))]
+#[tactic(auto, unfolding(crate::specs::Intervals::runs))]
 pub(crate) fn interval_of_row(op: Op, e: &Extent, f: &Extent, w: &Val) -> StridedInterval
     requires left { e.now.least ≤ e.now.greatest }
     requires right { f.now.least ≤ f.now.greatest }
@@ -49,7 +49,7 @@ pub(crate) fn interval_of_row(op: Op, e: &Extent, f: &Extent, w: &Val) -> Stride
     }
 }
 
-#[tactic(auto, unfolding(crate::specs::Operations::sums))]
+#[tactic(auto, unfolding(crate::specs::Intervals::sums))]
 fn sum(e: &Extent, f: &Extent) -> StridedInterval
     requires left { e.now.least ≤ e.now.greatest }
     requires right { f.now.least ≤ f.now.greatest }
@@ -80,7 +80,7 @@ fn sum(e: &Extent, f: &Extent) -> StridedInterval
     }
 }
 
-#[tactic(auto, unfolding(crate::specs::Operations::differences))]
+#[tactic(auto, unfolding(crate::specs::Intervals::differences))]
 fn difference(e: &Extent, f: &Extent) -> StridedInterval
     requires left { e.now.least ≤ e.now.greatest }
     requires right { f.now.least ≤ f.now.greatest }
@@ -112,7 +112,7 @@ fn difference(e: &Extent, f: &Extent) -> StridedInterval
     }
 }
 
-#[tactic(auto, unfolding(crate::specs::Operations::shifts))]
+#[tactic(auto, unfolding(crate::specs::Intervals::shifts))]
 fn shift(e: &Extent, n: u8) -> StridedInterval
     requires count { n < 64 }
     requires order { e.now.least ≤ e.now.greatest }
@@ -145,7 +145,7 @@ fn shift(e: &Extent, n: u8) -> StridedInterval
     }
 }
 
-#[tactic(auto, unfolding(crate::specs::Operations::signed_shifts))]
+#[tactic(auto, unfolding(crate::specs::Intervals::signed_shifts))]
 fn signed_shift(e: &Extent, n: u8) -> StridedInterval
     requires count { n < 64 }
     requires order { e.now.least ≤ e.now.greatest }

@@ -34,7 +34,7 @@ pub(crate) fn append_call(out: &mut Vec<u8>, at: u32, to: u32) -> Result<(), NoM
 }
 
 // The word of a call with this displacement in halfwords.
-#[tactic(auto, unfolding(tc_isa::specs::Words::word))]
+#[tactic(auto, unfolding(tc_isa::specs::Forms::word))]
 fn call_word(k: u32) -> u32
     requires { k < 2 ^ 24 }
     ensures { result ≡ word B 0x6d 0 (fields 0 0 0 0 k) }

@@ -57,7 +57,7 @@ fn greater_of(known: Option<&u32>, height: u32) -> u32
 }
 
 /// The number of priorities.
-#[tactic(auto, unfolding(crate::specs::Reports::Calls::priorities))]
+#[tactic(auto, unfolding(crate::specs::Reports::Longest::priorities))]
 pub(crate) fn priority_count() -> u16
     ensures { result ≡ priorities }
 {
