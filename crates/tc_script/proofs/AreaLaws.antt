@@ -9,7 +9,7 @@ use Rattle.csa_chain.specs.ChainChanges.{MissesAreas}
 use Rattle.csa_chain.specs.Contexts.{pcxi_word_of}
 use Rattle.csa_chain.proofs.ChainLaws.{Links, Avoids, chain_within-Links, Links-chain_within, used_after_save, used_after_restore}
 use Rattle.csa_chain.proofs.ContextLaws.{link_in-pcxi_word, link_in-lt}
-use Rattle.csa_chain.proofs.Laws.{store_misses}
+use Rattle.csa_chain.proofs.ChainMoves.{store_misses}
 use Rattle.tc_isa.specs.declared.shapes.Arg.{Arg}
 use Rattle.tc_isa.specs.declared.shapes.Arg.TheVariants.{Reg, Word}
 use Rattle.tc_isa.specs.declared.shapes.Target.{Target}

@@ -9,7 +9,7 @@ ghost use Rattle.tc_stmt.specs.SourceRules.{no_rule};
 ghost use Rattle.tc_stmt.specs.DataDirectives.{value_rule, value_item, space_rule, space_item};
 
 use crate::item::Item;
-use crate::shape_index::{HIGH, HUGE, LOW, NUMBER, SUM, WORD};
+use crate::shape_numbers::{HIGH, HUGE, LOW, NUMBER, SUM, WORD};
 use crate::source_rules::{MISPLACED_SYMBOL, NO_RULE, PAST_LIMITS, WIDE_NUMBER, WRONG_OPERANDS};
 use crate::{Reference, shape_index, symbol_rule};
 use tc_isa::WORD32;

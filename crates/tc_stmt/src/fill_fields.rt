@@ -11,7 +11,7 @@ ghost use Rattle.tc_stmt.specs.Values.{register_of, fits, wrap};
 
 use crate::form_index::{ABS, B, BOL, SBR, form_index};
 use crate::row_fields::{NO_RELOC, RowFields};
-use crate::shape_index::{ABSENT, HIGH, HUGE, LOW, NUMBER, SUM, WORD, shape_index};
+use crate::shape_numbers::{ABSENT, HIGH, HUGE, LOW, NUMBER, SUM, WORD, shape_index};
 use crate::source_rules::{FAR_TARGET, NO_RULE, ODD_DISPLACEMENT, WIDE_NUMBER, WRONG_REGISTER};
 use crate::symbols::{break_rule, misplace, with_symbol};
 use crate::want::{Field, Want};

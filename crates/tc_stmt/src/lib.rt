@@ -10,7 +10,7 @@ mod line_reader;
 mod row_fields;
 mod row_index;
 mod row_wants;
-mod shape_index;
+mod shape_numbers;
 mod source;
 mod source_rules;
 mod statement_row;
@@ -23,7 +23,7 @@ pub use item::Item;
 pub use laws::statement_laws;
 pub use row_fields::{NO_RELOC, Reference, RowFields};
 pub use row_wants::wants;
-pub use shape_index::shape_index;
+pub use shape_numbers::shape_index;
 pub use source::{Line, Source, read_source};
 pub use source_rules::{
     BAD_NAME, LABEL_TWICE, MISPLACED_SYMBOL, NO_RULE, NO_SECTION, PAST_LIMITS, UNDEFINED_GLOBAL,

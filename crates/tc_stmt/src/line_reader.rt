@@ -13,7 +13,7 @@ ghost use Rattle.tc_stmt.specs.Lines.{line_data, Adds, behind, named_line, is_wo
 
 use crate::data::{space_item, space_rule, value_item, value_rule};
 use crate::item::Item;
-use crate::shape_index::WORD;
+use crate::shape_numbers::WORD;
 use crate::source::Line;
 use crate::source_rules::{BAD_TOKEN, NO_RULE, WRONG_OPERANDS};
 use crate::{shape_index, statement};

@@ -1,4 +1,4 @@
-use Rattle.csa_chain.proofs.Laws.{save_moves, restore_moves, store_misses, store_leaves}
+use Rattle.csa_chain.proofs.ChainMoves.{save_moves, restore_moves, store_misses, store_leaves}
 use Rattle.csa_chain.proofs.laws.chain_laws.Goals as goal
 
 pub returns : goal.returns
