@@ -1,6 +1,6 @@
 -- What a point owes: the points, entries and exits that a certificate must have, because the
 -- machine may come there from this point, and the states that they must cover.
-use Rattle.std.specs.Prelude.{◌==◌, ℕ, true, false, if◌then◌else◌, List, ◌∷◌, ◌++◌, map, Option, Some, None, unwrap_or, Contains}
+use Rattle.std.specs.Prelude.{◌==◌, ℕ, true, false, if◌then◌else◌, List, ◌∷◌, ◌++◌, map, Option, Some, None, unwrap_or, Contains, []}
 use Rattle.std.specs.List.{flat_map}
 use Rattle.depth_cert.specs.Keys.{sys_kind}
 use Rattle.elf_image.specs.Images.{ImageData}

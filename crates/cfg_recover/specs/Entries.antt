@@ -1,6 +1,6 @@
 -- The frames that an instruction, an interrupt or a trap enters: their keys, and the states at
 -- their entries.
-use Rattle.std.specs.Prelude.{◌*◌, ◌^◌, ℕ, Bool, true, false, if◌then◌else◌, replicate, bit_or, nat_lt, List, filter}
+use Rattle.std.specs.Prelude.{◌*◌, ◌^◌, ℕ, Bool, true, false, if◌then◌else◌, replicate, bit_or, nat_lt, List, filter, []}
 use Rattle.depth_cert.specs.Keys.{start_kind, call_kind, irq_kind, sys_kind, aln_kind}
 use Rattle.elf_image.specs.Images.{ImageData}
 use Rattle.tcd_plan.specs.PlanData.{PlanData}

@@ -1,5 +1,5 @@
 -- The frames of a run, and what an accepted certificate says about them.
-use Rattle.std.specs.Prelude.{◌≡◌, ℕ, List, ◌∷◌, IsSome, IsSomeAnd, All, Result, Ok, Err}
+use Rattle.std.specs.Prelude.{◌≡◌, ℕ, List, ◌∷◌, IsSome, IsSomeAnd, All, Result, Ok, Err, []}
 use Rattle.elf_image.specs.Images.{ImageData}
 use Rattle.tcd_plan.specs.PlanData.{PlanData}
 use Rattle.tc_isa.specs.declared.shapes.Shape.{Shape}

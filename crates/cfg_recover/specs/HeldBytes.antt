@@ -1,5 +1,5 @@
 -- The bytes that an image holds at an address.
-use Rattle.std.specs.Prelude.{◌≡◌, ◌≤◌, ℕ, zero, suc, ◌+◌, ◌-◌, List, ◌∷◌, slice_get, Option, Some, None, option_and_then}
+use Rattle.std.specs.Prelude.{◌≡◌, ◌≤◌, ℕ, zero, suc, ◌+◌, ◌-◌, List, ◌∷◌, slice_get, Option, Some, None, option_and_then, []}
 use Rattle.std.specs.Option.{option_map}
 use Rattle.elf_image.specs.Images.{ImageData, SegmentData, image_byte}
 use Rattle.tcd_plan.specs.PlanData.{PlanData}

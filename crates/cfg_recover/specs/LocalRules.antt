@@ -1,6 +1,6 @@
 -- The own parts of rules: what they ask of a point's instruction alone, whatever other points the
 -- certificate has.
-use Rattle.std.specs.Prelude.{◌≡◌, ◌*◌, ◌/◌, ◌%◌, ◌==◌, ◌⊎◌, ℕ, Bool, true, List, ◌∷◌, length, map, Option, Some, None, IsSome}
+use Rattle.std.specs.Prelude.{◌≡◌, ◌*◌, ◌/◌, ◌%◌, ◌==◌, ◌⊎◌, ℕ, Bool, true, List, ◌∷◌, length, map, Option, Some, None, IsSome, []}
 use Rattle.std.specs.List.{list_all}
 use Rattle.depth_cert.specs.Keys.{call_kind, irq_kind, aln_kind, sys_kind}
 use Rattle.elf_image.specs.Images.{ImageData}

@@ -1,5 +1,5 @@
 -- What an accepted certificate says about edges: each is owed by the newest frame's point, or is
-use Rattle.std.specs.Prelude.{◌≡◌, ℕ, List, ◌∷◌, Some}
+use Rattle.std.specs.Prelude.{◌≡◌, ℕ, List, ◌∷◌, Some, []}
 use Rattle.elf_image.specs.Images.{ImageData}
 use Rattle.tcd_plan.specs.PlanData.{PlanData}
 use Rattle.tc_isa.specs.declared.shapes.Shape.{Shape}

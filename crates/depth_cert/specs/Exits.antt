@@ -1,5 +1,5 @@
 -- Exits of frames: the exit of a state, the state after a return by it, and their order.
-use Rattle.std.specs.Prelude.{◌+◌, ◌-◌, ◌==◌, ℕ, false, nat_lt, if◌then◌else◌, List, ◌∷◌, ◌++◌, take, drop, slice_index_or, ◌≤◌, IsTrue, ◌||◌, min}
+use Rattle.std.specs.Prelude.{◌+◌, ◌-◌, ◌==◌, ℕ, false, nat_lt, if◌then◌else◌, List, ◌∷◌, ◌++◌, take, drop, slice_index_or, ◌≤◌, IsTrue, ◌||◌, min, []}
 use Rattle.depth_cert.specs.Keys.{call_kind}
 use Rattle.value_domain.specs.declared.values.Val.{Val}
 use Rattle.value_domain.specs.declared.states.State.{State}

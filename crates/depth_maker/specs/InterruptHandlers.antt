@@ -1,6 +1,6 @@
 -- The handlers of interrupts: the contexts in which their entries are covered, and the numbers of
 -- their frames.
-use Rattle.std.specs.Prelude.{◌≡◌, ◌<◌, ◌≤◌, ℕ, Bool, true, false, IsTrue, if◌then◌else◌, Option, IfSome, Contains, slice_index_or, List, map, filter, nat_lt}
+use Rattle.std.specs.Prelude.{◌≡◌, ◌<◌, ◌≤◌, ℕ, Bool, true, false, IsTrue, if◌then◌else◌, Option, IfSome, Contains, slice_index_or, List, map, filter, nat_lt, []}
 use Rattle.tcd_plan.specs.PlanData.{PlanData}
 use Rattle.value_domain.specs.declared.values.Val.{Val}
 use Rattle.value_domain.specs.declared.states.State.{State}

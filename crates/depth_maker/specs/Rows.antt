@@ -1,6 +1,6 @@
 -- The rows of an assignment or a table: each point's frame, its locals, and the frames that it
 -- enters.
-use Rattle.std.specs.Prelude.{◌≡◌, ◌++◌, ℕ, List, ◌∷◌, take, Option, Some, Contains, slice_get, length, map}
+use Rattle.std.specs.Prelude.{◌≡◌, ◌++◌, ℕ, List, ◌∷◌, take, Option, Some, Contains, slice_get, length, map, []}
 use Rattle.indexmap.specs.IndexMap.{get, keys}
 use Rattle.value_domain.specs.declared.states.State.{State}
 use Rattle.depth_cert.specs.declared.keys.Key.{Key}

@@ -1,6 +1,6 @@
 -- The certificate of a table: a node for each frame, by ascending key, with the frame's points by
 -- ascending address.
-use Rattle.std.specs.Prelude.{◌≡◌, ◌<◌, ◌^◌, ◌++◌, ℕ, false, List, length, map, filter, Option, Some, None, All, IfSome, Contains}
+use Rattle.std.specs.Prelude.{◌≡◌, ◌<◌, ◌^◌, ◌++◌, ℕ, false, List, length, map, filter, Option, Some, None, All, IfSome, Contains, []}
 use Rattle.std.specs.List.{flat_map}
 use Rattle.std.specs.List.Sorted.{IsPermutation, IsNonDecreasingBy}
 use Rattle.indexmap.specs.IndexMap.{IsUnique, keys}

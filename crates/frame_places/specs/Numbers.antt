@@ -1,5 +1,5 @@
 -- Numbers of frames and of places.
-use Rattle.std.specs.Prelude.{◌≡◌, ◌+◌, ℕ, Bool, List, ◌∷◌, Some, Contains, if◌then◌else◌, slice_get, false}
+use Rattle.std.specs.Prelude.{◌≡◌, ◌+◌, ℕ, Bool, List, ◌∷◌, Some, Contains, if◌then◌else◌, slice_get, false, []}
 use Rattle.indexmap.specs.IndexMap.{IndexMap, get, keys}
 use Rattle.depth_cert.specs.declared.keys.Key.{Key}
 use Rattle.depth_cert.specs.contracts.keys.KeyPartialEq.TheImpl as block

@@ -1,5 +1,5 @@
 -- The points of a map, by the numbers of its entries.
-use Rattle.std.specs.Prelude.{◌≡◌, ◌<◌, ◌+◌, ◌*◌, ◌^◌, ◌&&◌, ℕ, Bool, not, nat_lt, List, ◌∷◌, length, map, filter, Option, Some, None, Contains, slice_index_or}
+use Rattle.std.specs.Prelude.{◌≡◌, ◌<◌, ◌+◌, ◌*◌, ◌^◌, ◌&&◌, ℕ, Bool, not, nat_lt, List, ◌∷◌, length, map, filter, Option, Some, None, Contains, slice_index_or, []}
 use Rattle.indexmap.specs.IndexMap.{IndexMap, keys}
 use Rattle.depth_cert.specs.declared.keys.Key.{Key}
 use Rattle.depth_cert.specs.Keys.{number_of_key}

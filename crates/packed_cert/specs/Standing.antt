@@ -1,5 +1,5 @@
 -- Values at their places in the bytes.
-use Rattle.std.specs.Prelude.{◌≡◌, ◌≤◌, ◌+◌, ◌*◌, ◌==◌, nat_le, if◌then◌else◌, ℕ, zero, suc, Bool, List, ◌∷◌, length, take, drop, slice_index, Ok}
+use Rattle.std.specs.Prelude.{◌≡◌, ◌≤◌, ◌+◌, ◌*◌, ◌==◌, nat_le, if◌then◌else◌, ℕ, zero, suc, Bool, List, ◌∷◌, length, take, drop, slice_index, Ok, []}
 use Rattle.tcd_base.specs.Bytes.{word_at}
 use Rattle.tcd_base.specs.Place.{Place}
 use Rattle.value_domain.specs.declared.values.Val.{Val}

@@ -1,6 +1,6 @@
 -- Statements of guard laws: plain equations give the premises of the theorem on tasks. If a
 -- definition of a premise asked for more, one of the laws would break.
-use Rattle.std.specs.Prelude.{◌≡◌, ◌↔◌, ℕ, ◌+◌, ◌-◌, ◌*◌, ◌/◌, ◌%◌, ◌^◌, ◌<◌, ◌≤◌, ◌⊎◌, ◌==◌, true, false, List, ◌∷◌, length, slice_get, slice_index, All, Contains, Some}
+use Rattle.std.specs.Prelude.{◌≡◌, ◌↔◌, ℕ, ◌+◌, ◌-◌, ◌*◌, ◌/◌, ◌%◌, ◌^◌, ◌<◌, ◌≤◌, ◌⊎◌, ◌==◌, true, false, List, ◌∷◌, length, slice_get, slice_index, All, Contains, Some, []}
 use Rattle.std.specs.FinMap as bytes
 use Rattle.csa_chain.specs.Memory.{Memory, is_mapped, word_at}
 use Rattle.csa_chain.specs.Chain.{area_word}

@@ -1,5 +1,5 @@
 -- The switch routine: what it does, its bytes, and the bytes that a task's view has instead.
-use Rattle.std.specs.Prelude.{◌≡◌, ◌+◌, ◌*◌, ◌/◌, ◌%◌, ◌^◌, ◌<◌, ℕ, List, ◌∷◌, ◌++◌, slice_get, slice_index, Option, Some, None, false}
+use Rattle.std.specs.Prelude.{◌≡◌, ◌+◌, ◌*◌, ◌/◌, ◌%◌, ◌^◌, ◌<◌, ℕ, List, ◌∷◌, ◌++◌, slice_get, slice_index, Option, Some, None, false, []}
 use Rattle.elf_image.specs.Images.{ImageData, image_byte}
 use Rattle.tcd_plan.specs.PlanData.{PlanData}
 use Rattle.tc_isa.specs.Rows.{RowData, listed}

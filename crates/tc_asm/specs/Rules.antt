@@ -1,5 +1,5 @@
 -- The rules that depend on the earlier lines or on the whole source; 15 is none.
-use Rattle.std.specs.Prelude.{ℕ, ◌&&◌, ◌||◌, not, nat_lt, min, if◌then◌else◌, List, length, Option, Some, None, is_some, ◌∷◌}
+use Rattle.std.specs.Prelude.{ℕ, ◌&&◌, ◌||◌, not, nat_lt, min, if◌then◌else◌, List, length, Option, Some, None, is_some, ◌∷◌, []}
 use Rattle.tc_stmt.specs.SourceRules.{label_twice, no_rule, no_section, bad_name, past_limits, undefined_global}
 use Rattle.tc_stmt.specs.Names.{is_name}
 use Rattle.tc_stmt.specs.RowFields.{ReferenceData}

@@ -1,5 +1,5 @@
 -- The draft of a source, and the rules that its lines break.
-use Rattle.std.specs.Prelude.{◌≡◌, ◌≢◌, ℕ, ◌+◌, ◌<◌, List, length, take, slice_index_or, fold}
+use Rattle.std.specs.Prelude.{◌≡◌, ◌≢◌, ℕ, ◌+◌, ◌<◌, List, length, take, slice_index_or, fold, []}
 use Rattle.tc_stmt.specs.SourceRules.{no_rule}
 use Rattle.tc_stmt.specs.Lines.{LineData, lines_in}
 use Rattle.tc_asm.specs.Symbols.{SymbolData}

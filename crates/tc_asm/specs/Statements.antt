@@ -1,5 +1,5 @@
 -- The statements of a source that have bytes, their offsets, and the sections that they make.
-use Rattle.std.specs.Prelude.{◌≡◌, ℕ, ◌==◌, ◌&&◌, if◌then◌else◌, zero, suc, List, ◌∷◌, ◌++◌, length, take, drop, replicate, slice_get, Option, Some, None, ◌+◌, Bool, false}
+use Rattle.std.specs.Prelude.{◌≡◌, ℕ, ◌==◌, ◌&&◌, if◌then◌else◌, zero, suc, List, ◌∷◌, ◌++◌, length, take, drop, replicate, slice_get, Option, Some, None, ◌+◌, Bool, false, []}
 use Rattle.std.specs.List.{flat_map}
 use Rattle.tc_stmt.specs.RowFields.{ReferenceData}
 use Rattle.tc_stmt.specs.Items.{ItemData, label, section, global, code, bytes, zeros}

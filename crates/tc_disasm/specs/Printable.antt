@@ -1,5 +1,5 @@
 -- The operands that can be printed for a want.
-use Rattle.std.specs.Prelude.{◌≡◌, ℕ, ◌<◌, Bool, true, false, List, ◌∷◌, codes}
+use Rattle.std.specs.Prelude.{◌≡◌, ℕ, ◌<◌, Bool, true, false, List, ◌∷◌, codes, []}
 use Rattle.tc_stmt.specs.declared.want.Want.{Want}
 use Rattle.tc_stmt.specs.declared.want.Want.TheVariants.{Reg, A10, Number, Target, Absolute, Memory}
 use Rattle.tc_lex.specs.Operands.{OperandData, ValueData, value, plain, memory}

@@ -1,5 +1,5 @@
 -- The bytes of instructions (TriCore 1 architecture manual, volume 2, instruction formats).
-use Rattle.std.specs.Prelude.{◌≡◌, ◌≢◌, ◌≤◌, ℕ, List, ◌++◌, length, take, ◌/◌, ◌%◌, ◌^◌, ◌∷◌, Bool, true, false}
+use Rattle.std.specs.Prelude.{◌≡◌, ◌≢◌, ◌≤◌, ℕ, List, ◌++◌, length, take, ◌/◌, ◌%◌, ◌^◌, ◌∷◌, Bool, true, false, []}
 use Rattle.tc_isa.specs.Insts.{InstData, IsInst, fields_in}
 use Rattle.tc_isa.specs.Rows.{RowData}
 use Rattle.tc_isa.specs.declared.fields.Fields.{Fields}

@@ -1,5 +1,5 @@
 -- Valid rows: the fields that a row has, the fields that fit it, and that no two rows clash.
-use Rattle.std.specs.Prelude.{◌≡◌, ◌%◌, ◌<◌, ◌==◌, ◌&&◌, ◌||◌, not, ℕ, List, ◌∷◌, Bool, true, false, nat_lt, if◌then◌else◌}
+use Rattle.std.specs.Prelude.{◌≡◌, ◌%◌, ◌<◌, ◌==◌, ◌&&◌, ◌||◌, not, ℕ, List, ◌∷◌, Bool, true, false, nat_lt, if◌then◌else◌, []}
 use Rattle.std.specs.List.{list_any}
 use Rattle.tc_isa.specs.Rows.{RowData}
 use Rattle.tc_isa.specs.declared.fields.Fields.{Fields}

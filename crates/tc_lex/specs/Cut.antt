@@ -1,5 +1,5 @@
 -- The tokens of one line: as it is cut, and what they are, apart from how it is cut.
-use Rattle.std.specs.Prelude.{◌≡◌, ℕ, zero, suc, ◌+◌, ◌-◌, ◌<◌, ◌≤◌, ◌==◌, ◌&&◌, nat_lt, slice_index, Bool, if◌then◌else◌, List, ◌∷◌, ◌++◌, length, drop, Result, Ok, Err, true, false, take, ◌⊎◌, ◌||◌}
+use Rattle.std.specs.Prelude.{◌≡◌, ℕ, zero, suc, ◌+◌, ◌-◌, ◌<◌, ◌≤◌, ◌==◌, ◌&&◌, nat_lt, slice_index, Bool, if◌then◌else◌, List, ◌∷◌, ◌++◌, length, drop, Result, Ok, Err, true, false, take, ◌⊎◌, ◌||◌, []}
 use Rattle.std.specs.List.{prefix_len}
 use Rattle.arrayvec.specs.ArrayVec.{ArrayVec}
 use Rattle.tc_lex.specs.declared.kinds.Token.{Token}

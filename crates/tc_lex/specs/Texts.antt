@@ -1,5 +1,5 @@
 -- What a token is, apart from how a line is cut.
-use Rattle.std.specs.Prelude.{◌==◌, ◌&&◌, ◌||◌, ℕ, Bool, false, List, ◌∷◌, codes}
+use Rattle.std.specs.Prelude.{◌==◌, ◌&&◌, ◌||◌, ℕ, Bool, false, List, ◌∷◌, codes, []}
 use Rattle.std.specs.List.{list_all}
 use Rattle.std.specs.Str.{bytes_eq}
 use Rattle.tc_lex.specs.declared.kinds.TokenKind.{TokenKind}

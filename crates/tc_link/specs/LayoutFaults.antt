@@ -1,5 +1,5 @@
 -- The first fault of a layout, and the layout of a text without one.
-use Rattle.std.specs.Prelude.{◌≡◌, ◌+◌, nat_lt, nat_le, if◌then◌else◌, ℕ, List, ◌∷◌, ◌++◌, length, Option, Some, None, Result, Ok, Err}
+use Rattle.std.specs.Prelude.{◌≡◌, ◌+◌, nat_lt, nat_le, if◌then◌else◌, ℕ, List, ◌∷◌, ◌++◌, length, Option, Some, None, Result, Ok, Err, []}
 use Rattle.std.specs.Bool.{then_some}
 use Rattle.std.specs.Option.{option_or}
 use Rattle.std.specs.List.{list_any}

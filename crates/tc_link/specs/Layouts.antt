@@ -1,5 +1,5 @@
 -- Layouts as plain data, and the invariant of layouts.
-use Rattle.std.specs.Prelude.{◌≡◌, ◌≤◌, ◌<◌, ◌+◌, ◌%◌, ◌^◌, nat_lt, ℕ, Bool, false, min, max, List, length, Some, find, Option}
+use Rattle.std.specs.Prelude.{◌≡◌, ◌≤◌, ◌<◌, ◌+◌, ◌%◌, ◌^◌, nat_lt, ℕ, Bool, false, min, max, List, length, Some, find, Option, []}
 use Rattle.std.specs.List.{list_any}
 use Rattle.std.specs.Str.{bytes_eq}
 use Rattle.tc_object.specs.Names.{name_of}

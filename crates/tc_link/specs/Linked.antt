@@ -1,5 +1,5 @@
 -- The result of linking objects by a layout: an image, or the first refusal.
-use Rattle.std.specs.Prelude.{ℕ, List, Option, Some, None, Result, Ok, Err}
+use Rattle.std.specs.Prelude.{ℕ, List, Option, Some, None, Result, Ok, Err, []}
 use Rattle.std.specs.Option.{option_or}
 use Rattle.std.specs.List.{flat_map}
 use Rattle.tcd_base.specs.Refusing.{unless}

@@ -1,5 +1,5 @@
 -- Why objects can't be linked, and the first refusal of each kind.
-use Rattle.std.specs.Prelude.{◌+◌, ◌^◌, ◌==◌, ◌&&◌, ◌||◌, not, nat_lt, ℕ, Bool, List, ◌∷◌, ◌++◌, length, sum_by, Option, None}
+use Rattle.std.specs.Prelude.{◌+◌, ◌^◌, ◌==◌, ◌&&◌, ◌||◌, not, nat_lt, ℕ, Bool, List, ◌∷◌, ◌++◌, length, sum_by, Option, None, []}
 use Rattle.std.specs.Bool.{then_some}
 use Rattle.std.specs.Option.{option_map, option_or}
 use Rattle.std.specs.List.{list_any}

@@ -1,5 +1,5 @@
 -- The bytes of places, and the segments of an image.
-use Rattle.std.specs.Prelude.{◌-◌, nat_lt, if◌then◌else◌, ℕ, List, ◌++◌, length, map, filter, fold, replicate}
+use Rattle.std.specs.Prelude.{◌-◌, nat_lt, if◌then◌else◌, ℕ, List, ◌++◌, length, map, filter, fold, replicate, []}
 use Rattle.std.specs.Str.{bytes_eq}
 use Rattle.elf_image.specs.Images.{SegmentData}
 use Rattle.tc_object.specs.Objects.{SectionData}

@@ -1,6 +1,6 @@
 -- The laws of machines, for all programs, and the guard laws, which say in plain equations what the
 -- definitions under the headline say: a definition that requires more would break one of them.
-use Rattle.std.specs.Prelude.{◌≡◌, ◌≢◌, ℕ, ◌%◌, ◌^◌, ◌<◌, Bool, true, false, List, length, Ok, ◌↔◌, zero, suc, ◌+◌, ◌-◌, ◌*◌, ◌/◌, ◌≤◌, ◌⊎◌, ◌==◌, ◌∷◌, ◌++◌, reverse, map, slice_get, slice_index, All, Contains, Some}
+use Rattle.std.specs.Prelude.{◌≡◌, ◌≢◌, ℕ, ◌%◌, ◌^◌, ◌<◌, Bool, true, false, List, length, Ok, ◌↔◌, zero, suc, ◌+◌, ◌-◌, ◌*◌, ◌/◌, ◌≤◌, ◌⊎◌, ◌==◌, ◌∷◌, ◌++◌, reverse, map, slice_get, slice_index, All, Contains, Some, []}
 use Rattle.csa_chain.specs.Chain.{link_in, is_area, link_address, area_word}
 use Rattle.elf_image.specs.Images.{ImageData, IsImage, image_byte}
 use Rattle.tcd_plan.specs.PlanData.{PlanData, IsPlan}

@@ -1,5 +1,5 @@
 -- Steps and runs.
-use Rattle.std.specs.Prelude.{ℕ, Bool, ◌&&◌, nat_lt, if◌then◌else◌, List, ◌∷◌, length, Option, Some, None, Result, Ok, Err}
+use Rattle.std.specs.Prelude.{ℕ, Bool, ◌&&◌, nat_lt, if◌then◌else◌, List, ◌∷◌, length, Option, Some, None, Result, Ok, Err, []}
 use Rattle.std.specs.Option.{option_map}
 use Rattle.csa_chain.specs.Chain.{chain}
 use Rattle.tc_encode.specs.Decoding.{decoded_of}

@@ -1,5 +1,5 @@
 -- The values of `.byte`, `.half`, `.word` and `.space`.
-use Rattle.std.specs.Prelude.{ℕ, ◌*◌, ◌^◌, ◌==◌, ◌&&◌, ◌||◌, not, nat_le, min, if◌then◌else◌, ◌∷◌, take, Some, None}
+use Rattle.std.specs.Prelude.{ℕ, ◌*◌, ◌^◌, ◌==◌, ◌&&◌, ◌||◌, not, nat_le, min, if◌then◌else◌, ◌∷◌, take, Some, None, []}
 use Rattle.tc_isa.specs.Relocations.{word32}
 use Rattle.tc_stmt.specs.SourceRules.{wrong_operands, no_rule, wide_number, misplaced_symbol}
 use Rattle.tc_isa.specs.Spelling.{four_bytes}

@@ -1,5 +1,5 @@
 -- The fields of a row that operands fill, each at its own place, and the least rule that they
-use Rattle.std.specs.Prelude.{ℕ, ◌+◌, ◌*◌, ◌/◌, ◌%◌, ◌^◌, ◌==◌, ◌&&◌, ◌||◌, not, nat_le, min, Bool, true, if◌then◌else◌, List, ◌∷◌, codes, Option, Some, None, option_and_then}
+use Rattle.std.specs.Prelude.{ℕ, ◌+◌, ◌*◌, ◌/◌, ◌%◌, ◌^◌, ◌==◌, ◌&&◌, ◌||◌, not, nat_le, min, Bool, true, if◌then◌else◌, List, ◌∷◌, codes, Option, Some, None, option_and_then, []}
 use Rattle.std.specs.Str.{bytes_eq}
 use Rattle.tc_isa.specs.Relocations.{hi16, lo16, offset16, abs24}
 use Rattle.tc_stmt.specs.SourceRules.{wrong_register, wide_number, equal_registers, no_rule, bad_name, misplaced_symbol}

@@ -1,5 +1,5 @@
 -- The printed lines.
-use Rattle.std.specs.Prelude.{ℕ, ◌==◌, if◌then◌else◌, List, ◌∷◌, ◌++◌, codes, slice_get, unwrap_or, ◌-◌, length, take}
+use Rattle.std.specs.Prelude.{ℕ, ◌==◌, if◌then◌else◌, List, ◌∷◌, ◌++◌, codes, slice_get, unwrap_or, ◌-◌, length, take, []}
 use Rattle.std.specs.Fmt.{decimal}
 use Rattle.tcd_text.specs.Digits.{hex_word}
 use Rattle.depth_cert.specs.Keys.{start_kind, call_kind, irq_kind, sys_kind}

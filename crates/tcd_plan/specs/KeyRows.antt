@@ -1,5 +1,5 @@
 -- The table of keys: the object that each key is in, and the form of its value.
-use Rattle.std.specs.Prelude.{ℕ, ◌==◌, Bool, List, ◌∷◌, ◌++◌, codes, if◌then◌else◌, slice_get, unwrap_or, true, false}
+use Rattle.std.specs.Prelude.{ℕ, ◌==◌, Bool, List, ◌∷◌, ◌++◌, codes, if◌then◌else◌, slice_get, unwrap_or, true, false, []}
 use Rattle.std.specs.Str.{bytes_eq}
 use Rattle.tcd_plan.specs.Keys.{key_texts}
 use Rattle.tcd_plan.specs.declared.key_table.Row.{Row}

@@ -1,5 +1,5 @@
 -- The forms of the values of a plan's keys.
-use Rattle.std.specs.Prelude.{ℕ, ◌+◌, ◌%◌, ◌^◌, ◌&&◌, ◌||◌, ◌==◌, List, ◌∷◌, codes, length, count_by, Bool, true, false, nat_lt, nat_le, Option, is_some}
+use Rattle.std.specs.Prelude.{ℕ, ◌+◌, ◌%◌, ◌^◌, ◌&&◌, ◌||◌, ◌==◌, List, ◌∷◌, codes, length, count_by, Bool, true, false, nat_lt, nat_le, Option, is_some, []}
 use Rattle.std.specs.List.{list_all}
 use Rattle.std.specs.Option.{option_map_or}
 use Rattle.serde_json.specs.Data.{Data}

@@ -1,5 +1,5 @@
 -- How a command ends, in terms of the views of the files and of the sink.
-use Rattle.std.specs.Prelude.{◌≡◌, ◌≢◌, ◌⊎◌, Option, ◌≤◌, ◌-◌, ℕ, List, length, IsTrue, ◌∷◌, ◌++◌}
+use Rattle.std.specs.Prelude.{◌≡◌, ◌≢◌, ◌⊎◌, Option, ◌≤◌, ◌-◌, ℕ, List, length, IsTrue, ◌∷◌, ◌++◌, []}
 use Rattle.tcd_base.specs.Files.{Map, FilesSeen, FaultCounted, LeavesFaults, OthersStay}
 use Rattle.tcd_base.specs.Sink.{SinkSeen, HasRoomFor, with_appended, AppendsFront}
 use Rattle.tcd_reading.specs.Reports.{Report, IsReportStatus, with_written, Written}

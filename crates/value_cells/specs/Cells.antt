@@ -1,6 +1,6 @@
 -- Cells, and the plan in which they are devices. The rules of certificates know devices but no
 -- memory; so they can speak of words of ram.
-use Rattle.std.specs.Prelude.{◌≡◌, ◌≢◌, ◌<◌, ◌≤◌, ◌+◌, ◌%◌, ◌^◌, ◌&&◌, ◌||◌, ℕ, Bool, false, nat_lt, nat_le, List, ◌∷◌, ◌++◌, length, map, take, All, AllPairs}
+use Rattle.std.specs.Prelude.{◌≡◌, ◌≢◌, ◌<◌, ◌≤◌, ◌+◌, ◌%◌, ◌^◌, ◌&&◌, ◌||◌, ℕ, Bool, false, nat_lt, nat_le, List, ◌∷◌, ◌++◌, length, map, take, All, AllPairs, []}
 use Rattle.csa_chain.specs.Memory.{Memory, word_at}
 use Rattle.tcd_base.specs.declared.range.Range.{Range}
 use Rattle.tcd_plan.specs.declared.plans.Device.{Device}

@@ -1,5 +1,5 @@
 -- The text of cells: the cells that its lines name for a plan, or the error of the first bad line.
-use Rattle.std.specs.Prelude.{◌≡◌, ◌≢◌, ◌<◌, ◌≤◌, ◌+◌, ◌%◌, ◌^◌, ◌==◌, ◌&&◌, ◌⊎◌, ℕ, nat_le, if◌then◌else◌, List, ◌∷◌, ◌++◌, length, codes, filter_map, All, Any, Option, None, IsSome, IsSomeAnd, Result, Ok, Err}
+use Rattle.std.specs.Prelude.{◌≡◌, ◌≢◌, ◌<◌, ◌≤◌, ◌+◌, ◌%◌, ◌^◌, ◌==◌, ◌&&◌, ◌⊎◌, ℕ, nat_le, if◌then◌else◌, List, ◌∷◌, ◌++◌, length, codes, filter_map, All, Any, Option, None, IsSome, IsSomeAnd, Result, Ok, Err, []}
 use Rattle.std.specs.Bool.{then_some}
 use Rattle.std.specs.Option.{option_and_then}
 use Rattle.std.specs.Str.{bytes_eq}

@@ -1,5 +1,5 @@
 -- The thresholds of a plan, those next to a word, and the limits of a version.
-use Rattle.std.specs.Prelude.{◌^◌, ℕ, zero, suc, List, ◌∷◌, ◌++◌, ◌+◌, ◌<◌}
+use Rattle.std.specs.Prelude.{◌^◌, ℕ, zero, suc, List, ◌∷◌, ◌++◌, ◌+◌, ◌<◌, []}
 use Rattle.tcd_plan.specs.PlanData.{PlanData, all_ranges}
 use Rattle.value_domain.specs.Limits.{Limits}
 use Rattle.value_domain.specs.Versions.{most_words_of, most_locals_of}

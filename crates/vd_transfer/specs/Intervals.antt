@@ -1,5 +1,5 @@
 -- Strided intervals: the bounds of values, and the words that an operation's interval covers.
-use Rattle.std.specs.Prelude.{◌+◌, ◌-◌, ◌*◌, ◌/◌, ◌%◌, ◌^◌, ℕ, ◌||◌, nat_lt, nat_le, if◌then◌else◌, min, max, List, ◌∷◌}
+use Rattle.std.specs.Prelude.{◌+◌, ◌-◌, ◌*◌, ◌/◌, ◌%◌, ◌^◌, ℕ, ◌||◌, nat_lt, nat_le, if◌then◌else◌, min, max, List, ◌∷◌, []}
 use Rattle.tc_isa.specs.declared.shapes.Op.{Op}
 use Rattle.tc_isa.specs.declared.shapes.Op.TheVariants.{Second, Add, Sub, And, Nand, Or, Nor, Xor, Xnor, Andn, Orn, Eq, Ne, Lt, LtU, Ge, GeU, Sh, Sha}
 use Rattle.value_domain.specs.declared.values.Val.{Val}

@@ -1,7 +1,7 @@
 -- Operations on values.
 -- If both operands are Sets, the value covers all results. Otherwise it covers the set that the row
 -- of the operation gives, by the bounds and the steps of its operands.
-use Rattle.std.specs.Prelude.{ℕ, Bool, true, false, ◌<◌, List, ◌∷◌, ◌++◌, map, length, slice_index}
+use Rattle.std.specs.Prelude.{ℕ, Bool, true, false, ◌<◌, List, ◌∷◌, ◌++◌, map, length, slice_index, []}
 use Rattle.tc_isa.specs.declared.shapes.Op.{Op}
 use Rattle.tc_isa.specs.declared.shapes.Op.TheVariants.{Second, Add, Sub, And, Nand, Or, Nor, Xor, Xnor, Andn, Orn, Eq, Ne, Lt, LtU, Ge, GeU, Sh, Sha}
 use Rattle.tc_isa.specs.Arithmetic.{alu_of}

@@ -1,7 +1,7 @@
 -- The registers of a state: D0..D15, A2..A7, A10 and A12..A15 have a value each.
 -- A0, A1, A8 and A9 are the plan's, and A11 is unknown. Registers are numbered 0 to 15 for D and
 -- 16 to 31 for A.
-use Rattle.std.specs.Prelude.{◌-◌, ℕ, Bool, not, ◌&&◌, ◌||◌, ◌==◌, nat_lt, nat_le, if◌then◌else◌, ◌∷◌, Option, Some, None, slice_index, slice_index_or, slice_set, IsSome}
+use Rattle.std.specs.Prelude.{◌-◌, ℕ, Bool, not, ◌&&◌, ◌||◌, ◌==◌, nat_lt, nat_le, if◌then◌else◌, ◌∷◌, Option, Some, None, slice_index, slice_index_or, slice_set, IsSome, []}
 use Rattle.tcd_plan.specs.PlanData.{PlanData}
 use Rattle.tc_isa.specs.declared.shapes.Arg.{Arg}
 use Rattle.tc_isa.specs.declared.shapes.Arg.TheVariants.{Reg, Word}

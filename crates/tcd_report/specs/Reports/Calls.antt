@@ -1,5 +1,5 @@
 -- The calls between the nodes of a certificate, and the longest call chains.
-use Rattle.std.specs.Prelude.{◌==◌, ℕ, zero, suc, List, ◌∷◌, Contains, if◌then◌else◌}
+use Rattle.std.specs.Prelude.{◌==◌, ℕ, zero, suc, List, ◌∷◌, Contains, if◌then◌else◌, []}
 use Rattle.std.specs.List.{flat_map}
 use Rattle.elf_image.specs.Images.{ImageData}
 use Rattle.tcd_plan.specs.PlanData.{PlanData}

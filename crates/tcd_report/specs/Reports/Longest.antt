@@ -1,5 +1,5 @@
 -- The longest call chains of the priorities, by the heights of the nodes.
-use Rattle.std.specs.Prelude.{◌≡◌, ◌≤◌, ℕ, zero, suc, List, ◌∷◌, ◌++◌, Option, Some, None, Contains, max, ◌==◌, filter}
+use Rattle.std.specs.Prelude.{◌≡◌, ◌≤◌, ℕ, zero, suc, List, ◌∷◌, ◌++◌, Option, Some, None, Contains, max, ◌==◌, filter, []}
 use Rattle.std.specs.HashMap.{HashMap, get}
 use Rattle.depth_cert.specs.declared.keys.Key.{Key}
 use Rattle.depth_cert.specs.Nodes.{NodeData}
