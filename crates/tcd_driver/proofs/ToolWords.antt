@@ -13,7 +13,6 @@ use Rattle.tcd_base.specs.Sink.{SinkSeen, with_appended}
 use Rattle.tcd_reading.specs.Reports.{Report, with_written}
 use Rattle.tcd_reading.specs.Inputs.{Reading, Says}
 use Rattle.tcd_reading.specs.Endings.{Prints, whole, cut, IsReported, HasEnded, Ends}
-use Rattle.tcd_reading.specs.Outcomes as outcome
 use Rattle.tcd_reading.specs.Endings as ending
 use Rattle.tcd_reading.specs.declared.status.Status.{Status}
 use Rattle.tcd_reading.specs.declared.status.Status.TheVariants.{Done, Refused, BadInput, Fault, NoMemory, BadWords}
@@ -58,9 +57,9 @@ module _ (reading : Reading) (files files' : FilesSeen) (sink sink' : SinkSeen) 
   by_printing r said held (cut e front counted full) = absurd (is_told.no_fault e)
 
   by_report : (r : Report) → Says reading files.held r → IsReported r files files' sink sink' status → Told reading files files' sink sink' status
-  by_report r said (outcome.printed held prints) = by_printing r said held prints
-  by_report r said (outcome.unwritten e quiet stopped counted unsteady) = absurd (is_told.no_fault e)
-  by_report r said (outcome.no_memory e quiet stopped) = absurd (is_told.some_memory e)
+  by_report r said (ending.printed held prints) = by_printing r said held prints
+  by_report r said (ending.unwritten e quiet stopped counted unsteady) = absurd (is_told.no_fault e)
+  by_report r said (ending.no_memory e quiet stopped) = absurd (is_told.some_memory e)
 
   told : HasEnded reading files files' sink sink' status → Told reading files files' sink sink' status
   told (ending.reported r said h) = by_report r said h

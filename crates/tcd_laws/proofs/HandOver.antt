@@ -19,7 +19,6 @@ use Rattle.tcd_base.specs.Sink.{SinkSeen}
 use Rattle.tcd_reading.specs.Reports.{Report, with_written}
 use Rattle.tcd_reading.specs.Inputs.{FormSeen, HoldsInput, Reading, each, Says}
 use Rattle.tcd_reading.specs.Endings.{Prints, whole, cut, IsReported, HasEnded}
-use Rattle.tcd_reading.specs.Outcomes as outcome
 use Rattle.tcd_reading.specs.Endings as ending
 use Rattle.tcd_reading.specs.declared.status.Status.TheVariants.{Done, BadInput, Fault, NoMemory}
 use Rattle.tcd_reading.proofs.Decided.{status_is}
@@ -57,9 +56,9 @@ module _ (reading : Reading) (files files' : FilesSeen) (sink sink' : SinkSeen) 
   printed_report r says held (cut e front counted full) = absurd (not_fault e)
 
   reported_report : (r : Report) → Says reading files.held r → IsReported r files files' sink sink' Done → HasReport reading files.held files'.held
-  reported_report r says (outcome.printed held prints) = printed_report r says held prints
-  reported_report r says (outcome.unwritten e quiet stopped counted unsteady) = absurd (not_fault e)
-  reported_report r says (outcome.no_memory e quiet stopped) = absurd (not_memory e)
+  reported_report r says (ending.printed held prints) = printed_report r says held prints
+  reported_report r says (ending.unwritten e quiet stopped counted unsteady) = absurd (not_fault e)
+  reported_report r says (ending.no_memory e quiet stopped) = absurd (not_memory e)
 
   done_report : HasEnded reading files files' sink sink' Done → HasReport reading files.held files'.held
   done_report (ending.reported r says h) = reported_report r says h

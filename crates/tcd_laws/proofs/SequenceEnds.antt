@@ -7,7 +7,6 @@ use Rattle.tcd_base.specs.Sink.{SinkSeen, with_appended, HasRoomFor}
 use Rattle.tcd_reading.specs.Reports.{Report, Written, with_written}
 use Rattle.tcd_reading.specs.Endings.{Stopped, IsPrinted, Prints, whole, cut, IsReported, HasRoom, HasEnded, Ends}
 use Rattle.tcd_reading.specs.Inputs.{Reading, Says, AreSureOf}
-use Rattle.tcd_reading.specs.Outcomes as outcome
 use Rattle.tcd_reading.specs.Endings as ending
 use Rattle.tcd_reading.specs.declared.status.Status.{Status}
 use Rattle.tcd_reading.specs.declared.status.Status.TheVariants.{Done, Fault, NoMemory}
@@ -48,9 +47,9 @@ module _ (q : Report) (files files' : FilesSeen) (sink sink' : SinkSeen) (result
   done_printed held (cut f front counted full) = absurd (no_fault result e f)
 
   done_reported : IsReported q files files' sink sink' result → HasDone q files files' sink sink'
-  done_reported (outcome.printed held prints) = done_printed held prints
-  done_reported (outcome.unwritten f quiet stopped counted unsteady) = absurd (no_fault result e f)
-  done_reported (outcome.no_memory f quiet stopped) = absurd (some_memory result e f)
+  done_reported (ending.printed held prints) = done_printed held prints
+  done_reported (ending.unwritten f quiet stopped counted unsteady) = absurd (no_fault result e f)
+  done_reported (ending.no_memory f quiet stopped) = absurd (some_memory result e f)
 
   done_ended : (reading : Reading) → ((other : Report) → Says reading files.held other → other ≡ q) → HasEnded reading files files' sink sink' result → HasDone q files files' sink sink'
   done_ended reading only (ending.reported r says h) = done_reported (subst (λ (x : Report). IsReported x files files' sink sink' result) (only r says) h)
@@ -63,9 +62,9 @@ module _ (q : Report) (files files' : FilesSeen) (sink sink' : SinkSeen) (result
   memory_printed (cut f front counted full) = absurd (no_fault_either result e f)
 
   memory_reported : IsReported q files files' sink sink' result → HasRunOut q files files' sink sink'
-  memory_reported (outcome.printed held prints) = memory_printed prints
-  memory_reported (outcome.unwritten f quiet stopped counted unsteady) = absurd (no_fault_either result e f)
-  memory_reported (outcome.no_memory f quiet stopped) = record { held = inr stopped; quiet = quiet }
+  memory_reported (ending.printed held prints) = memory_printed prints
+  memory_reported (ending.unwritten f quiet stopped counted unsteady) = absurd (no_fault_either result e f)
+  memory_reported (ending.no_memory f quiet stopped) = record { held = inr stopped; quiet = quiet }
 
   memory_ended : (reading : Reading) → ((other : Report) → Says reading files.held other → other ≡ q) → HasEnded reading files files' sink sink' result → HasRunOut q files files' sink sink'
   memory_ended reading only (ending.reported r says h) = memory_reported (subst (λ (x : Report). IsReported x files files' sink sink' result) (only r says) h)

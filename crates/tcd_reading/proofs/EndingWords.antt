@@ -19,6 +19,7 @@ use Rattle.tcd_reading.specs.Endings as ending
 use Rattle.tcd_reading.specs.EndingLaws.{HoldsLast, BreaksOff, HasEndedSo, EndsSo, EndsSay, HasRisen, EndsAnyhow, EndsAnyhowSay}
 use Rattle.tcd_reading.specs.ReportLaws.{IsHeldAs, IsHeldBad, IsSaidOfTwo, first_bad, second_bad, both, SaysSay, AsksSay}
 use Rattle.tcd_reading.specs.EndingLaws as so
+use Rattle.tcd_reading.specs.ReportLaws as checked
 use Rattle.tcd_reading.specs.declared.status.Status.{Status}
 use Rattle.tcd_reading.specs.declared.status.Status.TheVariants.{Fault, NoMemory}
 
@@ -256,8 +257,8 @@ long_of None limit h = absurd h
 long_of (Some bytes) limit h = (bytes, refl, h)
 
 held_bad : {A : Type 0} (form : FormSeen A) (m : Map) (name line : List ℕ) → IsRefusal form (Some m) name line → IsHeldBad form m name line
-held_bad form m name line (inputs.long too is) = let l = long_of (get m name) form.limit too in so.long l.0 l.1 l.2 is
-held_bad form m name line (inputs.bad bytes reads short is) = so.bad bytes reads short is
+held_bad form m name line (inputs.long too is) = let l = long_of (get m name) form.limit too in checked.long l.0 l.1 l.2 is
+held_bad form m name line (inputs.bad bytes reads short is) = checked.bad bytes reads short is
 
 line_of : {A : Type 0} (form : FormSeen A) (m : Map) (name : List ℕ) (report : Report) → Refuses (IsRefusal form (Some m) name) report → IsLineOf (IsHeldBad form m name) report
 line_of form m name report h = record { status = h.status; line = held_bad form m name report.text h.line; writes = h.nothing }
