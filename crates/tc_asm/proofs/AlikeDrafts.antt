@@ -3,7 +3,7 @@ use Rattle.std.proofs.Common.{◌≡◌, ◌<◌, ◌≤◌, ◌+◌, ◌^◌, �
 use Rattle.std.specs.Prelude.{All, fold, nat_lt, nat_le, not, position, slice_get, unwrap_or}
 use Rattle.std.specs.Option.{option_map_or}
 use Rattle.std.specs.Str.{bytes_eq}
-use Rattle.std.proofs.lemmas.List.{length-map, map-append, get_or-map, take_all}
+use Rattle.std.proofs.lemmas.List.{length-map, length-replicate, map-append, get_or-map, take_all}
 use Rattle.std.proofs.lemmas.List.Sums.{fold_more}
 use Rattle.tc_isa.specs.declared.fields.Fields.{Fields}
 use Rattle.tc_isa.specs.Rows.{RowData, listed}
@@ -202,34 +202,33 @@ passes_agree source =
     ∙ sym (ap (λ (d : DraftData). d.symbols) (lines-items [] (lines_in source) start))
 
 -- ---- the first pass
-abbrev zeros_of : ℕ → List ℕ
-zeros_of n = take n (0 ∷ 0 ∷ 0 ∷ 0 ∷ [])
-
 pub sized : (k : ℕ) → option_map_or (λ (row : RowData). cond (is_long row) 4 2) (slice_get listed k) 0 ≡ code_size k
 unfolding code_size
 sized k = refl
 
+-- zeros instead of bytes
+zeros_alike : (d e next : DraftData) (bs : List ℕ) (o : Option ReferenceData) (n : ℕ)
+    → next ≡ with_bytes (with_reference d 0 o) (replicate n 0) → n ≡ length bs → Alike d e → Alike next (with_content e bs o)
+zeros_alike d e next bs o n made same h =
+    subst (λ (x : DraftData). Alike x (with_content e bs o)) (sym made)
+    (bytes_alike (with_reference d 0 o) (with_reference e (length bs) o) (reference_alike d e 0 (length bs) o h) (replicate n 0) bs (length-replicate n 0 ∙ same))
+
 -- zeros instead of an instruction's bytes
-pub count_alike : (d e mid next : DraftData) (k : ℕ) (f : Fields) (o : Option ReferenceData) (bs : List ℕ) → IsCode k f o
-    → mid ≡ with_reference d 0 o → next ≡ with_bytes mid bs → bs ≡ zeros_of (code_size k) → Alike d e → Alike next (stepped [] e (code k f o))
+pub code_alike : (d e next : DraftData) (k : ℕ) (f : Fields) (o : Option ReferenceData) (n : ℕ) → IsCode k f o
+    → next ≡ with_bytes (with_reference d 0 o) (replicate n 0) → n ≡ code_size k → Alike d e → Alike next (stepped [] e (code k f o))
 unfolding stepped code_size
-count_alike d e mid next k f o bs is m n b h =
-    let made : with_bytes (with_reference d 0 o) (zeros_of (code_size k)) ≡ next = ap (with_bytes (with_reference d 0 o)) (sym b) ∙ ap (λ (x : DraftData). with_bytes x bs) (sym m) ∙ sym n in
-    let cs : List ℕ = code_bytes [] e k f o in
-    subst (λ (x : DraftData). Alike x (with_content e cs o)) made
-    (bytes_alike (with_reference d 0 o) (with_reference e (length cs) o) (reference_alike d e 0 (length cs) o h) (zeros_of (code_size k)) cs as_many)
+code_alike d e next k f o n is made size h = zeros_alike d e next (code_bytes [] e k f o) o n made (size ∙ as_many) h
   where
-    by : (b : Bool) → length (zeros_of (cond b 4 2)) ≡ cond b 4 2
-    by true = refl
-    by false = refl
+    as_many : code_size k ≡ length (code_bytes [] e k f o)
+    as_many = ap (λ (q : Option RowData). option_map_or (λ row. cond (is_long row) 4 2) q 0) is.at ∙ sym (code_length [] e k f o is)
 
-    as_many : length (zeros_of (code_size k)) ≡ length (code_bytes [] e k f o)
-    as_many =
-        ap (λ (q : Option RowData). length (zeros_of (option_map_or (λ row. cond (is_long row) 4 2) q 0))) is.at
-        ∙ by (is_long is.row)
-        ∙ sym (code_length [] e k f o is)
+-- zeros instead of data
+pub data_alike : (d e next : DraftData) (bs : List ℕ) (o : Option ReferenceData) (n : ℕ)
+    → next ≡ with_bytes (with_reference d 0 o) (replicate n 0) → n ≡ length bs → Alike d e → Alike next (stepped [] e (bytes bs o))
+unfolding stepped
+data_alike d e next bs o n made same h = zeros_alike d e next bs o n made same h
 
--- the step of an item other than an instruction
+-- the step of any other item
 pub step_counted : (d e next : DraftData) (labels : List SymbolData) (i : ItemData) → IsItem i → labels ≡ [] → next ≡ stepped labels d i → Alike d e → Alike next (stepped [] e i)
 step_counted d e next labels i good none made h =
     subst (λ (x : DraftData). Alike x (stepped [] e i)) (sym (made ∙ ap (λ (ls : List SymbolData). stepped ls d i) none)) (step_alike [] [] d e i good h)

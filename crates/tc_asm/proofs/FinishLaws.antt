@@ -60,7 +60,7 @@ uses_small low (u ∷ us) size few h = (let ends = spaced_end (u.offset + 4) (ma
 parts_small : (names : List (List ℕ)) (total : ℕ) (parts : List Part) → total ≤ 2 ^ 24 → Each (IsPart names total) (map part_of parts) → Each (λ (p : Part). All (λ (u : Use). u.offset < 2 ^ 32) p.uses.items) parts
 parts_small names total [] few h = tt
 parts_small names total (p ∷ ps) few h =
-    (all_from_each _ p.uses.items (uses_small 0 p.uses.items (length p.bytes.items) (let s = h.0.small in omega arith) h.0.spaced), parts_small names total ps few h.1)
+    (all_from_each _ p.uses.items (uses_small 0 p.uses.items (length (part_of p).bytes) (let s = h.0.small in omega arith) h.0.spaced), parts_small names total ps few h.1)
 
 pub offsets_small : (names : List (List ℕ)) (total : ℕ) (parts : List Part) → total ≤ 2 ^ 24 → Each (IsPart names total) (map part_of parts) → All (λ (p : Part). All (λ (u : Use). u.offset < 2 ^ 32) p.uses.items) parts
 offsets_small names total parts few h = all_from_each _ parts (parts_small names total parts few h)

@@ -1,5 +1,5 @@
 -- The code's types as plain data.
-use Rattle.std.specs.Prelude.{map}
+use Rattle.std.specs.Prelude.{◌++◌, map, replicate}
 use Rattle.tc_stmt.specs.RowFields.{reference_of}
 use Rattle.tc_asm.specs.declared.sections.Use.{Use}
 use Rattle.tc_asm.specs.declared.sections.Part.{Part}
@@ -9,6 +9,6 @@ use Rattle.tc_asm.specs.Drafts.{UseData, PartData}
 abbrev pub use_of : Use → UseData
 use_of u = record { offset = u.offset; reference = reference_of u.reference }
 
--- the plain data of a section
+-- the plain data of a section; the zeros at the end of its bytes are only counted
 abbrev pub part_of : Part → PartData
-part_of p = record { name = p.name.now; bytes = p.bytes.items; uses = map use_of p.uses.items }
+part_of p = record { name = p.name.now; bytes = p.bytes.items ++ replicate p.zeros 0; uses = map use_of p.uses.items }

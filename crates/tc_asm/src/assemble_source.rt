@@ -96,6 +96,9 @@ fn add_line<'a>(
         ≡ line_rule labels.now draft.old
         (line_data line.rule (take line.count (map item_of items.now)))) }
 {
+    if line.count == 0 {
+        return Ok(line.rule.min(NO_RULE));
+    }
     let rule = add_items(alloc, draft, labels, first_items(items, line.count))?;
     Ok(line.rule.min(rule))
 }

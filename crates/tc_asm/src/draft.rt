@@ -1,12 +1,12 @@
 // The draft of an object: the sections and symbols of the lines so far.
 use crate::encode::{code_size, first_bytes};
 use crate::rules::is_reloc;
-use crate::sections::{Part, extend_part, number_of_part, use_part};
+use crate::sections::{Part, extend_part, extend_zeros, number_of_part, part_len, use_part};
 use crate::symbols::{Place, Symbols};
 use std::alloc::{AllocError, Global};
 use std::marker::Model;
-use tc_isa::Fields;
-use tc_stmt::{Item, Reference, is_name};
+use tc_isa::{Fields, WORD32};
+use tc_stmt::{Item, Reference, is_name, reference_to};
 
 /// The number of the current section, all sections and symbols so far, and the numbers of bytes and
 /// relocations in all sections.
@@ -34,8 +34,8 @@ impl<'a> Model for Draft<'a> {
     ghost view = { λ d. record { section = d.section; parts = map part_of d.parts.items; symbols = d.symbols; total = d.total; count = d.count } };
 }
 
-// The most bytes of all sections together.
-const MOST_BYTES: usize = 0x100_0000;
+/// The most bytes of all sections together.
+pub(crate) const MOST_BYTES: usize = 0x100_0000;
 
 /// The most relocations of a source.
 pub(crate) const MOST_RELOCS: usize = 65535;
@@ -47,9 +47,9 @@ pub(crate) const MOST_SECTIONS: usize = 64;
 const NO_NUMBER: usize = 64;
 
 impl<'a> Draft<'a> {
-    ghost use Rattle.std.specs.Prelude.{◌≡◌, [], OnOk, option_map, replicate};
+    ghost use Rattle.std.specs.Prelude.{◌≡◌, [], OnOk, Some, option_map, replicate};
     ghost use Rattle.tc_stmt.specs.RowFields.{reference_of};
-    ghost use Rattle.tc_stmt.specs.Items.{item_of, code};
+    ghost use Rattle.tc_stmt.specs.Items.{item_of, code, bytes as data_item};
     ghost use Rattle.tc_asm.specs.Added.{IsCode, IsItem};
     ghost use Rattle.tc_asm.specs.Alike.{Alike};
     ghost use Rattle.tc_asm.specs.Drafts.{DraftData, start, place_of, has_section, has_room, with_label, entered, with_global, with_bytes, with_use, with_reference, with_content, stepped};
@@ -73,7 +73,7 @@ impl<'a> Draft<'a> {
         ensures { result ≡ place_of self.now }
     {
         if self.section < self.parts.len() {
-            self.parts[self.section].bytes.len()
+            part_len(&self.parts[self.section])
         } else {
             0
         }
@@ -125,7 +125,12 @@ impl<'a> Draft<'a> {
             let bytes = Vec::new(alloc);
             let uses = Vec::new(alloc);
             self.section = self.parts.len();
-            self.parts.push(Part { name, bytes, uses })?;
+            self.parts.push(Part {
+                name,
+                bytes,
+                zeros: 0,
+                uses,
+            })?;
         }
         Ok(())
     }
@@ -169,6 +174,21 @@ impl<'a> Draft<'a> {
         Ok(())
     }
 
+    // Notes the symbol of the next bytes, of which there are `size`.
+    #[inline(never)]
+    #[tactic(auto, unfolding(crate::specs::Drafts::with_reference))]
+    fn add_named(&mut self, size: usize, r: &Reference<'a>) -> Result<(), AllocError>
+        ensures { OnOk result
+            (self.new ≡ with_reference self.old size (Some (reference_of r.now))) }
+    {
+        if is_name(r.name) {
+            self.symbols.see(r.name)?;
+            self.add_use(size, *r)?;
+        }
+        Ok(())
+    }
+
+    #[inline(always)]
     #[tactic(auto, unfolding(crate::specs::Drafts::with_reference))]
     fn add_reference(&mut self, size: usize, r: &Option<Reference<'a>>) -> Result<(), AllocError>
         ensures { OnOk result
@@ -176,13 +196,7 @@ impl<'a> Draft<'a> {
     {
         match r {
             None => Ok(()),
-            Some(r) => {
-                if is_name(r.name) {
-                    self.symbols.see(r.name)?;
-                    self.add_use(size, *r)?;
-                }
-                Ok(())
-            }
+            Some(r) => self.add_named(size, r),
         }
     }
 
@@ -198,16 +212,33 @@ impl<'a> Draft<'a> {
         self.add_bytes(bytes)
     }
 
-    #[inline(never)]
+    // Adds zeros, which are only counted.
     #[tactic(auto, unfolding(crate::specs::Drafts::with_bytes))]
-    fn add_zeros(&mut self, alloc: Global, n: usize) -> Result<(), AllocError>
+    fn add_zeros(&mut self, n: usize) -> Result<(), AllocError>
         ensures { OnOk result (self.new ≡ with_bytes self.old (replicate n 0)) }
     {
         if self.has_section() && self.has_room(n) {
-            let zeros = vec![in alloc; 0u8; n]?;
-            self.add_bytes(&zeros)?;
+            extend_zeros(&mut self.parts, self.section, n)?;
+            self.total += n;
         }
         Ok(())
+    }
+
+    #[inline(never)]
+    #[tactic(auto, unfolding(crate::specs::Drafts::stepped))]
+    fn add_code(
+        &mut self,
+        labels: &Symbols<'a>,
+        row: u8,
+        fields: &Fields,
+        r: &Option<Reference<'a>>,
+    ) -> Result<(), AllocError>
+        ensures { OnOk result
+            (self.new ≡ stepped labels.now self.old
+            (code row fields.now (option_map reference_of r.now))) }
+    {
+        let code = self.code(labels, row, fields, r);
+        self.add_content(first_bytes(&code.bytes, code.len), r)
     }
 
     /// Adds an item. `labels` are the symbols of the whole source.
@@ -224,17 +255,31 @@ impl<'a> Draft<'a> {
             Item::Label(name) => self.add_label(*name),
             Item::Section(name) => self.enter(alloc, *name),
             Item::Global(name) => self.make_global(*name),
-            Item::Code(row, fields, r) => {
-                let code = self.code(labels, *row, fields, r);
-                self.add_content(first_bytes(&code.bytes, code.len), r)
+            Item::Code(row, fields) => self.add_code(labels, *row, fields, &None),
+            Item::Linked(row, kind, minus, fields, size, name) => {
+                let r = reference_to(*kind, *name, *minus, *size);
+                self.add_code(labels, *row, fields, &r)
             }
-            Item::Data(len, bytes, r) => self.add_content(first_bytes(bytes, *len), r),
-            Item::Zeros(n) => self.add_zeros(alloc, *n as usize),
+            Item::Data(len, bytes) => self.add_content(first_bytes(bytes, *len), &None),
+            Item::Word(len, minus, size, name) => {
+                let r = reference_to(WORD32, *name, *minus, *size);
+                self.add_content(first_bytes(&[0; 4], *len), &r)
+            }
+            Item::Zeros(n) => self.add_zeros(*n as usize),
         }
     }
 
-    // Adds as many zeros as an instruction has bytes, and notes its symbol. The first pass needs no
-    // more.
+    // Adds `n` zeros instead of bytes, and notes their symbol. The first pass needs no more.
+    fn count_bytes(&mut self, n: usize, r: &Option<Reference<'a>>) -> Result<(), AllocError>
+        ensures { OnOk result
+            (self.new ≡ with_bytes (with_reference self.old 0 (option_map reference_of r.now))
+            (replicate n 0)) }
+    {
+        self.add_reference(0, r)?;
+        self.add_zeros(n)
+    }
+
+    // Adds an instruction as far as symbols depend on it.
     fn count_code(
         &mut self,
         row: u8,
@@ -245,12 +290,21 @@ impl<'a> Draft<'a> {
         ensures { OnOk result ((d : DraftData) → Alike self.old d
             → Alike self.new (stepped [] d (code row fields.now (option_map reference_of r.now)))) }
     {
-        self.add_reference(0, r)?;
-        self.add_bytes(first_bytes(&[0; 4], code_size(row)))?;
+        let size = usize::from(code_size(row));
+        self.count_bytes(size, r)?;
         Ok(())
     }
 
-    // Adds an item other than an instruction, with an empty table of labels.
+    // Adds data as far as symbols depend on them.
+    fn count_data(&mut self, bytes: &[u8], r: &Option<Reference<'a>>) -> Result<(), AllocError>
+        ensures { OnOk result ((d : DraftData) → Alike self.old d
+            → Alike self.new (stepped [] d (data_item bytes.now (option_map reference_of r.now)))) }
+    {
+        self.count_bytes(bytes.len(), r)?;
+        Ok(())
+    }
+
+    // Adds an item other than an instruction and data, with an empty table of labels.
     fn count_other(
         &mut self,
         alloc: Global,
@@ -279,7 +333,16 @@ impl<'a> Draft<'a> {
             → Alike self.new (stepped [] d (item_of item.now))) }
     {
         match item {
-            Item::Code(row, fields, r) => self.count_code(*row, fields, r),
+            Item::Code(row, fields) => self.count_code(*row, fields, &None),
+            Item::Linked(row, kind, minus, fields, size, name) => {
+                let r = reference_to(*kind, *name, *minus, *size);
+                self.count_code(*row, fields, &r)
+            }
+            Item::Data(len, bytes) => self.count_data(first_bytes(bytes, *len), &None),
+            Item::Word(len, minus, size, name) => {
+                let r = reference_to(WORD32, *name, *minus, *size);
+                self.count_data(first_bytes(&[0; 4], *len), &r)
+            }
             _ => self.count_other(alloc, none, item),
         }
     }

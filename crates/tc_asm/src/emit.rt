@@ -8,7 +8,7 @@ ghost use Rattle.tc_asm.specs.Symbols.{symbol as known_as};
 ghost use Rattle.tc_asm.specs.DraftInvariants.{IsDraft, IsSmall};
 
 use crate::draft::Draft;
-use crate::sections::{Part, Use};
+use crate::sections::{Part, Use, part_len};
 use crate::symbols::{Entry, Symbols};
 use std::alloc::{AllocError, Global};
 use tc_object::{
@@ -24,12 +24,21 @@ fn text(alloc: Global, name: &[u8]) -> Result<String, AllocError>
     String::from_str(alloc, name_of(name).unwrap())
 }
 
+// The bytes of a section, with the zeros that are only counted.
+fn bytes_of_part(alloc: Global, part: &Part) -> Result<Vec<u8>, AllocError>
+    ensures { IfOk result (λ v. v.items ≡ (part_of part.now).bytes) }
+{
+    let mut bytes = Vec::from_slice(alloc, &part.bytes)?;
+    bytes.resize(part_len(part), 0)?;
+    Ok(bytes)
+}
+
 fn section(alloc: Global, part: &Part) -> Result<Section, AllocError>
     requires { is_some (name_in part.now.name.now) ≡ true }
     ensures { IfOk result (λ s. s ≡ section_of (part_of part.now)) }
 {
     let name = text(alloc, part.name)?;
-    let bytes = Vec::from_slice(alloc, &part.bytes)?;
+    let bytes = bytes_of_part(alloc, part)?;
     Ok(Section { name, bytes })
 }
 

@@ -5,10 +5,11 @@ ghost use Rattle.tc_stmt.specs.RowFields.{reference_of};
 
 use crate::draft::Draft;
 use crate::encode::{code_of, first_bytes};
+use crate::sections::extend_part;
 use crate::symbols::{Place, Symbols};
 use std::alloc::{AllocError, Global};
-use tc_isa::Fields;
-use tc_stmt::{Item, LABEL_TWICE, NO_RELOC, NO_RULE, Reference, is_name};
+use tc_isa::{Fields, WORD32};
+use tc_stmt::{Item, LABEL_TWICE, NO_RELOC, NO_RULE, Reference, is_name, reference_to};
 
 // Whether a target is resolved at once, without a relocation.
 fn has_near_target(r: &Option<Reference<'_>>) -> bool
@@ -21,14 +22,31 @@ fn has_near_target(r: &Option<Reference<'_>>) -> bool
 }
 
 impl<'a> Draft<'a> {
-    ghost use Rattle.std.specs.Prelude.{option_map, length, OnOk, IfOk};
+    ghost use Rattle.std.specs.Prelude.{option_map, length, None, OnOk, IfOk};
     ghost use Rattle.tc_stmt.specs.RowFields.{reference_of};
     ghost use Rattle.tc_stmt.specs.Items.{item_of, label, code};
-    ghost use Rattle.tc_asm.specs.Drafts.{stepped, with_content};
+    ghost use Rattle.tc_asm.specs.Drafts.{stepped, with_bytes, with_content};
     ghost use Rattle.tc_asm.specs.Rules.{content_rule, item_rule};
 
-    // Adds bytes with their symbol, and returns the least rule that they break.
-    fn put_bytes(&mut self, bytes: &[u8], r: &Option<Reference<'a>>) -> Result<u8, AllocError>
+    // Adds bytes without a symbol, and returns the least rule that they break.
+    #[inline(never)]
+    #[tactic(auto, unfolding(crate::specs::Drafts::with_bytes))]
+    fn put_plain(&mut self, bytes: &[u8]) -> Result<u8, AllocError>
+        ensures draft { OnOk result (self.new ≡ with_bytes self.old bytes.now) }
+        ensures rule { IfOk result
+            (λ rule. rule ≡ content_rule self.old (length bytes.now) None) }
+    {
+        if self.has_section() && self.has_room(bytes.len()) {
+            extend_part(&mut self.parts, self.section, bytes)?;
+            self.total += bytes.len();
+            return Ok(NO_RULE);
+        }
+        Ok(self.content_rule(bytes.len(), &None))
+    }
+
+    // Adds bytes with a symbol, and returns the least rule that they break.
+    #[inline(never)]
+    fn put_named(&mut self, bytes: &[u8], r: &Option<Reference<'a>>) -> Result<u8, AllocError>
         ensures draft { OnOk result
             (self.new ≡ with_content self.old bytes.now (option_map reference_of r.now)) }
         ensures rule { IfOk result
@@ -38,6 +56,22 @@ impl<'a> Draft<'a> {
         let rule = self.content_rule(bytes.len(), r);
         self.add_content(bytes, r)?;
         Ok(rule)
+    }
+
+    // Adds bytes with their symbol, if they have one, and returns the least rule that they break.
+    #[inline(always)]
+    #[tactic(auto, unfolding(crate::specs::Drafts::with_reference))]
+    fn put_bytes(&mut self, bytes: &[u8], r: &Option<Reference<'a>>) -> Result<u8, AllocError>
+        ensures draft { OnOk result
+            (self.new ≡ with_content self.old bytes.now (option_map reference_of r.now)) }
+        ensures rule { IfOk result
+            (λ rule. rule
+            ≡ content_rule self.old (length bytes.now) (option_map reference_of r.now)) }
+    {
+        if r.is_none() {
+            return self.put_plain(bytes);
+        }
+        self.put_named(bytes, r)
     }
 
     // Adds an instruction whose target is resolved at once, and returns the least rule that it
@@ -65,6 +99,7 @@ impl<'a> Draft<'a> {
     }
 
     // Adds an instruction, and returns the least rule that it breaks.
+    #[inline(always)]
     #[tactic(auto, unfolding(crate::specs::Rules::item_rule, crate::specs::Drafts::stepped, crate::specs::Drafts::code_bytes), using(crate::proofs::CodeLaws::found_far))]
     fn put_code(
         &mut self,
@@ -131,8 +166,16 @@ impl<'a> Draft<'a> {
     {
         match item {
             Item::Label(name) => self.put_label(labels, *name),
-            Item::Code(row, fields, r) => self.put_code(labels, *row, fields, r),
-            Item::Data(len, bytes, r) => self.put_bytes(first_bytes(bytes, *len), r),
+            Item::Code(row, fields) => self.put_code(labels, *row, fields, &None),
+            Item::Linked(row, kind, minus, fields, size, name) => {
+                let r = reference_to(*kind, *name, *minus, *size);
+                self.put_code(labels, *row, fields, &r)
+            }
+            Item::Data(len, bytes) => self.put_bytes(first_bytes(bytes, *len), &None),
+            Item::Word(len, minus, size, name) => {
+                let r = reference_to(WORD32, *name, *minus, *size);
+                self.put_bytes(first_bytes(&[0; 4], *len), &r)
+            }
             _ => {
                 let rule = self.item_rule(labels, item);
                 self.step(alloc, labels, item)?;

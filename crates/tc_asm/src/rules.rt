@@ -6,10 +6,10 @@ use crate::draft::{Draft, MOST_RELOCS, MOST_SECTIONS};
 use crate::encode::first_bytes;
 use crate::sections::number_of_part;
 use crate::symbols::Symbols;
-use tc_isa::{REL24, WORD32};
+use tc_isa::{Fields, REL24, WORD32};
 use tc_stmt::{
     BAD_NAME, Item, LABEL_TWICE, NO_RULE, NO_SECTION, PAST_LIMITS, Reference, UNDEFINED_GLOBAL,
-    is_name,
+    is_name, reference_to,
 };
 
 // The most symbols of a source.
@@ -25,7 +25,7 @@ pub(crate) fn is_reloc(kind: u8) -> bool
 impl<'a> Draft<'a> {
     ghost use Rattle.std.specs.Prelude.{option_map};
     ghost use Rattle.tc_stmt.specs.RowFields.{reference_of};
-    ghost use Rattle.tc_stmt.specs.Items.{item_of};
+    ghost use Rattle.tc_stmt.specs.Items.{item_of, code};
     ghost use Rattle.tc_asm.specs.Rules.{label_rule, section_rule, name_rule, section_room, symbol_room, reloc_room, bytes_room, defined_rule, reference_rule, content_rule, item_rule};
 
     // Rule 7: a label that is defined already.
@@ -131,6 +131,25 @@ impl<'a> Draft<'a> {
         }
     }
 
+    // The least rule that an instruction breaks.
+    #[inline(never)]
+    #[tactic(auto, unfolding(crate::specs::Rules::item_rule))]
+    fn code_rule(
+        &self,
+        labels: &Symbols<'a>,
+        row: u8,
+        fields: &Fields,
+        r: &Option<Reference<'a>>,
+    ) -> u8
+        ensures { result
+            ≡ item_rule labels.now self.now (code row fields.now (option_map reference_of r.now)) }
+    {
+        let target = self.resolve(labels, row, fields, r).rule;
+        let code = self.code(labels, row, fields, r);
+        let len = first_bytes(&code.bytes, code.len).len();
+        target.min(self.content_rule(len, r))
+    }
+
     /// The least rule that an item breaks after this draft, or no rule. `labels` are the symbols of
     /// the whole source.
     #[tactic(auto, unfolding(crate::specs::Rules::item_rule))]
@@ -149,13 +168,16 @@ impl<'a> Draft<'a> {
                     .min(Self::defined_rule(labels, *name));
                 Self::name_rule(*name).min(room)
             }
-            Item::Code(row, fields, r) => {
-                let target = self.resolve(labels, *row, fields, r).rule;
-                let code = self.code(labels, *row, fields, r);
-                let len = first_bytes(&code.bytes, code.len).len();
-                target.min(self.content_rule(len, r))
+            Item::Code(row, fields) => self.code_rule(labels, *row, fields, &None),
+            Item::Linked(row, kind, minus, fields, size, name) => {
+                let r = reference_to(*kind, *name, *minus, *size);
+                self.code_rule(labels, *row, fields, &r)
             }
-            Item::Data(len, bytes, r) => self.content_rule(first_bytes(bytes, *len).len(), r),
+            Item::Data(len, bytes) => self.content_rule(first_bytes(bytes, *len).len(), &None),
+            Item::Word(len, minus, size, name) => {
+                let r = reference_to(WORD32, *name, *minus, *size);
+                self.content_rule(first_bytes(&[0; 4], *len).len(), &r)
+            }
             Item::Zeros(n) => self.section_rule().min(self.bytes_room(*n as usize)),
         }
     }

@@ -1,10 +1,11 @@
 // The sections of a draft.
-ghost use Rattle.std.specs.Prelude.{◌≡◌, ◌<◌, ◌≤◌, map, OnOk, length, position};
+ghost use Rattle.std.specs.Prelude.{◌≡◌, ◌<◌, ◌≤◌, ◌^◌, map, OnOk, length, position, replicate};
 ghost use Rattle.std.specs.Str.{bytes_eq};
 ghost use Rattle.tc_stmt.specs.RowFields.{reference_of};
 ghost use Rattle.tc_asm.specs.Views.{part_of};
 ghost use Rattle.tc_asm.specs.Drafts.{extended, used, number_of_part};
 
+use crate::draft::MOST_BYTES;
 use std::alloc::AllocError;
 use tc_lex::is_same;
 use tc_stmt::Reference;
@@ -23,8 +24,10 @@ pub struct Use<'a> {
 pub struct Part<'a> {
     /// The name of the section.
     pub name: &'a [u8],
-    /// Its bytes so far.
+    /// Its bytes so far, without the zeros at their end that are only counted.
     pub bytes: Vec<u8>,
+    /// The number of zeros after these bytes. The first pass only counts, so it writes none.
+    pub zeros: u32,
     /// Its uses of symbols, in ascending order of offsets.
     pub uses: Vec<Use<'a>>,
 }
@@ -46,14 +49,73 @@ pub(crate) fn number_of_part(parts: &[Part], name: &[u8]) -> usize
     }
 }
 
+/// The number of bytes of a section so far.
+pub(crate) fn part_len(part: &Part) -> usize
+    ensures { result ≡ length (part_of part.now).bytes }
+{
+    part.bytes.len() + part.zeros as usize
+}
+
+// Writes the zeros at the end of a section that are only counted.
+#[inline(never)]
+fn put_zeros(part: &mut Part) -> Result<(), AllocError>
+    ensures same { OnOk result (part_of part.new ≡ part_of part.old) }
+    ensures none { OnOk result (part.new.zeros ≡ 0) }
+{
+    let len = part_len(part);
+    part.bytes.resize(len, 0)?;
+    part.zeros = 0;
+    Ok(())
+}
+
+// Leaves no zeros that are only counted.
+#[inline(always)]
+fn write_zeros(part: &mut Part) -> Result<(), AllocError>
+    ensures same { OnOk result (part_of part.new ≡ part_of part.old) }
+    ensures none { OnOk result (part.new.zeros ≡ 0) }
+{
+    if part.zeros == 0 {
+        return Ok(());
+    }
+    put_zeros(part)
+}
+
+// Leaves at most `MOST_BYTES` zeros that are only counted.
+fn limit_zeros(part: &mut Part) -> Result<(), AllocError>
+    ensures same { OnOk result (part_of part.new ≡ part_of part.old) }
+    ensures few { OnOk result (part.new.zeros ≤ 2 ^ 24) }
+{
+    if part.zeros as usize <= MOST_BYTES {
+        return Ok(());
+    }
+    put_zeros(part)?;
+    Ok(())
+}
+
 /// Adds bytes at the end of a section.
+#[inline(always)]
 pub(crate) fn extend_part(parts: &mut Vec<Part>, i: usize, bytes: &[u8]) -> Result<(), AllocError>
     requires { i < length parts.old.items }
     ensures { OnOk result
         (map part_of parts.new.items ≡ extended (map part_of parts.old.items) i bytes.now) }
 {
     let part = &mut parts[i];
+    write_zeros(part)?;
     part.bytes.extend_from_slice(bytes)?;
+    Ok(())
+}
+
+/// Adds zeros at the end of a section, which are only counted.
+pub(crate) fn extend_zeros(parts: &mut Vec<Part>, i: usize, n: usize) -> Result<(), AllocError>
+    requires place { i < length parts.old.items }
+    requires few { n ≤ 2 ^ 24 }
+    ensures { OnOk result
+        (map part_of parts.new.items
+        ≡ extended (map part_of parts.old.items) i (replicate n 0)) }
+{
+    let part = &mut parts[i];
+    limit_zeros(part)?;
+    part.zeros += n as u32;
     Ok(())
 }
 

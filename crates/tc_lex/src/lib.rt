@@ -11,6 +11,7 @@ mod operand;
 mod pieces;
 mod read_operand;
 mod same_bytes;
+mod scratch;
 mod split_operands;
 
 pub use bytes::is_hex;
@@ -20,4 +21,5 @@ pub use line_pieces::cut_pieces;
 pub use operand::{Operand, Shape, Value};
 pub use pieces::{Piece, is_kind, is_text, text_at};
 pub use same_bytes::is_same;
+pub use scratch::Scratch;
 pub use split_operands::operands;

@@ -6,7 +6,7 @@ ghost use Rattle.tc_lex.specs.Pieces.{piece_of, piece_in, pieces_of, CutsPieces}
 use crate::kinds::{Front, TokenKind};
 use crate::longest_token::front;
 use crate::pieces::Piece;
-use arrayvec::ArrayVec;
+use crate::scratch::Scratch;
 
 // The token of this kind and length at the byte offset `at`, with its text.
 fn piece_at(line: &[u8], kind: TokenKind, at: usize, len: usize) -> Piece<'_>
@@ -21,7 +21,7 @@ fn piece_at(line: &[u8], kind: TokenKind, at: usize, len: usize) -> Piece<'_>
 
 /// Replaces the contents of `out` by the tokens of a line with their texts. The error is the byte
 /// offset of the first byte that begins no token, or that begins a 65th one.
-pub fn cut_pieces<'a>(line: &'a [u8], out: &mut ArrayVec<Piece<'a>, 64>) -> Result<(), usize>
+pub fn cut_pieces<'a>(line: &'a [u8], out: &mut Scratch<Piece<'a>, 64>) -> Result<(), usize>
     ensures pieces { CutsPieces result
         (map piece_of out.new.items) (pieces_of line.now (tokens_of line.now)) }
     ensures few { length out.new.items ≤ 64 }

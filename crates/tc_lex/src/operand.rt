@@ -27,14 +27,14 @@ pub enum Shape {
 /// name is 2^128 or more, and `size` is 0.
 #[derive(Clone, Copy, Default)]
 pub struct Value<'a> {
-    /// The form of the value.
-    pub shape: Shape,
-    /// The name, and empty if there is none.
-    pub name: &'a [u8],
-    /// Whether the number is subtracted, or negative.
-    pub minus: bool,
     /// The absolute value of the number.
     pub size: u128,
+    /// The name, and empty if there is none.
+    pub name: &'a [u8],
+    /// The form of the value.
+    pub shape: Shape,
+    /// Whether the number is subtracted, or negative.
+    pub minus: bool,
     /// Whether the number that is added to the name is 2^128 or more.
     pub wide: bool,
 }
@@ -42,12 +42,12 @@ pub struct Value<'a> {
 /// A value, or `[BASE]` or `[BASE+]` with a value after it.
 #[derive(Clone, Copy, Default)]
 pub struct Operand<'a> {
+    /// The value, which follows the brackets if there are any.
+    pub value: Value<'a>,
+    /// The name in the brackets, and empty if there are none.
+    pub base: &'a [u8],
     /// Whether the operand begins with `[BASE]` or `[BASE+]`.
     pub is_memory: bool,
     /// Whether it is `[BASE+]`.
     pub plus: bool,
-    /// The name in the brackets, and empty if there are none.
-    pub base: &'a [u8],
-    /// The value, which follows the brackets if there are any.
-    pub value: Value<'a>,
 }

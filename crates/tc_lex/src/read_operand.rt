@@ -8,7 +8,7 @@ use crate::TokenKind;
 use crate::numbers::number_of;
 use crate::operand::{Operand, Shape, Value};
 use crate::pieces::{Piece, is_kind, is_text, text_at};
-use arrayvec::ArrayVec;
+use crate::scratch::Scratch;
 
 fn make_value(shape: Shape, name: &[u8], minus: bool, size: u128) -> Value<'_>
     ensures { value_of result ≡ data_of shape name.now minus size }
@@ -192,7 +192,7 @@ fn memory_operand<'a>(ps: &[Piece<'a>]) -> Operand<'a>
 }
 
 // Adds an operand to the list.
-fn put<'a>(operand: Operand<'a>, out: &mut ArrayVec<Operand<'a>, 65>)
+fn put<'a>(operand: Operand<'a>, out: &mut Scratch<Operand<'a>, 65>)
     requires { length out.old.items < 65 }
     ensures operands { map operand_of out.new.items
         ≡ map operand_of out.old.items ++ operand_of operand.entry ∷ [] }
@@ -205,7 +205,7 @@ fn put<'a>(operand: Operand<'a>, out: &mut ArrayVec<Operand<'a>, 65>)
 // of their own.
 #[inline(never)]
 #[tactic(auto, unfolding(crate::specs::Operands::operand))]
-fn put_longer<'a>(ps: &[Piece<'a>], out: &mut ArrayVec<Operand<'a>, 65>)
+fn put_longer<'a>(ps: &[Piece<'a>], out: &mut Scratch<Operand<'a>, 65>)
     requires { length out.old.items < 65 }
     ensures operands { map operand_of out.new.items
         ≡ map operand_of out.old.items ++ operand (map piece_of ps.now) ∷ [] }
@@ -237,8 +237,8 @@ fn lone_number<'a>(ps: &[Piece<'a>]) -> Operand<'a>
 }
 
 /// Adds the operand that these tokens spell to the list. Each arm of one token builds the operand
-/// in the list, so that its 96 bytes aren't copied.
-pub(crate) fn put_operand<'a>(ps: &[Piece<'a>], out: &mut ArrayVec<Operand<'a>, 65>)
+/// in the list, so that its 80 bytes aren't copied.
+pub(crate) fn put_operand<'a>(ps: &[Piece<'a>], out: &mut Scratch<Operand<'a>, 65>)
     requires { length out.old.items < 65 }
     ensures operands { map operand_of out.new.items
         ≡ map operand_of out.old.items ++ operand (map piece_of ps.now) ∷ [] }

@@ -6,7 +6,7 @@ ghost use Rattle.tc_lex.specs.Operands.{operand_of, operands, is_comma, operand}
 use crate::operand::Operand;
 use crate::pieces::{Piece, kind_index};
 use crate::read_operand::put_operand;
-use arrayvec::ArrayVec;
+use crate::scratch::Scratch;
 
 fn find_comma(ps: &[Piece]) -> Option<usize>
     ensures value { result ≡ position (λ p. is_comma (piece_of p)) ps.now }
@@ -16,7 +16,7 @@ fn find_comma(ps: &[Piece]) -> Option<usize>
 }
 
 // Adds the operand that ends before token `i` to the list.
-fn put_before<'a>(ps: &[Piece<'a>], i: usize, out: &mut ArrayVec<Operand<'a>, 65>)
+fn put_before<'a>(ps: &[Piece<'a>], i: usize, out: &mut Scratch<Operand<'a>, 65>)
     requires place { i ≤ length ps.now }
     requires room { length out.old.items < 65 }
     ensures operands { map operand_of out.new.items
@@ -35,7 +35,7 @@ fn tokens_after<'b, 'a>(ps: &'b [Piece<'a>], i: usize) -> &'b [Piece<'a>]
 }
 
 /// Replaces the contents of `out` by the operands that these tokens spell.
-pub fn operands<'a>(ps: &[Piece<'a>], out: &mut ArrayVec<Operand<'a>, 65>)
+pub fn operands<'a>(ps: &[Piece<'a>], out: &mut Scratch<Operand<'a>, 65>)
     requires { length ps.now ≤ 64 }
     ensures { map operand_of out.new.items ≡ operands (map piece_of ps.now) }
 {

@@ -9,6 +9,7 @@ use Rattle.tc_stmt.specs.declared.tally.Tally.{Tally}
 use Rattle.tc_lex.specs.Operands.{OperandData}
 use Rattle.tc_stmt.specs.RowFields.{row_fields_of}
 use Rattle.tc_stmt.specs.StatementRow.{after_row, outcome, or_next, rule_of, Steps}
+use Rattle.tc_stmt.proofs.Places.{row_here}
 
 abbrev pub any_row : RowData
 any_row = row [] [] Rlc 0 0
@@ -22,14 +23,14 @@ module _ (name : List ℕ) (os : List OperandData) (rows : List Row) (i : ℕ) (
   unfolding outcome
   outcome-end h = ap (λ (rs : List RowData). outcome name os rs i t) (drop_all i (map row_of rows) (rw (length-map rows row_of) h))
 
-  pub outcome-ok : (r : Result RowFields Tally) (f : RowFields) → r ≡ Ok f → Steps r (after_row name os (get_or (map row_of rows) i any_row) t) → i < length rows
+  pub outcome-ok : {U : Type 0} (d : Row) (r : Result U Tally) (u : U) (f : RowFields) → r ≡ Ok u → Steps r f (after_row name os (row_of (get_or rows i d)) t) → i < length rows
       → outcome name os (drop i (map row_of rows)) i t ≡ Ok (i, row_fields_of f)
-  outcome-ok r f is steps h =
-      let step : after_row name os (get_or (map row_of rows) i any_row) t ≡ Ok (row_fields_of f) = subst (λ (q : Result RowFields Tally). Steps q (after_row name os (get_or (map row_of rows) i any_row) t)) is steps in
-      outcome-some h ∙ ap (λ q. or_next q i (outcome name os (drop (i + 1) (map row_of rows)) (i + 1))) step
+  outcome-ok {U} d r u f is steps h =
+      let step : after_row name os (row_of (get_or rows i d)) t ≡ Ok (row_fields_of f) = subst (λ (q : Result U Tally). Steps q f (after_row name os (row_of (get_or rows i d)) t)) is steps in
+      outcome-some h ∙ ap (λ q. or_next q i (outcome name os (drop (i + 1) (map row_of rows)) (i + 1))) (ap (λ (x : RowData). after_row name os x t) (row_here rows i d any_row h) ∙ step)
 
-  pub outcome-err : (r : Result RowFields Tally) (u : Tally) → r ≡ Err u → Steps r (after_row name os (get_or (map row_of rows) i any_row) t) → i < length rows
+  pub outcome-err : {U : Type 0} (d : Row) (r : Result U Tally) (u : Tally) (f : RowFields) → r ≡ Err u → Steps r f (after_row name os (row_of (get_or rows i d)) t) → i < length rows
       → outcome name os (drop i (map row_of rows)) i t ≡ outcome name os (drop (i + 1) (map row_of rows)) (i + 1) u
-  outcome-err r u is steps h =
-      let step : after_row name os (get_or (map row_of rows) i any_row) t ≡ Err u = subst (λ (q : Result RowFields Tally). Steps q (after_row name os (get_or (map row_of rows) i any_row) t)) is steps in
-      outcome-some h ∙ ap (λ q. or_next q i (outcome name os (drop (i + 1) (map row_of rows)) (i + 1))) step
+  outcome-err {U} d r u f is steps h =
+      let step : after_row name os (row_of (get_or rows i d)) t ≡ Err u = subst (λ (q : Result U Tally). Steps q f (after_row name os (row_of (get_or rows i d)) t)) is steps in
+      outcome-some h ∙ ap (λ q. or_next q i (outcome name os (drop (i + 1) (map row_of rows)) (i + 1))) (ap (λ (x : RowData). after_row name os x t) (row_here rows i d any_row h) ∙ step)

@@ -1,9 +1,9 @@
 -- A line by its tokens with their texts.
-use Rattle.std.proofs.Common.{◌≡◌, ℕ, List, [], map, take, Result, Ok, Err, ap}
+use Rattle.std.proofs.Common.{◌≡◌, ◌∷◌, ℕ, List, [], map, take, length, Result, Ok, Err, refl, ap, arith}
 use Rattle.tc_lex.specs.declared.kinds.Token.{Token}
-use Rattle.tc_lex.specs.Cut.{tokens_of}
-use Rattle.tc_lex.specs.Pieces.{PieceData, pieces_of, piece_in}
-use Rattle.tc_stmt.specs.Lines.{line_data, pieces_line, label_of, label_before, cut_line}
+use Rattle.tc_lex.specs.Cut.{tokens_of, cut}
+use Rattle.tc_lex.specs.Pieces.{PieceData, pieces_of, piece_in, is_kind}
+use Rattle.tc_stmt.specs.Lines.{line_data, line_in, line_from, pieces_line, label_of, label_before, cut_line}
 
 pub label_pieces : (text : List ℕ) (r : Result (List Token) ℕ) (ps : List PieceData) → pieces_of text r ≡ Ok ps → label_before text r ≡ label_of ps
 label_pieces text (Ok ts) ps e = let same : map (piece_in text) ts ≡ ps = cc in ap label_of same
@@ -23,3 +23,9 @@ unread line (Err b) at e = let b_is : b ≡ at = cc in ap (λ x. Err x) b_is
 
 pub line_unread : (line : List ℕ) (r : Result (List Token) ℕ) (at : ℕ) → pieces_of line r ≡ Err at → cut_line line r ≡ line_data 1 (label_before (take at line) (tokens_of (take at line)))
 line_unread line r at e = ap (cut_line line) (unread line r at e)
+
+-- an empty line breaks no rule and adds nothing
+pub empty_line : (line : List ℕ) → length line ≡ 0 → line_in line ≡ line_data 15 []
+unfolding cut is_kind pieces_line line_from
+empty_line [] h = refl
+empty_line (c ∷ cs) h = absurd (omega arith)

@@ -1,7 +1,8 @@
 -- The items that the lines of a source add to it, in order.
-use Rattle.std.specs.Prelude.{ℕ, List, take, Option, option_map}
+use Rattle.std.specs.Prelude.{ℕ, Bool, List, [], ◌∷◌, take, Option, Some, None}
 use Rattle.tc_isa.specs.declared.fields.Fields.{Fields}
-use Rattle.tc_stmt.specs.RowFields.{ReferenceData, reference_of}
+use Rattle.tc_isa.specs.Relocations.{word32}
+use Rattle.tc_stmt.specs.RowFields.{ReferenceData}
 use Rattle.tc_stmt.specs.declared.item.Item.{Item}
 use Rattle.tc_stmt.specs.declared.item.Item.TheVariants as item
 
@@ -15,11 +16,17 @@ pub data ItemData : Type 0 where
   bytes : List ℕ → Option ReferenceData → ItemData
   zeros : ℕ → ItemData
 
+-- the reference of this kind to the symbol of this name, with the number that is added
+abbrev pub reference_to : ℕ → List ℕ → Bool → ℕ → ReferenceData
+reference_to kind name minus size = record { kind = kind; name = name; minus = minus; size = size }
+
 -- the plain data of an item
 abbrev pub item_of : Item → ItemData
 item_of (item.Label name) = label name.now
 item_of (item.Section name) = section name.now
 item_of (item.Global name) = global name.now
-item_of (item.Code row f r) = code row f (option_map reference_of r)
-item_of (item.Data len bs r) = bytes (take len bs) (option_map reference_of r)
+item_of (item.Code row f) = code row f None
+item_of (item.Linked row kind minus f size name) = code row f (Some (reference_to kind name.now minus size))
+item_of (item.Data len bs) = bytes (take len bs) None
+item_of (item.Word len minus size name) = bytes (take len (0 ∷ 0 ∷ 0 ∷ 0 ∷ [])) (Some (reference_to word32 name.now minus size))
 item_of (item.Zeros n) = zeros n

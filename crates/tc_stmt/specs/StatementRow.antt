@@ -41,10 +41,10 @@ outcome name os (r ∷ rs) place t = or_next (after_row name os r t) place (outc
 abbrev pub statement : List ℕ → List OperandData → Result (ℕ × RowFieldsData) ℕ
 statement name os = outcome name os listed 0 start
 
--- the code's answer for a row is this
-abbrev pub Steps : Result RowFields Tally → Result RowFieldsData Tally → Type 0
-Steps (Ok f) r = r ≡ Ok (row_fields_of f)
-Steps (Err t) r = r ≡ Err t
+-- the code's answer for a row is this: the fields in the record, or the tally after the row
+abbrev pub Steps : {U : Type 0} → Result U Tally → RowFields → Result RowFieldsData Tally → Type 0
+Steps (Ok u) f r = r ≡ Ok (row_fields_of f)
+Steps (Err t) f r = r ≡ Err t
 
 -- the code's answer for a statement is this
 abbrev pub Judges : Result (ℕ × RowFields) ℕ → Result (ℕ × RowFieldsData) ℕ → Type 0

@@ -11,8 +11,7 @@ ghost use Rattle.tc_stmt.specs.DataDirectives.{value_rule, value_item, space_rul
 use crate::item::Item;
 use crate::shape_numbers::{HIGH, HUGE, LOW, NUMBER, SUM, WORD};
 use crate::source_rules::{MISPLACED_SYMBOL, NO_RULE, PAST_LIMITS, WIDE_NUMBER, WRONG_OPERANDS};
-use crate::{Reference, shape_index, symbol_rule};
-use tc_isa::WORD32;
+use crate::{shape_index, symbol_rule};
 use tc_lex::Operand;
 
 // A number of at most 32 bits, modulo 2^32, as little-endian bytes.
@@ -45,10 +44,10 @@ fn fits_width(width: u8, minus: bool, size: u128) -> bool
 
 /// The least rule that a value of `width` bytes breaks, or no rule.
 #[tactic(auto, unfolding(crate::specs::DataDirectives::value_rule))]
-pub(crate) fn value_rule(width: u8, o: Operand<'_>) -> u8
+pub(crate) fn value_rule(width: u8, o: &Operand<'_>) -> u8
     requires { (width ≡ 1) ⊎ ((width ≡ 2) ⊎ (width ≡ 4)) }
-    ensures value { result ≡ value_rule width (operand_of o.entry) }
-    ensures small { result ≡ no_rule → o.entry.value.size < 2 ^ 32 }
+    ensures value { result ≡ value_rule width (operand_of o.now) }
+    ensures small { result ≡ no_rule → o.now.value.size < 2 ^ 32 }
 {
     let shape = shape_index(o.value.shape);
     if o.is_memory {
@@ -62,14 +61,14 @@ pub(crate) fn value_rule(width: u8, o: Operand<'_>) -> u8
     } else if shape == HUGE {
         WIDE_NUMBER
     } else if shape == WORD || shape == SUM {
-        let rule = symbol_rule(o.value);
+        let rule = symbol_rule(&o.value);
         if width == 4 {
             rule
         } else {
             rule.min(MISPLACED_SYMBOL)
         }
     } else if shape == HIGH || shape == LOW {
-        symbol_rule(o.value).min(MISPLACED_SYMBOL)
+        symbol_rule(&o.value).min(MISPLACED_SYMBOL)
     } else {
         WRONG_OPERANDS
     }
@@ -77,31 +76,25 @@ pub(crate) fn value_rule(width: u8, o: Operand<'_>) -> u8
 
 /// The item for a value of `width` bytes. If the value breaks a rule, its bytes are zeros.
 #[tactic(auto, unfolding(crate::specs::DataDirectives::value_item))]
-pub(crate) fn value_item<'a>(width: u8, o: Operand<'a>) -> Item<'a>
+pub(crate) fn value_item<'a>(width: u8, o: &Operand<'a>) -> Item<'a>
     requires { (width ≡ 1) ⊎ ((width ≡ 2) ⊎ (width ≡ 4)) }
-    ensures { item_of result ≡ value_item width (operand_of o.entry) }
+    ensures { item_of result ≡ value_item width (operand_of o.now) }
 {
     if value_rule(width, o) != NO_RULE {
         return Item::Zeros(u32::from(width));
     }
     let size = o.value.size as u32;
     if shape_index(o.value.shape) == NUMBER {
-        return Item::Data(width, word_bytes(o.value.minus, size), None);
+        return Item::Data(width, word_bytes(o.value.minus, size));
     }
-    let reference = Reference {
-        kind: WORD32,
-        name: o.value.name,
-        minus: o.value.minus,
-        size,
-    };
-    Item::Data(width, [0; 4], Some(reference))
+    Item::Word(width, o.value.minus, size, o.value.name)
 }
 
 /// The least rule that the operand of `.space` breaks by itself, or no rule.
 #[tactic(auto, unfolding(crate::specs::DataDirectives::space_rule))]
-pub(crate) fn space_rule(o: Operand<'_>) -> u8
-    ensures value { result ≡ space_rule (operand_of o.entry) }
-    ensures small { result ≡ no_rule → o.entry.value.size ≤ 2 ^ 24 }
+pub(crate) fn space_rule(o: &Operand<'_>) -> u8
+    ensures value { result ≡ space_rule (operand_of o.now) }
+    ensures small { result ≡ no_rule → o.now.value.size ≤ 2 ^ 24 }
 {
     let shape = shape_index(o.value.shape);
     if o.is_memory {
@@ -117,7 +110,7 @@ pub(crate) fn space_rule(o: Operand<'_>) -> u8
     } else if shape == HUGE {
         WIDE_NUMBER
     } else if shape == WORD || shape == SUM || shape == HIGH || shape == LOW {
-        symbol_rule(o.value).min(MISPLACED_SYMBOL)
+        symbol_rule(&o.value).min(MISPLACED_SYMBOL)
     } else {
         WRONG_OPERANDS
     }
@@ -125,8 +118,8 @@ pub(crate) fn space_rule(o: Operand<'_>) -> u8
 
 /// The item for `.space`: zeros, and none of them if the operand breaks a rule.
 #[tactic(auto, unfolding(crate::specs::DataDirectives::space_item))]
-pub(crate) fn space_item<'a>(o: Operand<'a>) -> Item<'a>
-    ensures { item_of result ≡ space_item (operand_of o.entry) }
+pub(crate) fn space_item<'a>(o: &Operand<'a>) -> Item<'a>
+    ensures { item_of result ≡ space_item (operand_of o.now) }
 {
     if space_rule(o) == NO_RULE {
         Item::Zeros(o.value.size as u32)

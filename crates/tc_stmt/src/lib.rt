@@ -21,7 +21,7 @@ mod want;
 pub use fill_fields::{field_of, with_displacement};
 pub use item::Item;
 pub use laws::statement_laws;
-pub use row_fields::{NO_RELOC, Reference, RowFields};
+pub use row_fields::{NO_RELOC, Reference, RowFields, reference_to};
 pub use row_wants::wants;
 pub use shape_numbers::shape_index;
 pub use source::{Line, Source, read_source};

@@ -7,7 +7,8 @@ ghost use Rattle.tc_isa.specs.Rows.{row_of, listed};
 ghost use Rattle.tc_stmt.specs.StatementRow.{statement as statement_of};
 ghost use Rattle.tc_lex.specs.Pieces.{piece_of, text_at as text_in_pieces};
 ghost use Rattle.tc_lex.specs.Operands.{operand_of, operands as operands_in};
-ghost use Rattle.tc_stmt.specs.Items.{item_of, label, section, global};
+ghost use Rattle.tc_stmt.specs.Items.{item_of, label, section, global, code};
+ghost use Rattle.tc_stmt.specs.RowFields.{reference_of};
 ghost use Rattle.tc_stmt.specs.DataDirectives.{value_rule as value_rule_of, value_item, space_rule as space_rule_of, space_item as space_item_of};
 ghost use Rattle.tc_stmt.specs.Lines.{line_data, Adds, behind, named_line, is_word_operand, word_of, space_line, values_rule, values_line, size_of_name, stated_line, line_from, line_with_label, pieces_line, has_label, label_of, label_before, line_in, code_line};
 
@@ -16,11 +17,10 @@ use crate::item::Item;
 use crate::shape_numbers::WORD;
 use crate::source::Line;
 use crate::source_rules::{BAD_TOKEN, NO_RULE, WRONG_OPERANDS};
-use crate::{shape_index, statement};
-use arrayvec::ArrayVec;
+use crate::{RowFields, shape_index, statement};
 use std::alloc::AllocError;
 use tc_isa::{Row, rows};
-use tc_lex::{Operand, Piece, TokenKind, cut_pieces, is_kind, is_text, operands, text_at};
+use tc_lex::{Operand, Piece, Scratch, TokenKind, cut_pieces, is_kind, is_text, operands, text_at};
 
 // Adds no item, and returns the rule.
 fn add_nothing(rule: u8, items: &mut Vec<Item<'_>>) -> Result<u8, AllocError>
@@ -39,8 +39,8 @@ fn add_item<'a>(rule: u8, item: Item<'a>, items: &mut Vec<Item<'a>>) -> Result<u
 }
 
 #[tactic(auto, unfolding(crate::specs::Lines::is_word_operand))]
-fn is_word_operand(o: Operand<'_>) -> bool
-    ensures { result ≡ is_word_operand (operand_of o.entry) }
+fn is_word_operand(o: &Operand<'_>) -> bool
+    ensures { result ≡ is_word_operand (operand_of o.now) }
 {
     !o.is_memory && shape_index(o.value.shape) == WORD
 }
@@ -52,7 +52,7 @@ fn word_of<'a>(os: &[Operand<'a>]) -> Option<&'a [u8]>
     if os.len() != 1 {
         return None;
     }
-    let operand = os[0];
+    let operand = &os[0];
     if is_word_operand(operand) {
         Some(operand.value.name)
     } else {
@@ -82,9 +82,9 @@ fn global_line<'a>(os: &[Operand<'a>], items: &mut Vec<Item<'a>>) -> Result<u8, 
     }
 }
 
-fn one_space<'a>(o: Operand<'a>, items: &mut Vec<Item<'a>>) -> Result<u8, AllocError>
-    ensures { Adds (line_data (space_rule_of (operand_of o.entry))
-        (space_item_of (operand_of o.entry) ∷ []))
+fn one_space<'a>(o: &Operand<'a>, items: &mut Vec<Item<'a>>) -> Result<u8, AllocError>
+    ensures { Adds (line_data (space_rule_of (operand_of o.now))
+        (space_item_of (operand_of o.now) ∷ []))
         result items.old.items items.new.items }
 {
     add_item(space_rule(o), space_item(o), items)
@@ -96,7 +96,7 @@ fn space_line<'a>(os: &[Operand<'a>], items: &mut Vec<Item<'a>>) -> Result<u8, A
     if os.len() != 1 {
         return add_item(WRONG_OPERANDS, Item::Zeros(0), items);
     }
-    one_space(os[0], items)
+    one_space(&os[0], items)
 }
 
 // The rule that an empty list of values breaks, or no rule.
@@ -110,9 +110,9 @@ fn count_rule(os: &[Operand<'_>]) -> u8
     }
 }
 
-fn least_rule(rule: u8, width: u8, o: Operand<'_>) -> u8
+fn least_rule(rule: u8, width: u8, o: &Operand<'_>) -> u8
     requires { (width ≡ 1) ⊎ ((width ≡ 2) ⊎ (width ≡ 4)) }
-    ensures { result ≡ min rule (value_rule_of width (operand_of o.entry)) }
+    ensures { result ≡ min rule (value_rule_of width (operand_of o.now)) }
 {
     rule.min(value_rule(width, o))
 }
@@ -124,7 +124,7 @@ fn values_rule(width: u8, os: &[Operand<'_>]) -> u8
 {
     let mut rule = count_rule(os);
     for o in os {
-        rule = least_rule(rule, width, *o);
+        rule = least_rule(rule, width, o);
     }
     rule
 }
@@ -139,7 +139,7 @@ fn add_values<'a>(
         ≡ map item_of items.old.items ++ map (value_item width) (map operand_of os.now)) }
 {
     for o in os {
-        items.push(value_item(width, *o))?;
+        items.push(value_item(width, o))?;
     }
     Ok(())
 }
@@ -181,6 +181,17 @@ fn size_of_name(name: &[u8]) -> u32
     }
 }
 
+// The item of an instruction with these fields and their symbol.
+fn code_item<'a>(row: u8, found: &RowFields<'a>) -> Item<'a>
+    ensures { item_of result
+        ≡ code row found.now.fields (option_map reference_of found.now.reference) }
+{
+    match &found.reference {
+        None => Item::Code(row, found.fields),
+        Some(r) => Item::Linked(row, r.kind, r.minus, found.fields, r.size, r.name),
+    }
+}
+
 fn code_line<'a>(
     name: &[u8],
     os: &[Operand<'a>],
@@ -190,11 +201,7 @@ fn code_line<'a>(
         (statement_of name.now (map operand_of os.now))) result items.old.items items.new.items }
 {
     match statement(name, os) {
-        Ok((row, found)) => add_item(
-            NO_RULE,
-            Item::Code(row, found.fields, found.reference),
-            items,
-        ),
+        Ok((row, found)) => add_item(NO_RULE, code_item(row, &found), items),
         Err(rule) => add_item(rule, Item::Zeros(size_of_name(name)), items),
     }
 }
@@ -234,7 +241,7 @@ fn pieces_behind<'p, 'a>(ps: &'p [Piece<'a>], at: usize) -> &'p [Piece<'a>]
 }
 
 // Reads the operands after token `at`.
-fn operands_behind<'a>(ps: &[Piece<'a>], at: usize, out: &mut ArrayVec<Operand<'a>, 65>)
+fn operands_behind<'a>(ps: &[Piece<'a>], at: usize, out: &mut Scratch<Operand<'a>, 65>)
     requires few { length ps.now ≤ 64 }
     requires place { at < length ps.now }
     ensures { map operand_of out.new.items ≡ operands_in (drop (at + 1) (map piece_of ps.now)) }
@@ -246,7 +253,7 @@ fn operands_behind<'a>(ps: &[Piece<'a>], at: usize, out: &mut ArrayVec<Operand<'
 fn statement_at<'a>(
     ps: &[Piece<'a>],
     at: usize,
-    operands: &mut ArrayVec<Operand<'a>, 65>,
+    operands: &mut Scratch<Operand<'a>, 65>,
     items: &mut Vec<Item<'a>>,
 ) -> Result<u8, AllocError>
     requires few { length ps.now ≤ 64 }
@@ -263,7 +270,7 @@ fn statement_at<'a>(
 fn line_from<'a>(
     ps: &[Piece<'a>],
     at: usize,
-    operands: &mut ArrayVec<Operand<'a>, 65>,
+    operands: &mut Scratch<Operand<'a>, 65>,
     items: &mut Vec<Item<'a>>,
 ) -> Result<u8, AllocError>
     requires few { length ps.now ≤ 64 }
@@ -298,7 +305,7 @@ fn add_label<'a>(name: &'a [u8], items: &mut Vec<Item<'a>>) -> Result<(), AllocE
 // Reads a line that begins with a label.
 fn labelled_line<'a>(
     ps: &[Piece<'a>],
-    operands: &mut ArrayVec<Operand<'a>, 65>,
+    operands: &mut Scratch<Operand<'a>, 65>,
     items: &mut Vec<Item<'a>>,
 ) -> Result<u8, AllocError>
     requires few { length ps.now ≤ 64 }
@@ -314,7 +321,7 @@ fn labelled_line<'a>(
 #[tactic(auto, unfolding(crate::specs::Lines::pieces_line))]
 fn pieces_line<'a>(
     ps: &[Piece<'a>],
-    operands: &mut ArrayVec<Operand<'a>, 65>,
+    operands: &mut Scratch<Operand<'a>, 65>,
     items: &mut Vec<Item<'a>>,
 ) -> Result<u8, AllocError>
     requires { length ps.now ≤ 64 }
@@ -353,7 +360,7 @@ fn label_line<'a>(ps: &[Piece<'a>], items: &mut Vec<Item<'a>>) -> Result<u8, All
 #[tactic(auto, using(crate::proofs::PieceLines::label_pieces, crate::proofs::PieceLines::label_unread))]
 fn uncut_line<'a>(
     front: &'a [u8],
-    pieces: &mut ArrayVec<Piece<'a>, 64>,
+    pieces: &mut Scratch<Piece<'a>, 64>,
     items: &mut Vec<Item<'a>>,
 ) -> Result<u8, AllocError>
     ensures { Adds (line_data 1
@@ -366,11 +373,12 @@ fn uncut_line<'a>(
 }
 
 // Adds the items of a line, and returns the least rule that the line breaks by itself.
+#[inline(never)]
 #[tactic(auto, using(crate::proofs::PieceLines::line_pieces, crate::proofs::PieceLines::line_unread))]
 fn line_rule<'a>(
     line: &'a [u8],
-    pieces: &mut ArrayVec<Piece<'a>, 64>,
-    operands: &mut ArrayVec<Operand<'a>, 65>,
+    pieces: &mut Scratch<Piece<'a>, 64>,
+    operands: &mut Scratch<Operand<'a>, 65>,
     items: &mut Vec<Item<'a>>,
 ) -> Result<u8, AllocError>
     ensures { Adds (line_in line.now) result items.old.items items.new.items }
@@ -382,11 +390,12 @@ fn line_rule<'a>(
 }
 
 /// Reads a line: adds its items, and returns the least rule that it breaks by itself. The two lists
-/// are scratch space, which each line uses again.
+/// are scratch space, which each line uses again. An empty line needs neither.
+#[inline(always)]
 pub(crate) fn read_line<'a>(
     line: &'a [u8],
-    pieces: &mut ArrayVec<Piece<'a>, 64>,
-    operands: &mut ArrayVec<Operand<'a>, 65>,
+    pieces: &mut Scratch<Piece<'a>, 64>,
+    operands: &mut Scratch<Operand<'a>, 65>,
     items: &mut Vec<Item<'a>>,
 ) -> Result<Line, AllocError>
     ensures rule { IfOk result (λ l. l.rule ≡ (line_in line.now).rule) }
@@ -394,6 +403,12 @@ pub(crate) fn read_line<'a>(
     ensures items { OnOk result
         (map item_of items.new.items ≡ map item_of items.old.items ++ (line_in line.now).items) }
 {
+    if line.is_empty() {
+        return Ok(Line {
+            rule: NO_RULE,
+            count: 0,
+        });
+    }
     let before = items.len();
     let rule = line_rule(line, pieces, operands, items)?;
     let count = (items.len() - before) as u8;

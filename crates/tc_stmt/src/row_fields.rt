@@ -1,4 +1,8 @@
 // The fields of a row, as its operands fill them.
+ghost use Rattle.std.specs.Prelude.{◌≡◌, Some, option_map};
+ghost use Rattle.tc_stmt.specs.RowFields.{reference_of};
+ghost use Rattle.tc_stmt.specs.Items.{reference_to};
+
 use tc_isa::Fields;
 
 /// The kind of a reference whose address is used at once, without a relocation.
@@ -8,24 +12,36 @@ pub const NO_RELOC: u8 = 0;
 /// relocation, or `NO_RELOC`.
 #[derive(Clone, Copy)]
 pub struct Reference<'a> {
-    /// The kind of the relocation, or `NO_RELOC`.
-    pub kind: u8,
     /// The name of the symbol.
     pub name: &'a [u8],
-    /// Whether the number is subtracted.
-    pub minus: bool,
     /// The absolute value of the number.
     pub size: u32,
+    /// The kind of the relocation, or `NO_RELOC`.
+    pub kind: u8,
+    /// Whether the number is subtracted.
+    pub minus: bool,
+}
+
+/// The reference of this kind to a symbol, with the number that is added to its address.
+pub fn reference_to(kind: u8, name: &[u8], minus: bool, size: u32) -> Option<Reference<'_>>
+    ensures { option_map reference_of result ≡ Some (reference_to kind name.now minus size) }
+{
+    Some(Reference {
+        name,
+        size,
+        kind,
+        minus,
+    })
 }
 
 /// The fields and the symbol of a row, and the least rule that the operands break. If they break
 /// none, the rule is `NO_RULE`.
 #[derive(Clone, Copy)]
 pub struct RowFields<'a> {
+    /// The symbol, if an operand names one.
+    pub reference: Option<Reference<'a>>,
     /// The fields, which are zero until an operand fills them.
     pub fields: Fields,
     /// The least rule that is broken, or `NO_RULE`.
     pub rule: u8,
-    /// The symbol, if an operand names one.
-    pub reference: Option<Reference<'a>>,
 }

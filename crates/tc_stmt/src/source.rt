@@ -6,10 +6,9 @@ ghost use Rattle.tc_stmt.specs.Readings.{lines_of, AreRead};
 
 use crate::item::Item;
 use crate::line_reader::read_line;
-use arrayvec::ArrayVec;
 use memchr::memchr;
 use std::alloc::{AllocError, Global};
-use tc_lex::{Operand, Piece};
+use tc_lex::{Operand, Piece, Scratch};
 
 /// A line of a source: the least rule that it breaks by itself, or `NO_RULE`, and the number of its
 /// items.
@@ -30,10 +29,16 @@ pub struct Source<'a> {
     pub items: Vec<Item<'a>>,
 }
 
+// The place of the next line feed, which ends an empty line if it is the first byte.
+#[inline(always)]
+#[tactic(auto, using(crate::proofs::Feeds::first_byte))]
 fn find_feed(rest: &[u8]) -> Option<usize>
     ensures value { result ≡ position (λ c. c == 10) rest.now }
     ensures within { IfSome result (λ i. i < length rest.now) }
 {
+    if !rest.is_empty() && rest[0] == b'\n' {
+        return Some(0);
+    }
     memchr(b'\n', rest)
 }
 
@@ -54,10 +59,11 @@ fn bytes_after(rest: &[u8], i: usize) -> &[u8]
 }
 
 // Reads the next line, with two lists as scratch space.
+#[inline(always)]
 fn add_line<'a>(
     line: &'a [u8],
-    pieces: &mut ArrayVec<Piece<'a>, 64>,
-    operands: &mut ArrayVec<Operand<'a>, 65>,
+    pieces: &mut Scratch<Piece<'a>, 64>,
+    operands: &mut Scratch<Operand<'a>, 65>,
     lines: &mut Vec<Line>,
     items: &mut Vec<Item<'a>>,
 ) -> Result<(), AllocError>
@@ -73,8 +79,8 @@ pub fn read_source<'a>(alloc: Global, source: &'a [u8]) -> Result<Source<'a>, Al
     ensures lines { IfOk result (λ s. lines_of s ≡ lines_in source.now) }
     ensures items { IfOk result (λ s. map item_of s.items.items ≡ items_in (lines_in source.now)) }
 {
-    let mut pieces = ArrayVec::new();
-    let mut operands = ArrayVec::new();
+    let mut pieces = Scratch::new();
+    let mut operands = Scratch::new();
     let mut lines = Vec::new(alloc);
     let mut items = Vec::new(alloc);
     let mut rest = source;

@@ -1,5 +1,5 @@
 // Finds the row of a statement.
-ghost use Rattle.std.specs.Prelude.{◌≡◌, ◌<◌, map, option_map, length, slice_index_or as get_or, drop, ◌≤◌, ◌+◌, true};
+ghost use Rattle.std.specs.Prelude.{◌≡◌, ◌<◌, map, option_map, length, drop, ◌≤◌, ◌+◌, true};
 ghost use Rattle.std.specs.Str.{bytes_eq};
 ghost use Rattle.tc_isa.specs.Rows.{row_of, listed};
 ghost use Rattle.tc_stmt.specs.Wants.{wants_of, now_of};
@@ -60,20 +60,22 @@ fn keep_apart(row: &Row, f: &mut RowFields<'_>)
     }
 }
 
+// Fills the fields of a row. Returns false if the operands have other forms than the row wants.
 #[tactic(auto, unfolding(crate::specs::Filling::fields_of_row))]
-fn judge_row<'a>(row: &Row, wants: &[Want], os: &[Operand<'a>]) -> Option<RowFields<'a>>
-    ensures { option_map row_fields_of result
-        ≡ fields_of_row (row_of row.now) wants.now (map operand_of os.now) }
+fn judge_row<'a>(row: &Row, wants: &[Want], os: &[Operand<'a>], found: &mut RowFields<'a>) -> bool
+    ensures { Fills result found.new
+        (fields_of_row (row_of row.now) wants.now (map operand_of os.now)) }
 {
-    let mut found = no_fields();
-    if !fill_all(row, wants, os, &mut found) {
-        return None;
+    *found = no_fields();
+    if !fill_all(row, wants, os, found) {
+        return false;
     }
-    keep_apart(row, &mut found);
-    Some(found)
+    keep_apart(row, found);
+    true
 }
 
-// Tries a row with this name: its fields if the statement fits, else the tally after it.
+// Tries a row with this name: fills its fields if the statement fits, else returns the tally after
+// it.
 #[inline(never)]
 #[tactic(auto, unfolding(crate::specs::StatementRow::after_row))]
 fn named_step<'a>(
@@ -82,27 +84,27 @@ fn named_step<'a>(
     name: &[u8],
     os: &[Operand<'a>],
     so_far: Tally,
-) -> Result<RowFields<'a>, Tally>
+    found: &mut RowFields<'a>,
+) -> Result<(), Tally>
     requires wants { wants.now ≡ wants_of (row_of row.now) }
     requires named { bytes_eq (row_of row.now).name name.now ≡ true }
-    ensures { Steps result (after_row name.now (map operand_of os.now) (row_of row.now) so_far) }
+    ensures { Steps result found.new
+        (after_row name.now (map operand_of os.now) (row_of row.now) so_far) }
 {
-    match judge_row(row, wants, os) {
-        None => Err(Tally {
+    if !judge_row(row, wants, os, found) {
+        return Err(Tally {
             named: true,
             ..so_far
-        }),
-        Some(f) => {
-            if f.rule == NO_RULE {
-                Ok(f)
-            } else {
-                Err(Tally {
-                    named: true,
-                    fits: true,
-                    least: so_far.least.min(f.rule),
-                })
-            }
-        }
+        });
+    }
+    if found.rule == NO_RULE {
+        Ok(())
+    } else {
+        Err(Tally {
+            named: true,
+            fits: true,
+            least: so_far.least.min(found.rule),
+        })
     }
 }
 
@@ -113,33 +115,17 @@ fn step<'a>(
     name: &[u8],
     os: &[Operand<'a>],
     so_far: Tally,
-) -> Result<RowFields<'a>, Tally>
+    found: &mut RowFields<'a>,
+) -> Result<(), Tally>
     requires { wants.now ≡ wants_of (row_of row.now) }
-    ensures { Steps result (after_row name.now (map operand_of os.now) (row_of row.now) so_far) }
+    ensures { Steps result found.new
+        (after_row name.now (map operand_of os.now) (row_of row.now) so_far) }
 {
     if is_same(row.name.as_bytes(), name) {
-        named_step(row, wants, name, os, so_far)
+        named_step(row, wants, name, os, so_far, found)
     } else {
         Err(so_far)
     }
-}
-
-// Tries the row at this place: its fields if the statement fits, else the tally after it.
-fn step_at<'a>(
-    rows: &[Row],
-    wants: &[&[Want]],
-    i: usize,
-    name: &[u8],
-    os: &[Operand<'a>],
-    so_far: Tally,
-) -> Result<RowFields<'a>, Tally>
-    requires wants { map now_of wants.now ≡ map wants_of (map row_of rows.now) }
-    requires place { i < length rows.now }
-    ensures { (d : _)
-        → Steps result
-        (after_row name.now (map operand_of os.now) (get_or (map row_of rows.now) i d) so_far) }
-{
-    step(&rows[i], wants[i], name, os, so_far)
 }
 
 /// The row of a statement with its fields, or the least rule that the statement breaks. The search
@@ -164,10 +150,11 @@ fn judge<'a>(
         fits: false,
         least: NO_RULE,
     };
+    let mut found = no_fields();
     let mut i = first_row(first, name);
     'rows: while i < rows.len() {
-        match step_at(rows, wants, i, name, os, so_far) {
-            Ok(f) => return Ok((i as u8, f)),
+        match step(&rows[i], wants[i], name, os, so_far, &mut found) {
+            Ok(()) => return Ok((i as u8, found)),
             Err(after) => so_far = after,
         }
         i = next_row(rows, next, i, name);

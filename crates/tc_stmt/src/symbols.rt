@@ -25,9 +25,9 @@ pub fn is_name(bytes: &[u8]) -> bool
 
 /// The least rule that a symbol breaks in every place, or `NO_RULE`.
 #[tactic(auto, unfolding(crate::specs::Filling::symbol_rule))]
-pub fn symbol_rule(v: Value<'_>) -> u8
-    ensures value { result ≡ symbol_rule (value_of v.entry) }
-    ensures small { result ≡ no_rule → v.entry.size < 2 ^ 32 }
+pub fn symbol_rule(v: &Value<'_>) -> u8
+    ensures value { result ≡ symbol_rule (value_of v.now) }
+    ensures small { result ≡ no_rule → v.now.size < 2 ^ 32 }
 {
     if v.wide || 0x1_0000_0000 <= v.size {
         WIDE_NUMBER
@@ -51,7 +51,7 @@ pub(crate) fn with_symbol<'a>(kind: u8, v: &Value<'a>, acc: &mut RowFields<'a>)
     ensures { row_fields_of acc.new
         ≡ with_symbol kind (value_of v.now) (row_fields_of acc.old) }
 {
-    let rule = symbol_rule(*v);
+    let rule = symbol_rule(v);
     if rule != NO_RULE {
         break_rule(rule, acc);
         return;
@@ -68,5 +68,5 @@ pub(crate) fn with_symbol<'a>(kind: u8, v: &Value<'a>, acc: &mut RowFields<'a>)
 pub(crate) fn misplace(v: &Value<'_>, acc: &mut RowFields<'_>)
     ensures { row_fields_of acc.new ≡ with_misplaced (value_of v.now) (row_fields_of acc.old) }
 {
-    break_rule(MISPLACED_SYMBOL.min(symbol_rule(*v)), acc);
+    break_rule(MISPLACED_SYMBOL.min(symbol_rule(v)), acc);
 }

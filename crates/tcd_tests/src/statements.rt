@@ -1,8 +1,7 @@
 //! The tokens of worked lines, and the rows that worked statements are.
 use crate::asserts::{is_so, same};
-use arrayvec::ArrayVec;
 use tc_isa::rows;
-use tc_lex::{Piece, Shape, Token, TokenKind, Value, is_kind, operands, text_at, tokens};
+use tc_lex::{Piece, Scratch, Shape, Token, TokenKind, Value, is_kind, operands, text_at, tokens};
 use tc_stmt::{is_name, shape_index, statement, symbol_rule, wants};
 
 static TOKENS: [Token; 13] = [
@@ -111,10 +110,11 @@ fn comma() -> Piece<'static> {
 #[test]
 fn a_move_between_registers(rt: HostRuntime) {
     let pieces = [word("d1"), comma(), word("d2")];
-    let mut found = ArrayVec::new();
-    operands(&pieces, &mut found);
+    let mut scratch = Scratch::new();
+    operands(&pieces, &mut scratch);
+    let found = scratch.as_slice();
     same(&rt, &found.len(), &2);
-    match statement(b"mov", &found) {
+    match statement(b"mov", found) {
         Ok((row, filled)) => {
             same(&rt, &row, &17);
             same(&rt, &filled.fields.c, &1);
@@ -122,7 +122,7 @@ fn a_move_between_registers(rt: HostRuntime) {
         }
         Err(rule) => same(&rt, &rule, &15),
     }
-    match statement(b"mow", &found) {
+    match statement(b"mow", found) {
         Ok((row, _)) => same(&rt, &row, &255),
         Err(rule) => same(&rt, &rule, &2),
     }
@@ -143,6 +143,6 @@ fn pieces_and_names(rt: HostRuntime) {
         size: 0,
         wide: false,
     };
-    same(&rt, &symbol_rule(lone), &9);
+    same(&rt, &symbol_rule(&lone), &9);
     same(&rt, &shape_index(lone.shape), &2);
 }

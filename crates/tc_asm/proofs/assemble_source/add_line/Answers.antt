@@ -12,6 +12,6 @@ returns-clause-draft c = c.in_ok-rule.ensures.draft ∙ ap (fold (stepped c.args
 pub returns-clause-rule : goal.returns-clause-rule
 unfolding line_rule
 returns-clause-rule c =
-    c.min.ensures
+    c.min-2.ensures
     ∙ ap (min c.args.line.rule)
     (c.in_ok-rule.ensures.rule ∙ ap (items_rule c.args.labels.now c.args.draft.now) (first_things c.args.items.now c.first_items.result.now c.args.line.count c.first_items.ensures))

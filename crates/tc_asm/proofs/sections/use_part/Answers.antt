@@ -11,7 +11,7 @@ pub returns : goal.returns
 returns c =
     let r : Part = c.index_mut-part.result.now in
     let u : UseData = record { offset = c.args.offset; reference = reference_of c.args.reference } in
-    let named : List UseData → PartData = λ us. record { name = r.name.now; bytes = r.bytes.items; uses = us } in
+    let named : List UseData → PartData = λ us. record { name = r.name.now; bytes = (part_of r).bytes; uses = us } in
     let longer : Part → PartData = λ q. record (part_of q) { uses = (part_of q).uses ++ u ∷ [] } in
     used-set c.args.parts.now.items c.args.i r _ u c.requires
     (ap named (ap (map use_of) c.in_ok-push.ensures.items ∙ map_push use_of r.uses.items _) ∙ ap longer c.index_mut-part.ensures.value)

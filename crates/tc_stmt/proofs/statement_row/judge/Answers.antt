@@ -2,20 +2,24 @@ use Rattle.std.proofs.Common.{map, ap, sym, ◌∙◌, Err, arith}
 use Rattle.tc_isa.specs.Rows.{row_of}
 use Rattle.tc_lex.specs.Operands.{operand_of}
 use Rattle.tc_stmt.specs.StatementRow.{start}
-use Rattle.tc_stmt.proofs.Outcomes.{any_row, outcome-ok, outcome-err, outcome-end}
+use Rattle.tc_stmt.proofs.Outcomes.{outcome-ok, outcome-err, outcome-end}
+use Rattle.tc_stmt.proofs.Places.{wants_here, long_wants}
 use Rattle.tc_stmt.proofs.Skips.{skip_first, skip_next}
 use Rattle.tc_stmt.proofs.statement_row.judge.Goals as goal
 
 pub rows-init : goal.rows-init
 rows-init c = sym (skip_first c.args.name.now (map operand_of c.args.os.now) (map row_of c.args.rows.now) c.first_row-i.result start (c.first_row-i.ensures (map row_of c.args.rows.now) c.requires.first))
 
+pub step-requires : goal.step-requires
+step-requires c = wants_here c.args.rows.now c.args.wants.now c.rows.i _ _ c.requires.wants (omega arith) (omega (arith, long_wants c.args.rows.now c.args.wants.now c.requires.wants))
+
 pub returns-in-Ok : goal.returns-in-Ok
-returns-in-Ok c = sym c.rows.invariant ∙ outcome-ok c.args.name.now (map operand_of c.args.os.now) c.args.rows.now c.rows.i c.rows.so_far c.step_at.result c.in-Ok.f c.in-Ok.is (c.step_at.ensures any_row) (omega arith)
+returns-in-Ok c = sym c.rows.invariant ∙ outcome-ok c.args.name.now (map operand_of c.args.os.now) c.args.rows.now c.rows.i c.rows.so_far _ c.step.result _ _ c.in-Ok.is c.step.ensures (omega arith)
 
 pub rows-preserved : goal.rows-preserved
 rows-preserved c =
     sym (skip_next c.args.name.now (map operand_of c.args.os.now) (map row_of c.args.rows.now) c.rows.i c.next_row-i.result c.in-Err.after c.next_row-i.ensures.later c.next_row-i.ensures.none)
-    ∙ sym (outcome-err c.args.name.now (map operand_of c.args.os.now) c.args.rows.now c.rows.i c.rows.so_far c.step_at.result c.in-Err.after c.in-Err.is (c.step_at.ensures any_row) (omega arith))
+    ∙ sym (outcome-err c.args.name.now (map operand_of c.args.os.now) c.args.rows.now c.rows.i c.rows.so_far _ c.step.result c.in-Err.after _ c.in-Err.is c.step.ensures (omega arith))
     ∙ c.rows.invariant
 
 pub returns : goal.returns
