@@ -98,8 +98,23 @@ fn is_below(point: &PackedPoint, addr: u32) -> bool
     point.addr < addr
 }
 
+/// Returns the number that the point at `addr` has if all instructions between it and point number
+/// `near` have four bytes. A guess that saves the search.
+fn place_by_words(points: &[PackedPoint], addr: u32, near: usize) -> usize {
+    if near >= points.len() {
+        return near;
+    }
+    let from = points[near].addr;
+    if addr < from {
+        near.wrapping_sub((from - addr) as usize / 4)
+    } else {
+        near.wrapping_add((addr - from) as usize / 4)
+    }
+}
+
 /// Returns the number of points whose addresses are below `addr`. The points number `near` and
-/// `near + 1` are tried first: most instructions go on to the next one.
+/// `near + 1` are tried first, since most instructions go on to the next one, and then a guess for
+/// jumps over instructions of four bytes.
 pub(crate) fn place_of(points: &[PackedPoint], addr: u32, near: usize) -> usize
     requires { IsStrictlyIncreasing (map (λ p. p.addr) points.now) }
     ensures { IsPartitionPoint (λ p. nat_lt p.addr addr ≡ true) (λ p. nat_lt p.addr addr ≡ false)
@@ -111,6 +126,10 @@ pub(crate) fn place_of(points: &[PackedPoint], addr: u32, near: usize) -> usize
     let after = near.wrapping_add(1);
     if after < points.len() && points[after].addr == addr {
         return after;
+    }
+    let far = place_by_words(points, addr, near);
+    if far < points.len() && points[far].addr == addr {
+        return far;
     }
     points.partition_point(|p| is_below(p, addr))
 }

@@ -15,6 +15,11 @@ returns-then-points-after c =
     let number : PackedPoint → ℕ = λ p. p.addr in
     parts_at number c.args.points.now c.args.addr _ _ c.requires c.if-after-points.true c.if-points-after.true
 
+pub returns-then-points-far : goal.returns-then-points-far
+returns-then-points-far c =
+    let number : PackedPoint → ℕ = λ p. p.addr in
+    parts_at number c.args.points.now c.args.addr _ _ c.requires c.if-far-points.true c.if-points-far.true
+
 pub returns : goal.returns
 returns c =
     let number : PackedPoint → ℕ = λ p. p.addr in
