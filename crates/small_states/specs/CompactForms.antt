@@ -9,9 +9,6 @@ use Rattle.small_states.specs.declared.values.SpacedValue.{SpacedValue}
 use Rattle.small_states.specs.declared.values.Values.{Values}
 use Rattle.small_states.specs.declared.states.SmallState.{SmallState}
 use Rattle.small_states.specs.declared.states.SmallExit.{SmallExit}
-use Rattle.value_domain.specs.declared.values.Val.TheVariants.{Set, Span}
-use Rattle.small_states.specs.declared.small.Form.{Form}
-use Rattle.small_states.specs.declared.small.Form.TheVariants.{Any, One, Many, Range}
 use Rattle.depth_cert.specs.Known.{Known, state, leaving}
 use Rattle.small_states.specs.declared.known.KnownForm.{KnownForm}
 use Rattle.small_states.specs.declared.known.KnownForm.TheVariants.{Point, Leaves}
@@ -46,13 +43,6 @@ state_in s = record { regs = all_values s.regs.value; ie = s.ie; ccpn = s.ccpn; 
 -- the exit with these values
 abbrev pub exit_in : SmallExit → Exit
 exit_in x = record { ie = x.ie; ccpn = x.ccpn; lower = all_values x.lower.value }
-
--- the value of this form
-abbrev pub val_of : Form → Val
-val_of Any = any_val
-val_of (One x) = Set (x ∷ [])
-val_of (Many own) = own.value
-val_of (Range lo last step) = Span lo last step
 
 -- the state or the exit of this form
 abbrev pub known_of : KnownForm → Known

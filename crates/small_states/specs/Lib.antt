@@ -2,3 +2,4 @@
 pub mod CompactForms
 pub mod Incoming
 pub mod Zeros
+pub mod SmallValues

@@ -5,7 +5,7 @@ ghost use Rattle.value_domain.specs.declared.values.Val.TheVariants.{Set, Span};
 ghost use Rattle.value_domain.specs.Sets.{Among, Rising};
 ghost use Rattle.value_domain.specs.Values.{IsWell, IsValue, IsBelow, IsMember, any_val, cover, members};
 ghost use Rattle.value_domain.specs.State.{join_of};
-ghost use Rattle.small_states.specs.CompactForms.{val_of};
+ghost use Rattle.small_states.specs.SmallValues.{val_of};
 ghost use Rattle.small_states.specs.Incoming.{given_of};
 
 use crate::incoming::Given;
@@ -38,7 +38,7 @@ pub struct Small {
 
 impl Model for Small {
     ghost use Rattle.value_domain.specs.declared.values.Val.{Val};
-    ghost use Rattle.small_states.specs.CompactForms.{val_of};
+    ghost use Rattle.small_states.specs.SmallValues.{val_of};
 
     ghost Value = { Val };
 

@@ -5,7 +5,7 @@ use Rattle.value_domain.specs.declared.values.Val.{Val}
 use Rattle.value_domain.specs.declared.values.Val.TheVariants.{Set}
 use Rattle.value_domain.specs.Values.{IsWell}
 use Rattle.depth_cert.specs.Spelling.{bytes_of_value}
-use Rattle.small_states.specs.CompactForms.{val_of}
+use Rattle.small_states.specs.SmallValues.{val_of}
 use Rattle.small_states.proofs.HeldWords.{set_of}
 use Rattle.small_states.proofs.spelling.put_spaced.Goals as goal
 

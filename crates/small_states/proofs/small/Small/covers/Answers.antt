@@ -3,7 +3,7 @@ use Rattle.value_domain.specs.declared.values.Val.{Val}
 use Rattle.value_domain.specs.declared.values.Val.TheVariants.{Set}
 use Rattle.value_domain.specs.Values.{IsBelow, IsMember}
 use Rattle.value_domain.proofs.RangeLaws.{below_any}
-use Rattle.small_states.specs.CompactForms.{val_of}
+use Rattle.small_states.specs.SmallValues.{val_of}
 use Rattle.small_states.proofs.HeldWords.{held_all, set_of}
 use Rattle.small_states.proofs.small.Small.covers.Goals as goal
 

@@ -2,7 +2,7 @@ use Rattle.std.proofs.Common.{◌≡◌, ◌∙◌, ◌↔◌, ◌∷◌, [], �
 use Rattle.value_domain.specs.declared.values.Val.{Val}
 use Rattle.value_domain.specs.declared.values.Val.TheVariants.{Set}
 use Rattle.value_domain.specs.Values.{IsBelow, IsMember}
-use Rattle.small_states.specs.CompactForms.{val_of}
+use Rattle.small_states.specs.SmallValues.{val_of}
 use Rattle.small_states.proofs.small.Small.covers_packed.Goals as goal
 
 pub returns-in-One : goal.returns-in-One

@@ -1,6 +1,6 @@
 use Rattle.std.proofs.Common.{◌∙◌, ap, sym}
 use Rattle.std.proofs.lemmas.Result.{IfOk-weaker}
-use Rattle.small_states.specs.CompactForms.{val_of}
+use Rattle.small_states.specs.SmallValues.{val_of}
 use Rattle.small_states.proofs.SameValues.{join_held}
 use Rattle.small_states.proofs.small.Small.join_packed.Goals as goal
 

@@ -1,6 +1,6 @@
 use Rattle.std.proofs.Common.{◌∙◌, ◌∷◌, [], ap, sym, arith}
 use Rattle.std.proofs.lemmas.Result.{IfOk-weaker}
-use Rattle.small_states.specs.CompactForms.{val_of}
+use Rattle.small_states.specs.SmallValues.{val_of}
 use Rattle.small_states.proofs.HeldWords.{all_held, join_others, join_rest, join_words, set_of}
 use Rattle.small_states.proofs.small.Small.join_words.Goals as goal
 
