@@ -1,5 +1,5 @@
 // Compact values.
-ghost use Rattle.std.specs.Prelude.{◌≡◌, ◌↔◌, ◌≤◌, ◌<◌, ℕ, IsTrue, IfOk, IfSome, OnOk, ◌∷◌, ◌++◌, [], length, slice_index};
+ghost use Rattle.std.specs.Prelude.{◌≡◌, ◌↔◌, ◌≤◌, ◌<◌, ℕ, List, IsTrue, IfOk, IfSome, OnOk, ◌∷◌, ◌++◌, [], length, slice_index};
 ghost use Rattle.depth_cert.specs.Spelling.{bytes_of_value};
 ghost use Rattle.value_domain.specs.declared.values.Val.TheVariants.{Set, Span};
 ghost use Rattle.value_domain.specs.Sets.{Among, Rising};
@@ -15,8 +15,8 @@ use std::marker::Model;
 use std::rc::Rc;
 use tcd_base::NoMemory;
 use value_domain::{
-    Bounds, Val, Words, add_words, alignment_log2, is_set, join, leq, set_span, set_words,
-    write_any,
+    Bounds, Extent, Val, Words, add_words, alignment_log2, extent_of, is_set, join, leq, set_span,
+    set_words, write_any,
 };
 use vd_transfer::only_word;
 
@@ -70,8 +70,25 @@ fn is_the_range(v: &Val, lo: u32, last: u32, step: u8) -> bool
     }
 }
 
-/// Returns true only if both values are sets of the same words. It compares all words of sets of
-/// the same length, since that takes several at once.
+/// Returns true only if a list begins with the words of another. It compares all of them, since
+/// that takes several at once.
+#[inline(always)]
+fn begins_with(own: &[u32], words: &[u32]) -> bool
+    ensures { IsTrue result → (rest : List ℕ) × (own.now ≡ words.now ++ rest) }
+{
+    if own.len() < words.len() {
+        return false;
+    }
+    let mut same = true;
+    for n in 0..words.len() {
+        if own[n] != words[n] {
+            same = false;
+        }
+    }
+    same
+}
+
+/// Returns true only if both values are sets of the same words.
 #[inline(never)]
 fn have_same_words(v: &Val, w: &Val) -> bool
     ensures { IsTrue result → v.now ≡ w.now }
@@ -82,16 +99,7 @@ fn have_same_words(v: &Val, w: &Val) -> bool
     let Some(words) = w.words() else {
         return false;
     };
-    if own.len() != words.len() {
-        return false;
-    }
-    let mut same = true;
-    for n in 0..own.len() {
-        if own[n] != words[n] {
-            same = false;
-        }
-    }
-    same
+    own.len() == words.len() && begins_with(own, words)
 }
 
 /// Returns the number of words that are among others, up to the first that isn't. Both ascend, and
@@ -118,7 +126,7 @@ fn held_before(own: &[u32], words: &[u32]) -> usize
 }
 
 /// Returns whether each member of a value is one of another. Of two sets it compares the greatest
-/// words first.
+/// words first. A set that grew mostly begins with the words that it had.
 fn are_below(v: &Val, own: &Val) -> bool
     requires value { IsWell v.now }
     requires own { IsWell own.now }
@@ -130,10 +138,35 @@ fn are_below(v: &Val, own: &Val) -> bool
     let Some(held) = own.words() else {
         return leq(v, own);
     };
-    if words[words.len() - 1] > held[held.len() - 1] {
+    let end = words.len() - 1;
+    if words[end] > held[held.len() - 1] {
         return false;
     }
+    if end < held.len() && held[end] == words[end] {
+        if begins_with(held, words) {
+            return true;
+        }
+    }
     held_before(held, words) == words.len()
+}
+
+/// Returns whether a range reaches from the least to the greatest of an extent, in steps that it
+/// has.
+fn is_inside(e: &Extent, lo: u32, last: u32, step: u8) -> bool
+    ensures { IsTrue result
+        ↔ ((lo ≤ e.now.least) × (e.now.greatest ≤ last) × (step ≤ e.now.step)) }
+{
+    lo <= e.least && e.greatest <= last && step <= e.step
+}
+
+/// Returns whether each member of a value is a word of a range.
+fn is_below_range(v: &Val, lo: u32, last: u32, step: u8) -> bool
+    requires value { IsWell v.now }
+    requires step { step ≤ 2 }
+    ensures { IsTrue result ↔ IsBelow v.now (Span lo last step) }
+{
+    let e = extent_of(v);
+    is_inside(&e, lo, last, step)
 }
 
 /// Returns a range that isn't all words. Since this is a call, the test before it stays a jump, and
@@ -406,7 +439,8 @@ impl Small {
                 Some(words) => held_before(&[*x], words) == words.len(),
                 None => self.covers_whole(v),
             },
-            _ => self.covers_whole(v),
+            Form::Range { lo, last, step } => is_below_range(v, *lo, *last, *step),
+            Form::Any => true,
         }
     }
 
@@ -445,6 +479,19 @@ impl Small {
         }
     }
 
+    /// Returns whether it has all members of a range or of all words. It makes the whole value.
+    #[inline(never)]
+    fn covers_unpacked(&self, v: &Small) -> bool
+        requires own { IsWell self.now }
+        requires value { IsWell v.now }
+        ensures { IsTrue result ↔ IsBelow v.now self.now }
+    {
+        if self.is_range_around(v) {
+            return true;
+        }
+        self.covers(&v.value())
+    }
+
     /// Returns whether it has all members of a compact value. The caller has asked for an equal one
     /// before.
     #[inline(never)]
@@ -456,12 +503,7 @@ impl Small {
         match &v.form {
             Form::One(x) => self.has(*x),
             Form::Many(words) => self.covers(words.as_ref()),
-            _ => {
-                if self.is_range_around(v) {
-                    return true;
-                }
-                self.covers(&v.value())
-            }
+            _ => self.covers_unpacked(v),
         }
     }
 

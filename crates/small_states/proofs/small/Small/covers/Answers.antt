@@ -32,3 +32,10 @@ returns-in-Some-words c =
     subst (λ (u : Val). IsTrue (nat_eq c.held_before.result (length words)) ↔ IsBelow u c.args.self.now) (sym ve)
     (subst (λ (u : Val). IsTrue (nat_eq c.held_before.result (length words)) ↔ IsBelow (Set words) u) (sym oe)
     (held_all (c.in-One.x ∷ []) words c.held_before.result c.held_before.ensures.within c.held_before.ensures.held c.held_before.ensures.missing))
+
+pub returns-in-Range : goal.returns-in-Range
+returns-in-Range c = subst (λ (u : Val). IsTrue c.is_below_range.result ↔ IsBelow c.args.v.now u) (sym (sym c.self.view_is ∙ ap val_of c.in-Range.is)) c.is_below_range.ensures
+
+pub returns-in-Any : goal.returns-in-Any
+returns-in-Any c =
+    ((λ t. subst (λ (u : Val). IsBelow c.args.v.now u) (sym (sym c.self.view_is ∙ ap val_of c.in-Any.is)) (below_any c.args.v.now c.requires.value)), (λ below. refl))

@@ -15,6 +15,3 @@ returns-in-One c =
 
 pub returns-in-Many : goal.returns-in-Many
 returns-in-Many c = rw (← c.v.view_is, c.in-Many.is) (rw c.as_ref.ensures at c.covers.ensures)
-
-pub returns-else-is_range_around : goal.returns-else-is_range_around
-returns-else-is_range_around c = subst (λ (u : Val). IsTrue c.covers-in_default.result ↔ IsBelow u c.args.self.now) c.value.ensures c.covers-in_default.ensures
