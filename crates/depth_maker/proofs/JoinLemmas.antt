@@ -27,9 +27,9 @@ use Rattle.depth_maker.proofs.Below.{asks_proper}
 use Rattle.depth_maker.proofs.CountedLemmas.{counted_after}
 use Rattle.depth_maker.proofs.LevelLaws.{rank_rises}
 use Rattle.depth_maker.proofs.LevelSteps.{level_rises}
-use Rattle.depth_maker.specs.InterruptHandlers.{ContextsEntered}
+use Rattle.depth_maker.specs.Covered.{EntriesCovered}
 use Rattle.depth_maker.specs.Levels.{rank_at}
-use Rattle.depth_maker.proofs.InterruptLaws.{interrupts_stay}
+use Rattle.depth_maker.proofs.CoveredLaws.{covered_stay}
 use Rattle.frame_places.proofs.SpotLemmas.{spot_tells}
 use Rattle.depth_maker.proofs.SpotLemmas.{forth, agrees}
 use Rattle.frame_places.specs.Marks.{AllListed, is_idle, is_queued, mark_for, value_for, AreKnown, Reads, Requeues}
@@ -53,7 +53,7 @@ cells_proper b image plan laws t fine q v at =
 -- v was joined at y alone, and then the readers of y were queued
 module _ (b : Limits) (image : ImageData) (plan : PlanData) (laws : AreLawful b image plan) (s m t : made.Table) (y : Spot) (v : Known)
     (asks : Asks b image plan (seen s).cells (place_of y) v) (rose : JoinedAlone b s m y v) (tells : Requeues m.places t.places (Reads (get spot_eq s.readers y)))
-    (listed : AllListed t.places (all_work t.work)) (near : t.near ≡ m.near) (readers : t.readers ≡ m.readers) (interrupts : t.interrupts ≡ m.interrupts) (points : t.points.items ≡ m.points.items)
+    (listed : AllListed t.places (all_work t.work)) (near : t.near ≡ m.near) (readers : t.readers ≡ m.readers) (covered : t.covered ≡ m.covered) (points : t.points.items ≡ m.points.items)
     (frames : t.frames.items ≡ m.frames.items) (fine : IsFine b image plan s) (small : priority_of v < 256) where
   abbrev u : Known
   u = rose.known
@@ -151,10 +151,10 @@ module _ (b : Limits) (image : ImageData) (plan : PlanData) (laws : AreLawful b 
     numbers = λ n q h. tells.numbers n q ((rose.puts).numbers n q h);
   }
 
-  the_interrupts : ContextsEntered b plan (seen t).cells t.interrupts
-  the_interrupts =
-      interrupts_stay b image plan laws (seen s).cells (seen t).cells (place_of y) (derived_proper b image plan laws (seen s).cells (fine.table).derived) the_joining t.interrupts
-      (subst (ContextsEntered b plan (seen s).cells) (sym (interrupts ∙ rose.interrupts)) fine.interrupts)
+  the_covered : EntriesCovered b plan (seen t).cells t.covered
+  the_covered =
+      covered_stay b image plan laws (seen s).cells (seen t).cells (place_of y) (derived_proper b image plan laws (seen s).cells (fine.table).derived) the_joining t.covered
+      (subst (EntriesCovered b plan (seen s).cells) (sym (covered ∙ rose.covered)) fine.covered)
 
   pub the_joined : Joined b image plan s t y v
   unfolding seen the_joining
@@ -163,7 +163,7 @@ module _ (b : Limits) (image : ImageData) (plan : PlanData) (laws : AreLawful b 
       table = the_table;
       listed = listed;
       counted = the_counted;
-      interrupts = the_interrupts;
+      covered = the_covered;
       exits = λ k p q h. fine.exits k p q (subst (λ m. Reads (get spot_eq m (Point k p)) q) readers_stay h);
       readers = λ z q h. known_stays q (fine.readers z q (subst (λ (r : IndexMap Spot (Vec Spot Global) _). Reads (get spot_eq r z) q) readers_stay h));
       plain = λ q at.

@@ -41,4 +41,6 @@ pub mod PlainRows
 pub mod PointEntries
 pub mod InterruptLaws
 pub mod NotedInterrupts
+pub mod CoveredLaws
+pub mod NotedCalls
 pub mod HandlerLaws

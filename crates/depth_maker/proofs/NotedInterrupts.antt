@@ -33,14 +33,14 @@ module _ (b : Limits) (image : ImageData) (plan : PlanData) (k : Key) (p : ℕ) 
   -- the context of the point is noted
   pub joined_and_noted : (laws : AreLawful b image plan) (s m : made.Table) (h : InterruptContext) → IsContextOf h k.is u → IsProper b u → IsTrue u.ie
       → ((d : Owed) → Contains (interrupts_of plan k u) d → Owes b image plan k p u d.duty) → is_queued (mark_for m.places (spot_of (point k p))) ≡ false
-      → DutiesJoined b image plan s m k p u (interrupts_of plan k u) → DutiesJoined b image plan s (record m { interrupts = record { last = Some h; before = m.interrupts.last } }) k p u (interrupts_of plan k u)
+      → DutiesJoined b image plan s m k p u (interrupts_of plan k u) → DutiesJoined b image plan s (record m { covered = record { interrupts = record { last = Some h; before = (m.covered).interrupts.last }; call = (m.covered).call } }) k p u (interrupts_of plan k u)
   unfolding seen level
   joined_and_noted laws s m h from pu on owes free paid = record {
     fine = record {
       table = (paid.fine).table;
       listed = (paid.fine).listed;
       counted = (paid.fine).counted;
-      interrupts = (interrupts_new b plan (seen m) k p u h from pu on (λ d c. owed_proper b image plan k p u laws d.duty pu (owes d c)) (λ d c. paid.settled free d c), (paid.fine).interrupts.0);
+      covered = ((interrupts_new b plan (seen m) k p u h from pu on (λ d c. owed_proper b image plan k p u laws d.duty pu (owes d c)) (λ d c. paid.settled free d c), (paid.fine).covered.0.0), (paid.fine).covered.1);
       exits = (paid.fine).exits;
       readers = (paid.fine).readers;
       plain = (paid.fine).plain;

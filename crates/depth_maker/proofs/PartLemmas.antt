@@ -28,7 +28,7 @@ use Rattle.depth_cert.specs.Proper.{IsProper}
 use Rattle.cfg_recover.proofs.CodeLaws.{IsCode-one}
 use Rattle.depth_maker.specs.ProperAssignments.{IsProperDuty}
 use Rattle.depth_maker.specs.Laws.{AreLawful}
-use Rattle.depth_maker.specs.InterruptHandlers.{ContextsEntered}
+use Rattle.depth_maker.specs.Covered.{EntriesCovered}
 use Rattle.depth_maker.specs.TableView.{Settled, IsResumed}
 use Rattle.depth_maker.proofs.PlaceLaws.{one_state}
 use Rattle.depth_maker.proofs.TableLaws.{table_marked, settled_again}
@@ -49,7 +49,7 @@ use Rattle.frame_places.specs.Spots.{spot_eq}
 use Rattle.depth_maker.specs.Spots.{spot_of, place_of}
 use Rattle.depth_maker.proofs.SpotLemmas.{back}
 use Rattle.depth_maker.proofs.CountedLemmas.{counted_again}
-use Rattle.depth_maker.proofs.InterruptLaws.{interrupts_again}
+use Rattle.depth_maker.proofs.CoveredLaws.{covered_again}
 use Rattle.depth_maker.proofs.LevelSteps.{rises_then, same_level}
 use Rattle.depth_maker.specs.Table.{AreExitsRead, seen, IsFine}
 use Rattle.depth_maker.specs.VisitDuties.{DutiesJoined, Owes}
@@ -373,10 +373,10 @@ visited_known b image plan t k p u v = by (is_queued (mark_for t.places (spot_of
 
 -- the same places, values and marks; an exit may have more readers
 pub registered_fine : (b : Limits) (image : ImageData) (plan : PlanData) (laws : AreLawful b image plan) (s t : made.Table) → t.places.entries ≡ s.places.entries → t.near ≡ s.near → all_work t.work ≡ all_work s.work
-    → t.points.items ≡ s.points.items → t.frames.items ≡ s.frames.items → t.interrupts ≡ s.interrupts → ((z q : Spot) → Reads (get spot_eq s.readers z) q → Reads (get spot_eq t.readers z) q) → AreExitsRead t.readers
+    → t.points.items ≡ s.points.items → t.frames.items ≡ s.frames.items → t.covered ≡ s.covered → ((z q : Spot) → Reads (get spot_eq s.readers z) q → Reads (get spot_eq t.readers z) q) → AreExitsRead t.readers
     → ((y : Spot) → AreKnown s.places (Reads (get spot_eq t.readers y))) → IsFine b image plan s → IsFine b image plan t × Keeps b image plan s t
 unfolding seen
-registered_fine b image plan laws s t places near work points frames interrupts readers exits told fine =
+registered_fine b image plan laws s t places near work points frames covered readers exits told fine =
     let same : (q : Spot) → value_for t.places q ≡ value_for s.places q = λ q. same_value s.places t.places places q in
     let marked : (q : Spot) → mark_for t.places q ≡ mark_for s.places q = λ q. same_mark s.places t.places places q in (
       record {
@@ -391,7 +391,7 @@ registered_fine b image plan laws s t places near work points frames interrupts 
               (f.0, same_number s.places t.places places n f.0 f.1);
         };
         counted = counted_again s.places t.places s.points.items t.points.items s.frames.items t.frames.items (λ q. same (spot_of q)) points frames fine.counted;
-        interrupts = interrupts_again b plan (seen s).cells (seen t).cells (λ q. same (spot_of q)) t.interrupts (subst (ContextsEntered b plan (seen s).cells) (sym interrupts) fine.interrupts);
+        covered = covered_again b plan (seen s).cells (seen t).cells (λ q. same (spot_of q)) t.covered (subst (EntriesCovered b plan (seen s).cells) (sym covered) fine.covered);
         exits = exits;
         readers = λ y q h. subst (λ (o : Option Known). IsSome o) (sym (same q)) (told y q h);
         plain = λ q at. fine.plain q (sym (marked q) ∙ at);
@@ -415,9 +415,9 @@ unfolding seen
 asks_again b image plan s m y v places asks = subst (λ (a : Assignment). Asks b image plan a (place_of y) v) (λ i q. sym (same_value s.places m.places places (spot_of q)) i) asks
 
 -- a join in the same places and values
-raised_again : (b : Limits) (s m t : made.Table) (y : Spot) (v : Known) → m.places.entries ≡ s.places.entries → m.near ≡ s.near → m.readers ≡ s.readers → m.interrupts ≡ s.interrupts → m.points.items ≡ s.points.items
+raised_again : (b : Limits) (s m t : made.Table) (y : Spot) (v : Known) → m.places.entries ≡ s.places.entries → m.near ≡ s.near → m.readers ≡ s.readers → m.covered ≡ s.covered → m.points.items ≡ s.points.items
     → m.frames.items ≡ s.frames.items → JoinedAlone b m t y v → JoinedAlone b s t y v
-raised_again b s m t y v places near readers interrupts points frames rose =
+raised_again b s m t y v places near readers covered points frames rose =
     let same : (q : Spot) → value_for m.places q ≡ value_for s.places q = λ q. same_value s.places m.places places q in
     let known = is_some (value_for s.places y) in
     record {
@@ -432,18 +432,18 @@ raised_again b s m t y v places near readers interrupts points frames rose =
       listed = rose.listed;
       near = rose.near ∙ near;
       readers = rose.readers ∙ readers;
-      interrupts = rose.interrupts ∙ interrupts;
+      covered = rose.covered ∙ covered;
       points = rose.points ∙ ap (λ (o : Option Known). points_after (is_some o) m.points.items y) (same y) ∙ ap (λ (ps : List Spot). points_after known ps y) points;
       frames = rose.frames ∙ ap (λ (o : Option Known). frames_after (is_some o) m.frames.items y) (same y) ∙ ap (λ (ks : List Key). frames_after known ks y) frames;
       few = rose.few;
     }
 
-pub raises_again : (g : Ground) (s m t : made.Table) (y : Spot) (v : Known) (r : Result Bool Refusal) → m.places.entries ≡ s.places.entries → m.near ≡ s.near → m.readers ≡ s.readers → m.interrupts ≡ s.interrupts
+pub raises_again : (g : Ground) (s m t : made.Table) (y : Spot) (v : Known) (r : Result Bool Refusal) → m.places.entries ≡ s.places.entries → m.near ≡ s.near → m.readers ≡ s.readers → m.covered ≡ s.covered
     → m.points.items ≡ s.points.items → m.frames.items ≡ s.frames.items → Keeps g.bounds.now g.image.now g.plan.now s m → JoinsOn g m t y v r → JoinsOn g s t y v r
-raises_again g s m t y v (Ok true) places near readers interrupts points frames keeps h = raised_again g.bounds.now s m t y v places near readers interrupts points frames h
-raises_again g s m t y v (Ok false) places near readers interrupts points frames keeps h = record {
+raises_again g s m t y v (Ok true) places near readers covered points frames keeps h = raised_again g.bounds.now s m t y v places near readers covered points frames h
+raises_again g s m t y v (Ok false) places near readers covered points frames keeps h = record {
   fine = h.fine;
   covers = h.covers;
   keeps = Keeps-trans g.bounds.now g.image.now g.plan.now s m t keeps h.keeps;
 }
-raises_again g s m t y v (Err e) places near readers interrupts points frames keeps h = h
+raises_again g s m t y v (Err e) places near readers covered points frames keeps h = h

@@ -13,12 +13,12 @@ use Rattle.cfg_recover.specs.Entries.{start_key, start_state}
 use Rattle.cfg_recover.specs.LocalFaults.{IsFaultless}
 use Rattle.cfg_recover.specs.Assignments.{Assignment, Place, point, exit, same_place, Derived, begins, Closed, first_place}
 use Rattle.depth_cert.specs.Known.{Known, state, leaving}
-use Rattle.depth_maker.specs.InterruptHandlers.{ContextsEntered}
+use Rattle.depth_maker.specs.Covered.{EntriesCovered}
 use Rattle.depth_maker.specs.ProperAssignments.{AllFaultless}
 use Rattle.depth_maker.specs.Laws.{AreLawful}
 use Rattle.depth_maker.proofs.TableLaws.{derived_proper, table_closed, table_marked, settled_again}
 use Rattle.depth_maker.proofs.PlaceKinds.{IsOfKind, derived_kinds}
-use Rattle.depth_maker.proofs.InterruptLaws.{interrupts_again}
+use Rattle.depth_maker.proofs.CoveredLaws.{covered_again}
 use Rattle.depth_maker.proofs.LevelSteps.{rises_then, same_level}
 use Rattle.depth_maker.proofs.PartLemmas.{keeps_all}
 use Rattle.depth_maker.specs.Levels.{Rises}
@@ -50,7 +50,7 @@ use Rattle.depth_maker.proofs.CountedLemmas.{counted_again, counted_start}
 
 -- ---- one place gets a mark
 module _ (b : Limits) (image : ImageData) (plan : PlanData) (laws : AreLawful b image plan) (s t : made.Table) (x : Spot) (w : Mark) (marks_as : MarksAs s.places t.places x w) (readers : t.readers ≡ s.readers)
-    (points : t.points.items ≡ s.points.items) (frames : t.frames.items ≡ s.frames.items) (interrupts : t.interrupts ≡ s.interrupts) where
+    (points : t.points.items ≡ s.points.items) (frames : t.frames.items ≡ s.frames.items) (covered : t.covered ≡ s.covered) where
   the_cells : (q : Spot) → value_for t.places q ≡ value_for s.places q
   the_cells q = marks_as.values q
 
@@ -64,9 +64,9 @@ module _ (b : Limits) (image : ImageData) (plan : PlanData) (laws : AreLawful b 
   the_counts : IsCountedIn s.places s.points.items s.frames.items → IsCountedIn t.places t.points.items t.frames.items
   the_counts c = counted_again s.places t.places s.points.items t.points.items s.frames.items t.frames.items (λ q. the_cells (spot_of q)) points frames c
 
-  the_interrupts : ContextsEntered b plan (seen s).cells s.interrupts → ContextsEntered b plan (seen t).cells t.interrupts
+  the_covered : EntriesCovered b plan (seen s).cells s.covered → EntriesCovered b plan (seen t).cells t.covered
   unfolding seen
-  the_interrupts h = interrupts_again b plan (seen s).cells (seen t).cells (λ q. the_cells (spot_of q)) t.interrupts (subst (ContextsEntered b plan (seen s).cells) (sym interrupts) h)
+  the_covered h = covered_again b plan (seen s).cells (seen t).cells (λ q. the_cells (spot_of q)) t.covered (subst (EntriesCovered b plan (seen s).cells) (sym covered) h)
 
   the_exits : AreExitsRead s.readers → AreExitsRead t.readers
   the_exits h k p q reads = h k p q (subst (λ m. Reads (get spot_eq m (Point k p)) q) readers reads)
@@ -106,7 +106,7 @@ module _ (b : Limits) (image : ImageData) (plan : PlanData) (laws : AreLawful b 
                 (let f = (fine.listed).known n (takes_left s.work t.work t.near n takes c) in (f.0, marks_as.numbers n f.0 f.1));
           };
           counted = the_counts fine.counted;
-          interrupts = the_interrupts fine.interrupts;
+          covered = the_covered fine.covered;
           exits = the_exits fine.exits;
           readers = the_known fine.readers;
           plain = λ q at.
@@ -135,7 +135,7 @@ module _ (b : Limits) (image : ImageData) (plan : PlanData) (laws : AreLawful b 
             (λ q h. sym (ap is_idle (marked (spot_of q))) ∙ h) (the_derived (fine.table).derived);
         listed = the_list marked work fine.listed;
         counted = the_counts fine.counted;
-        interrupts = the_interrupts fine.interrupts;
+        covered = the_covered fine.covered;
         exits = the_exits fine.exits;
         readers = the_known fine.readers;
         plain = λ q at. fine.plain q (sym (marked q) ∙ at);
@@ -181,7 +181,7 @@ module _ (b : Limits) (image : ImageData) (plan : PlanData) (laws : AreLawful b 
             known = λ n c. (let f = (fine.listed).known n (subst (λ (l : List ℕ). Contains l n) work c) in (f.0, marks_as.numbers n f.0 f.1));
           };
           counted = the_counts fine.counted;
-          interrupts = the_interrupts fine.interrupts;
+          covered = the_covered fine.covered;
           exits = the_exits fine.exits;
           readers = the_known fine.readers;
           plain = λ q at.
@@ -222,7 +222,7 @@ duties_settled b image plan s t x paid opening k p u e at =
 -- ---- the start, and the end
 pub begun_table : (b : Limits) (image : ImageData) (plan : PlanData) (t : made.Table) (x : Spot) (v : Known) → x ≡ spot_of (first_place image plan) → v ≡ state (start_state plan)
     → ((q : Spot) → value_for t.places q ≡ (if spot_eq x q then Some v else None)) → ((q : Spot) → mark_for t.places q ≡ (if spot_eq x q then Some Queued else None)) → AllListed t.places (all_work t.work)
-    → t.points.items ≡ x ∷ [] → t.frames.items ≡ start_key image plan ∷ [] → t.interrupts ≡ record { last = None; before = None } → ((z : Spot) → get spot_eq t.readers z ≡ None) → IsFine b image plan t × NoneOpen t
+    → t.points.items ≡ x ∷ [] → t.frames.items ≡ start_key image plan ∷ [] → t.covered ≡ record { interrupts = record { last = None; before = None }; call = None } → ((z : Spot) → get spot_eq t.readers z ≡ None) → IsFine b image plan t × NoneOpen t
 unfolding seen
 begun_table b image plan t x v place known cells marks listed points frames none unread =
     let side : (q : Spot) → ((spot_eq x q ≡ true) × (mark_for t.places q ≡ Some Queued)) ⊎ ((spot_eq x q ≡ false) × (mark_for t.places q ≡ None)) =
@@ -244,7 +244,7 @@ begun_table b image plan t x v place known cells marks listed points frames none
         listed = listed;
         counted = counted_start t.places t.points.items t.frames.items (start_key image plan) v
             (λ q. cells (spot_of q) ∙ ap (λ e. if e then Some v else None) (test q)) (points ∙ ap (λ (z : Spot). z ∷ []) place) frames;
-        interrupts = subst (ContextsEntered b plan (seen t).cells) (sym none) (tt, tt);
+        covered = subst (EntriesCovered b plan (seen t).cells) (sym none) ((tt, tt), tt);
         exits = λ k p q h. unread_by (Point k p) q h;
         readers = λ z q h. absurd (unread_by z q h);
         plain = λ q at.
@@ -317,7 +317,7 @@ same_fine b image plan s t is work fine = subst (IsFine b image plan) (sym is) (
   table = fine.table;
   listed = subst (λ (l : List ℕ). AllListed s.places l) (sym work) fine.listed;
   counted = fine.counted;
-  interrupts = fine.interrupts;
+  covered = fine.covered;
   exits = fine.exits;
   readers = fine.readers;
   plain = fine.plain;
@@ -341,7 +341,7 @@ passed_over b image plan s t x number is takes stands idle fine = subst (IsFine 
     known = λ n c. (fine.listed).known n (takes_left s.work t.work number n takes c);
   };
   counted = fine.counted;
-  interrupts = fine.interrupts;
+  covered = fine.covered;
   exits = fine.exits;
   readers = fine.readers;
   plain = fine.plain;
@@ -358,9 +358,9 @@ plain_marked false told e = (let no : Some Idle ≡ Some Plain = e in cc)
 
 -- what the point owes was joined, and it is idle now, unless it has new work
 pub ended : (b : Limits) (image : ImageData) (plan : PlanData) (laws : AreLawful b image plan) (s m t : made.Table) (x : Spot) (plain : Bool) → (plain ≡ true → IsPlainIn image plan x) → t.readers ≡ m.readers
-    → t.points.items ≡ m.points.items → t.frames.items ≡ m.frames.items → t.interrupts ≡ m.interrupts → all_work t.work ≡ all_work m.work → MarksAs m.places t.places x (settled_mark plain (mark_for m.places x)) → IsOpenAt s x
+    → t.points.items ≡ m.points.items → t.frames.items ≡ m.frames.items → t.covered ≡ m.covered → all_work t.work ≡ all_work m.work → MarksAs m.places t.places x (settled_mark plain (mark_for m.places x)) → IsOpenAt s x
     → PointJoined b image plan s m x → IsFine b image plan t × NoneOpen t × Rises s t
-ended b image plan laws s m t x plain told readers points frames interrupts work marks opening paid = by_mark (is_queued (mark_for m.places x)) refl where
+ended b image plan laws s m t x plain told readers points frames covered work marks opening paid = by_mark (is_queued (mark_for m.places x)) refl where
   higher : Rises s t
   higher = rises_then s m t (paid.keeps).rises (inr (same_level m t marks.values points frames, work))
 
@@ -372,7 +372,7 @@ ended b image plan laws s m t x plain told readers points frames interrupts work
         | inl l ↦ l.1 ∙ ap (λ (o : Option Mark). Some (settled_mark plain o)) at ∙ sym at ∙ ap (mark_for m.places) (spot_tells x q l.0)
         | inr r ↦ r.1
       ] in (
-        again_fine b image plan laws m t x (settled_mark plain (mark_for m.places x)) marks readers points frames interrupts same work paid.fine,
+        again_fine b image plan laws m t x (settled_mark plain (mark_for m.places x)) marks readers points frames covered same work paid.fine,
         (λ q here. duties_closed b image plan s m x opening paid (λ open_. let no : Some Queued ≡ Some Open = sym at ∙ open_ in cc) q (sym (same q) ∙ here)),
         higher,
       )
@@ -380,7 +380,7 @@ ended b image plan laws s m t x plain told readers points frames interrupts work
       let at : mark_for m.places x ≡ Some Open = ((paid.keeps).each x e).0 ∙ opening.at in
       let idle_ : settled_mark plain (mark_for m.places x) ≡ idle_mark plain = ap (settled_mark plain) at in
       let h =
-      finished b image plan laws m t x (idle_mark plain) (subst (λ (k : Mark). MarksAs m.places t.places x k) idle_ marks) readers points frames interrupts (idle_marked plain) (plain_marked plain told) paid.fine
+      finished b image plan laws m t x (idle_mark plain) (subst (λ (k : Mark). MarksAs m.places t.places x k) idle_ marks) readers points frames covered (idle_marked plain) (plain_marked plain told) paid.fine
       (duties_open b image plan s m x opening paid at) work (duties_settled b image plan s m x paid at) in
       (h.0, h.1, higher)
 

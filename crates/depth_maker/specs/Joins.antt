@@ -35,7 +35,7 @@ pub record JoinedAlone (b : Limits) (s t : made.Table) (y : Spot) (v : Known) : 
   pub listed : AllListed t.places (all_work t.work)
   pub near : t.near ≡ s.near
   pub readers : t.readers ≡ s.readers
-  pub interrupts : t.interrupts ≡ s.interrupts
+  pub covered : t.covered ≡ s.covered
   pub points : t.points.items ≡ points_after (is_some (value_for s.places y)) s.points.items y
   pub frames : t.frames.items ≡ frames_after (is_some (value_for s.places y)) s.frames.items y
   pub few : AreFew (map place_of t.points.items) t.frames.items

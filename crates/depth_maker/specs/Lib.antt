@@ -12,6 +12,7 @@ pub mod Rows
 pub mod Needs
 pub mod Levels
 pub mod InterruptHandlers
+pub mod Covered
 pub mod Table
 pub mod SpelledCert
 pub mod Answers

@@ -1,5 +1,5 @@
 -- The maker's table between two steps, and at the end.
-use Rattle.std.specs.Prelude.{◌≡◌, ℕ}
+use Rattle.std.specs.Prelude.{◌≡◌, ℕ, List, map}
 use Rattle.indexmap.specs.IndexMap.{IndexMap, get}
 use Rattle.std.specs.declared.vec.Vec.{Vec}
 use Rattle.std.specs.declared.alloc.Global.{Global}
@@ -7,7 +7,10 @@ use Rattle.elf_image.specs.Images.{ImageData}
 use Rattle.tcd_plan.specs.PlanData.{PlanData}
 use Rattle.value_domain.specs.Limits.{Limits}
 use Rattle.depth_cert.specs.declared.keys.Key.{Key}
+use Rattle.cfg_recover.specs.Entries.{call_key, call_entry}
+use Rattle.cfg_recover.specs.Duties.{Owed, enter, owed, resume}
 use Rattle.cfg_recover.specs.Assignments.{point, Closed, Derived}
+use Rattle.depth_cert.specs.Known.{state}
 use Rattle.cfg_recover.specs.Refusals.{IsFault}
 use Rattle.depth_maker.specs.ProperAssignments.{AllFaultless}
 use Rattle.depth_maker.specs.TableView.{TableView, IsTable}
@@ -22,8 +25,9 @@ use Rattle.frame_places.specs.Marks.{is_idle, is_queued, mark_for, value_for, Al
 use Rattle.frame_places.specs.Work.{all_work}
 use Rattle.depth_maker.specs.Counts.{IsCountedIn}
 use Rattle.depth_maker.specs.EnteredFrames.{ArePlain}
-use Rattle.depth_maker.specs.InterruptHandlers.{ContextsEntered}
+use Rattle.depth_maker.specs.Covered.{EntriesCovered}
 use Rattle.depth_maker.specs.declared.inputs_and_limits.Ground.{Ground}
+use Rattle.depth_maker.specs.declared.inputs_and_limits.Visit.{Visit}
 
 -- ---- the table
 -- the table as an assignment and marks
@@ -44,7 +48,7 @@ pub record IsFine (b : Limits) (image : ImageData) (plan : PlanData) (t : made.T
   pub table : IsTable b image plan (seen t)
   pub listed : AllListed t.places (all_work t.work)
   pub counted : IsCountedIn t.places t.points.items t.frames.items
-  pub interrupts : ContextsEntered b plan (seen t).cells t.interrupts
+  pub covered : EntriesCovered b plan (seen t).cells t.covered
   pub exits : AreExitsRead t.readers
   pub readers : (z : Spot) → AreKnown t.places (Reads (get spot_eq t.readers z))
   pub plain : ArePlain image plan t.places
@@ -70,3 +74,13 @@ FineOn g t = IsFine g.bounds.now g.image.now g.plan.now t
 -- the fault holds
 abbrev pub AnsweredOn : Ground → Refusal → Type 0
 AnsweredOn g e = Answered g.bounds.now g.image.now g.plan.now e
+
+-- ---- by the visit
+
+-- to enter each of these functions, with the state after a call
+abbrev pub enters_by : Visit → List ℕ → List Owed
+enters_by v targets = map (λ t. owed 5 (enter (call_key v.key t) (call_entry v.state.now))) targets
+
+-- to return after each of these functions
+abbrev pub resumes_by : Visit → ℕ → List ℕ → List Owed
+resumes_by v back targets = map (λ t. owed 4 (resume (call_key v.key t) back)) targets

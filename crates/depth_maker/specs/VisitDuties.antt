@@ -12,9 +12,9 @@ use Rattle.vd_transfer.specs.EffectsOnStates.{transfer_of}
 use Rattle.cfg_recover.specs.declared.local.Located.{Located}
 use Rattle.cfg_recover.specs.Changes.{StandsFaultless}
 use Rattle.cfg_recover.specs.Code.{IsCode}
-use Rattle.cfg_recover.specs.Entries.{call_key, sys_key, sys_entry}
+use Rattle.cfg_recover.specs.Entries.{call_key, call_entry, sys_key, sys_entry}
 use Rattle.cfg_recover.specs.LocalFaults.{IsFaultless}
-use Rattle.cfg_recover.specs.Duties.{Duty, Owed, duties_of, entered_and_back, entries_of, interrupts_of, loaded_at, misaligned_entry, misaligned_of, next_of, successors_of}
+use Rattle.cfg_recover.specs.Duties.{Duty, Owed, duties_of, entered_and_back, entries_of, interrupts_of, loaded_at, misaligned_entry, misaligned_of, next_of, owed, successors_of}
 use Rattle.cfg_recover.specs.Assignments.{point}
 use Rattle.depth_maker.specs.TableView.{Settled}
 use Rattle.depth_maker.specs.Spots.{spot_of}
@@ -76,8 +76,8 @@ abbrev pub successors_by : Visit → Located → List Owed
 successors_by v found = successors_of (v.ground.now).bounds.now (v.ground.now).image.now (v.ground.now).plan.now v.addr v.state.now found.shape found.size
 
 -- to enter each function that a call may name, and to return after it
-abbrev pub calls_by : Visit → State → ℕ → List ℕ → List Owed
-calls_by v entry back targets = flat_map (λ t. entered_and_back 5 (call_key v.key t) entry back) targets
+abbrev pub calls_by : Visit → ℕ → List ℕ → List Owed
+calls_by v back targets = flat_map (λ t. entered_and_back 5 (call_key v.key t) (call_entry v.state.now) back) targets
 
 -- to enter the handler of system calls, and to return after the SYSCALL
 abbrev pub system_by : Visit → ℕ → ℕ → List Owed
@@ -99,9 +99,9 @@ access_by v found = misaligned_of (v.ground.now).bounds.now (v.ground.now).plan.
 abbrev pub interrupts_by : Visit → List Owed
 interrupts_by v = interrupts_of (v.ground.now).plan.now v.key v.state.now
 
--- joined entries of interrupts stay joined
-abbrev pub StayJoined : Visit → made.Table → made.Table → Type 0
-StayJoined v m t = (s : made.Table) → JoinedBy v s m (interrupts_by v) → JoinedBy v s t (interrupts_by v)
+-- these duties stay joined
+abbrev pub StayJoined : Visit → made.Table → made.Table → List Owed → Type 0
+StayJoined v m t ds = (s : made.Table) → JoinedBy v s m ds → JoinedBy v s t ds
 
 -- the instruction at the point enters no frame by itself
 abbrev pub IsPlainBy : Visit → Type 0

@@ -9,6 +9,7 @@ ghost use Rattle.depth_maker.specs.EnteredFrames.{IsPlainIn};
 ghost use Rattle.depth_maker.specs.Table.{AnsweredOn, FineOn, IsDone};
 ghost use Rattle.depth_maker.specs.Visits.{EndsOn, IsOpen, NoneOpen, PointJoinedOn, StepsOn, TurnsOn};
 
+use crate::covered::CoveredEntries;
 use crate::inputs_and_limits::{Ground, Visit};
 use crate::interrupt_contexts::LastInterrupts;
 use crate::table::Table;
@@ -69,9 +70,12 @@ fn begin(alloc: Global, ground: &Ground) -> Result<Table, Refusal>
         work,
         points,
         frames,
-        interrupts: LastInterrupts {
-            last: None,
-            before: None,
+        covered: CoveredEntries {
+            interrupts: LastInterrupts {
+                last: None,
+                before: None,
+            },
+            call: None,
         },
         near: 0,
     })

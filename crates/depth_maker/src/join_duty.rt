@@ -135,7 +135,7 @@ fn join_return(
 
 /// Makes the point a reader of the exit of the frame that it enters, and joins the state after the
 /// return at `back`.
-fn join_resume(
+pub(crate) fn join_resume(
     alloc: Global,
     table: &mut Table,
     v: &Visit,

@@ -1,119 +1,30 @@
 // Joins the entries of frames that the visited point enters.
-ghost use Rattle.std.specs.Prelude.{◌≡◌, OnOk, IfErr, IsTrue, [], ◌∷◌, unwrap_or};
-ghost use Rattle.tc_isa.specs.Bounded.{IsShape, IsTarget};
+ghost use Rattle.std.specs.Prelude.{◌≡◌, OnOk, IfErr, IsTrue, [], ◌∷◌};
+ghost use Rattle.tc_isa.specs.Bounded.{IsShape};
 ghost use Rattle.vd_transfer.specs.Changes.{state_after};
 ghost use Rattle.depth_cert.specs.Proper.{IsProper};
-ghost use Rattle.cfg_recover.specs.Entries as entries;
-ghost use Rattle.cfg_recover.specs.LocalRules.{targets_of};
 ghost use Rattle.cfg_recover.specs.Entries.{irqs_of};
 ghost use Rattle.cfg_recover.specs.Flows.{told_irqs};
 ghost use Rattle.frame_places.specs.declared.places.Spot.TheVariants.{Point};
 ghost use Rattle.frame_places.specs.Numbers.{StandsAt};
 ghost use Rattle.depth_maker.specs.Table.{AnsweredOn};
-ghost use Rattle.depth_maker.specs.VisitDuties.{OwesAll, JoinedBy, StandsBy, StayJoined, access_by, calls_by, entries_by, interrupts_by, misaligned_by, system_by};
+ghost use Rattle.depth_maker.specs.VisitDuties.{OwesAll, JoinedBy, StandsBy, StayJoined, access_by, entries_by, interrupts_by, misaligned_by, system_by};
 ghost use Rattle.depth_maker.specs.Visits.{VisitedBy};
 
+use crate::calls::join_call;
 use crate::entered_frames::is_misaligned;
 use crate::inputs_and_limits::Visit;
 use crate::interrupt_contexts::{InterruptContext, LastInterrupts};
 use crate::join_duty::{join_entry, join_entry_and_back};
 use crate::table::Table;
-use arrayvec::ArrayVec;
 use cfg_recover::{
-    Located, aln_key, direct_target, entered_key, handler_change, interrupts, irq_key,
-    misaligned_change, sys_key, system_change, targets,
+    Located, aln_key, handler_change, interrupts, irq_key, misaligned_change, sys_key,
+    system_change,
 };
-use depth_cert::CALL;
 use frame_places::{Refusal, has_work};
 use std::alloc::Global;
-use tc_isa::{Shape, Target};
-use value_domain::State;
+use tc_isa::Shape;
 use vd_transfer::Change;
-
-/// Joins the calls of these targets, which return to `back`.
-fn join_calls(
-    alloc: Global,
-    table: &mut Table,
-    v: &Visit,
-    entry: &Change,
-    targets: &[u32],
-    back: u32,
-) -> Result<(), Refusal>
-    requires visited { VisitedBy v.now table.old }
-    requires owes { OwesAll v.now
-        (calls_by v.now (state_after v.now.state.now entry.now) back targets.now) }
-    ensures ok { OnOk result
-        (JoinedBy v.now table.old table.new
-        (calls_by v.now (state_after v.now.state.now entry.now) back targets.now)) }
-    ensures err { IfErr result (AnsweredOn v.now.ground.now) }
-{
-    for t in targets {
-        let key = entered_key(&v.key, CALL, *t);
-        join_entry_and_back(alloc, table, v, key, entry, back)?;
-    }
-    Ok(())
-}
-
-/// Joins the calls of the targets that a register lists.
-#[inline(never)]
-fn join_listed_calls(
-    alloc: Global,
-    table: &mut Table,
-    v: &Visit,
-    entry: &Change,
-    to: Target,
-    back: u32,
-) -> Result<(), Refusal>
-    requires visited { VisitedBy v.now table.old }
-    requires target { IsTarget to }
-    requires owes { OwesAll v.now
-        (calls_by v.now (state_after v.now.state.now entry.now) back
-        (unwrap_or (targets_of v.now.ground.now.plan.now v.now.state.now v.now.addr to) [])) }
-    ensures ok { OnOk result (JoinedBy v.now table.old table.new
-        (calls_by v.now (state_after v.now.state.now entry.now) back
-        (unwrap_or (targets_of v.now.ground.now.plan.now v.now.state.now v.now.addr to) []))) }
-    ensures err { IfErr result (AnsweredOn v.now.ground.now) }
-{
-    let targets = targets(v.ground.plan, v.state, v.addr, to);
-    join_calls(alloc, table, v, entry, targets.as_slice(), back)
-}
-
-/// Writes the change of a state by a call.
-#[inline(always)]
-fn enter_by_call(c: &mut Change, s: &State)
-    ensures { state_after s.now c.new ≡ entries.call_entry s.now }
-{
-    c.keep(s);
-    c.lower = false;
-    c.locals = ArrayVec::new();
-}
-
-/// Joins a call. The list of targets is made only for a call by a register. The entry is written
-/// over `c`.
-fn join_call(
-    alloc: Global,
-    table: &mut Table,
-    v: &Visit,
-    to: Target,
-    back: u32,
-    c: &mut Change,
-) -> Result<(), Refusal>
-    requires visited { VisitedBy v.now table.old }
-    requires target { IsTarget to }
-    requires owes { OwesAll v.now
-        (calls_by v.now (entries.call_entry v.now.state.now) back
-        (unwrap_or (targets_of v.now.ground.now.plan.now v.now.state.now v.now.addr to) [])) }
-    ensures ok { OnOk result (JoinedBy v.now table.old table.new
-        (calls_by v.now (entries.call_entry v.now.state.now) back
-        (unwrap_or (targets_of v.now.ground.now.plan.now v.now.state.now v.now.addr to) []))) }
-    ensures err { IfErr result (AnsweredOn v.now.ground.now) }
-{
-    enter_by_call(c, v.state);
-    match direct_target(v.addr, to) {
-        Some(target) => join_calls(alloc, table, v, &*c, &[target], back),
-        None => join_listed_calls(alloc, table, v, &*c, to, back),
-    }
-}
 
 /// Joins the system call `tin`. It is a call of its own, since it has room for a change.
 #[inline(never)]
@@ -236,12 +147,12 @@ fn are_noted(table: &Table, v: &Visit) -> bool
     requires { VisitedBy v.now table.now }
     ensures { IsTrue result → JoinedBy v.now table.now table.now (interrupts_by v.now) }
 {
-    if let Some(last) = &table.interrupts.last {
+    if let Some(last) = &table.covered.interrupts.last {
         if last.covers(v.key.is, v.state) {
             return true;
         }
     }
-    match &table.interrupts.before {
+    match &table.covered.interrupts.before {
         Some(before) => before.covers(v.key.is, v.state),
         None => false,
     }
@@ -255,14 +166,14 @@ fn note_interrupts(table: &mut Table, v: &Visit)
     requires proper { IsProper v.now.ground.now.bounds.now v.now.state.now }
     requires on { IsTrue v.now.state.now.ie }
     requires owes { OwesAll v.now (interrupts_by v.now) }
-    ensures { StayJoined v.now table.old table.new }
+    ensures { StayJoined v.now table.old table.new (interrupts_by v.now) }
 {
     if has_work(&table.places, table.near) {
         return;
     }
     let context = InterruptContext::at(v.key.is, v.state);
-    let before = table.interrupts.last.take();
-    table.interrupts = LastInterrupts {
+    let before = table.covered.interrupts.last.take();
+    table.covered.interrupts = LastInterrupts {
         last: Some(context),
         before,
     };

@@ -2,6 +2,8 @@
 #![tactic(auto)]
 
 mod answering;
+mod calls;
+mod covered;
 mod entered_frames;
 mod fixpoint;
 mod handlers;
@@ -11,6 +13,7 @@ mod join_duty;
 mod join_entries;
 mod join_place;
 mod join_successors;
+mod last_call;
 mod laws;
 mod needs;
 mod recursion;

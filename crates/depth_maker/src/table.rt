@@ -1,5 +1,5 @@
 // The table of the worklist algorithm.
-use crate::interrupt_contexts::LastInterrupts;
+use crate::covered::CoveredEntries;
 use depth_cert::Key;
 use frame_places::{Marked, Spot, Work};
 use indexmap::IndexMap;
@@ -18,8 +18,8 @@ pub(crate) struct Table {
     pub(crate) points: Vec<Spot>,
     /// The frames with a known point, in the order in which they were found.
     pub(crate) frames: Vec<Key>,
-    /// The last contexts of interrupts, whose handlers' entries are covered.
-    pub(crate) interrupts: LastInterrupts,
+    /// What was asked for last at the entries of frames, which is covered.
+    pub(crate) covered: CoveredEntries,
     /// The number of the visited place.
     pub(crate) near: usize,
 }

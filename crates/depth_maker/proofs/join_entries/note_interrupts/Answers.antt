@@ -12,5 +12,5 @@ pub returns : goal.returns
 returns c before paid =
     let v = c.args.v.now in
     let t = c.args.table.now in
-    subst (λ (o : Option InterruptContext). JoinedBy v before (record t { interrupts = record { last = Some c.at-context.result; before = o } }) (interrupts_by v)) (sym c.take-before.ensures.value)
+    subst (λ (o : Option InterruptContext). JoinedBy v before (record t { covered = record { interrupts = record { last = Some c.at-context.result; before = o }; call = (t.covered).call } }) (interrupts_by v)) (sym c.take-before.ensures.value)
     (joined_and_noted _ _ _ v.key v.addr v.state.now (lawful _ _ _ v.ground.now.sound) before t c.at-context.result c.at-context.ensures c.requires.proper c.requires.on c.requires.owes (sym (c.has_work.ensures _ c.requires.near) ∙ c.if-has_work.false) paid)

@@ -1,0 +1,121 @@
+-- Entries of functions that the last call shows as covered, the call that a point notes, and the
+-- two halves of a call.
+use Rattle.std.proofs.Common.{◌≡◌, ℕ, inl, inr, List, [], ◌∷◌, ◌++◌, map, false, Some, subst, arith, Contains}
+use Rattle.std.specs.Prelude.{Result, Ok, Err, OnOk}
+use Rattle.std.specs.List.{flat_map}
+use Rattle.std.proofs.lemmas.List.Elements.{Contains-append_left, Contains-append_right, Contains-push_cases}
+use Rattle.elf_image.specs.Images.{ImageData}
+use Rattle.tcd_plan.specs.PlanData.{PlanData}
+use Rattle.value_domain.specs.declared.states.State.{State}
+use Rattle.value_domain.specs.Limits.{Limits}
+use Rattle.depth_cert.specs.declared.keys.Key.{Key}
+use Rattle.depth_cert.specs.Known.{state}
+use Rattle.depth_cert.specs.Proper.{IsProper}
+use Rattle.cfg_recover.specs.Assignments.{point}
+use Rattle.cfg_recover.specs.Duties.{Owed, enter, entered_and_back, owed, resume}
+use Rattle.cfg_recover.specs.Entries.{call_entry, call_key}
+use Rattle.cfg_recover.proofs.Members.{contains_first, contains_flat, contains_map}
+use Rattle.frame_places.specs.Marks.{is_queued, mark_for}
+use Rattle.frame_places.specs.declared.refusals.Refusal.{Refusal}
+use Rattle.depth_maker.specs.Covered.{AreCalled, IsCallOf, IsWithinCall}
+use Rattle.depth_maker.specs.Levels.{level}
+use Rattle.depth_maker.specs.Laws.{AreLawful}
+use Rattle.depth_maker.specs.Spots.{spot_of}
+use Rattle.depth_maker.specs.Table.{IsFine, seen}
+use Rattle.depth_maker.specs.VisitDuties.{DutiesJoined, Owes}
+use Rattle.depth_maker.specs.Visits.{IsVisited}
+use Rattle.depth_maker.specs.declared.last_call.LastCall.{LastCall}
+use Rattle.depth_maker.specs.declared.table.Table as made
+use Rattle.depth_maker.proofs.CoveredLaws.{call_new, call_settles}
+use Rattle.depth_maker.proofs.DutyGrowth.{contained_flat, contained_map}
+use Rattle.depth_maker.proofs.PartLemmas.{duties_both, keeps_all}
+
+module _ (b : Limits) (image : ImageData) (plan : PlanData) (k : Key) (p : ℕ) (u : State) where
+  abbrev entered : ℕ → Owed
+  entered q = owed 5 (enter (call_key k q) (call_entry u))
+
+  abbrev resumed : ℕ → ℕ → Owed
+  resumed back q = owed 4 (resume (call_key k q) back)
+
+  abbrev called : ℕ → ℕ → List Owed
+  called back q = entered_and_back 5 (call_key k q) (call_entry u) back
+
+  -- the entry of a call is at the limits
+  pub entry_proper : IsProper b u → IsProper b (call_entry u)
+  entry_proper proper = record { regs = proper.regs; values = proper.values; few = omega arith }
+
+  -- nothing has to be joined
+  pub enters_already : (laws : AreLawful b image plan) (s : made.Table) (h : LastCall) (targets : List ℕ) → IsFine b image plan s → IsProper b u → AreCalled b (seen s).cells h → IsWithinCall h k targets (state (call_entry u))
+      → DutiesJoined b image plan s s k p u (map entered targets)
+  enters_already laws s h targets fine proper covered asks = record {
+    fine = fine;
+    keeps = keeps_all b image plan s;
+    settled = λ free d c. call_settles b image plan laws (seen s) k p u (call_entry u) h targets covered (entry_proper proper) asks d c;
+  }
+
+  -- the call of the point is noted
+  pub call_noted : (s m : made.Table) (h : LastCall) (targets : List ℕ) → IsCallOf h k targets (state (call_entry u)) → IsProper b u
+      → is_queued (mark_for m.places (spot_of (point k p))) ≡ false → DutiesJoined b image plan s m k p u (map entered targets)
+      → DutiesJoined b image plan s (record m { covered = record { interrupts = (m.covered).interrupts; call = Some h } }) k p u (map entered targets)
+  unfolding seen level
+  call_noted s m h targets from proper free paid = record {
+    fine = record {
+      table = (paid.fine).table;
+      listed = (paid.fine).listed;
+      counted = (paid.fine).counted;
+      covered = ((paid.fine).covered.0, call_new b (seen m) k p u (call_entry u) h targets from (entry_proper proper) (λ d c. paid.settled free d c));
+      exits = (paid.fine).exits;
+      readers = (paid.fine).readers;
+      plain = (paid.fine).plain;
+    };
+    keeps = record {
+      each = (paid.keeps).each;
+      readers = (paid.keeps).readers;
+      read = (paid.keeps).read;
+      settled = (paid.keeps).settled;
+      rises = (paid.keeps).rises;
+      near = (paid.keeps).near;
+      numbers = (paid.keeps).numbers;
+    };
+    settled = paid.settled;
+  }
+
+  -- ---- the two halves of a call
+  -- an entry of a call is one of its duties, and so is a return
+  pub owes_entered : (back : ℕ) (targets : List ℕ) → ((d : Owed) → Contains (flat_map (called back) targets) d → Owes b image plan k p u d.duty) → (d : Owed) → Contains (map entered targets) d → Owes b image plan k p u d.duty
+  owes_entered back targets owes d c =
+      let r = contained_map entered targets d c in
+      owes d (contains_flat (called back) d r.0 targets r.1 (subst (Contains (called back r.0)) r.2 (contains_first (entered r.0) (resumed back r.0 ∷ []))))
+
+  pub owes_resumed : (back : ℕ) (targets : List ℕ) → ((d : Owed) → Contains (flat_map (called back) targets) d → Owes b image plan k p u d.duty) → (d : Owed) → Contains (map (resumed back) targets) d → Owes b image plan k p u d.duty
+  owes_resumed back targets owes d c =
+      let r = contained_map (resumed back) targets d c in
+      owes d
+      (contains_flat (called back) d r.0 targets r.1
+      (subst (Contains (called back r.0)) r.2 (Contains-append_right (entered r.0 ∷ []) (resumed back r.0 ∷ []) (resumed back r.0) (contains_first (resumed back r.0) []))))
+
+  -- the entries, and then the returns
+  both_halves : (laws : AreLawful b image plan) (s m t : made.Table) (back : ℕ) (targets : List ℕ) → IsVisited b image plan s k p u → ((d : Owed) → Contains (flat_map (called back) targets) d → Owes b image plan k p u d.duty)
+      → DutiesJoined b image plan s m k p u (map entered targets) → DutiesJoined b image plan m t k p u (map (resumed back) targets) → DutiesJoined b image plan s t k p u (flat_map (called back) targets)
+  both_halves laws s m t back targets visited owes first then_ =
+      let both = duties_both b image plan k p u laws s m t (map entered targets) (map (resumed back) targets) visited (owes_entered back targets owes) first then_ in
+      record { fine = both.fine; keeps = both.keeps; settled = λ free d c. both.settled free d (halves d c) }
+    where
+      halves : (d : Owed) → Contains (flat_map (called back) targets) d → Contains (map entered targets ++ map (resumed back) targets) d
+      halves d c =
+          let r = contained_flat (called back) targets d c in
+          elim (Contains-push_cases (entered r.0 ∷ []) (resumed back r.0) d r.2) [
+            | inl i ↦
+                (let e : Contains (entered r.0 ∷ []) d = i in
+                elim (Contains-push_cases [] (entered r.0) d e) [
+                  | inl n ↦ absurd (omega (arith, n.1))
+                  | inr same ↦ subst (Contains (map entered targets ++ map (resumed back) targets)) same (Contains-append_left (map entered targets) (map (resumed back) targets) (entered r.0) (contains_map entered targets r.0 r.1))
+                ])
+            | inr same ↦ subst (Contains (map entered targets ++ map (resumed back) targets)) same (Contains-append_right (map entered targets) (map (resumed back) targets) (resumed back r.0) (contains_map (resumed back) targets r.0 r.1))
+          ]
+
+  pub on_halves : (laws : AreLawful b image plan) (s m t : made.Table) (back : ℕ) (targets : List ℕ) (r : Result (Unit {0}) Refusal) → IsVisited b image plan s k p u
+      → ((d : Owed) → Contains (flat_map (called back) targets) d → Owes b image plan k p u d.duty) → DutiesJoined b image plan s m k p u (map entered targets)
+      → OnOk r (DutiesJoined b image plan m t k p u (map (resumed back) targets)) → OnOk r (DutiesJoined b image plan s t k p u (flat_map (called back) targets))
+  on_halves laws s m t back targets (Ok _) visited owes first h = both_halves laws s m t back targets visited owes first h
+  on_halves laws s m t back targets (Err e) visited owes first h = tt

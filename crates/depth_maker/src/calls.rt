@@ -1,0 +1,198 @@
+// Joins the entries of the functions that the visited point calls, and the states after them.
+ghost use Rattle.std.specs.Prelude.{◌≡◌, OnOk, IfErr, IsTrue, [], unwrap_or};
+ghost use Rattle.tc_isa.specs.Bounded.{IsTarget};
+ghost use Rattle.vd_transfer.specs.Changes.{state_after};
+ghost use Rattle.cfg_recover.specs.Entries as entries;
+ghost use Rattle.cfg_recover.specs.LocalRules.{targets_of};
+ghost use Rattle.depth_maker.specs.Table.{AnsweredOn, enters_by, resumes_by};
+ghost use Rattle.depth_maker.specs.VisitDuties.{OwesAll, JoinedBy, StayJoined, calls_by};
+ghost use Rattle.depth_maker.specs.Visits.{VisitedBy};
+
+use crate::inputs_and_limits::Visit;
+use crate::join_duty::{join_entry, join_entry_and_back, join_resume};
+use crate::last_call::LastCall;
+use crate::table::Table;
+use arrayvec::ArrayVec;
+use cfg_recover::{direct_target, entered_key, targets};
+use depth_cert::CALL;
+use frame_places::{Refusal, has_work};
+use small_states::Incoming;
+use std::alloc::Global;
+use tc_isa::Target;
+use value_domain::State;
+use vd_transfer::Change;
+
+/// Joins the entries of the functions at these addresses.
+fn join_each_entry(
+    alloc: Global,
+    table: &mut Table,
+    v: &Visit,
+    entry: &Change,
+    targets: &[u32],
+) -> Result<(), Refusal>
+    requires visited { VisitedBy v.now table.old }
+    requires entry { state_after v.now.state.now entry.now ≡ entries.call_entry v.now.state.now }
+    requires owes { OwesAll v.now (enters_by v.now targets.now) }
+    ensures ok { OnOk result (JoinedBy v.now table.old table.new (enters_by v.now targets.now)) }
+    ensures err { IfErr result (AnsweredOn v.now.ground.now) }
+{
+    for t in targets {
+        let key = entered_key(&v.key, CALL, *t);
+        join_entry(alloc, table, v, key, entry)?;
+    }
+    Ok(())
+}
+
+/// Returns true only if the last call of several functions shows that the entries of these are
+/// covered.
+fn is_noted(table: &Table, v: &Visit, entry: &Change, targets: &ArrayVec<u32, 128>) -> bool
+    requires visited { VisitedBy v.now table.now }
+    requires entry { state_after v.now.state.now entry.now ≡ entries.call_entry v.now.state.now }
+    ensures { IsTrue result
+        → JoinedBy v.now table.now table.now (enters_by v.now targets.now.items) }
+{
+    match &table.covered.call {
+        Some(last) => {
+            let incoming = Incoming::Changed(v.state, entry);
+            last.covers(v.ground.bounds, &v.key, targets, &incoming)
+        }
+        None => false,
+    }
+}
+
+/// Notes a call of several functions, unless the point has new work: then some entries may have
+/// been skipped.
+#[inline(never)]
+fn note_call(
+    alloc: Global,
+    table: &mut Table,
+    v: &Visit,
+    entry: &Change,
+    targets: &ArrayVec<u32, 128>,
+) -> Result<(), Refusal>
+    requires visited { VisitedBy v.now table.old }
+    requires entry { state_after v.now.state.now entry.now ≡ entries.call_entry v.now.state.now }
+    ensures ok { OnOk result
+        (StayJoined v.now table.old table.new (enters_by v.now targets.now.items)) }
+    ensures err { IfErr result (AnsweredOn v.now.ground.now) }
+{
+    if targets.len() < 2 {
+        return Ok(());
+    }
+    if has_work(&table.places, table.near) {
+        return Ok(());
+    }
+    let Some((_, own)) = table.places.get_index(table.near) else {
+        unreachable!();
+    };
+    let incoming = Incoming::Changed(v.state, entry);
+    let entry = own.value.apply(alloc, &incoming)?;
+    table.covered.call = Some(LastCall::of(&v.key, targets, entry));
+    Ok(())
+}
+
+/// Joins the entries of these functions, unless they are known to be covered.
+fn join_listed_entries(
+    alloc: Global,
+    table: &mut Table,
+    v: &Visit,
+    entry: &Change,
+    targets: &ArrayVec<u32, 128>,
+) -> Result<(), Refusal>
+    requires visited { VisitedBy v.now table.old }
+    requires entry { state_after v.now.state.now entry.now ≡ entries.call_entry v.now.state.now }
+    requires owes { OwesAll v.now (enters_by v.now targets.now.items) }
+    ensures ok { OnOk result
+        (JoinedBy v.now table.old table.new (enters_by v.now targets.now.items)) }
+    ensures err { IfErr result (AnsweredOn v.now.ground.now) }
+{
+    if is_noted(&*table, v, entry, targets) {
+        return Ok(());
+    }
+    join_each_entry(alloc, table, v, entry, targets.as_slice())?;
+    note_call(alloc, table, v, entry, targets)?;
+    Ok(())
+}
+
+/// Joins the states after these functions returned at `back`.
+fn join_returns(
+    alloc: Global,
+    table: &mut Table,
+    v: &Visit,
+    targets: &[u32],
+    back: u32,
+) -> Result<(), Refusal>
+    requires visited { VisitedBy v.now table.old }
+    requires owes { OwesAll v.now (resumes_by v.now back targets.now) }
+    ensures ok { OnOk result
+        (JoinedBy v.now table.old table.new (resumes_by v.now back targets.now)) }
+    ensures err { IfErr result (AnsweredOn v.now.ground.now) }
+{
+    for t in targets {
+        let key = entered_key(&v.key, CALL, *t);
+        join_resume(alloc, table, v, key, back)?;
+    }
+    Ok(())
+}
+
+/// Joins the calls of the targets that a register lists.
+#[inline(never)]
+fn join_listed_calls(
+    alloc: Global,
+    table: &mut Table,
+    v: &Visit,
+    entry: &Change,
+    to: Target,
+    back: u32,
+) -> Result<(), Refusal>
+    requires visited { VisitedBy v.now table.old }
+    requires target { IsTarget to }
+    requires entry { state_after v.now.state.now entry.now ≡ entries.call_entry v.now.state.now }
+    requires owes { OwesAll v.now (calls_by v.now back
+        (unwrap_or (targets_of v.now.ground.now.plan.now v.now.state.now v.now.addr to) [])) }
+    ensures ok { OnOk result (JoinedBy v.now table.old table.new (calls_by v.now back
+        (unwrap_or (targets_of v.now.ground.now.plan.now v.now.state.now v.now.addr to) []))) }
+    ensures err { IfErr result (AnsweredOn v.now.ground.now) }
+{
+    let targets = targets(v.ground.plan, v.state, v.addr, to);
+    join_listed_entries(alloc, table, v, entry, &targets)?;
+    join_returns(alloc, table, v, targets.as_slice(), back)
+}
+
+/// Writes the change of a state by a call.
+#[inline(always)]
+fn enter_by_call(c: &mut Change, s: &State)
+    ensures { state_after s.now c.new ≡ entries.call_entry s.now }
+{
+    c.keep(s);
+    c.lower = false;
+    c.locals = ArrayVec::new();
+}
+
+/// Joins a call. The list of targets is made only for a call by a register. The entry is written
+/// over `c`.
+pub(crate) fn join_call(
+    alloc: Global,
+    table: &mut Table,
+    v: &Visit,
+    to: Target,
+    back: u32,
+    c: &mut Change,
+) -> Result<(), Refusal>
+    requires visited { VisitedBy v.now table.old }
+    requires target { IsTarget to }
+    requires owes { OwesAll v.now (calls_by v.now back
+        (unwrap_or (targets_of v.now.ground.now.plan.now v.now.state.now v.now.addr to) [])) }
+    ensures ok { OnOk result (JoinedBy v.now table.old table.new (calls_by v.now back
+        (unwrap_or (targets_of v.now.ground.now.plan.now v.now.state.now v.now.addr to) []))) }
+    ensures err { IfErr result (AnsweredOn v.now.ground.now) }
+{
+    enter_by_call(c, v.state);
+    match direct_target(v.addr, to) {
+        Some(target) => {
+            let key = entered_key(&v.key, CALL, target);
+            join_entry_and_back(alloc, table, v, key, &*c, back)
+        }
+        None => join_listed_calls(alloc, table, v, &*c, to, back),
+    }
+}
