@@ -1,23 +1,20 @@
 -- What a point owes grows with its state.
-use Rattle.std.proofs.Common.{◌≡◌, ℕ, zero, suc, ◌+◌, ◌-◌, ◌<◌, ◌≤◌, inl, inr, Bool, true, false, cond, IsTrue, List, [], ◌∷◌, ◌++◌, length, map, get_or, take, drop, replicate, refl, sym, ◌∙◌, subst, arith, Option, Some, None, IsSome, Contains, eqb, ltb, leb, length-take-le, get_or-take, get_or-drop, ◌&&◌, if◌then◌else◌}
-use Rattle.std.specs.Prelude.{filter, unwrap_or}
-use Rattle.std.specs.List.{flat_map}
+use Rattle.std.proofs.Common.{◌≡◌, ℕ, ◌+◌, ◌-◌, ◌<◌, ◌≤◌, inl, inr, Bool, true, false, cond, IsTrue, List, [], length, get_or, take, drop, replicate, refl, sym, ◌∙◌, arith, Some, Contains, eqb, ltb, leb, length-take-le, get_or-take, get_or-drop, ◌&&◌, if◌then◌else◌}
+use Rattle.std.specs.Prelude.{filter}
 use Rattle.std.proofs.lemmas.Bool.{cases_Bool, cases_lt, ltb-true, lt-ltb, le-ltb, leb-true, and_parts, or_cases}
 use Rattle.std.proofs.lemmas.List.{length-replicate, get_or_append_left, get_or-append_right}
-use Rattle.std.proofs.lemmas.List.Elements.{Contains-append_left, Contains-append_right, Contains-append_cases}
 use Rattle.elf_image.specs.Images.{ImageData, IsImage}
 use Rattle.tcd_plan.specs.PlanData.{PlanData}
 use Rattle.tc_isa.specs.declared.shapes.Arg.{Arg}
 use Rattle.tc_isa.specs.declared.shapes.Cond.{Cond}
-use Rattle.tc_isa.specs.declared.shapes.Target.{Target}
 use Rattle.tc_isa.specs.declared.shapes.Shape.{Shape}
-use Rattle.tc_isa.specs.declared.shapes.Shape.TheVariants.{Compute, Scaled, Load, Store, Branch, Jump, Call, Ret, Rfe, Svlcx, Rslcx, Bisr, Enable, Disable, Syscall, Mfcr, Mtcr, Nothing}
+use Rattle.tc_isa.specs.declared.shapes.Shape.TheVariants.{Compute, Load, Branch, Jump, Call, Ret, Rfe, Syscall}
 use Rattle.tc_isa.specs.Bounded.{IsShape}
 use Rattle.tc_machine.specs.Machine.{moved}
 use Rattle.value_domain.specs.declared.values.Val.{Val}
 use Rattle.value_domain.specs.declared.states.State.{State}
 use Rattle.value_domain.specs.Limits.{Limits}
-use Rattle.value_domain.specs.Values.{IsValue, IsBelow, any_val}
+use Rattle.value_domain.specs.Values.{IsBelow, any_val}
 use Rattle.value_domain.specs.State.{Covers, AreBelow, is_lower_slot}
 use Rattle.vd_transfer.specs.Branches.{refine_of}
 use Rattle.vd_transfer.specs.EffectsOnStates.{address_of}
@@ -27,20 +24,20 @@ use Rattle.vd_transfer.proofs.HoldLaws.{same_length}
 use Rattle.store_ranges.proofs.Growth.{loads_grow}
 use Rattle.depth_cert.specs.declared.keys.Key.{Key}
 use Rattle.cfg_recover.specs.Code.{IsCode}
-use Rattle.cfg_recover.specs.Entries.{call_key, irq_key, sys_key, stack_of, entry_with, call_entry, irq_entry, aln_entry, sys_entry}
+use Rattle.cfg_recover.specs.Entries.{stack_of, entry_with, call_entry, aln_entry, sys_entry}
 use Rattle.depth_cert.specs.Exits.{lower_values, exit_of, with_lower_from, ExitCovers}
-use Rattle.cfg_recover.specs.LocalRules.{targets_of, are_aligned}
+use Rattle.cfg_recover.specs.LocalRules.{are_aligned}
 use Rattle.cfg_recover.specs.LocalFaults.{IsFaultless}
-use Rattle.cfg_recover.specs.Duties.{jump, enter, resume, leave, Owed, owed, loaded_at, jumps_to, jump_on, next_of, successors_of, entered_and_back, entries_of, misaligned_at, misaligned_of, interrupts_of, leavings_of, duties_of}
+use Rattle.cfg_recover.specs.Duties.{jump, Owed, owed, loaded_at, duties_of}
 use Rattle.cfg_recover.proofs.CodeLaws.{IsCode-bounded}
 use Rattle.cfg_recover.proofs.EntryLaws.{lower_length, entry_length}
 use Rattle.depth_cert.proofs.ExitValues.{after-at, with_lower_length}
 use Rattle.cfg_recover.proofs.DutyView.{DutyAt, next, straight, taken, target, called, called_back, system, system_back, misaligned, interrupt, returns, resumes, duty_at, duty_listed}
 pub use Rattle.cfg_recover.proofs.Members.{contained_map, contained_flat, contained_filter}
-use Rattle.cfg_recover.proofs.Members.{only_one, contains_first, contains_map, contains_flat, contains_filter}
+use Rattle.cfg_recover.proofs.Members.{contains_filter}
 use Rattle.depth_maker.specs.Growth.{IsDutyBelow, IsOwedBelow, DutiesGrow, AfterGrows}
 use Rattle.depth_maker.proofs.StateGrowth.{reg_grows, set_covers}
-use Rattle.depth_maker.proofs.EffectGrowth.{transfer_covers, address_grows, address_value, branch_grows, GrowsTo}
+use Rattle.depth_maker.proofs.EffectGrowth.{transfer_covers, address_grows, address_value, branch_grows}
 use Rattle.depth_maker.proofs.OwnGrowth.{targets_within, aligned_falls, setting_of}
 
 -- ---- the values of the lower registers

@@ -1,16 +1,14 @@
 -- The frames that a point enters have keys.
-use Rattle.std.proofs.Common.{◌≡◌, ℕ, zero, suc, ◌+◌, ◌*◌, ◌/◌, ◌%◌, ◌^◌, ◌<◌, inl, inr, Bool, true, false, List, [], ◌∷◌, ◌++◌, map, get_or, subst, arith, Option, Some, None, Contains, eqb, ltb}
+use Rattle.std.proofs.Common.{◌≡◌, ℕ, ◌+◌, ◌*◌, ◌/◌, ◌%◌, ◌^◌, ◌<◌, inl, inr, Bool, true, false, List, [], ◌∷◌, map, arith, Contains, ltb}
 use Rattle.std.specs.Prelude.{filter, unwrap_or, bit_or, ◌&&◌, if◌then◌else◌}
-use Rattle.std.specs.List.{flat_map, list_all}
-use Rattle.std.proofs.lemmas.Bool.{cases_Bool, ltb-true, and_parts}
+use Rattle.std.specs.List.{list_all}
+use Rattle.std.proofs.lemmas.Bool.{ltb-true, and_parts}
 use Rattle.std.proofs.lemmas.Nat.{or_of_32}
-use Rattle.std.proofs.lemmas.List.Elements.{Contains-append_cases}
 use Rattle.elf_image.specs.Images.{ImageData}
 use Rattle.tcd_plan.specs.PlanData.{PlanData}
 use Rattle.tc_isa.specs.declared.shapes.Target.{Target}
 use Rattle.tc_isa.specs.declared.shapes.Target.TheVariants as target
 use Rattle.tc_isa.specs.declared.shapes.Shape.{Shape}
-use Rattle.tc_isa.specs.declared.shapes.Shape.TheVariants.{Compute, Scaled, Load, Store, Branch, Jump, Call, Ret, Rfe, Svlcx, Rslcx, Bisr, Enable, Disable, Syscall, Mfcr, Mtcr, Nothing}
 use Rattle.tc_isa.specs.Bounded.{IsShape, IsTarget}
 use Rattle.tc_machine.specs.Machine.{moved}
 use Rattle.value_domain.specs.declared.values.Val.{Val}
@@ -20,20 +18,18 @@ use Rattle.value_domain.specs.Limits.{Limits}
 use Rattle.value_domain.specs.Sets.{Among}
 use Rattle.value_domain.specs.Values.{IsWell}
 use Rattle.value_domain.proofs.SetLaws.{among_distinct}
-use Rattle.vd_transfer.specs.EffectsOnStates.{address_of}
-use Rattle.vd_transfer.specs.Branches.{refine_of}
 use Rattle.vd_transfer.specs.Registers.{reg_of}
 use Rattle.vd_transfer.specs.Soundness.{IsSetting}
 use Rattle.vd_transfer.proofs.HoldLaws.{reg_value}
 use Rattle.store_ranges.proofs.Covers.{among_map}
 use Rattle.depth_cert.specs.declared.keys.Key.{Key}
 use Rattle.depth_cert.specs.Keys.{IsKey}
-use Rattle.cfg_recover.specs.Entries.{call_key, call_entry, irq_key, sys_key, sys_entry, aln_key}
-use Rattle.cfg_recover.specs.LocalRules.{named_by, targets_of, are_aligned}
-use Rattle.cfg_recover.specs.Duties.{Duty, enter, resume, Owed, owed, jump_on, successors_of, entered_and_back, entries_of, misaligned_at, misaligned_of, leavings_of, duties_of}
+use Rattle.cfg_recover.specs.Entries.{call_key, irq_key, sys_key, aln_key}
+use Rattle.cfg_recover.specs.LocalRules.{named_by, targets_of}
+use Rattle.cfg_recover.specs.Duties.{Duty, enter, resume, Owed, duties_of}
 use Rattle.cfg_recover.proofs.DutyView.{DutyAt, called, called_back, system, system_back, misaligned, interrupt, duty_at}
 use Rattle.depth_maker.proofs.OwnGrowth.{among_contained}
-use Rattle.depth_maker.proofs.DutyGrowth.{contained_map, contained_flat, contained_filter}
+use Rattle.depth_maker.proofs.DutyGrowth.{contained_filter}
 
 -- a frame that is entered, or returns, has a key
 abbrev pub HasKey : Duty → Type 0

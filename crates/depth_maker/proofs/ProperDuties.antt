@@ -1,9 +1,7 @@
 -- A point's duties are at the limits.
-use Rattle.std.proofs.Common.{◌≡◌, ℕ, zero, suc, ◌-◌, ◌<◌, ◌≤◌, inl, inr, Bool, true, false, List, [], ◌∷◌, ◌++◌, length, map, get_or, replicate, refl, sym, ap, ◌∙◌, subst, arith, Option, Some, None, Contains, eqb, length-append, length-take-le}
-use Rattle.std.specs.Prelude.{unwrap_or, IfSome}
-use Rattle.std.specs.List.{flat_map}
+use Rattle.std.proofs.Common.{◌≡◌, ℕ, ◌-◌, ◌<◌, ◌≤◌, inl, inr, Bool, true, false, List, [], ◌∷◌, length, replicate, refl, sym, ap, ◌∙◌, subst, arith, Option, Some, None, length-append, length-take-le}
+use Rattle.std.specs.Prelude.{IfSome}
 use Rattle.std.proofs.lemmas.Bool.{cases_Bool, cond_both}
-use Rattle.std.proofs.lemmas.List.Elements.{Contains-append_cases}
 use Rattle.elf_image.specs.Images.{ImageData}
 use Rattle.tcd_plan.specs.PlanData.{PlanData}
 use Rattle.tc_isa.specs.declared.shapes.Arg.{Arg}
@@ -11,9 +9,8 @@ use Rattle.tc_isa.specs.declared.shapes.Arg.TheVariants.{Reg, Word}
 use Rattle.tc_isa.specs.declared.shapes.Cond.{Cond}
 use Rattle.tc_isa.specs.declared.shapes.Op.TheVariants.{Add, Sh}
 use Rattle.tc_isa.specs.declared.shapes.Shape.{Shape}
-use Rattle.tc_isa.specs.declared.shapes.Shape.TheVariants.{Compute, Scaled, Load, Store, Branch, Jump, Call, Ret, Rfe, Svlcx, Rslcx, Bisr, Enable, Disable, Syscall, Mfcr, Mtcr, Nothing}
+use Rattle.tc_isa.specs.declared.shapes.Shape.TheVariants.{Compute, Scaled, Load, Store, Branch, Svlcx, Rslcx, Bisr, Mfcr}
 use Rattle.tc_isa.specs.Bounded.{IsShape}
-use Rattle.tc_machine.specs.Machine.{moved}
 use Rattle.value_domain.specs.declared.values.Val.{Val}
 use Rattle.value_domain.specs.declared.states.State.{State}
 use Rattle.value_domain.specs.Limits.{Limits}
@@ -30,10 +27,9 @@ use Rattle.vd_transfer.proofs.RegisterLaws.{length-forgotten, forgotten_values}
 use Rattle.vd_transfer.proofs.ValueLaws.{value_of_value}
 use Rattle.elf_image.proofs.ReadBytes.{byte_lt}
 use Rattle.depth_cert.specs.declared.keys.Key.{Key}
-use Rattle.cfg_recover.specs.Entries.{call_key, sys_key, stack_of, entry_with, call_entry, aln_entry, sys_entry}
+use Rattle.cfg_recover.specs.Entries.{stack_of, entry_with, call_entry, aln_entry, sys_entry}
 use Rattle.depth_cert.specs.Exits.{lower_values, exit_of}
-use Rattle.cfg_recover.specs.LocalRules.{targets_of, are_aligned}
-use Rattle.cfg_recover.specs.Duties.{jump, enter, resume, Owed, owed, loaded_at, jump_on, next_of, successors_of, entered_and_back, entries_of, misaligned_at, misaligned_of, leavings_of, duties_of}
+use Rattle.cfg_recover.specs.Duties.{Owed, loaded_at}
 use Rattle.cfg_recover.proofs.CodeLaws.{IsCode-bounded}
 use Rattle.cfg_recover.proofs.EntryLaws.{lower_length, entry_length, sys_length}
 use Rattle.depth_cert.proofs.ExitValues.{after-at, with_lower_length}

@@ -1,5 +1,5 @@
 -- The maker's table between two steps, and at the end.
-use Rattle.std.specs.Prelude.{◌≡◌, ℕ, List, map}
+use Rattle.std.specs.Prelude.{◌≡◌, ℕ}
 use Rattle.indexmap.specs.IndexMap.{IndexMap, get}
 use Rattle.std.specs.declared.vec.Vec.{Vec}
 use Rattle.std.specs.declared.alloc.Global.{Global}
@@ -7,10 +7,7 @@ use Rattle.elf_image.specs.Images.{ImageData}
 use Rattle.tcd_plan.specs.PlanData.{PlanData}
 use Rattle.value_domain.specs.Limits.{Limits}
 use Rattle.depth_cert.specs.declared.keys.Key.{Key}
-use Rattle.cfg_recover.specs.Entries.{call_key, call_entry}
-use Rattle.cfg_recover.specs.Duties.{Owed, enter, owed, resume}
 use Rattle.cfg_recover.specs.Assignments.{point, Closed, Derived}
-use Rattle.depth_cert.specs.Known.{state}
 use Rattle.cfg_recover.specs.Refusals.{IsFault}
 use Rattle.depth_maker.specs.ProperAssignments.{AllFaultless}
 use Rattle.depth_maker.specs.TableView.{TableView, IsTable}
@@ -27,7 +24,6 @@ use Rattle.depth_maker.specs.Counts.{IsCountedIn}
 use Rattle.depth_maker.specs.EnteredFrames.{ArePlain}
 use Rattle.depth_maker.specs.Covered.{EntriesCovered}
 use Rattle.depth_maker.specs.declared.inputs_and_limits.Ground.{Ground}
-use Rattle.depth_maker.specs.declared.inputs_and_limits.Visit.{Visit}
 
 -- ---- the table
 -- the table as an assignment and marks
@@ -74,13 +70,3 @@ FineOn g t = IsFine g.bounds.now g.image.now g.plan.now t
 -- the fault holds
 abbrev pub AnsweredOn : Ground → Refusal → Type 0
 AnsweredOn g e = Answered g.bounds.now g.image.now g.plan.now e
-
--- ---- by the visit
-
--- to enter each of these functions, with the state after a call
-abbrev pub enters_by : Visit → List ℕ → List Owed
-enters_by v targets = map (λ t. owed 5 (enter (call_key v.key t) (call_entry v.state.now))) targets
-
--- to return after each of these functions
-abbrev pub resumes_by : Visit → ℕ → List ℕ → List Owed
-resumes_by v back targets = map (λ t. owed 4 (resume (call_key v.key t) back)) targets

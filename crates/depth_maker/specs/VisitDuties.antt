@@ -1,5 +1,5 @@
 -- What the visited point owes, and what of it was joined.
-use Rattle.std.specs.Prelude.{◌≡◌, ℕ, Bool, false, Option, List, Contains}
+use Rattle.std.specs.Prelude.{◌≡◌, ℕ, Bool, false, Option, List, Contains, map}
 use Rattle.std.specs.List.{flat_map}
 use Rattle.elf_image.specs.Images.{ImageData}
 use Rattle.tcd_plan.specs.PlanData.{PlanData}
@@ -14,7 +14,7 @@ use Rattle.cfg_recover.specs.Changes.{StandsFaultless}
 use Rattle.cfg_recover.specs.Code.{IsCode}
 use Rattle.cfg_recover.specs.Entries.{call_key, call_entry, sys_key, sys_entry}
 use Rattle.cfg_recover.specs.LocalFaults.{IsFaultless}
-use Rattle.cfg_recover.specs.Duties.{Duty, Owed, duties_of, entered_and_back, entries_of, interrupts_of, loaded_at, misaligned_entry, misaligned_of, next_of, owed, successors_of}
+use Rattle.cfg_recover.specs.Duties.{Duty, Owed, duties_of, entered_and_back, entries_of, interrupts_of, loaded_at, misaligned_entry, misaligned_of, next_of, owed, successors_of, enter, resume}
 use Rattle.cfg_recover.specs.Assignments.{point}
 use Rattle.depth_maker.specs.TableView.{Settled}
 use Rattle.depth_maker.specs.Spots.{spot_of}
@@ -110,3 +110,11 @@ IsPlainBy v = IsPlainAt (v.ground.now).image.now (v.ground.now).plan.now v.addr
 -- all that the point owes
 abbrev pub duties_by : Visit → Located → List Owed
 duties_by v found = duties_of (v.ground.now).bounds.now (v.ground.now).image.now (v.ground.now).plan.now v.key v.addr v.state.now found.shape found.size
+
+-- to enter each of these functions, with the state after a call
+abbrev pub enters_by : Visit → List ℕ → List Owed
+enters_by v targets = map (λ t. owed 5 (enter (call_key v.key t) (call_entry v.state.now))) targets
+
+-- to return after each of these functions
+abbrev pub resumes_by : Visit → ℕ → List ℕ → List Owed
+resumes_by v back targets = map (λ t. owed 4 (resume (call_key v.key t) back)) targets

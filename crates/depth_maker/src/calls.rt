@@ -4,8 +4,8 @@ ghost use Rattle.tc_isa.specs.Bounded.{IsTarget};
 ghost use Rattle.vd_transfer.specs.Changes.{state_after};
 ghost use Rattle.cfg_recover.specs.Entries as entries;
 ghost use Rattle.cfg_recover.specs.LocalRules.{targets_of};
-ghost use Rattle.depth_maker.specs.Table.{AnsweredOn, enters_by, resumes_by};
-ghost use Rattle.depth_maker.specs.VisitDuties.{OwesAll, JoinedBy, StayJoined, calls_by};
+ghost use Rattle.depth_maker.specs.Table.{AnsweredOn};
+ghost use Rattle.depth_maker.specs.VisitDuties.{enters_by, resumes_by, OwesAll, JoinedBy, StayJoined, calls_by};
 ghost use Rattle.depth_maker.specs.Visits.{VisitedBy};
 
 use crate::inputs_and_limits::Visit;

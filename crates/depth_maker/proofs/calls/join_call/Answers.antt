@@ -1,4 +1,4 @@
-use Rattle.std.proofs.Common.{sym, subst, ℕ, List, [], ◌∷◌, Option}
+use Rattle.std.proofs.Common.{sym, subst, ℕ, List, [], Option}
 use Rattle.std.specs.Prelude.{OnOk, unwrap_or}
 use Rattle.value_domain.specs.declared.states.State.{State}
 use Rattle.vd_transfer.specs.Changes.{state_after}

@@ -5,8 +5,7 @@ use Rattle.vd_transfer.specs.Changes.{state_after}
 use Rattle.depth_cert.specs.declared.keys.Key.{Key}
 use Rattle.cfg_recover.specs.Entries.{call_entry, call_key}
 use Rattle.cfg_recover.specs.Duties.{enter, owed}
-use Rattle.depth_maker.specs.Table.{enters_by}
-use Rattle.depth_maker.specs.VisitDuties.{JoinedBy, OwesDuty}
+use Rattle.depth_maker.specs.VisitDuties.{enters_by, JoinedBy, OwesDuty}
 use Rattle.depth_maker.proofs.Lawful.{lawful}
 use Rattle.depth_maker.proofs.PartLemmas.{duties_more_map, duties_none, owes_at_map, visited_after}
 use Rattle.depth_maker.proofs.calls.join_each_entry.Goals as goal

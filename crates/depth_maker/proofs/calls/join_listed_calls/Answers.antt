@@ -1,7 +1,6 @@
 use Rattle.std.proofs.Common.{sym, subst, ℕ, List, ◌∙◌}
 use Rattle.std.specs.Prelude.{OnOk}
-use Rattle.depth_maker.specs.Table.{resumes_by}
-use Rattle.depth_maker.specs.VisitDuties.{OwesAll, JoinedBy, calls_by}
+use Rattle.depth_maker.specs.VisitDuties.{resumes_by, OwesAll, JoinedBy, calls_by}
 use Rattle.depth_maker.proofs.Lawful.{lawful}
 use Rattle.depth_maker.proofs.NotedCalls.{on_halves, owes_entered, owes_resumed}
 use Rattle.depth_maker.proofs.PartLemmas.{visited_after}

@@ -1,6 +1,5 @@
 use Rattle.std.proofs.Common.{sym, subst, ℕ, List}
-use Rattle.depth_maker.specs.Table.{enters_by}
-use Rattle.depth_maker.specs.VisitDuties.{JoinedBy, OwesAll}
+use Rattle.depth_maker.specs.VisitDuties.{enters_by, JoinedBy, OwesAll}
 use Rattle.depth_maker.proofs.PartLemmas.{visited_after}
 use Rattle.depth_maker.proofs.calls.join_listed_entries.Goals as goal
 

@@ -1,10 +1,9 @@
-use Rattle.std.proofs.Common.{sym, subst, ℕ, List, [], ◌∷◌, get_or}
+use Rattle.std.proofs.Common.{sym, subst, ℕ, List, [], ◌∷◌}
 use Rattle.std.proofs.lemmas.List.{take_all}
 use Rattle.depth_cert.specs.declared.keys.Key.{Key}
 use Rattle.cfg_recover.specs.Entries.{call_key}
 use Rattle.cfg_recover.specs.Duties.{owed, resume}
-use Rattle.depth_maker.specs.Table.{resumes_by}
-use Rattle.depth_maker.specs.VisitDuties.{JoinedBy, OwesDuty}
+use Rattle.depth_maker.specs.VisitDuties.{resumes_by, JoinedBy, OwesDuty}
 use Rattle.depth_maker.proofs.Lawful.{lawful}
 use Rattle.depth_maker.proofs.PartLemmas.{duties_more_map, duties_none, owes_at_map, visited_after}
 use Rattle.depth_maker.proofs.calls.join_returns.Goals as goal

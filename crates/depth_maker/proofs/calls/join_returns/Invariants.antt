@@ -1,6 +1,5 @@
 use Rattle.std.proofs.Common.{take}
-use Rattle.depth_maker.specs.Table.{resumes_by}
-use Rattle.depth_maker.specs.VisitDuties.{JoinedBy}
+use Rattle.depth_maker.specs.VisitDuties.{resumes_by, JoinedBy}
 use Rattle.depth_maker.proofs.calls.join_returns.Given as goal
 
 abbrev pub invariant-loop-t : goal.invariant-loop-t
