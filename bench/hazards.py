@@ -2,10 +2,13 @@
 """Inputs within the limits that cost most, made with PROGRAM itself, and what they cost.
 
     hazards.py PROGRAM [--beside OTHER] [--folder DIR] [--limit SECONDS] [--times N] [NAME..]
+    hazards.py PROGRAM --growth [NAME..]
 
 Prints a line for each command: the seconds of processor time, the most memory in MB, the exit
 status, and the line printed. With OTHER, a second program of the same commands, it prints its
-figures too, and the ratios. --times makes each input so many times as large.
+figures too, and the ratios. --times makes each input so many times as large; a part, such as 0.5,
+makes it smaller. --growth prints the seconds of an eighth, of a quarter and of the whole of each
+input, and how often the second and the third hold the first.
 
 calls64    32,000 calls through a register of 64 functions
 calls128   4,000 calls through a register of 128 functions
@@ -103,17 +106,19 @@ def answers(most):
 
 #: name: the source of n times the size, the plan, the commands
 CASES = {
-    "calls64": (lambda n: by_register(32000 * n, 64), answers(63), ["cert", "check", "report"]),
-    "calls128": (lambda n: by_register(4000 * n, 128), answers(127), ["cert", "check"]),
+    "calls64": (
+        lambda n: by_register(int(32000 * n), 64), answers(63), ["cert", "check", "report"],
+    ),
+    "calls128": (lambda n: by_register(int(4000 * n), 128), answers(127), ["cert", "check"]),
     "known": (
-        lambda n: by_register(4000 * n, 128, known=True), answers(127), ["cert", "check"],
+        lambda n: by_register(int(4000 * n), 128, known=True), answers(127), ["cert", "check"],
     ),
     "climb": (
-        lambda n: climb(20000 * n, 13), plan(MANY_ROM, MANY_RAM, MANY_DEVICES, 4), ["cert"],
+        lambda n: climb(int(20000 * n), 13), plan(MANY_ROM, MANY_RAM, MANY_DEVICES, 4), ["cert"],
     ),
-    "pairs": (lambda n: pairs(4000 * n), plan(areas=4), ["cert", "check"]),
-    "recursion": (lambda n: recursion(2000 * n, 30), plan(areas=4000), ["cert"]),
-    "points": (lambda n: straight(65000 * n), plan(areas=4), ["cert", "report", "cfg"]),
+    "pairs": (lambda n: pairs(int(4000 * n)), plan(areas=4), ["cert", "check"]),
+    "recursion": (lambda n: recursion(int(2000 * n), 30), plan(areas=4000), ["cert"]),
+    "points": (lambda n: straight(int(65000 * n)), plan(areas=4), ["cert", "report", "cfg"]),
 }
 
 
@@ -160,6 +165,22 @@ def compare(name, programs, folder, limit):
         print(f"{name:9} {command:6} {'  '.join(parts)}  {costs[0][3]}", flush=True)
 
 
+def grow(name, program, folder, limit):
+    """Prints what an eighth, a quarter and the whole of a case take."""
+    seconds = {}
+    for part in (1 / 8, 1 / 4, 1):
+        if not make(name, part, program, folder):
+            return False
+        for command in CASES[name][2]:
+            words = [command, "x.elf", "x.json"] + ([] if command == "cfg" else ["x.cert"])
+            seconds.setdefault(command, []).append(run(program, words, folder, limit)[0])
+    for command, (eighth, quarter, whole) in seconds.items():
+        ratios = [it / max(eighth, 0.001) for it in (quarter, whole)]
+        print(f"{name:9} {command:6} {eighth:.3f} {quarter:.3f} {whole:.3f} s, "
+              f"{ratios[0]:.2f} {ratios[1]:.2f} times", flush=True)
+    return True
+
+
 def main():
     """Reads the words, and tries the cases that are asked for."""
     form = argparse.RawDescriptionHelpFormatter
@@ -169,14 +190,17 @@ def main():
     words.add_argument("--beside")
     words.add_argument("--folder")
     words.add_argument("--limit", type=int, default=200)
-    words.add_argument("--times", type=int, default=1)
-    asked = words.parse_args()
+    words.add_argument("--times", type=float, default=1)
+    words.add_argument("--growth", action="store_true")
+    asked = words.parse_intermixed_args()
     folder = pathlib.Path(asked.folder or tempfile.mkdtemp())
     given = [asked.program, asked.beside]
     programs = [str(pathlib.Path(it).resolve()) for it in given if it]
     made = True
     for name in asked.names or CASES:
-        if make(name, asked.times, programs[0], folder):
+        if asked.growth:
+            made = grow(name, programs[0], folder, asked.limit) and made
+        elif make(name, asked.times, programs[0], folder):
             compare(name, programs, folder, asked.limit)
         else:
             made = False
