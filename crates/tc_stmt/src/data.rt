@@ -74,13 +74,15 @@ pub(crate) fn value_rule(width: u8, o: &Operand<'_>) -> u8
     }
 }
 
-/// The item for a value of `width` bytes. If the value breaks a rule, its bytes are zeros.
+/// The item for a value of `width` bytes; `rule` is the least rule that the value breaks, or no
+/// rule. If it breaks one, its bytes are zeros.
 #[tactic(auto, unfolding(crate::specs::DataDirectives::value_item))]
-pub(crate) fn value_item<'a>(width: u8, o: &Operand<'a>) -> Item<'a>
-    requires { (width ≡ 1) ⊎ ((width ≡ 2) ⊎ (width ≡ 4)) }
+pub(crate) fn value_item<'a>(rule: u8, width: u8, o: &Operand<'a>) -> Item<'a>
+    requires rule { rule ≡ value_rule width (operand_of o.now) }
+    requires small { rule ≡ no_rule → o.now.value.size < 2 ^ 32 }
     ensures { item_of result ≡ value_item width (operand_of o.now) }
 {
-    if value_rule(width, o) != NO_RULE {
+    if rule != NO_RULE {
         return Item::Zeros(u32::from(width));
     }
     let size = o.value.size as u32;

@@ -9,7 +9,7 @@ ghost use Rattle.tc_lex.specs.Pieces.{piece_of, text_at as text_in_pieces};
 ghost use Rattle.tc_lex.specs.Operands.{operand_of, operands as operands_in};
 ghost use Rattle.tc_stmt.specs.Items.{item_of, label, section, global, code};
 ghost use Rattle.tc_stmt.specs.RowFields.{reference_of};
-ghost use Rattle.tc_stmt.specs.DataDirectives.{value_rule as value_rule_of, value_item, space_rule as space_rule_of, space_item as space_item_of};
+ghost use Rattle.tc_stmt.specs.DataDirectives.{value_item, space_rule as space_rule_of, space_item as space_item_of};
 ghost use Rattle.tc_stmt.specs.Lines.{line_data, Adds, behind, named_line, is_word_operand, word_of, space_line, values_rule, values_line, size_of_name, stated_line, line_from, line_with_label, pieces_line, has_label, label_of, label_before, line_in, code_line};
 
 use crate::data::{space_item, space_rule, value_item, value_rule};
@@ -110,38 +110,25 @@ fn count_rule(os: &[Operand<'_>]) -> u8
     }
 }
 
-fn least_rule(rule: u8, width: u8, o: &Operand<'_>) -> u8
-    requires { (width ≡ 1) ⊎ ((width ≡ 2) ⊎ (width ≡ 4)) }
-    ensures { result ≡ min rule (value_rule_of width (operand_of o.now)) }
-{
-    rule.min(value_rule(width, o))
-}
-
+// Adds the items of these values, and returns the least rule that they break.
 #[tactic(auto, unfolding(crate::specs::Lines::values_rule))]
-fn values_rule(width: u8, os: &[Operand<'_>]) -> u8
-    requires { (width ≡ 1) ⊎ ((width ≡ 2) ⊎ (width ≡ 4)) }
-    ensures { result ≡ values_rule width (map operand_of os.now) }
-{
-    let mut rule = count_rule(os);
-    for o in os {
-        rule = least_rule(rule, width, o);
-    }
-    rule
-}
-
 fn add_values<'a>(
     width: u8,
     os: &[Operand<'a>],
     items: &mut Vec<Item<'a>>,
-) -> Result<(), AllocError>
+) -> Result<u8, AllocError>
     requires { (width ≡ 1) ⊎ ((width ≡ 2) ⊎ (width ≡ 4)) }
-    ensures { OnOk result (map item_of items.new.items
+    ensures rule { IfOk result (λ rule. rule ≡ values_rule width (map operand_of os.now)) }
+    ensures items { OnOk result (map item_of items.new.items
         ≡ map item_of items.old.items ++ map (value_item width) (map operand_of os.now)) }
 {
+    let mut rule = count_rule(os);
     for o in os {
-        items.push(value_item(width, o))?;
+        let broken = value_rule(width, o);
+        items.push(value_item(broken, width, o))?;
+        rule = rule.min(broken);
     }
-    Ok(())
+    Ok(rule)
 }
 
 #[tactic(auto, unfolding(crate::specs::Lines::values_line))]
@@ -154,8 +141,8 @@ fn values_line<'a>(
     ensures { Adds (values_line width
         (map operand_of os.now)) result items.old.items items.new.items }
 {
-    add_values(width, os, items)?;
-    Ok(values_rule(width, os))
+    let rule = add_values(width, os, items)?;
+    Ok(rule)
 }
 
 fn find_row<'a>(rows: &'a [Row], name: &[u8]) -> Option<&'a Row>

@@ -1,5 +1,5 @@
 // Finds the row of a statement.
-ghost use Rattle.std.specs.Prelude.{◌≡◌, ◌<◌, map, option_map, length, drop, ◌≤◌, ◌+◌, true};
+ghost use Rattle.std.specs.Prelude.{◌≡◌, ◌<◌, map, length, true};
 ghost use Rattle.std.specs.Str.{bytes_eq};
 ghost use Rattle.tc_isa.specs.Rows.{row_of, listed};
 ghost use Rattle.tc_stmt.specs.Wants.{wants_of, now_of};
