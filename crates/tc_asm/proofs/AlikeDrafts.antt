@@ -8,6 +8,7 @@ use Rattle.std.proofs.lemmas.List.Sums.{fold_more}
 use Rattle.tc_isa.specs.declared.fields.Fields.{Fields}
 use Rattle.tc_isa.specs.Rows.{RowData, listed}
 use Rattle.tc_isa.specs.ValidRows.{is_long}
+use Rattle.tc_isa.specs.Relocations.{is_reloc}
 use Rattle.tc_stmt.specs.Names.{is_name}
 use Rattle.tc_stmt.specs.RowFields.{ReferenceData}
 use Rattle.tc_lex.proofs.Mapped.{position-map}
@@ -212,6 +213,23 @@ zeros_alike : (d e next : DraftData) (bs : List ℕ) (o : Option ReferenceData) 
 zeros_alike d e next bs o n made same h =
     subst (λ (x : DraftData). Alike x (with_content e bs o)) (sym made)
     (bytes_alike (with_reference d 0 o) (with_reference e (length bs) o) (reference_alike d e 0 (length bs) o h) (replicate n 0) bs (length-replicate n 0 ∙ same))
+
+-- a label
+pub label_counted : (d e next : DraftData) (name : List ℕ) → next ≡ with_label d name → Alike d e → Alike next (stepped [] e (label name))
+unfolding stepped
+label_counted d e next name made h = subst (λ (x : DraftData). Alike x (stepped [] e (label name))) (sym made) (label_alike d e h name)
+
+-- a symbol of the first pass, which has no use
+pub see_named : (d next : DraftData) (r : ReferenceData) → is_name r.name ≡ true → next ≡ record d { symbols = seen d.symbols r.name } → next ≡ with_reference d 0 (Some r)
+unfolding with_reference with_use
+see_named d next r named made =
+    let x : DraftData = record d { symbols = seen d.symbols r.name } in
+    made ∙ unused (has_section x) (has_room x 0) (is_reloc r.kind) (nat_lt x.count 65535) _ x ∙ sym (ap (λ b. cond b (with_use x 0 r) d) named)
+  where
+    unused : (a b e f : Bool) (x y : DraftData) → y ≡ cond (a && b && false && e && f) x y
+    unused true true e f x y = refl
+    unused true false e f x y = refl
+    unused false b e f x y = refl
 
 -- zeros instead of an instruction's bytes
 pub code_alike : (d e next : DraftData) (k : ℕ) (f : Fields) (o : Option ReferenceData) (n : ℕ) → IsCode k f o

@@ -5,6 +5,7 @@ pub mod CodeLaws
 pub mod RelocLaws
 pub mod ListLaws
 pub mod KeptLaws
+pub mod KnownSymbols
 pub mod ObjectLaws
 pub mod FinishLaws
 pub mod LaidLaws

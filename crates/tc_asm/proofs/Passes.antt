@@ -71,63 +71,11 @@ module _ (ls : List LineData) (i : ℕ) (x : LineData) (zs : List LineData) (her
     before = before;
   }
 
--- a further item of a line
-module _ (labels : List SymbolData) (items : List Item) (i : ℕ) (d : Item) (within : i < length items) where
-  rest : ℕ → List ItemData
-  rest n = drop n (map item_of items)
-
-  first : drop i (map item_of items) ≡ item_of (get_or items i d) ∷ drop (i + 1) (map item_of items)
-  first =
-      drop_more (map item_of items) i (item_of d) (rw (length-map items item_of) within)
-      ∙ ap (λ x. x ∷ drop (i + 1) (map item_of items)) (get_or-map item_of items i d (item_of d) within)
-
-  pub items_more : (draft next : DraftData) → next ≡ stepped labels draft (item_of (get_or items i d))
-      → fold (stepped labels) next (drop (i + 1) (map item_of items)) ≡ fold (stepped labels) draft (drop i (map item_of items))
-  items_more draft next e =
-      ap (λ n. fold (stepped labels) n (drop (i + 1) (map item_of items))) e ∙ sym (ap (fold (stepped labels) draft) first)
-
-  pub rules_more : (draft next : DraftData) (rule : ℕ) → next ≡ stepped labels draft (item_of (get_or items i d))
-      → min (min (item_rule labels draft (item_of (get_or items i d))) rule) (items_rule labels next (drop (i + 1) (map item_of items))) ≡ min rule (items_rule labels draft (drop i (map item_of items)))
-  rules_more draft next rule e =
-      ap (λ n. min (min (item_rule labels draft (item_of (get_or items i d))) rule) (items_rule labels n (drop (i + 1) (map item_of items)))) e
-      ∙ joined (item_rule labels draft (item_of (get_or items i d))) rule (items_rule labels (stepped labels draft (item_of (get_or items i d))) (drop (i + 1) (map item_of items)))
-      ∙ sym (ap (λ is. min rule (items_rule labels draft is)) first)
-    where
-      joined : (a b c : ℕ) → min (min a b) c ≡ min b (min a c)
-      joined a b c = omega arith
-
-  -- the draft and the rule of a loop over items, after a further item
-  pub items_step : (draft next : DraftData) (all : DraftData) → next ≡ stepped labels draft (item_of (get_or items i d))
-      → fold (stepped labels) draft (drop i (map item_of items)) ≡ all → fold (stepped labels) next (drop (i + 1) (map item_of items)) ≡ all
-  items_step draft next all e so_far = items_more draft next e ∙ so_far
-
-  pub rules_step : (draft next : DraftData) (a rule more all : ℕ) → next ≡ stepped labels draft (item_of (get_or items i d))
-      → a ≡ item_rule labels draft (item_of (get_or items i d)) → more ≡ min a rule
-      → min rule (items_rule labels draft (drop i (map item_of items))) ≡ all → min more (items_rule labels next (drop (i + 1) (map item_of items))) ≡ all
-  rules_step draft next a rule more all e is m so_far =
-      ap (λ r. min r (items_rule labels next (drop (i + 1) (map item_of items)))) (m ∙ ap (λ x. min x rule) is)
-      ∙ rules_more draft next rule e ∙ so_far
-
-items_rule-le : (labels : List SymbolData) (d : DraftData) (is : List ItemData) → items_rule labels d is ≤ 15
-items_rule-le labels d [] = omega arith
-items_rule-le labels d (i ∷ is) = let rest : items_rule labels (stepped labels d i) is ≤ 15 = items_rule-le labels (stepped labels d i) is in omega arith
-
-pub rules_none : (labels : List SymbolData) (d : DraftData) (is : List ItemData) → min 15 (items_rule labels d is) ≡ items_rule labels d is
-rules_none labels d is = let h : items_rule labels d is ≤ 15 = items_rule-le labels d is in omega arith
-
-pub items_end : (labels : List SymbolData) (items : List Item) (i : ℕ) (draft all : DraftData) → length items ≤ i
-    → fold (stepped labels) draft (drop i (map item_of items)) ≡ all → draft ≡ all
-items_end labels items i draft all past e = sym (ap (fold (stepped labels) draft) (drop_all i (map item_of items) (rw (length-map items item_of) past))) ∙ e
-
-pub rules_end : (labels : List SymbolData) (items : List Item) (i : ℕ) (draft : DraftData) (rule all : ℕ) → length items ≤ i → rule ≤ 15
-    → min rule (items_rule labels draft (drop i (map item_of items))) ≡ all → rule ≡ all
-rules_end labels items i draft rule all past small e =
-    let whole : rule ≡ min rule 15 = omega arith in
-    whole ∙ sym (ap (λ is. min rule (items_rule labels draft is)) (drop_all i (map item_of items) (rw (length-map items item_of) past))) ∙ e
-
--- ---- the end of a source
-pub drafted_end : (ls : List LineData) (i : ℕ) (labels : List SymbolData) (draft : DraftData) → length ls ≤ i → draft ≡ drafted labels (take i ls) → draft ≡ drafted labels ls
-drafted_end ls i labels draft past e = e ∙ ap (drafted labels) (take_all i ls past)
+-- the item at a place, with the items after it
+pub item_here : (items : List Item) (i : ℕ) (d : Item) → i < length items → drop i (map item_of items) ≡ item_of (get_or items i d) ∷ drop (i + 1) (map item_of items)
+item_here items i d within =
+    drop_more (map item_of items) i (item_of d) (rw (length-map items item_of) within)
+    ∙ ap (λ x. x ∷ drop (i + 1) (map item_of items)) (get_or-map item_of items i d (item_of d) within)
 
 -- ---- the lines of the code
 pub first_things : (items first : List Item) (n : ℕ) → first ≡ take n items → map item_of first ≡ take n (map item_of items)

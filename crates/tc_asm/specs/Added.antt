@@ -30,6 +30,10 @@ pub record IsData (bs : List ℕ) (o : Option ReferenceData) : Type 0 where
   pub kind : (r : ReferenceData) → o ≡ Some r → r.kind ≡ 7
   pub zero : (r : ReferenceData) → o ≡ Some r → bs ≡ 0 ∷ 0 ∷ 0 ∷ 0 ∷ []
 
+-- the symbol of an item has a name
+abbrev pub IsNamed : Option ReferenceData → Type 0
+IsNamed o = (r : ReferenceData) → o ≡ Some r → is_name r.name ≡ true
+
 -- an item that some line of a source adds
 abbrev pub IsItem : ItemData → Type 0
 IsItem (label name) = Unit {0}

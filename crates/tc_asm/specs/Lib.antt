@@ -13,3 +13,4 @@ pub mod InstructionLaws
 pub mod Added
 pub mod Alike
 pub mod ShortJumps
+pub mod KnownSymbols

@@ -1,11 +1,11 @@
 // Assembles a source in two passes: first for its symbols, then for its bytes.
-ghost use Rattle.std.specs.Prelude.{◌≡◌, ◌≤◌, ◌<◌, ◌^◌, All, map, length, IfOk, OnOk, IfErr, fold, take, drop, []};
+ghost use Rattle.std.specs.Prelude.{◌≡◌, ◌≤◌, ◌<◌, ◌^◌, ◌&&◌, if◌then◌else◌, All, true, map, length, min, IfOk, OnOk, IfErr, fold, take, drop, []};
 ghost use Rattle.tc_stmt.specs.Items.{item_of};
-ghost use Rattle.tc_stmt.specs.Lines.{line_data, lines_in};
+ghost use Rattle.tc_stmt.specs.Lines.{line_data, lines_in, items_in};
 ghost use Rattle.tc_asm.specs.Added.{IsItem};
 ghost use Rattle.tc_asm.specs.Drafts.{start, stepped};
 ghost use Rattle.tc_asm.specs.Sources.{with_line, drafted, symbols_of as symbols_in, KeepsRules, IsLeast};
-ghost use Rattle.tc_asm.specs.Rules.{items_rule, line_rule};
+ghost use Rattle.tc_asm.specs.KnownSymbols.{kept, kept_rule, are_new};
 ghost use Rattle.tc_asm.specs.Objects.{object_of};
 ghost use Rattle.tc_asm.specs.Errors.{IfBad};
 ghost use Rattle.tc_asm.specs.DraftInvariants.{IsDraft};
@@ -19,31 +19,48 @@ use std::alloc::{AllocError, Global};
 use tc_object::Object;
 use tc_stmt::{Item, Line, NO_RULE, Source, read_source};
 
-// Adds items as far as symbols depend on them: section names, labels and sizes.
+// Whether items are new, if those before the last one are: there is room for its symbol, and it
+// defines no label twice.
+#[inline(always)]
+fn and_new(before: bool, room: bool, new: bool) -> bool
+    ensures { result ≡ (before && (room && new)) }
+{
+    before && (room && new)
+}
+
+// Adds items as far as symbols depend on them: section names, labels and sizes. Returns whether
+// there is room for all symbols, and no label is there twice.
 fn count_items<'a>(
     alloc: Global,
     draft: &mut Draft<'a>,
     items: &[Item<'a>],
-) -> Result<(), AllocError>
+) -> Result<bool, AllocError>
     requires { All (λ i. IsItem (item_of i)) items.now }
-    ensures { OnOk result
+    ensures symbols { OnOk result
         (draft.new.symbols ≡ (fold (stepped []) draft.old (map item_of items.now)).symbols) }
+    ensures new { IfOk result (λ new. new ≡ are_new [] draft.old (map item_of items.now)) }
 {
     let none = Symbols::new(alloc);
+    let mut all_new = true;
     for item in items {
-        draft.count(alloc, &none, item)?;
+        let room = draft.has_symbol_room();
+        let new = draft.count(alloc, &none, item)?;
+        all_new = and_new(all_new, room, new);
     }
-    Ok(())
+    Ok(all_new)
 }
 
-// The symbols of all items, which don't depend on the targets of jumps.
-fn symbols_of<'a>(alloc: Global, items: &[Item<'a>]) -> Result<Symbols<'a>, AllocError>
+// The symbols of all items, which don't depend on the targets of jumps, and whether there is room
+// for all of them and no label is there twice.
+fn symbols_of<'a>(alloc: Global, items: &[Item<'a>]) -> Result<(Symbols<'a>, bool), AllocError>
     requires { All (λ i. IsItem (item_of i)) items.now }
-    ensures { IfOk result (λ s. s ≡ (fold (stepped []) start (map item_of items.now)).symbols) }
+    ensures symbols { IfOk result
+        (λ s. s.0 ≡ (fold (stepped []) start (map item_of items.now)).symbols) }
+    ensures new { IfOk result (λ s. s.1 ≡ are_new [] start (map item_of items.now)) }
 {
     let mut draft = Draft::new(alloc);
-    count_items(alloc, &mut draft, items)?;
-    Ok(draft.symbols)
+    let new = count_items(alloc, &mut draft, items)?;
+    Ok((draft.symbols, new))
 }
 
 // Adds items, and returns the least rule that they break.
@@ -51,16 +68,17 @@ fn add_items<'a>(
     alloc: Global,
     draft: &mut Draft<'a>,
     labels: &Symbols<'a>,
+    known: bool,
     items: &[Item<'a>],
 ) -> Result<u8, AllocError>
-    ensures draft { OnOk result
-        (draft.new ≡ fold (stepped labels.now) draft.old (map item_of items.now)) }
+    ensures draft { OnOk result (kept known draft.new
+        ≡ kept known (fold (stepped labels.now) draft.old (map item_of items.now))) }
     ensures rule { IfOk result
-        (λ rule. rule ≡ items_rule labels.now draft.old (map item_of items.now)) }
+        (λ rule. rule ≡ kept_rule known labels.now draft.old (map item_of items.now)) }
 {
     let mut rule = NO_RULE;
     for item in items {
-        rule = draft.put(alloc, labels, item)?.min(rule);
+        rule = draft.put_item(alloc, labels, known, item)?.min(rule);
     }
     Ok(rule)
 }
@@ -80,40 +98,69 @@ fn later_items<'p, 'a>(items: &'p [Item<'a>], count: u8) -> &'p [Item<'a>]
 }
 
 // Adds a line, whose items are first in `items`, and returns the least rule that it breaks.
-#[tactic(auto, unfolding(crate::specs::Sources::with_line, crate::specs::Rules::line_rule))]
+#[tactic(auto, unfolding(crate::specs::Sources::with_line))]
 fn add_line<'a>(
     alloc: Global,
     draft: &mut Draft<'a>,
     labels: &Symbols<'a>,
+    known: bool,
     line: Line,
     items: &[Item<'a>],
 ) -> Result<u8, AllocError>
-    ensures draft { OnOk result
-        (draft.new ≡ with_line labels.now draft.old
-        (line_data line.rule (take line.count (map item_of items.now)))) }
-    ensures rule { IfOk result
-        (λ rule. rule
-        ≡ line_rule labels.now draft.old
-        (line_data line.rule (take line.count (map item_of items.now)))) }
+    ensures draft { OnOk result (kept known draft.new
+        ≡ kept known (with_line labels.now draft.old
+        (line_data line.rule (take line.count (map item_of items.now))))) }
+    ensures rule { IfOk result (λ rule. rule ≡ min line.rule
+        (kept_rule known labels.now draft.old (take line.count (map item_of items.now)))) }
 {
     if line.count == 0 {
         return Ok(line.rule.min(NO_RULE));
     }
-    let rule = add_items(alloc, draft, labels, first_items(items, line.count))?;
+    let rule = add_items(alloc, draft, labels, known, first_items(items, line.count))?;
     Ok(line.rule.min(rule))
 }
 
-// The draft of all lines, or the first line that breaks a rule with the least rule there.
+// The draft with these symbols.
+fn with_symbols<'a>(draft: Draft<'a>, symbols: Symbols<'a>) -> Draft<'a>
+    ensures { result ≡ record draft.entry { symbols = symbols.entry } }
+{
+    Draft {
+        section: draft.section,
+        parts: draft.parts,
+        symbols,
+        total: draft.total,
+        count: draft.count,
+    }
+}
+
+// The draft with these symbols, if they are known.
+fn with_known<'a>(draft: Draft<'a>, known: bool, symbols: Symbols<'a>) -> Draft<'a>
+    ensures { result
+        ≡ (if known then record draft.entry { symbols = symbols.entry } else draft.entry) }
+{
+    if known {
+        return with_symbols(draft, symbols);
+    }
+    draft
+}
+
+// The draft of all lines, or the first line that breaks a rule with the least rule there. If there
+// is room for all symbols and no label is there twice, the symbols are `known`: they are those of
+// the first pass, and the draft is kept without them.
 fn draft_of_lines<'a>(
     alloc: Global,
     labels: &Symbols<'a>,
+    known: bool,
     source: &Source<'a>,
 ) -> Result<Draft<'a>, AsmErr>
     requires few { length source.now.lines.items < 2 ^ 32 }
     requires labels { labels.now ≡ symbols_in (lines_of source.now) }
-    ensures ok { IfOk result (λ d. d ≡ drafted labels.now (lines_of source.now)) }
-    ensures kept { OnOk result (KeepsRules (lines_of source.now) (length (lines_of source.now))) }
-    ensures whole { IfOk result (λ d. IsDraft d) }
+    requires known { known ≡ true
+        → are_new labels.now start (items_in (lines_of source.now)) ≡ true }
+    ensures ok { IfOk result
+        (λ d. kept known d ≡ kept known (drafted labels.now (lines_of source.now))) }
+    ensures rules { OnOk result (KeepsRules (lines_of source.now) (length (lines_of source.now))) }
+    ensures whole { OnOk result (IsDraft (drafted labels.now (lines_of source.now))) }
     ensures bad { IfErr result (IfBad (IsLeast (lines_of source.now))) }
 {
     let mut draft = Draft::new(alloc);
@@ -121,7 +168,7 @@ fn draft_of_lines<'a>(
     let mut rest = source.items.as_slice();
     for i in 0..lines.len() {
         let line = lines[i];
-        let rule = add_line(alloc, &mut draft, labels, line, rest)?;
+        let rule = add_line(alloc, &mut draft, labels, known, line, rest)?;
         if rule != NO_RULE {
             return Err(AsmErr::Bad {
                 line: (i + 1) as u32,
@@ -143,7 +190,7 @@ pub fn assemble(alloc: Global, source: &[u8]) -> Result<Object, AsmErr>
     ensures bad { IfErr result (IfBad (IsLeast (lines_in source.now))) }
 {
     let read = read_source(alloc, source)?;
-    let labels = symbols_of(alloc, &read.items)?;
-    let draft = draft_of_lines(alloc, &labels, &read)?;
-    Ok(finish(alloc, draft)?)
+    let (labels, known) = symbols_of(alloc, &read.items)?;
+    let draft = draft_of_lines(alloc, &labels, known, &read)?;
+    Ok(finish(alloc, with_known(draft, known, labels))?)
 }

@@ -47,12 +47,14 @@ pub(crate) const MOST_SECTIONS: usize = 64;
 const NO_NUMBER: usize = 64;
 
 impl<'a> Draft<'a> {
-    ghost use Rattle.std.specs.Prelude.{◌≡◌, [], OnOk, Some, option_map, replicate};
+    ghost use Rattle.std.specs.Prelude.{◌≡◌, [], OnOk, IfOk, Some, option_map, replicate};
     ghost use Rattle.tc_stmt.specs.RowFields.{reference_of};
-    ghost use Rattle.tc_stmt.specs.Items.{item_of, code, bytes as data_item};
-    ghost use Rattle.tc_asm.specs.Added.{IsCode, IsItem};
+    ghost use Rattle.tc_stmt.specs.Items.{item_of, label, code, bytes as data_item};
+    ghost use Rattle.tc_asm.specs.Added.{IsCode, IsData, IsItem, IsNamed};
     ghost use Rattle.tc_asm.specs.Alike.{Alike};
     ghost use Rattle.tc_asm.specs.Drafts.{DraftData, start, place_of, has_section, has_room, with_label, entered, with_global, with_bytes, with_use, with_reference, with_content, stepped};
+    ghost use Rattle.tc_asm.specs.Symbols.{seen};
+    ghost use Rattle.tc_asm.specs.KnownSymbols.{is_new};
 
     /// An empty draft.
     pub fn new(alloc: Global) -> Draft<'a>
@@ -93,19 +95,22 @@ impl<'a> Draft<'a> {
         n <= MOST_BYTES && self.total <= MOST_BYTES - n
     }
 
+    // Adds a label here, and returns whether its name has no label before it.
     #[inline(never)]
     #[tactic(auto, unfolding(crate::specs::Drafts::with_label))]
-    fn add_label(&mut self, name: &'a [u8]) -> Result<(), AllocError>
-        ensures { OnOk result (self.new ≡ with_label self.old name.entry.now) }
+    fn add_label(&mut self, name: &'a [u8]) -> Result<bool, AllocError>
+        ensures draft { OnOk result (self.new ≡ with_label self.old name.entry.now) }
+        ensures new { IfOk result (λ new. new ≡ is_new self.old.symbols (label name.entry.now)) }
     {
-        if is_name(name) {
-            let place = Place {
-                section: self.section,
-                offset: self.place(),
-            };
-            self.symbols.label(name, place)?;
+        if !is_name(name) {
+            return Ok(self.symbols.place(name).is_none());
         }
-        Ok(())
+        let place = Place {
+            section: self.section,
+            offset: self.place(),
+        };
+        let before = self.symbols.define(name, place)?;
+        Ok(before.is_none())
     }
 
     #[inline(never)]
@@ -146,8 +151,9 @@ impl<'a> Draft<'a> {
         Ok(())
     }
 
+    #[inline(always)]
     #[tactic(auto, unfolding(crate::specs::Drafts::with_bytes))]
-    fn add_bytes(&mut self, bytes: &[u8]) -> Result<(), AllocError>
+    pub(crate) fn add_bytes(&mut self, bytes: &[u8]) -> Result<(), AllocError>
         ensures { OnOk result (self.new ≡ with_bytes self.old bytes.now) }
     {
         if self.has_section() && self.has_room(bytes.len()) {
@@ -157,8 +163,9 @@ impl<'a> Draft<'a> {
         Ok(())
     }
 
+    #[inline(always)]
     #[tactic(auto, unfolding(crate::specs::Drafts::with_use))]
-    fn add_use(&mut self, size: usize, r: Reference<'a>) -> Result<(), AllocError>
+    pub(crate) fn add_use(&mut self, size: usize, r: Reference<'a>) -> Result<(), AllocError>
         ensures { OnOk result (self.new ≡ with_use self.old size (reference_of r.entry)) }
     {
         if self.has_section()
@@ -213,6 +220,7 @@ impl<'a> Draft<'a> {
     }
 
     // Adds zeros, which are only counted.
+    #[inline(always)]
     #[tactic(auto, unfolding(crate::specs::Drafts::with_bytes))]
     fn add_zeros(&mut self, n: usize) -> Result<(), AllocError>
         ensures { OnOk result (self.new ≡ with_bytes self.old (replicate n 0)) }
@@ -252,31 +260,73 @@ impl<'a> Draft<'a> {
         ensures { OnOk result (self.new ≡ stepped labels.now self.old (item_of item.now)) }
     {
         match item {
-            Item::Label(name) => self.add_label(*name),
+            Item::Label(name) => {
+                self.add_label(*name)?;
+                Ok(())
+            }
             Item::Section(name) => self.enter(alloc, *name),
             Item::Global(name) => self.make_global(*name),
             Item::Code(row, fields) => self.add_code(labels, *row, fields, &None),
             Item::Linked(row, kind, minus, fields, size, name) => {
-                let r = reference_to(*kind, *name, *minus, *size);
+                let r = Some(reference_to(*kind, *name, *minus, *size));
                 self.add_code(labels, *row, fields, &r)
             }
             Item::Data(len, bytes) => self.add_content(first_bytes(bytes, *len), &None),
             Item::Word(len, minus, size, name) => {
-                let r = reference_to(WORD32, *name, *minus, *size);
+                let r = Some(reference_to(WORD32, *name, *minus, *size));
                 self.add_content(first_bytes(&[0; 4], *len), &r)
             }
             Item::Zeros(n) => self.add_zeros(*n as usize),
         }
     }
 
+    // Notes a name.
+    #[inline(never)]
+    fn see_name(&mut self, name: &'a [u8]) -> Result<(), AllocError>
+        ensures { OnOk result
+            (self.new ≡ record self.old { symbols = seen self.old.symbols name.entry.now }) }
+    {
+        self.symbols.see(name)?;
+        Ok(())
+    }
+
+    // Notes the symbol of an item of the first pass, which needs no use of it.
+    #[inline(always)]
+    #[tactic(auto, unfolding(crate::specs::Drafts::with_reference))]
+    fn see_reference(&mut self, r: &Option<Reference<'a>>) -> Result<(), AllocError>
+        requires { IsNamed (option_map reference_of r.now) }
+        ensures { OnOk result
+            (self.new ≡ with_reference self.old 0 (option_map reference_of r.now)) }
+    {
+        match r {
+            None => Ok(()),
+            Some(r) => {
+                self.see_name(r.name)?;
+                Ok(())
+            }
+        }
+    }
+
     // Adds `n` zeros instead of bytes, and notes their symbol. The first pass needs no more.
+    #[inline(always)]
     fn count_bytes(&mut self, n: usize, r: &Option<Reference<'a>>) -> Result<(), AllocError>
+        requires { IsNamed (option_map reference_of r.now) }
         ensures { OnOk result
             (self.new ≡ with_bytes (with_reference self.old 0 (option_map reference_of r.now))
             (replicate n 0)) }
     {
-        self.add_reference(0, r)?;
+        self.see_reference(r)?;
         self.add_zeros(n)
+    }
+
+    // Adds a label in the first pass, and returns whether its name has no label before it.
+    fn count_label(&mut self, name: &'a [u8]) -> Result<bool, AllocError>
+        ensures alike { OnOk result ((d : DraftData) → Alike self.old d
+            → Alike self.new (stepped [] d (label name.entry.now))) }
+        ensures new { IfOk result (λ new. new ≡ is_new self.old.symbols (label name.entry.now)) }
+    {
+        let new = self.add_label(name)?;
+        Ok(new)
     }
 
     // Adds an instruction as far as symbols depend on it.
@@ -297,6 +347,7 @@ impl<'a> Draft<'a> {
 
     // Adds data as far as symbols depend on them.
     fn count_data(&mut self, bytes: &[u8], r: &Option<Reference<'a>>) -> Result<(), AllocError>
+        requires { IsData bytes.now (option_map reference_of r.now) }
         ensures { OnOk result ((d : DraftData) → Alike self.old d
             → Alike self.new (stepped [] d (data_item bytes.now (option_map reference_of r.now)))) }
     {
@@ -304,7 +355,7 @@ impl<'a> Draft<'a> {
         Ok(())
     }
 
-    // Adds an item other than an instruction and data, with an empty table of labels.
+    // Adds a section, a global name or zeros, with an empty table of labels.
     fn count_other(
         &mut self,
         alloc: Global,
@@ -320,30 +371,36 @@ impl<'a> Draft<'a> {
         Ok(())
     }
 
-    /// Adds an item as far as symbols depend on it. `none` is an empty table of labels.
+    /// Adds an item as far as symbols depend on it, and returns whether it defines no label twice.
+    /// `none` is an empty table of labels.
     pub fn count(
         &mut self,
         alloc: Global,
         none: &Symbols<'a>,
         item: &Item<'a>,
-    ) -> Result<(), AllocError>
+    ) -> Result<bool, AllocError>
         requires none { none.now ≡ [] }
         requires added { IsItem (item_of item.now) }
-        ensures { OnOk result ((d : DraftData) → Alike self.old d
+        ensures alike { OnOk result ((d : DraftData) → Alike self.old d
             → Alike self.new (stepped [] d (item_of item.now))) }
+        ensures new { IfOk result (λ new. new ≡ is_new self.old.symbols (item_of item.now)) }
     {
         match item {
-            Item::Code(row, fields) => self.count_code(*row, fields, &None),
+            Item::Label(name) => return self.count_label(*name),
+            Item::Code(row, fields) => self.count_code(*row, fields, &None)?,
             Item::Linked(row, kind, minus, fields, size, name) => {
-                let r = reference_to(*kind, *name, *minus, *size);
-                self.count_code(*row, fields, &r)
+                let r = Some(reference_to(*kind, *name, *minus, *size));
+                self.count_code(*row, fields, &r)?
             }
-            Item::Data(len, bytes) => self.count_data(first_bytes(bytes, *len), &None),
+            Item::Data(len, bytes) => self.count_data(first_bytes(bytes, *len), &None)?,
             Item::Word(len, minus, size, name) => {
-                let r = reference_to(WORD32, *name, *minus, *size);
-                self.count_data(first_bytes(&[0; 4], *len), &r)
+                let r = Some(reference_to(WORD32, *name, *minus, *size));
+                self.count_data(first_bytes(&[0; 4], *len), &r)?
             }
-            _ => self.count_other(alloc, none, item),
+            Item::Section(_) => self.count_other(alloc, none, item)?,
+            Item::Global(_) => self.count_other(alloc, none, item)?,
+            Item::Zeros(_) => self.count_other(alloc, none, item)?,
         }
+        Ok(true)
     }
 }

@@ -22,11 +22,12 @@ fn has_near_target(r: &Option<Reference<'_>>) -> bool
 }
 
 impl<'a> Draft<'a> {
-    ghost use Rattle.std.specs.Prelude.{option_map, length, None, OnOk, IfOk};
+    ghost use Rattle.std.specs.Prelude.{option_map, length, None, Some, OnOk, IfOk};
     ghost use Rattle.tc_stmt.specs.RowFields.{reference_of};
-    ghost use Rattle.tc_stmt.specs.Items.{item_of, label, code};
-    ghost use Rattle.tc_asm.specs.Drafts.{stepped, with_bytes, with_content};
+    ghost use Rattle.tc_stmt.specs.Items.{item_of, label, global, code};
+    ghost use Rattle.tc_asm.specs.Drafts.{stepped, with_bytes, with_reference, with_content};
     ghost use Rattle.tc_asm.specs.Rules.{content_rule, item_rule};
+    ghost use Rattle.tc_asm.specs.KnownSymbols.{nameless, kept};
 
     // Adds bytes without a symbol, and returns the least rule that they break.
     #[inline(never)]
@@ -151,10 +152,10 @@ impl<'a> Draft<'a> {
         Ok(twice.min(section).min(NO_RULE.min(room)))
     }
 
-    /// Adds an item, and returns the least rule that it breaks, or no rule. `labels` are the
-    /// symbols of the whole source.
+    // Adds an item, and returns the least rule that it breaks, or no rule. `labels` are the symbols
+    // of the whole source.
     #[tactic(auto, unfolding(crate::specs::Rules::item_rule, crate::specs::Drafts::stepped))]
-    pub(crate) fn put(
+    fn put(
         &mut self,
         alloc: Global,
         labels: &Symbols<'a>,
@@ -168,19 +169,148 @@ impl<'a> Draft<'a> {
             Item::Label(name) => self.put_label(labels, *name),
             Item::Code(row, fields) => self.put_code(labels, *row, fields, &None),
             Item::Linked(row, kind, minus, fields, size, name) => {
-                let r = reference_to(*kind, *name, *minus, *size);
+                let r = Some(reference_to(*kind, *name, *minus, *size));
                 self.put_code(labels, *row, fields, &r)
             }
             Item::Data(len, bytes) => self.put_bytes(first_bytes(bytes, *len), &None),
             Item::Word(len, minus, size, name) => {
-                let r = reference_to(WORD32, *name, *minus, *size);
+                let r = Some(reference_to(WORD32, *name, *minus, *size));
                 self.put_bytes(first_bytes(&[0; 4], *len), &r)
             }
-            _ => {
-                let rule = self.item_rule(labels, item);
-                self.step(alloc, labels, item)?;
-                Ok(rule)
+            _ => self.put_other(alloc, labels, item),
+        }
+    }
+
+    // Adds an item in the ordinary way, and returns the least rule that it breaks.
+    fn put_other(
+        &mut self,
+        alloc: Global,
+        labels: &Symbols<'a>,
+        item: &Item<'a>,
+    ) -> Result<u8, AllocError>
+        ensures draft { OnOk result (self.new ≡ stepped labels.now self.old (item_of item.now)) }
+        ensures rule { IfOk result
+            (λ rule. rule ≡ item_rule labels.now self.old (item_of item.now)) }
+    {
+        let rule = self.item_rule(labels, item);
+        self.step(alloc, labels, item)?;
+        Ok(rule)
+    }
+
+    // Notes the use of a symbol that is known.
+    #[inline(always)]
+    fn use_known(&mut self, size: usize, r: Reference<'a>) -> Result<(), AllocError>
+        ensures { OnOk result (nameless self.new
+            ≡ nameless (with_reference self.old size (Some (reference_of r.entry)))) }
+    {
+        if is_name(r.name) {
+            self.add_use(size, r)?;
+        }
+        Ok(())
+    }
+
+    // Adds bytes with a symbol that is known, and returns the least rule that they break.
+    #[inline(never)]
+    fn put_use(&mut self, bytes: &[u8], r: Reference<'a>) -> Result<u8, AllocError>
+        ensures draft { OnOk result (nameless self.new
+            ≡ nameless (with_content self.old bytes.now (Some (reference_of r.entry)))) }
+        ensures rule { IfOk result (λ rule. rule ≡ content_rule (nameless self.old)
+            (length bytes.now) (Some (reference_of r.entry))) }
+    {
+        let room = self
+            .bytes_room(bytes.len())
+            .min(NO_RULE.min(self.reloc_room(r)));
+        let rule = self.section_rule().min(room);
+        self.use_known(bytes.len(), r)?;
+        self.add_bytes(bytes)?;
+        Ok(rule)
+    }
+
+    // Adds an instruction with a symbol that is known, and returns the least rule that it breaks.
+    #[tactic(auto, unfolding(crate::specs::Rules::item_rule, crate::specs::Drafts::stepped, crate::specs::Drafts::code_bytes))]
+    fn put_linked(
+        &mut self,
+        labels: &Symbols<'a>,
+        row: u8,
+        fields: &Fields,
+        r: Reference<'a>,
+    ) -> Result<u8, AllocError>
+        ensures draft { OnOk result (nameless self.new ≡ nameless
+            (stepped labels.now self.old (code row fields.now (Some (reference_of r.entry))))) }
+        ensures rule { IfOk result (λ rule. rule ≡ item_rule labels.now (nameless self.old)
+            (code row fields.now (Some (reference_of r.entry)))) }
+    {
+        let found = self.resolve(labels, row, fields, &Some(r));
+        let code = code_of(row, &found.fields);
+        let rule = self.put_use(first_bytes(&code.bytes, code.len), r)?;
+        Ok(found.rule.min(rule))
+    }
+
+    // The least rule that a label breaks, if it isn't defined twice and there is room for it.
+    fn known_label_rule(&self, labels: &Symbols<'a>, name: &[u8]) -> u8
+        ensures { result ≡ item_rule labels.now (nameless self.now) (label name.now) }
+    {
+        let section = NO_RULE.min(self.section_rule());
+        section.min(Self::name_rule(name).min(NO_RULE))
+    }
+
+    // The least rule that a global name breaks, if there is room for it.
+    fn known_global_rule(&self, labels: &Symbols<'a>, name: &[u8]) -> u8
+        ensures { result ≡ item_rule labels.now (nameless self.now) (global name.now) }
+    {
+        let room = NO_RULE.min(Self::defined_rule(labels, name));
+        Self::name_rule(name).min(room)
+    }
+
+    // Adds an item but no symbol, and returns the least rule that it breaks after a draft without
+    // symbols.
+    fn put_nameless(
+        &mut self,
+        alloc: Global,
+        labels: &Symbols<'a>,
+        item: &Item<'a>,
+    ) -> Result<u8, AllocError>
+        ensures draft { OnOk result
+            (nameless self.new ≡ nameless (stepped labels.now self.old (item_of item.now))) }
+        ensures rule { IfOk result
+            (λ rule. rule ≡ item_rule labels.now (nameless self.old) (item_of item.now)) }
+    {
+        match item {
+            Item::Label(name) => Ok(self.known_label_rule(labels, *name)),
+            Item::Global(name) => Ok(self.known_global_rule(labels, *name)),
+            Item::Code(row, fields) => self.put_code(labels, *row, fields, &None),
+            Item::Linked(row, kind, minus, fields, size, name) => {
+                let r = reference_to(*kind, *name, *minus, *size);
+                self.put_linked(labels, *row, fields, r)
             }
+            Item::Data(len, bytes) => self.put_bytes(first_bytes(bytes, *len), &None),
+            Item::Word(len, minus, size, name) => {
+                let r = reference_to(WORD32, *name, *minus, *size);
+                self.put_use(first_bytes(&[0; 4], *len), r)
+            }
+            Item::Section(_) => self.put_other(alloc, labels, item),
+            Item::Zeros(_) => self.put_other(alloc, labels, item),
+        }
+    }
+
+    /// Adds an item, and returns the least rule that it breaks, or no rule. `labels` are the
+    /// symbols of the whole source. If they are `known`, the draft is kept without symbols.
+    pub(crate) fn put_item(
+        &mut self,
+        alloc: Global,
+        labels: &Symbols<'a>,
+        known: bool,
+        item: &Item<'a>,
+    ) -> Result<u8, AllocError>
+        ensures draft { OnOk result (kept known self.new
+            ≡ kept known (stepped labels.now self.old (item_of item.now))) }
+        ensures rule { IfOk result
+            (λ rule. rule ≡ item_rule labels.now (kept known self.old) (item_of item.now)) }
+    {
+        if known {
+            self.put_nameless(alloc, labels, item)
+        } else {
+            self.put(alloc, labels, item)
         }
     }
 }

@@ -26,6 +26,7 @@ impl<'a> Draft<'a> {
     ghost use Rattle.std.specs.Prelude.{option_map};
     ghost use Rattle.tc_stmt.specs.RowFields.{reference_of};
     ghost use Rattle.tc_stmt.specs.Items.{item_of, code};
+    ghost use Rattle.tc_asm.specs.KnownSymbols.{has_symbol_room};
     ghost use Rattle.tc_asm.specs.Rules.{label_rule, section_rule, name_rule, section_room, symbol_room, reloc_room, bytes_room, defined_rule, reference_rule, content_rule, item_rule};
 
     // Rule 7: a label that is defined already.
@@ -62,19 +63,26 @@ impl<'a> Draft<'a> {
         }
     }
 
+    /// Whether there is room for one more symbol.
+    pub(crate) fn has_symbol_room(&self) -> bool
+        ensures { result ≡ has_symbol_room self.now.symbols }
+    {
+        self.symbols.len() < MOST_SYMBOLS
+    }
+
     /// Rule 13: a 65,536th symbol.
     pub(crate) fn symbol_room(&self, name: &[u8]) -> u8
         ensures { result ≡ symbol_room self.now name.now }
     {
-        if self.symbols.len() < MOST_SYMBOLS || self.symbols.get(name).is_some() {
+        if self.has_symbol_room() || self.symbols.get(name).is_some() {
             NO_RULE
         } else {
             PAST_LIMITS
         }
     }
 
-    // Rule 13: a 65,536th relocation.
-    fn reloc_room(&self, r: Reference<'a>) -> u8
+    /// Rule 13: a 65,536th relocation.
+    pub(crate) fn reloc_room(&self, r: Reference<'a>) -> u8
         ensures { result ≡ reloc_room self.now (reference_of r.entry) }
     {
         if is_reloc(r.kind) && self.count >= MOST_RELOCS {
@@ -84,8 +92,8 @@ impl<'a> Draft<'a> {
         }
     }
 
-    // Rule 13: more than 16,777,216 bytes in all sections.
-    fn bytes_room(&self, n: usize) -> u8
+    /// Rule 13: more than 16,777,216 bytes in all sections.
+    pub(crate) fn bytes_room(&self, n: usize) -> u8
         ensures { result ≡ bytes_room self.now n }
     {
         if self.has_room(n) {
@@ -113,15 +121,15 @@ impl<'a> Draft<'a> {
         self.section_rule().min(room)
     }
 
-    // Rule 9: a bad name.
-    fn name_rule(name: &[u8]) -> u8
+    /// Rule 9: a bad name.
+    pub(crate) fn name_rule(name: &[u8]) -> u8
         ensures { result ≡ name_rule name.now }
     {
         if is_name(name) { NO_RULE } else { BAD_NAME }
     }
 
-    // Rule 14: a global name that no label of the source defines.
-    fn defined_rule(labels: &Symbols<'a>, name: &[u8]) -> u8
+    /// Rule 14: a global name that no label of the source defines.
+    pub(crate) fn defined_rule(labels: &Symbols<'a>, name: &[u8]) -> u8
         ensures { result ≡ defined_rule labels.now name.now }
     {
         if labels.place(name).is_some() {
@@ -170,12 +178,12 @@ impl<'a> Draft<'a> {
             }
             Item::Code(row, fields) => self.code_rule(labels, *row, fields, &None),
             Item::Linked(row, kind, minus, fields, size, name) => {
-                let r = reference_to(*kind, *name, *minus, *size);
+                let r = Some(reference_to(*kind, *name, *minus, *size));
                 self.code_rule(labels, *row, fields, &r)
             }
             Item::Data(len, bytes) => self.content_rule(first_bytes(bytes, *len).len(), &None),
             Item::Word(len, minus, size, name) => {
-                let r = reference_to(WORD32, *name, *minus, *size);
+                let r = Some(reference_to(WORD32, *name, *minus, *size));
                 self.content_rule(first_bytes(&[0; 4], *len).len(), &r)
             }
             Item::Zeros(n) => self.section_rule().min(self.bytes_room(*n as usize)),

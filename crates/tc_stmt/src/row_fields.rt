@@ -1,5 +1,5 @@
 // The fields of a row, as its operands fill them.
-ghost use Rattle.std.specs.Prelude.{◌≡◌, Some, option_map};
+ghost use Rattle.std.specs.Prelude.{◌≡◌};
 ghost use Rattle.tc_stmt.specs.RowFields.{reference_of};
 ghost use Rattle.tc_stmt.specs.Items.{reference_to};
 
@@ -23,15 +23,15 @@ pub struct Reference<'a> {
 }
 
 /// The reference of this kind to a symbol, with the number that is added to its address.
-pub fn reference_to(kind: u8, name: &[u8], minus: bool, size: u32) -> Option<Reference<'_>>
-    ensures { option_map reference_of result ≡ Some (reference_to kind name.now minus size) }
+pub fn reference_to(kind: u8, name: &[u8], minus: bool, size: u32) -> Reference<'_>
+    ensures { reference_of result ≡ reference_to kind name.now minus size }
 {
-    Some(Reference {
+    Reference {
         name,
         size,
         kind,
         minus,
-    })
+    }
 }
 
 /// The fields and the symbol of a row, and the least rule that the operands break. If they break

@@ -1,17 +1,18 @@
 use Rattle.std.proofs.Common.{min, fold, ap, ◌∙◌}
 use Rattle.tc_asm.specs.Drafts.{stepped}
 use Rattle.tc_asm.specs.Sources.{with_line}
-use Rattle.tc_asm.specs.Rules.{items_rule, line_rule}
+use Rattle.tc_asm.specs.KnownSymbols.{kept, kept_rule}
 use Rattle.tc_asm.proofs.Passes.{first_things}
 use Rattle.tc_asm.proofs.assemble_source.add_line.Goals as goal
 
 pub returns-clause-draft : goal.returns-clause-draft
 unfolding with_line
-returns-clause-draft c = c.in_ok-rule.ensures.draft ∙ ap (fold (stepped c.args.labels.now) c.args.draft.now) (first_things c.args.items.now c.first_items.result.now c.args.line.count c.first_items.ensures)
+returns-clause-draft c =
+    c.in_ok-rule.ensures.draft
+    ∙ ap (λ is. kept c.args.known (fold (stepped c.args.labels.now) c.args.draft.now is)) (first_things c.args.items.now c.first_items.result.now c.args.line.count c.first_items.ensures)
 
 pub returns-clause-rule : goal.returns-clause-rule
-unfolding line_rule
 returns-clause-rule c =
     c.min-2.ensures
     ∙ ap (min c.args.line.rule)
-    (c.in_ok-rule.ensures.rule ∙ ap (items_rule c.args.labels.now c.args.draft.now) (first_things c.args.items.now c.first_items.result.now c.args.line.count c.first_items.ensures))
+    (c.in_ok-rule.ensures.rule ∙ ap (kept_rule c.args.known c.args.labels.now c.args.draft.now) (first_things c.args.items.now c.first_items.result.now c.args.line.count c.first_items.ensures))

@@ -1,8 +1,10 @@
-use Rattle.std.proofs.Common.{◌≤◌, ◌+◌, ◌^◌, ◌∙◌, ap, length, map, arith}
+use Rattle.std.proofs.Common.{◌≤◌, ◌+◌, ◌^◌, ◌∙◌, ap, sym, subst, length, map, arith}
+use Rattle.tc_asm.specs.DraftInvariants.{IsDraft}
 use Rattle.tc_stmt.specs.Items.{item_of}
 use Rattle.tc_stmt.proofs.ReadLines.{few_read}
 use Rattle.tc_asm.proofs.Passes.{object_source, kept_source, labels_source}
 use Rattle.tc_asm.proofs.AlikeDrafts.{items_all}
+use Rattle.tc_asm.proofs.KnownSymbols.{whole_draft, symbols_again, new_again}
 use Rattle.tc_asm.proofs.assemble_source.assemble.Goals as goal
 
 pub symbols_of-requires : goal.symbols_of-requires
@@ -15,12 +17,29 @@ draft_of_lines-requires-clause-few c =
     omega arith
 
 pub draft_of_lines-requires-clause-labels : goal.draft_of_lines-requires-clause-labels
-draft_of_lines-requires-clause-labels c = labels_source c.args.source.now c.in_ok-read.read c.deref.result.now _ c.in_ok-labels.ensures c.deref.ensures.value c.in_ok-read.ensures.items c.in_ok-read.ensures.lines
+draft_of_lines-requires-clause-labels c = labels_source c.args.source.now c.in_ok-read.read c.deref.result.now _ c.in_ok-labels.ensures.symbols c.deref.ensures.value c.in_ok-read.ensures.items c.in_ok-read.ensures.lines
+
+pub draft_of_lines-requires-clause-known : goal.draft_of_lines-requires-clause-known
+draft_of_lines-requires-clause-known c =
+    new_again c.args.source.now c.in_ok-read.read c.in_ok-read.ensures.lines _
+    (labels_source c.args.source.now c.in_ok-read.read c.deref.result.now _ c.in_ok-labels.ensures.symbols c.deref.ensures.value c.in_ok-read.ensures.items c.in_ok-read.ensures.lines)
+    c.deref.result.now c.deref.ensures.value c.in_ok-read.ensures.items _ c.in_ok-labels.ensures.new
+
+pub finish-requires : goal.finish-requires
+finish-requires c =
+    subst IsDraft
+    (sym (whole_draft _ _ _ _ _ c.in_ok-draft.ensures.ok
+    (symbols_again c.args.source.now c.in_ok-read.read c.in_ok-read.ensures.lines _
+    (labels_source c.args.source.now c.in_ok-read.read c.deref.result.now _ c.in_ok-labels.ensures.symbols c.deref.ensures.value c.in_ok-read.ensures.items c.in_ok-read.ensures.lines))
+    c.with_known.ensures))
+    c.in_ok-draft.ensures.whole
 
 pub returns-clause-ok : goal.returns-clause-ok
 returns-clause-ok c =
-    object_source c.args.source.now c.in_ok-read.read c.in_ok-read.ensures.lines _ _ _ c.in_ok-finish.ensures c.in_ok-draft.ensures.ok
-    (labels_source c.args.source.now c.in_ok-read.read c.deref.result.now _ c.in_ok-labels.ensures c.deref.ensures.value c.in_ok-read.ensures.items c.in_ok-read.ensures.lines)
+    let same = labels_source c.args.source.now c.in_ok-read.read c.deref.result.now _ c.in_ok-labels.ensures.symbols c.deref.ensures.value c.in_ok-read.ensures.items c.in_ok-read.ensures.lines in
+    object_source c.args.source.now c.in_ok-read.read c.in_ok-read.ensures.lines _ _ _ c.in_ok-finish.ensures
+    (whole_draft _ _ _ _ _ c.in_ok-draft.ensures.ok (symbols_again c.args.source.now c.in_ok-read.read c.in_ok-read.ensures.lines _ same) c.with_known.ensures)
+    same
 
 pub returns-clause-kept : goal.returns-clause-kept
-returns-clause-kept c = kept_source c.args.source.now c.in_ok-read.read c.in_ok-read.ensures.lines c.in_ok-draft.ensures.kept
+returns-clause-kept c = kept_source c.args.source.now c.in_ok-read.read c.in_ok-read.ensures.lines c.in_ok-draft.ensures.rules

@@ -1,14 +1,17 @@
-use Rattle.std.proofs.Common.{◌≡◌, take, drop, map}
+use Rattle.std.proofs.Common.{◌≡◌, true, take, drop, map}
 use Rattle.tc_stmt.specs.Items.{item_of}
+use Rattle.tc_stmt.specs.Lines.{items_in}
 use Rattle.tc_asm.specs.Sources.{drafted, KeepsRules}
 use Rattle.tc_asm.specs.DraftInvariants.{IsDraft}
+use Rattle.tc_asm.specs.KnownSymbols.{kept, are_new}
 use Rattle.tc_stmt.specs.Readings.{lines_read, lines_of}
 use Rattle.tc_asm.proofs.assemble_source.draft_of_lines.Given as goal
 
 abbrev pub invariant-loop-i : goal.invariant-loop-i
 invariant-loop-i l = record {
-  so_far : l.draft ≡ drafted l.labels (take l.i (lines_of l.source));
-  whole : IsDraft l.draft;
-  kept : KeepsRules (lines_of l.source) l.i;
+  so_far : kept l.known l.draft ≡ kept l.known (drafted l.labels (take l.i (lines_of l.source)));
+  whole : IsDraft (drafted l.labels (take l.i (lines_of l.source)));
+  rules : KeepsRules (lines_of l.source) l.i;
   rest : drop l.i (lines_of l.source) ≡ lines_read (drop l.i l.lines) (map item_of l.rest);
+  new : l.known ≡ true → are_new l.labels (drafted l.labels (take l.i (lines_of l.source))) (items_in (drop l.i (lines_of l.source))) ≡ true;
 }

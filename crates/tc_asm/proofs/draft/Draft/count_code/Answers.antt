@@ -4,6 +4,9 @@ use Rattle.tc_stmt.specs.RowFields.{reference_of}
 use Rattle.tc_asm.proofs.AlikeDrafts.{code_alike}
 use Rattle.tc_asm.proofs.draft.Draft.count_code.Goals as goal
 
+pub count_bytes-requires : goal.count_bytes-requires
+count_bytes-requires c = λ r e. (c.requires.symbols.some r e).named
+
 pub returns : goal.returns
 returns c = λ d h.
     code_alike c.args.self.now d _ c.args.row c.args.fields.now (option_map reference_of c.args.r.now) _ c.requires c.in_ok-count_bytes.ensures

@@ -1,0 +1,400 @@
+-- The second pass over a source whose symbols are known.
+use Rattle.std.proofs.Common.{◌≡◌, ◌≤◌, ◌<◌, ◌+◌, ◌&&◌, ◌||◌, ◌==◌, min, ℕ, Bool, true, false, cond, List, [], ◌∷◌, ◌++◌, length, map, get_or, take, drop, replicate, Option, Some, None, refl, sym, ap, ◌∙◌, arith}
+use Rattle.std.specs.Prelude.{Result, Ok, Err, OnOk, IfOk, fold, is_some, nat_lt, not}
+use Rattle.std.proofs.lemmas.Bool.{and_parts, and_from}
+use Rattle.std.proofs.lemmas.List.{length-map, get_or-map, drop_all, take_all, drop_more}
+use Rattle.std.proofs.lemmas.List.Sums.{fold_more}
+use Rattle.tc_isa.specs.declared.fields.Fields.{Fields}
+use Rattle.tc_isa.specs.Relocations.{is_reloc}
+use Rattle.tc_stmt.specs.Names.{is_name}
+use Rattle.tc_stmt.specs.RowFields.{ReferenceData, RowFieldsData}
+use Rattle.tc_stmt.specs.declared.item.Item.{Item}
+use Rattle.tc_stmt.specs.Items.{ItemData, item_of, label, section, global, code, bytes, zeros}
+use Rattle.tc_stmt.specs.Lines.{LineData, lines_in, items_in}
+use Rattle.tc_stmt.specs.Readings.{lines_of}
+use Rattle.tc_stmt.specs.declared.source.Line.{Line}
+use Rattle.tc_stmt.specs.declared.source.Source.{Source}
+use Rattle.tc_stmt.proofs.ReadLines.{length-lines_read}
+use Rattle.tc_asm.specs.Added.{IsItem}
+use Rattle.tc_asm.specs.Alike.{Alike}
+use Rattle.tc_asm.specs.DraftInvariants.{Each}
+use Rattle.tc_asm.specs.Symbols.{SymbolData, entry_in, place_in, seen, labelled, made_global}
+use Rattle.tc_asm.specs.Drafts.{UseData, DraftData, part, start, place_of, has_section, has_room, here, with_label, number_of_part, entered, with_global, extended, with_bytes, used, with_use, with_reference, with_content, distance, jumped, resolved, bytes_of, code_bytes, stepped}
+use Rattle.tc_asm.specs.Rules.{label_rule, section_rule, name_rule, symbol_room, reloc_room, bytes_room, defined_rule, content_rule, item_rule, items_rule, line_rule}
+use Rattle.tc_asm.specs.Sources.{with_line, drafted, symbols_of, symbols_in}
+use Rattle.tc_asm.specs.KnownSymbols.{nameless, kept, is_new, has_symbol_room, are_new, kept_rule}
+use Rattle.tc_asm.proofs.AlikeDrafts.{alike_same, step_alike, passes_agree}
+use Rattle.tc_asm.proofs.SourceItems.{source_are}
+use Rattle.tc_asm.proofs.Passes.{item_here, drafted_more, behind_here}
+
+-- ---- drafts without their symbols
+same_cond : (b : Bool) (w x y z : DraftData) → nameless w ≡ nameless y → nameless x ≡ nameless z → nameless (cond b w x) ≡ nameless (cond b y z)
+same_cond true w x y z h k = h
+same_cond false w x y z h k = k
+
+bytes_nameless : (d : DraftData) (bs : List ℕ) → nameless (with_bytes d bs) ≡ nameless (with_bytes (nameless d) bs)
+unfolding with_bytes
+bytes_nameless d bs =
+    same_cond (has_section d && has_room d (length bs))
+    (record d { parts = extended d.parts d.section bs; total = d.total + length bs }) d
+    (record (nameless d) { parts = extended d.parts d.section bs; total = d.total + length bs }) (nameless d) refl refl
+
+use_nameless : (d : DraftData) (n : ℕ) (r : ReferenceData) → nameless (with_use d n r) ≡ nameless (with_use (nameless d) n r)
+unfolding with_use place_of
+use_nameless d n r =
+    let u : UseData = record { offset = place_of d; reference = r } in
+    same_cond (has_section d && has_room d n && n == 4 && is_reloc r.kind && nat_lt d.count 65535)
+    (record d { parts = used d.parts d.section u; count = d.count + 1 }) d
+    (record (nameless d) { parts = used d.parts d.section u; count = d.count + 1 }) (nameless d) refl refl
+
+reference_nameless : (d : DraftData) (n : ℕ) (o : Option ReferenceData) → nameless (with_reference d n o) ≡ nameless (with_reference (nameless d) n o)
+unfolding with_reference
+reference_nameless d n None = refl
+reference_nameless d n (Some r) =
+    same_cond (is_name r.name)
+    (with_use (record d { symbols = seen d.symbols r.name }) n r) d
+    (with_use (record d { symbols = seen [] r.name }) n r) (nameless d)
+    (use_nameless (record d { symbols = seen d.symbols r.name }) n r ∙ sym (use_nameless (record d { symbols = seen [] r.name }) n r))
+    refl
+
+content_nameless : (d : DraftData) (bs : List ℕ) (o : Option ReferenceData) → nameless (with_content d bs o) ≡ nameless (with_content (nameless d) bs o)
+content_nameless d bs o =
+    bytes_nameless (with_reference d (length bs) o) bs
+    ∙ ap (λ (x : DraftData). nameless (with_bytes x bs)) (reference_nameless d (length bs) o)
+    ∙ sym (bytes_nameless (with_reference (nameless d) (length bs) o) bs)
+
+entered_nameless : (d : DraftData) (name : List ℕ) → nameless (entered d name) ≡ nameless (entered (nameless d) name)
+unfolding entered
+entered_nameless d name =
+    let old : DraftData → DraftData = λ e. record e { section = number_of_part d.parts name } in
+    let new : DraftData → DraftData = λ e. record e { section = length d.parts; parts = d.parts ++ part name [] [] ∷ [] } in
+    let full : DraftData → DraftData = λ e. cond (nat_lt (length d.parts) 64) (new e) e in
+    same_cond (not (is_name name)) d (cond (nat_lt (number_of_part d.parts name) (length d.parts)) (old d) (full d))
+    (nameless d) (cond (nat_lt (number_of_part d.parts name) (length d.parts)) (old (nameless d)) (full (nameless d))) refl
+    (same_cond (nat_lt (number_of_part d.parts name) (length d.parts)) (old d) (full d) (old (nameless d)) (full (nameless d)) refl
+    (same_cond (nat_lt (length d.parts) 64) (new d) d (new (nameless d)) (nameless d) refl refl))
+
+resolved_nameless : (labels : List SymbolData) (d : DraftData) (k : ℕ) (f : Fields) (o : Option ReferenceData) → resolved labels d k f o ≡ resolved labels (nameless d) k f o
+unfolding jumped distance place_of
+resolved_nameless labels d k f None = refl
+resolved_nameless labels d k f (Some r) = refl
+
+code_nameless : (labels : List SymbolData) (d : DraftData) (k : ℕ) (f : Fields) (o : Option ReferenceData) → code_bytes labels d k f o ≡ code_bytes labels (nameless d) k f o
+unfolding code_bytes
+code_nameless labels d k f o = ap (λ (x : RowFieldsData). bytes_of k x.fields) (resolved_nameless labels d k f o)
+
+step_nameless : (labels : List SymbolData) (d : DraftData) (i : ItemData) → nameless (stepped labels d i) ≡ nameless (stepped labels (nameless d) i)
+unfolding stepped with_label with_global
+step_nameless labels d (label name) =
+    same_cond (is_name name) (record d { symbols = labelled d.symbols name (here d) }) d (record d { symbols = labelled [] name (here (nameless d)) }) (nameless d) refl refl
+step_nameless labels d (section name) = entered_nameless d name
+step_nameless labels d (global name) =
+    same_cond (is_name name) (record d { symbols = made_global d.symbols name }) d (record d { symbols = made_global [] name }) (nameless d) refl refl
+step_nameless labels d (code k f o) =
+    content_nameless d (code_bytes labels d k f o) o ∙ ap (λ (bs : List ℕ). nameless (with_content (nameless d) bs o)) (code_nameless labels d k f o)
+step_nameless labels d (bytes bs o) = content_nameless d bs o
+step_nameless labels d (zeros n) = bytes_nameless d (replicate n 0)
+
+-- a label and a global name change only symbols
+unchanged : (b : Bool) (d : DraftData) (ss : List SymbolData) → nameless d ≡ nameless (cond b (record d { symbols = ss }) d)
+unchanged true d ss = refl
+unchanged false d ss = refl
+
+pub label_unchanged : (labels : List SymbolData) (d : DraftData) (name : List ℕ) → nameless d ≡ nameless (stepped labels d (label name))
+unfolding stepped with_label
+label_unchanged labels d name = unchanged (is_name name) d (labelled d.symbols name (here d))
+
+pub global_unchanged : (labels : List SymbolData) (d : DraftData) (name : List ℕ) → nameless d ≡ nameless (stepped labels d (global name))
+unfolding stepped with_global
+global_unchanged labels d name = unchanged (is_name name) d (made_global d.symbols name)
+
+-- the use of a symbol that is known
+pub use_named : (d next : DraftData) (n : ℕ) (r : ReferenceData) (b : Bool) → b ≡ is_name r.name → b ≡ true → next ≡ with_use d n r → nameless next ≡ nameless (with_reference d n (Some r))
+unfolding with_reference
+use_named d next n r b is so used =
+    ap nameless used
+    ∙ use_nameless d n r
+    ∙ sym (use_nameless (record d { symbols = seen d.symbols r.name }) n r)
+    ∙ ap (λ c. nameless (cond c (with_use (record d { symbols = seen d.symbols r.name }) n r) d)) (sym so ∙ is)
+
+pub use_unnamed : (d : DraftData) (n : ℕ) (r : ReferenceData) (b : Bool) → b ≡ is_name r.name → b ≡ false → nameless d ≡ nameless (with_reference d n (Some r))
+unfolding with_reference
+use_unnamed d n r b is unset = ap (λ c. nameless (cond c (with_use (record d { symbols = seen d.symbols r.name }) n r) d)) (sym unset ∙ is)
+
+-- bytes after it
+pub use_bytes : (d mid next : DraftData) (bs : List ℕ) (o : Option ReferenceData) → nameless mid ≡ nameless (with_reference d (length bs) o) → next ≡ with_bytes mid bs
+    → nameless next ≡ nameless (with_content d bs o)
+use_bytes d mid next bs o used added =
+    ap nameless added
+    ∙ bytes_nameless mid bs
+    ∙ ap (λ (x : DraftData). nameless (with_bytes x bs)) used
+    ∙ sym (bytes_nameless (with_reference d (length bs) o) bs)
+
+-- ---- what is kept of drafts
+pub kept_step : (known : Bool) (labels : List SymbolData) (d e : DraftData) (i : ItemData) → kept known d ≡ kept known e → kept known (stepped labels d i) ≡ kept known (stepped labels e i)
+kept_step true labels d e i h = step_nameless labels d i ∙ ap (λ (x : DraftData). nameless (stepped labels x i)) h ∙ sym (step_nameless labels e i)
+kept_step false labels d e i h = ap (λ (x : DraftData). stepped labels x i) h
+
+pub kept_fold : (known : Bool) (labels : List SymbolData) (is : List ItemData) (d e : DraftData) → kept known d ≡ kept known e
+    → kept known (fold (stepped labels) d is) ≡ kept known (fold (stepped labels) e is)
+kept_fold known labels [] d e h = h
+kept_fold known labels (i ∷ is) d e h = kept_fold known labels is (stepped labels d i) (stepped labels e i) (kept_step known labels d e i h)
+
+pub rule_same : (known : Bool) (labels : List SymbolData) (is : List ItemData) (d e : DraftData) → kept known d ≡ kept known e → kept_rule known labels d is ≡ kept_rule known labels e is
+rule_same known labels [] d e h = refl
+rule_same known labels (i ∷ is) d e h =
+    ap (λ (x : DraftData). min (item_rule labels x i) (kept_rule known labels (stepped labels d i) is)) h
+    ∙ ap (min (item_rule labels (kept known e) i)) (rule_same known labels is (stepped labels d i) (stepped labels e i) (kept_step known labels d e i h))
+
+-- ---- rules of symbols that are known
+chosen : (a b : Bool) (x y : ℕ) → b ≡ true → cond (a || b) x y ≡ x
+chosen true b x y e = refl
+chosen false true x y e = refl
+chosen false false x y e = cc
+
+room_is : (d : DraftData) (name : List ℕ) → has_symbol_room d.symbols ≡ true → symbol_room d name ≡ 15
+room_is d name h = chosen (is_some (entry_in d.symbols name)) (nat_lt (length d.symbols) 65535) 15 13 h
+
+new_is : (b : Bool) (x y : ℕ) → not b ≡ true → cond b x y ≡ y
+new_is true x y h = cc
+new_is false x y h = refl
+
+content_same : (d : DraftData) (n : ℕ) (o : Option ReferenceData) → has_symbol_room d.symbols ≡ true → content_rule (nameless d) n o ≡ content_rule d n o
+content_same d n None room = refl
+content_same d n (Some r) room =
+    ap (λ k. min (section_rule d) (min (bytes_room d n) (min k (reloc_room d r)))) (room_is (nameless d) r.name refl ∙ sym (room_is d r.name room))
+
+item_same : (labels : List SymbolData) (d : DraftData) (i : ItemData) → has_symbol_room d.symbols ≡ true → is_new d.symbols i ≡ true → item_rule labels (nameless d) i ≡ item_rule labels d i
+unfolding item_rule code_bytes
+item_same labels d (label name) room new =
+    ap (λ k. min (min 15 (section_rule d)) (min (name_rule name) k)) (room_is (nameless d) name refl ∙ sym (room_is d name room))
+    ∙ ap (λ k. min (min k (section_rule d)) (min (name_rule name) (symbol_room d name))) (sym (new_is (is_some (place_in d.symbols name)) 7 15 new))
+item_same labels d (section name) room new = refl
+item_same labels d (global name) room new =
+    ap (λ k. min (name_rule name) (min k (defined_rule labels name))) (room_is (nameless d) name refl ∙ sym (room_is d name room))
+item_same labels d (code k f o) room new =
+    ap (λ (x : RowFieldsData). min x.rule (content_rule (nameless d) (length (bytes_of k x.fields)) o)) (sym (resolved_nameless labels d k f o))
+    ∙ ap (min (resolved labels d k f o).rule) (content_same d (length (code_bytes labels d k f o)) o room)
+item_same labels d (bytes bs o) room new = content_same d (length bs) o room
+item_same labels d (zeros n) room new = refl
+
+never : (b : Bool) → false ≡ true → b ≡ true
+never b e = cc
+
+rules_kept : (known : Bool) (labels : List SymbolData) (is : List ItemData) (d : DraftData) → (known ≡ true → are_new labels d is ≡ true) → kept_rule known labels d is ≡ items_rule labels d is
+rules_kept known labels [] d new = refl
+rules_kept false labels (i ∷ is) d new = ap (min (item_rule labels d i)) (rules_kept false labels is (stepped labels d i) (never (are_new labels (stepped labels d i) is)))
+rules_kept true labels (i ∷ is) d new =
+    let p = and_parts (has_symbol_room d.symbols && is_new d.symbols i) (are_new labels (stepped labels d i) is) (new refl) in
+    let q = and_parts (has_symbol_room d.symbols) (is_new d.symbols i) p.0 in
+    ap (λ k. min k (kept_rule true labels (stepped labels d i) is)) (item_same labels d i q.0 q.1)
+    ∙ ap (min (item_rule labels d i)) (rules_kept true labels is (stepped labels d i) (λ e. p.1))
+
+-- the rules of labels and global names that are known
+pub label_rule_known : (labels : List SymbolData) (d : DraftData) (name : List ℕ) → min (min 15 (section_rule d)) (min (name_rule name) 15) ≡ item_rule labels (nameless d) (label name)
+unfolding item_rule
+label_rule_known labels d name = refl
+
+pub global_rule_known : (labels : List SymbolData) (d : DraftData) (name : List ℕ) → min (name_rule name) (min 15 (defined_rule labels name)) ≡ item_rule labels (nameless d) (global name)
+unfolding item_rule
+global_rule_known labels d name = refl
+
+-- the rules of an item that are the same with and without symbols
+pub plain_rule : (labels : List SymbolData) (d : DraftData) (k : ℕ) (f : Fields) → item_rule labels d (code k f None) ≡ item_rule labels (nameless d) (code k f None)
+unfolding item_rule code_bytes
+plain_rule labels d k f = ap (λ (x : RowFieldsData). min x.rule (content_rule (nameless d) (length (bytes_of k x.fields)) None)) (resolved_nameless labels d k f None)
+
+pub section_rule_same : (labels : List SymbolData) (d : DraftData) (name : List ℕ) → item_rule labels d (section name) ≡ item_rule labels (nameless d) (section name)
+unfolding item_rule
+section_rule_same labels d name = refl
+
+pub zeros_rule_same : (labels : List SymbolData) (d : DraftData) (n : ℕ) → item_rule labels d (zeros n) ≡ item_rule labels (nameless d) (zeros n)
+unfolding item_rule
+zeros_rule_same labels d n = refl
+
+pub plain_data_rule : (labels : List SymbolData) (d : DraftData) (bs : List ℕ) → content_rule d (length bs) None ≡ item_rule labels (nameless d) (bytes bs None)
+unfolding item_rule
+plain_data_rule labels d bs = refl
+
+pub data_rule : (labels : List SymbolData) (d : DraftData) (bs : List ℕ) (o : Option ReferenceData) → content_rule (nameless d) (length bs) o ≡ item_rule labels (nameless d) (bytes bs o)
+unfolding item_rule
+data_rule labels d bs o = refl
+
+pub data_step : (labels : List SymbolData) (d : DraftData) (bs : List ℕ) (o : Option ReferenceData) → with_content d bs o ≡ stepped labels d (bytes bs o)
+unfolding stepped
+data_step labels d bs o = refl
+
+pub linked_rule : (labels : List SymbolData) (d : DraftData) (k : ℕ) (f : Fields) (r : ReferenceData) (x : RowFieldsData) (bs : List ℕ) (b rule : ℕ)
+    → x ≡ resolved labels d k f (Some r) → bs ≡ bytes_of k x.fields → b ≡ content_rule (nameless d) (length bs) (Some r) → rule ≡ min x.rule b
+    → rule ≡ item_rule labels (nameless d) (code k f (Some r))
+unfolding item_rule code_bytes
+linked_rule labels d k f r x bs b rule e g h is =
+    is
+    ∙ ap (min x.rule) (h ∙ ap (λ (ys : List ℕ). content_rule (nameless d) (length ys) (Some r)) g)
+    ∙ ap (λ (z : RowFieldsData). min z.rule (content_rule (nameless d) (length (bytes_of k z.fields)) (Some r))) (e ∙ resolved_nameless labels d k f (Some r))
+
+-- ---- items that are new
+are_new-append : (labels : List SymbolData) (d : DraftData) (xs ys : List ItemData) → are_new labels d (xs ++ ys) ≡ true
+    → (are_new labels d xs ≡ true) × (are_new labels (fold (stepped labels) d xs) ys ≡ true)
+are_new-append labels d [] ys h = (refl, h)
+are_new-append labels d (x ∷ xs) ys h =
+    let p = and_parts (has_symbol_room d.symbols && is_new d.symbols x) (are_new labels (stepped labels d x) (xs ++ ys)) h in
+    let r = are_new-append labels (stepped labels d x) xs ys p.1 in
+    (and_from (has_symbol_room d.symbols && is_new d.symbols x) (are_new labels (stepped labels d x) xs) p.0 r.0, r.1)
+
+new_alike : (labels others : List SymbolData) (is : List ItemData) (d e : DraftData) → Each IsItem is → Alike d e → are_new labels d is ≡ are_new others e is
+new_alike labels others [] d e good h = refl
+new_alike labels others (i ∷ is) d e good h =
+    ap (λ (ss : List SymbolData). (has_symbol_room ss && is_new ss i) && are_new labels (stepped labels d i) is) h.symbols
+    ∙ ap (λ b. (has_symbol_room e.symbols && is_new e.symbols i) && b) (new_alike labels others is (stepped labels d i) (stepped others e i) good.1 (step_alike labels others d e i good.0 h))
+
+-- ---- the first pass
+module _ (items : List Item) (i : ℕ) (d : Item) (within : i < length items) (draft all : DraftData) where
+  abbrev item : ItemData
+  item = item_of (get_or items i d)
+
+  abbrev so_far : DraftData
+  so_far = fold (stepped []) all (take i (map item_of items))
+
+  pub new_more : (before room_here new_here after whole : Bool) → Alike draft (fold (stepped []) all (take i (map item_of items)))
+      → room_here ≡ has_symbol_room draft.symbols → new_here ≡ is_new draft.symbols (item_of (get_or items i d)) → after ≡ (before && (room_here && new_here))
+      → (before && are_new [] (fold (stepped []) all (take i (map item_of items))) (drop i (map item_of items))) ≡ whole
+      → (after && are_new [] (fold (stepped []) all (take (i + 1) (map item_of items))) (drop (i + 1) (map item_of items))) ≡ whole
+  new_more before room_here new_here after whole h room new both is =
+      let at : get_or (map item_of items) i (item_of d) ≡ item_of (get_or items i d) = get_or-map item_of items i d (item_of d) within in
+      let next : fold (stepped []) all (take (i + 1) (map item_of items)) ≡ stepped [] so_far item
+      = fold_more (stepped []) all (map item_of items) i (item_of d) (rw (length-map items item_of) within) ∙ ap (stepped [] so_far) at in
+      ap (λ b. b && are_new [] (fold (stepped []) all (take (i + 1) (map item_of items))) (drop (i + 1) (map item_of items))) both
+      ∙ ap (λ (x : DraftData). (before && (room_here && new_here)) && are_new [] x (drop (i + 1) (map item_of items))) next
+      ∙ ap (λ b. (before && (b && new_here)) && are_new [] (stepped [] so_far item) (drop (i + 1) (map item_of items))) room
+      ∙ ap (λ b. (before && (has_symbol_room draft.symbols && b)) && are_new [] (stepped [] so_far item) (drop (i + 1) (map item_of items))) new
+      ∙ ap (λ (ss : List SymbolData). (before && (has_symbol_room ss && is_new ss item)) && are_new [] (stepped [] so_far item) (drop (i + 1) (map item_of items))) h.symbols
+      ∙ joined before (has_symbol_room so_far.symbols && is_new so_far.symbols item) (are_new [] (stepped [] so_far item) (drop (i + 1) (map item_of items)))
+      ∙ ap (λ (xs : List ItemData). before && are_new [] so_far xs) (sym (item_here items i d within))
+      ∙ is
+    where
+      joined : (a b c : Bool) → ((a && b) && c) ≡ (a && (b && c))
+      joined true b c = refl
+      joined false b c = refl
+
+pub new_end : (items : List Item) (i : ℕ) (d : DraftData) (b whole : Bool) → length items ≤ i → (b && are_new [] d (drop i (map item_of items))) ≡ whole → b ≡ whole
+new_end items i d b whole past is =
+    with_true b ∙ sym (ap (λ (xs : List ItemData). b && are_new [] d xs) (drop_all i (map item_of items) (rw (length-map items item_of) past))) ∙ is
+  where
+    with_true : (x : Bool) → x ≡ (x && true)
+    with_true true = refl
+    with_true false = refl
+
+-- ---- the items of a line
+module _ (known : Bool) (labels : List SymbolData) (items : List Item) (i : ℕ) (d : Item) (within : i < length items) where
+  pub kept_items : (draft next all : DraftData) → kept known next ≡ kept known (stepped labels draft (item_of (get_or items i d)))
+      → kept known (fold (stepped labels) draft (drop i (map item_of items))) ≡ all → kept known (fold (stepped labels) next (drop (i + 1) (map item_of items))) ≡ all
+  kept_items draft next all e so_far =
+      kept_fold known labels (drop (i + 1) (map item_of items)) next (stepped labels draft (item_of (get_or items i d))) e
+      ∙ sym (ap (λ (is : List ItemData). kept known (fold (stepped labels) draft is)) (item_here items i d within))
+      ∙ so_far
+
+  pub kept_rules : (draft next : DraftData) (a rule more all : ℕ) → kept known next ≡ kept known (stepped labels draft (item_of (get_or items i d)))
+      → a ≡ item_rule labels (kept known draft) (item_of (get_or items i d)) → more ≡ min a rule
+      → min rule (kept_rule known labels draft (drop i (map item_of items))) ≡ all → min more (kept_rule known labels next (drop (i + 1) (map item_of items))) ≡ all
+  kept_rules draft next a rule more all e is m so_far =
+      ap (λ k. min k (kept_rule known labels next (drop (i + 1) (map item_of items)))) (m ∙ ap (λ k. min k rule) is)
+      ∙ ap (min (min (item_rule labels (kept known draft) (item_of (get_or items i d))) rule)) (rule_same known labels (drop (i + 1) (map item_of items)) next (stepped labels draft (item_of (get_or items i d))) e)
+      ∙ joined (item_rule labels (kept known draft) (item_of (get_or items i d))) rule (kept_rule known labels (stepped labels draft (item_of (get_or items i d))) (drop (i + 1) (map item_of items)))
+      ∙ sym (ap (λ (xs : List ItemData). min rule (kept_rule known labels draft xs)) (item_here items i d within))
+      ∙ so_far
+    where
+      joined : (x y z : ℕ) → min (min x y) z ≡ min y (min x z)
+      joined x y z = omega arith
+
+kept_rule-le : (known : Bool) (labels : List SymbolData) (d : DraftData) (is : List ItemData) → kept_rule known labels d is ≤ 15
+kept_rule-le known labels d [] = omega arith
+kept_rule-le known labels d (i ∷ is) = let rest : kept_rule known labels (stepped labels d i) is ≤ 15 = kept_rule-le known labels (stepped labels d i) is in omega arith
+
+pub kept_none : (known : Bool) (labels : List SymbolData) (d : DraftData) (is : List ItemData) → min 15 (kept_rule known labels d is) ≡ kept_rule known labels d is
+kept_none known labels d is = let h : kept_rule known labels d is ≤ 15 = kept_rule-le known labels d is in omega arith
+
+pub kept_end : (known : Bool) (labels : List SymbolData) (items : List Item) (i : ℕ) (draft all : DraftData) → length items ≤ i
+    → kept known (fold (stepped labels) draft (drop i (map item_of items))) ≡ all → kept known draft ≡ all
+kept_end known labels items i draft all past e =
+    sym (ap (λ (is : List ItemData). kept known (fold (stepped labels) draft is)) (drop_all i (map item_of items) (rw (length-map items item_of) past))) ∙ e
+
+pub kept_rules_end : (known : Bool) (labels : List SymbolData) (items : List Item) (i : ℕ) (draft : DraftData) (rule all : ℕ) → length items ≤ i → rule ≤ 15
+    → min rule (kept_rule known labels draft (drop i (map item_of items))) ≡ all → rule ≡ all
+kept_rules_end known labels items i draft rule all past small e =
+    let whole : rule ≡ min rule 15 = omega arith in
+    whole ∙ sym (ap (λ (is : List ItemData). min rule (kept_rule known labels draft is)) (drop_all i (map item_of items) (rw (length-map items item_of) past))) ∙ e
+
+-- ---- a further line
+module _ (known : Bool) (labels : List SymbolData) (ls : List LineData) (i : ℕ) (x : LineData) (zs : List LineData) (here : drop i ls ≡ x ∷ zs) (draft : DraftData) (so_far : kept known draft ≡ kept known (drafted labels (take i ls))) where
+  pub kept_more : (next : DraftData) → kept known next ≡ kept known (with_line labels draft x) → kept known next ≡ kept known (drafted labels (take (i + 1) ls))
+  unfolding with_line
+  kept_more next e =
+      e
+      ∙ kept_fold known labels x.items draft (drafted labels (take i ls)) so_far
+      ∙ ap (kept known) (drafted_more ls i x zs here labels (drafted labels (take i ls)) (with_line labels (drafted labels (take i ls)) x) refl refl)
+
+  module _ (new : known ≡ true → are_new labels (drafted labels (take i ls)) (items_in (drop i ls)) ≡ true) where
+    news : known ≡ true → (are_new labels (drafted labels (take i ls)) x.items ≡ true) × (are_new labels (fold (stepped labels) (drafted labels (take i ls)) x.items) (items_in zs) ≡ true)
+    news k =
+        are_new-append labels (drafted labels (take i ls)) x.items (items_in zs)
+        (sym (ap (λ (xs : List LineData). are_new labels (drafted labels (take i ls)) (items_in xs)) here) ∙ new k)
+
+    pub new_lines : known ≡ true → are_new labels (drafted labels (take (i + 1) ls)) (items_in (drop (i + 1) ls)) ≡ true
+    unfolding with_line
+    new_lines k =
+        ap (λ (d : DraftData). are_new labels d (items_in (drop (i + 1) ls))) (sym (drafted_more ls i x zs here labels (drafted labels (take i ls)) (with_line labels (drafted labels (take i ls)) x) refl refl))
+        ∙ ap (λ (xs : List LineData). are_new labels (with_line labels (drafted labels (take i ls)) x) (items_in xs)) (behind_here ls i x zs here)
+        ∙ (news k).1
+
+    pub kept_line : (rule : ℕ) → rule ≡ min x.rule (kept_rule known labels draft x.items) → rule ≡ line_rule labels (drafted labels (take i ls)) x
+    unfolding line_rule
+    kept_line rule e =
+        e ∙ ap (min x.rule) (rule_same known labels x.items draft (drafted labels (take i ls)) so_far ∙ rules_kept known labels x.items (drafted labels (take i ls)) (λ k. (news k).0))
+
+-- ---- the end of a source
+-- after the last line
+pub past : (read : Source) (lines : List Line) (i : ℕ) → lines ≡ read.lines.items → length lines ≤ i → length (lines_of read) ≤ i
+past read lines i e h =
+    let long : length lines ≡ length read.lines.items = ap length e in
+    let same : length (lines_of read) ≡ length read.lines.items = length-lines_read read.lines.items (map item_of read.items.items) in
+    omega arith
+
+pub lines_end : (known : Bool) (labels : List SymbolData) (ls : List LineData) (i : ℕ) (draft : DraftData) → length ls ≤ i
+    → kept known draft ≡ kept known (drafted labels (take i ls)) → kept known draft ≡ kept known (drafted labels ls)
+lines_end known labels ls i draft far h = h ∙ ap (λ (ks : List LineData). kept known (drafted labels ks)) (take_all i ls far)
+
+-- the draft of all lines, with its own symbols or with those that are known
+pub whole_draft : (known : Bool) (d e draft : DraftData) (ss : List SymbolData) → kept known d ≡ kept known e → e.symbols ≡ ss
+    → draft ≡ cond known (record d { symbols = ss }) d → draft ≡ e
+whole_draft true d e draft ss h same is =
+    is ∙ ap (λ (x : DraftData). record x { symbols = ss }) h ∙ ap (λ (ts : List SymbolData). record e { symbols = ts }) (sym same)
+whole_draft false d e draft ss h same is = is ∙ h
+
+module _ (source : List ℕ) (read : Source) (same : lines_of read ≡ lines_in source) (labels : List SymbolData) (is : labels ≡ symbols_of (lines_of read)) where
+  -- the second pass finds these symbols again
+  pub symbols_again : (drafted labels (lines_of read)).symbols ≡ labels
+  symbols_again =
+      ap (λ (ss : List SymbolData). (drafted ss (lines_of read)).symbols) is
+      ∙ ap (λ (ls : List LineData). (drafted (symbols_of ls) ls).symbols) same
+      ∙ passes_agree source
+      ∙ ap symbols_of (sym same)
+      ∙ sym is
+
+  -- what is new in the first pass is new in the second one
+  pub new_again : (items : List Item) → items ≡ read.items.items → map item_of read.items.items ≡ items_in (lines_in source)
+      → (known : Bool) → known ≡ are_new [] start (map item_of items) → known ≡ true → are_new labels start (items_in (lines_of read)) ≡ true
+  new_again items e f known new so =
+      ap (λ (ls : List LineData). are_new labels start (items_in ls)) same
+      ∙ sym (new_alike [] labels (items_in (lines_in source)) start start (source_are source) (alike_same start))
+      ∙ sym (ap (λ (xs : List Item). are_new [] start (map item_of xs)) e ∙ ap (are_new [] start) f)
+      ∙ sym new ∙ so
+
+-- ---- results of functions
+pub on_ok : {X E : Type 0} (r : Result X E) (P Q : Type 0) → OnOk r P → (P → Q) → OnOk r Q
+on_ok (Ok x) P Q h f = f h
+on_ok (Err e) P Q h f = h
+
+pub if_ok : {X E : Type 0} (r : Result X E) (P Q : X → Type 0) → IfOk r P → ((x : X) → P x → Q x) → IfOk r Q
+if_ok (Ok x) P Q h f = f x h
+if_ok (Err e) P Q h f = h

@@ -1,0 +1,34 @@
+-- The second pass over a source, if its symbols are known: it adds none to its draft.
+use Rattle.std.specs.Prelude.{ℕ, ◌&&◌, not, nat_lt, min, Bool, true, if◌then◌else◌, List, [], ◌∷◌, length, is_some}
+use Rattle.tc_stmt.specs.SourceRules.{no_rule}
+use Rattle.tc_stmt.specs.Items.{ItemData, label}
+use Rattle.tc_asm.specs.Symbols.{SymbolData, place_in}
+use Rattle.tc_asm.specs.Drafts.{DraftData, stepped}
+use Rattle.tc_asm.specs.Rules.{item_rule}
+
+-- a draft without its symbols
+abbrev pub nameless : DraftData → DraftData
+nameless d = record d { symbols = [] }
+
+-- what the second pass keeps of a draft: all of it, or all but symbols that are known
+abbrev pub kept : Bool → DraftData → DraftData
+kept known d = if known then nameless d else d
+
+-- an item defines no label that one of these symbols has already
+abbrev pub is_new : List SymbolData → ItemData → Bool
+is_new ss (label name) = not (is_some (place_in ss name))
+is_new ss i = true
+
+-- there is room for one more symbol
+abbrev pub has_symbol_room : List SymbolData → Bool
+has_symbol_room ss = nat_lt (length ss) 65535
+
+-- each item after a draft has room for its symbol, and defines no label twice
+abbrev pub are_new : List SymbolData → DraftData → List ItemData → Bool
+are_new labels d [] = true
+are_new labels d (i ∷ is) = (has_symbol_room d.symbols && is_new d.symbols i) && are_new labels (stepped labels d i) is
+
+-- the least rule that items break after what is kept of a draft
+abbrev pub kept_rule : Bool → List SymbolData → DraftData → List ItemData → ℕ
+kept_rule known labels d [] = no_rule
+kept_rule known labels d (i ∷ is) = min (item_rule labels (kept known d) i) (kept_rule known labels (stepped labels d i) is)
