@@ -1,13 +1,13 @@
 -- A value joined with itself, and with words of its own.
-use Rattle.std.proofs.Common.{◌≡◌, ◌∙◌, ◌++◌, ◌∷◌, [], ℕ, inl, inr, ap, subst, sym, arith}
+use Rattle.std.proofs.Common.{◌≡◌, ◌∙◌, ◌↔◌, ◌++◌, ◌∷◌, [], ℕ, inl, inr, ap, subst, sym, arith}
 use Rattle.value_domain.specs.declared.values.Val.{Val}
 use Rattle.value_domain.specs.Limits.{Limits}
-use Rattle.value_domain.specs.declared.values.Val.TheVariants.{Set}
+use Rattle.value_domain.specs.declared.values.Val.TheVariants.{Set, Span}
 use Rattle.value_domain.specs.Sets.{Among}
-use Rattle.value_domain.specs.Values.{IsMember, IsValue, IsWell, any_val, members}
+use Rattle.value_domain.specs.Values.{IsBelow, IsMember, IsValue, IsWell, any_val, members}
 use Rattle.value_domain.specs.State.{join_of}
 use Rattle.value_domain.proofs.RangeLaws.{members_below}
-use Rattle.value_domain.proofs.CoverLaws.{among_member, cover-same, has_step}
+use Rattle.value_domain.proofs.CoverLaws.{among_member, cover-same, has_step, member_among}
 use Rattle.value_domain.proofs.ExtentLaws.{among_append, append_left}
 
 -- a value without a word that the other lacks adds nothing
@@ -37,3 +37,18 @@ join_same b v w e value =
     ∙ cover-same b (members v ++ members v) (members v) (λ z i. elim (among_append z (members v) (members v) i) [ inl j ↦ j | inr j ↦ j ])
     (λ z i. append_left z (members v) (members v) i)
     ∙ value.own)
+
+-- a value with all members of the other is the least with those of both
+pub join_under : (b : Limits) (v w : Val) → IsValue b v → IsWell w → IsBelow w v → v ≡ join_of b v w
+join_under b v w value well below = sym (join_below b v w value (λ z i. below z (member_among w z (has_step w well) i)))
+
+-- each member of a value is below the range of one word exactly if it is that word
+pub only_one : (x : ℕ) (v : Val) → IsBelow v (Span x x 0) ↔ IsBelow v (Set (x ∷ []))
+only_one x v = (
+  (λ below z m. let at = below z m in inl (omega (arith, at.0, at.1))),
+  (λ below z m. elim (below z m) [ inl e ↦ let same : z ≡ x = e in (omega arith, omega arith, omega arith) | inr none ↦ absurd none ]),
+)
+
+-- a word of a range is all that the value of this word has
+pub one_below : (x : ℕ) (w : Val) → IsMember x w → IsBelow (Set (x ∷ [])) w
+one_below x w m z i = elim i [ inl e ↦ subst (λ (y : ℕ). IsMember y w) (sym e) m | inr none ↦ absurd none ]

@@ -1,11 +1,12 @@
 -- Bytes written over zeros.
-use Rattle.std.proofs.Common.{◌≡◌, ◌∙◌, ◌≤◌, ◌+◌, ◌-◌, ◌/◌, ◌%◌, ◌++◌, ◌∷◌, [], ◌<◌, ℕ, suc, List, get_or, length, replicate, set, take, drop, ap, sym, refl, arith}
+use Rattle.std.proofs.Common.{◌≡◌, ◌∙◌, ◌≤◌, ◌+◌, ◌-◌, ◌/◌, ◌%◌, ◌++◌, ◌∷◌, [], ◌<◌, ℕ, suc, true, false, List, get_or, length, replicate, set, take, drop, ap, sym, refl, arith}
 use Rattle.std.specs.List.{flat_map}
 use Rattle.std.proofs.lemmas.List.Concat.{flat_map-append}
-use Rattle.std.proofs.lemmas.List.{append_assoc, length-append, length-replicate, replicate-append-replicate, set-append_right, drop-take, take-append-drop, take-take, take_more}
+use Rattle.std.proofs.lemmas.List.{append-nil, append_assoc, length-append, length-replicate, replicate-append-replicate, set-append_right, drop-take, take-append-drop, take-take, take_more}
 use Rattle.std.proofs.Math.Seq.{take-append_seam}
 use Rattle.tcd_base.specs.Bytes.{bytes_of_word}
-use Rattle.value_domain.specs.declared.values.Val.TheVariants.{Set}
+use Rattle.value_domain.specs.declared.values.Val.TheVariants.{Set, Span}
+use Rattle.depth_cert.specs.Grammar.{is_any}
 use Rattle.depth_cert.specs.Spelling.{bytes_of_value}
 use Rattle.small_states.specs.Zeros.{AreZerosBehind}
 
@@ -176,3 +177,12 @@ words_further words i k =
     (ap (λ (l : List ℕ). l ++ take k (drop i words)) (sym (take-take i (i + k) words (omega arith)))
     ∙ ap (λ (l : List ℕ). take i (take (i + k) words) ++ l) (sym (drop-take i k words))
     ∙ take-append-drop i (take (i + k) words))
+
+-- ---- a range's value
+pub all_bytes : (lo last step : ℕ) → is_any lo last step ≡ true → bytes_of_value (Span lo last step) ≡ 0 ∷ []
+unfolding bytes_of_value
+all_bytes lo last step e = rw e refl
+
+pub range_bytes : (lo last step : ℕ) → is_any lo last step ≡ false → bytes_of_value (Span lo last step) ≡ (240 + step) ∷ bytes_of_word lo ++ (bytes_of_word last ++ [])
+unfolding bytes_of_value
+range_bytes lo last step e = rw e (ap (λ (l : List ℕ). (240 + step) ∷ bytes_of_word lo ++ l) (sym (append-nil (bytes_of_word last))))

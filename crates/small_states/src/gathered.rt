@@ -1,11 +1,13 @@
 // A buffer for bytes before they are appended to a list.
 ghost use Rattle.std.specs.Prelude.{◌≡◌, ◌≤◌, ◌<◌, ◌+◌, ◌*◌, ◌∷◌, [], ◌++◌, false, IsTrue, OnOk, length, replicate};
 ghost use Rattle.std.specs.List.{flat_map};
-ghost use Rattle.value_domain.specs.declared.values.Val.TheVariants.{Set};
+ghost use Rattle.value_domain.specs.declared.values.Val.TheVariants.{Set, Span};
 ghost use Rattle.tcd_base.specs.Bytes.{bytes_of_word};
+ghost use Rattle.depth_cert.specs.Grammar.{is_any};
 ghost use Rattle.depth_cert.specs.Spelling.{bytes_of_value};
 
 use crate::values::SpacedValue;
+use depth_cert::SPAN;
 use std::marker::Model;
 use tcd_base::NoMemory;
 
@@ -26,6 +28,14 @@ impl Model for Gathered {
     ghost view = { λ g. take g.len g.bytes };
 
     ghost invariant = { λ g. AreZerosBehind g.len g.bytes };
+}
+
+/// Returns whether a range is all words.
+#[inline(always)]
+fn is_all(lo: u32, last: u32, step: u8) -> bool
+    ensures { result ≡ is_any lo last step }
+{
+    lo == 0 && last == u32::MAX && step == 0
 }
 
 impl Gathered {
@@ -117,6 +127,27 @@ impl Gathered {
             self.push_words(&words[n..n + count]);
             n += count;
         }
+        Ok(())
+    }
+
+    /// Adds the value that holds a range.
+    pub(crate) fn put_range(
+        &mut self,
+        out: &mut Vec<u8>,
+        lo: u32,
+        last: u32,
+        step: u8,
+    ) -> Result<(), NoMemory>
+        requires { step ≤ 2 }
+        ensures { OnOk result (out.new.items ++ self.new
+            ≡ (out.old.items ++ self.old) ++ bytes_of_value (Span lo last step)) }
+    {
+        if is_all(lo, last, step) {
+            return self.put_anys(out, 1);
+        }
+        self.make_room(out, 9)?;
+        self.push(SPAN + step);
+        self.push_words(&[lo, last]);
         Ok(())
     }
 

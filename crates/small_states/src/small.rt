@@ -169,6 +169,14 @@ fn is_below_range(v: &Val, lo: u32, last: u32, step: u8) -> bool
     is_inside(&e, lo, last, step)
 }
 
+/// Returns whether a word is one of a range.
+#[inline(always)]
+fn is_in_range(x: u32, lo: u32, last: u32, step: u8) -> bool
+    ensures { IsTrue result ↔ IsMember x (Span lo last step) }
+{
+    lo <= x && x <= last && step <= alignment_log2(x)
+}
+
 /// Returns a range that isn't all words. Since this is a call, the test before it stays a jump, and
 /// most tested values are all words.
 #[inline(never)]
@@ -287,28 +295,39 @@ impl Small {
         }
     }
 
-    /// Returns true only if it is this compact value. The caller has asked for a single word
-    /// before.
-    #[inline(never)]
+    /// Returns true only if it has the form of this range.
+    #[inline(always)]
+    fn has_ends(&self, lo: u32, last: u32, step: u8) -> bool
+        ensures { IsTrue result → self.now ≡ Span lo last step }
+    {
+        match &self.form {
+            Form::Range {
+                lo: own_lo,
+                last: own_last,
+                step: own_step,
+            } => *own_lo == lo && *own_last == last && *own_step == step,
+            _ => false,
+        }
+    }
+
+    /// Returns true only if it is this compact value.
+    #[inline(always)]
     fn is_equal_form(&self, v: &Small) -> bool
         ensures { IsTrue result → v.now ≡ self.now }
     {
         match &v.form {
             Form::Any => self.is_any(),
             Form::One(x) => self.word() == Some(*x),
-            Form::Many(own) => self.is_same(own.as_ref()),
-            Form::Range { lo, last, step } => match &self.form {
-                Form::Range {
-                    lo: own_lo,
-                    last: own_last,
-                    step: own_step,
-                } => *own_lo == *lo && *own_last == *last && *own_step == *step,
+            Form::Many(words) => match &self.form {
+                Form::Many(own) => have_same_words(words.as_ref(), own.as_ref()),
                 _ => false,
             },
+            Form::Range { lo, last, step } => self.has_ends(*lo, *last, *step),
         }
     }
 
-    /// Returns true only if it is this compact value.
+    /// Returns true only if it is this compact value. Most are single words, which are asked for
+    /// first.
     #[inline(always)]
     pub(crate) fn is_equal(&self, v: &Small) -> bool
         ensures { IsTrue result → v.now ≡ self.now }
@@ -319,9 +338,9 @@ impl Small {
         self.is_equal_form(v)
     }
 
-    /// Returns a copy. The caller has asked for all words and a single word before.
-    #[inline(never)]
-    fn copy_any(&self) -> Result<Small, AllocError>
+    /// Returns a copy. It shares the words of a set.
+    #[inline(always)]
+    pub(crate) fn copy(&self) -> Result<Small, AllocError>
         ensures { IfOk result (λ s. s ≡ self.now) }
     {
         let form = match &self.form {
@@ -337,18 +356,12 @@ impl Small {
         Ok(Small { form })
     }
 
-    /// Returns a copy.
-    #[inline(always)]
-    pub(crate) fn copy(&self) -> Result<Small, AllocError>
+    /// Returns a copy. It is a call of its own, for rare cases.
+    #[inline(never)]
+    fn copy_any(&self) -> Result<Small, AllocError>
         ensures { IfOk result (λ s. s ≡ self.now) }
     {
-        match &self.form {
-            Form::Any => Ok(Small { form: Form::Any }),
-            Form::One(x) => Ok(Small {
-                form: Form::One(*x),
-            }),
-            _ => self.copy_any(),
-        }
+        self.copy()
     }
 
     /// Returns a compact copy of an incoming value.
@@ -397,24 +410,10 @@ impl Small {
             Form::One(own) => x == *own,
             Form::Many(own) => match own.as_ref() {
                 Val::Set(words) => words.as_slice().contains(&x),
-                Val::Span { lo, last, step } => {
-                    *lo <= x && x <= *last && *step <= alignment_log2(x)
-                }
+                Val::Span { lo, last, step } => is_in_range(x, *lo, *last, *step),
             },
-            Form::Range { lo, last, step } => {
-                *lo <= x && x <= *last && *step <= alignment_log2(x)
-            }
+            Form::Range { lo, last, step } => is_in_range(x, *lo, *last, *step),
         }
-    }
-
-    /// Returns whether it has all members of a value. It compares whole values.
-    #[inline(never)]
-    fn covers_whole(&self, v: &Val) -> bool
-        requires own { IsWell self.now }
-        requires value { IsWell v.now }
-        ensures { IsTrue result ↔ IsBelow v.now self.now }
-    {
-        leq(v, &self.value())
     }
 
     /// Returns whether it has all members of a value.
@@ -424,12 +423,6 @@ impl Small {
         requires value { IsWell v.now }
         ensures { IsTrue result ↔ IsBelow v.now self.now }
     {
-        if self.is_any() {
-            return true;
-        }
-        if self.is_same(v) {
-            return true;
-        }
         if let Some(x) = only_word(v) {
             return self.has(x);
         }
@@ -437,9 +430,14 @@ impl Small {
             Form::Many(own) => are_below(v, own.as_ref()),
             Form::One(x) => match v.words() {
                 Some(words) => held_before(&[*x], words) == words.len(),
-                None => self.covers_whole(v),
+                None => is_below_range(v, *x, *x, 0),
             },
-            Form::Range { lo, last, step } => is_below_range(v, *lo, *last, *step),
+            Form::Range { lo, last, step } => {
+                if is_the_range(v, *lo, *last, *step) {
+                    return true;
+                }
+                is_below_range(v, *lo, *last, *step)
+            }
             Form::Any => true,
         }
     }
@@ -460,35 +458,13 @@ impl Small {
         }
     }
 
-    /// Returns true only if both are ranges, and the ends and steps show that it has all members of
-    /// the other.
-    #[inline(always)]
-    fn is_range_around(&self, v: &Small) -> bool
-        ensures { IsTrue result → IsBelow v.now self.now }
-    {
-        let Form::Range { lo, last, step } = &v.form else {
-            return false;
-        };
-        match &self.form {
-            Form::Range {
-                lo: own_lo,
-                last: own_last,
-                step: own_step,
-            } => *own_lo <= *lo && *last <= *own_last && *own_step <= *step,
-            _ => false,
-        }
-    }
-
-    /// Returns whether it has all members of a range or of all words. It makes the whole value.
+    /// Returns whether it has all members of a compact value. It makes the whole value.
     #[inline(never)]
     fn covers_unpacked(&self, v: &Small) -> bool
         requires own { IsWell self.now }
         requires value { IsWell v.now }
         ensures { IsTrue result ↔ IsBelow v.now self.now }
     {
-        if self.is_range_around(v) {
-            return true;
-        }
         self.covers(&v.value())
     }
 
@@ -503,7 +479,13 @@ impl Small {
         match &v.form {
             Form::One(x) => self.has(*x),
             Form::Many(words) => self.covers(words.as_ref()),
-            _ => self.covers_unpacked(v),
+            Form::Range { lo, last, step } => {
+                if self.has_range(*lo, *last, *step) {
+                    return true;
+                }
+                self.covers_unpacked(v)
+            }
+            Form::Any => self.covers_unpacked(v),
         }
     }
 
@@ -530,6 +512,37 @@ impl Small {
         match v {
             Given::Whole(v) => self.covers(v),
             Given::Packed(v) => self.covers_small(v),
+        }
+    }
+
+    /// Returns true only if its form shows that its members are words of a range.
+    #[inline(always)]
+    fn is_within(&self, lo: u32, last: u32, step: u8) -> bool
+        ensures { IsTrue result → IsBelow self.now (Span lo last step) }
+    {
+        match &self.form {
+            Form::One(x) => is_in_range(*x, lo, last, step),
+            Form::Range {
+                lo: own_lo,
+                last: own_last,
+                step: own_step,
+            } => lo <= *own_lo && *own_last <= last && step <= *own_step,
+            _ => false,
+        }
+    }
+
+    /// Returns true only if its form shows that it has all words of a range.
+    #[inline(always)]
+    fn has_range(&self, lo: u32, last: u32, step: u8) -> bool
+        ensures { IsTrue result → IsBelow (Span lo last step) self.now }
+    {
+        match &self.form {
+            Form::Range {
+                lo: own_lo,
+                last: own_last,
+                step: own_step,
+            } => *own_lo <= lo && last <= *own_last && *own_step <= step,
+            _ => false,
         }
     }
 
@@ -621,6 +634,25 @@ impl Small {
         self.with_words(alloc, b, &words[n..])
     }
 
+    /// Returns the least value with its members and the words of a range. If one has all members
+    /// of the other, it is the one.
+    #[inline(never)]
+    fn join_range(&self, alloc: Global, b: &Bounds, v: &Val) -> Result<Small, AllocError>
+        requires own { IsValue b.now self.now }
+        requires value { IsValue b.now v.now }
+        ensures { IfOk result (λ s. s ≡ join_of b.now self.now v.now) }
+    {
+        if let Val::Span { lo, last, step } = v {
+            if self.has_range(*lo, *last, *step) {
+                return self.copy_any();
+            }
+            if self.is_within(*lo, *last, *step) {
+                return Small::of(alloc, v);
+            }
+        }
+        self.join_whole(alloc, b, v)
+    }
+
     /// Returns the least value with the members of both.
     #[inline(always)]
     pub fn join(&self, alloc: Global, b: &Bounds, v: &Val) -> Result<Small, AllocError>
@@ -638,8 +670,18 @@ impl Small {
         }
         match v {
             Val::Set(words) => self.join_words(alloc, b, v, words.as_slice()),
-            Val::Span { .. } => self.join_whole(alloc, b, v),
+            Val::Span { .. } => self.join_range(alloc, b, v),
         }
+    }
+
+    /// Returns the least value with the members of both. It makes the other whole value.
+    #[inline(never)]
+    fn join_unpacked(&self, alloc: Global, b: &Bounds, v: &Small) -> Result<Small, AllocError>
+        requires own { IsValue b.now self.now }
+        requires value { IsValue b.now v.now }
+        ensures { IfOk result (λ s. s ≡ join_of b.now self.now v.now) }
+    {
+        self.join(alloc, b, &v.value())
     }
 
     /// Returns the least value with the members of both. The caller has asked for an equal one
@@ -658,7 +700,7 @@ impl Small {
                 self.with_words(alloc, b, &[*x])
             }
             Form::Many(words) => self.join(alloc, b, words.as_ref()),
-            _ => self.join(alloc, b, &v.value()),
+            _ => self.join_unpacked(alloc, b, v),
         }
     }
 

@@ -37,6 +37,9 @@ fn put_spaced(
             return gathered.put_set(out, words);
         }
     }
+    if let Form::Range { lo, last, step } = &v.form {
+        return gathered.put_range(out, *lo, *last, *step);
+    }
     gathered.flush(out)?;
     v.spell(out)
 }

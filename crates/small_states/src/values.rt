@@ -182,7 +182,9 @@ impl Values {
             let here = &known[n];
             let place = at + here.anys as usize;
             write_anys(out, at, place);
-            here.value.replace(&mut out[place]);
+            if !here.value.is_same(&out[place]) {
+                here.value.replace(&mut out[place]);
+            }
             at = place + 1;
         }
         write_anys(out, at, 27);

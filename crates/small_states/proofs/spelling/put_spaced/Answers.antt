@@ -2,7 +2,7 @@ use Rattle.std.proofs.Common.{◌∙◌, ◌++◌, ℕ, List, replicate, ap, sub
 use Rattle.std.proofs.lemmas.List.{append-nil}
 use Rattle.std.proofs.lemmas.Result.{on_ok_weaker}
 use Rattle.value_domain.specs.declared.values.Val.{Val}
-use Rattle.value_domain.specs.declared.values.Val.TheVariants.{Set}
+use Rattle.value_domain.specs.declared.values.Val.TheVariants.{Set, Span}
 use Rattle.value_domain.specs.Values.{IsWell}
 use Rattle.depth_cert.specs.Spelling.{bytes_of_value}
 use Rattle.small_states.specs.SmallValues.{val_of}
@@ -22,6 +22,20 @@ returns-in-Some c =
     e
     ∙ ap (λ (l : List ℕ). l ++ bytes_of_value (Set c.in-Some.words.now)) c.in_ok-put_anys.ensures
     ∙ ap (λ (u : Val). ((c.args.out.now.items ++ c.args.gathered.now) ++ replicate c.args.anys 0) ++ bytes_of_value u) (sym value)) c.put_set.ensures
+
+pub put_range-requires : goal.put_range-requires
+put_range-requires c =
+    let value = sym c.v.view_is ∙ ap val_of c.in-Range.is in
+    (subst IsWell value c.requires).0
+
+pub returns-in-Range : goal.returns-in-Range
+returns-in-Range c =
+    let value = sym c.v.view_is ∙ ap val_of c.in-Range.is in
+    on_ok_weaker c.put_range.result
+    (λ e.
+    e
+    ∙ ap (λ (l : List ℕ). l ++ bytes_of_value (Span c.in-Range.lo c.in-Range.last c.in-Range.step)) c.in_ok-put_anys.ensures
+    ∙ ap (λ (u : Val). ((c.args.out.now.items ++ c.args.gathered.now) ++ replicate c.args.anys 0) ++ bytes_of_value u) (sym value)) c.put_range.ensures
 
 pub returns : goal.returns
 returns c =

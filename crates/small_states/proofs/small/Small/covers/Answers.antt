@@ -5,13 +5,8 @@ use Rattle.value_domain.specs.Values.{IsBelow, IsMember}
 use Rattle.value_domain.proofs.RangeLaws.{below_any}
 use Rattle.small_states.specs.SmallValues.{val_of}
 use Rattle.small_states.proofs.HeldWords.{held_all, set_of}
+use Rattle.small_states.proofs.SameValues.{only_one}
 use Rattle.small_states.proofs.small.Small.covers.Goals as goal
-
-pub returns-then-is_any : goal.returns-then-is_any
-returns-then-is_any c = ((λ t. subst (λ (u : Val). IsBelow c.args.v.now u) (sym (c.is_any.ensures.0 c.if-is_any.true)) (below_any c.args.v.now c.requires.value)), (λ below. refl))
-
-pub returns-then-is_same : goal.returns-then-is_same
-returns-then-is_same c = ((λ t x m. subst (λ (u : Val). IsMember x u) (c.is_same.ensures c.if-is_same.true) m), (λ below. refl))
 
 pub returns-in-Some : goal.returns-in-Some
 returns-in-Some c =
@@ -33,8 +28,20 @@ returns-in-Some-words c =
     (subst (λ (u : Val). IsTrue (nat_eq c.held_before.result (length words)) ↔ IsBelow (Set words) u) (sym oe)
     (held_all (c.in-One.x ∷ []) words c.held_before.result c.held_before.ensures.within c.held_before.ensures.held c.held_before.ensures.missing))
 
-pub returns-in-Range : goal.returns-in-Range
-returns-in-Range c = subst (λ (u : Val). IsTrue c.is_below_range.result ↔ IsBelow c.args.v.now u) (sym (sym c.self.view_is ∙ ap val_of c.in-Range.is)) c.is_below_range.ensures
+pub returns-in-None : goal.returns-in-None
+returns-in-None c =
+    let both = only_one c.in-One.x c.args.v.now in
+    subst (λ (u : Val). IsTrue c.is_below_range.result ↔ IsBelow c.args.v.now u) (sym (sym c.self.view_is ∙ ap val_of c.in-One.is))
+    ((λ t. both.0 (c.is_below_range.ensures.0 t)), (λ below. c.is_below_range.ensures.1 (both.1 below)))
+
+pub returns-then-is_the_range : goal.returns-then-is_the_range
+returns-then-is_the_range c =
+    let same = c.is_the_range.ensures c.if-is_the_range.true ∙ sym (sym c.self.view_is ∙ ap val_of c.in-Range.is) in
+    ((λ t x m. subst (λ (u : Val). IsMember x u) same m), (λ below. refl))
+
+pub returns-else-is_the_range : goal.returns-else-is_the_range
+returns-else-is_the_range c =
+    subst (λ (u : Val). IsTrue c.is_below_range-in-Range.result ↔ IsBelow c.args.v.now u) (sym (sym c.self.view_is ∙ ap val_of c.in-Range.is)) c.is_below_range-in-Range.ensures
 
 pub returns-in-Any : goal.returns-in-Any
 returns-in-Any c =

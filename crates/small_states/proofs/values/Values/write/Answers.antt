@@ -1,5 +1,5 @@
-use Rattle.std.proofs.Common.{◌≡◌, ◌∙◌, ◌+◌, ◌-◌, ◌++◌, ◌∷◌, [], ℕ, List, length, replicate, take, ap, sym, arith}
-use Rattle.std.proofs.lemmas.List.{take_all, take_more_set}
+use Rattle.std.proofs.Common.{◌≡◌, ◌∙◌, ◌+◌, ◌-◌, ◌<◌, ◌++◌, ◌∷◌, [], ℕ, List, length, replicate, take, ap, sym, arith}
+use Rattle.std.proofs.lemmas.List.{take_all, take_more, take_more_set}
 use Rattle.std.proofs.Math.ListN.{length-set}
 use Rattle.value_domain.specs.declared.values.Val.{Val}
 use Rattle.value_domain.specs.Values.{any_val}
@@ -7,6 +7,7 @@ use Rattle.small_states.specs.declared.values.SpacedValue.{SpacedValue}
 use Rattle.small_states.specs.CompactForms.{front}
 use Rattle.small_states.proofs.SparseLemmas.{all_few, is_within, length-front, written_more}
 use Rattle.small_states.proofs.values.Values.write.Goals as goal
+use Rattle.small_states.proofs.values.Values.write.Goals.{then-not-is_same, else-not-is_same}
 
 pub write_anys-requires-clause-within : goal.write_anys-requires-clause-within
 write_anys-requires-clause-within c =
@@ -39,6 +40,27 @@ bounds-out-place c =
       is_within c.args.self.now.known.items c.args.self.now.rest c.loop-n.n c.index-known-n.result (rw v at c.loop-n-test.true) (rw v at c.index-known-n.is),
     )
 
+pub listed-then-not-is_same : goal.listed-then-not-is_same
+listed-then-not-is_same c =
+    let v = c.as_slice-known.ensures.value in
+    omega (
+      arith,
+      c.requires,
+      c.loop-n.invariant.1,
+      c.write_anys.ensures.long,
+      is_within c.args.self.now.known.items c.args.self.now.rest c.loop-n.n c.index-known-n.result (rw v at c.loop-n-test.true) (rw v at c.index-known-n.is),
+    )
+
+pub bounds-out-place-then-not-is_same : goal.bounds-out-place-then-not-is_same
+bounds-out-place-then-not-is_same c =
+    let v = c.as_slice-known.ensures.value in
+    omega (
+      arith,
+      c.requires,
+      c.loop-n.invariant.1,
+      is_within c.args.self.now.known.items c.args.self.now.rest c.loop-n.n c.index-known-n.result (rw v at c.loop-n-test.true) (rw v at c.index-known-n.is),
+    )
+
 pub loop-n-preserved : goal.loop-n-preserved
 loop-n-preserved c =
     let v = c.as_slice-known.ensures.value in
@@ -51,17 +73,33 @@ loop-n-preserved c =
     let is = rw v at c.index-known-n.is in
     let within = is_within known rest n here lt is in
     let out = c.write_anys.new.out in
-    let run : at + here.anys - at ≡ here.anys = omega arith in (
-      take_more_set out (at + here.anys) _ (omega (arith, c.requires, c.loop-n.invariant.1, c.write_anys.ensures.long, within))
-          ∙ ap (λ (u : Val). take (at + here.anys) out ++ u ∷ []) c.replace.ensures
-          ∙ ap (λ (l : List Val). l ++ here.value ∷ [])
-          (c.write_anys.ensures.written
-          ∙ ap (λ (l : List Val). l ++ replicate (at + here.anys - at) any_val) c.loop-n.invariant.0
-          ∙ ap (λ (m : ℕ). front (take n known) ++ replicate m any_val) run)
-          ∙ written_more known rest n here lt is,
-      omega (arith, c.loop-n.invariant.1, length-front known rest n here lt is),
-      simp length-set c.write_anys.ensures.long,
-    )
+    let place = at + here.anys in
+    let run : at + here.anys - at ≡ here.anys = omega arith in
+    let inside : place < length out = omega (arith, c.requires, c.loop-n.invariant.1, c.write_anys.ensures.long, within) in
+    let before =
+    ap (λ (l : List Val). l ++ here.value ∷ [])
+    (c.write_anys.ensures.written
+    ∙ ap (λ (l : List Val). l ++ replicate (at + here.anys - at) any_val) c.loop-n.invariant.0
+    ∙ ap (λ (m : ℕ). front (take n known) ++ replicate m any_val) run)
+    ∙ written_more known rest n here lt is
+    in
+    let up_to = length-front known rest n here lt is in
+    elim c.if-not-is_same.branch [
+      | then-not-is_same w ↦
+          rw w.out-is (
+            take_more_set out place _ inside ∙ ap (λ (u : Val). take place out ++ u ∷ []) w.replace.ensures ∙ before,
+            omega (arith, c.loop-n.invariant.1, up_to),
+            simp length-set c.write_anys.ensures.long,
+          )
+      | else-not-is_same w ↦
+          rw w.out-is (
+            take_more out place c.index-out-place.result inside
+                ∙ ap (λ (u : Val). take place out ++ u ∷ []) (c.is_same.ensures w.if-not-is_same.false)
+                ∙ before,
+            omega (arith, c.loop-n.invariant.1, up_to),
+            c.write_anys.ensures.long,
+          )
+    ]
 
 pub returns : goal.returns
 returns c =
