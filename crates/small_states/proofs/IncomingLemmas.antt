@@ -1,5 +1,5 @@
 -- Incoming values.
-use Rattle.std.proofs.Common.{◌≡◌, ℕ, Bool, true, false, Option, Some, None, List, length, nat_eq, ◌+◌, ◌-◌, ◌++◌, ◌<◌, ◌≤◌, get_or, take, drop, refl, subst, sym, ap, ◌∙◌, arith}
+use Rattle.std.proofs.Common.{◌≡◌, ℕ, Bool, true, false, Option, Some, None, List, length, nat_eq, ◌+◌, ◌-◌, ◌++◌, ◌<◌, ◌≤◌, get_or, take, drop, replicate, refl, subst, sym, ap, ◌∙◌, arith}
 use Rattle.std.specs.Prelude.{if◌then◌else◌}
 use Rattle.std.specs.Option.{option_eq}
 use Rattle.std.proofs.lemmas.Bool.{eq-eqb, eqb-true, le-leb, le-ltb, lt-leb, lt-ltb}
@@ -12,7 +12,10 @@ use Rattle.depth_cert.specs.Exits.{lower_values, with_lower_from}
 use Rattle.depth_cert.proofs.ExitValues.{after-at, lower_high, lower_low, with_lower_length}
 use Rattle.depth_cert.specs.Known.{Known, state, leaving}
 use Rattle.small_states.specs.CompactForms.{values_from}
-use Rattle.small_states.proofs.SparseLemmas.{part_joins}
+use Rattle.small_states.proofs.SparseLemmas.{part_joins, take_anys}
+use Rattle.vd_transfer.specs.EffectsOnStates.{forgotten_from}
+use Rattle.vd_transfer.proofs.ChangeLaws.{forgotten-lower, forgotten-other}
+use Rattle.vd_transfer.proofs.RegisterLaws.{length-forgotten}
 use Rattle.small_states.specs.Incoming.{incoming_known, exit_with, is_exit, known_by, state_with, incoming_values}
 use Rattle.small_states.specs.declared.incoming.Incoming.{Incoming}
 use Rattle.small_states.specs.declared.incoming.Context.{Context}
@@ -99,3 +102,30 @@ leaving_parts regs long =
     let e : 8 + r + 8 ≡ 16 + r = omega arith in
     lower_high regs (8 + r) (omega arith) (omega arith) (omega arith) ∙ ap (λ (m : ℕ). get_or regs m any_val) e)
     ∙ take_all 14 ws (omega arith)
+
+-- ---- values with the lower registers unknown
+module _ (regs : List Val) (i : ℕ) (lt : i < length regs) where
+  forgotten_low : i < 8 → get_or (forgotten_from 0 regs) i any_val ≡ any_val
+  forgotten_low h = forgotten-lower regs i lt (let e = lt-ltb i 8 h in rw e refl)
+
+  forgotten_high : 16 ≤ i → i < 22 → get_or (forgotten_from 0 regs) i any_val ≡ any_val
+  forgotten_high h k = forgotten-lower regs i lt (let e = le-ltb i 8 (omega arith) in let f = le-leb 16 i h in let g = lt-ltb i 22 k in rw (e, f, g) refl)
+
+  kept_middle : 8 ≤ i → i < 16 → get_or (forgotten_from 0 regs) i any_val ≡ get_or regs i any_val
+  kept_middle h k = forgotten-other regs i lt (let e = le-ltb i 8 h in let f = lt-leb 16 i k in rw (e, f) refl)
+
+  kept_last : 22 ≤ i → get_or (forgotten_from 0 regs) i any_val ≡ get_or regs i any_val
+  kept_last h = forgotten-other regs i lt (let e = le-ltb i 8 (omega arith) in let f = le-leb 16 i (omega arith) in let g = le-ltb i 22 h in rw (e, f, g) refl)
+
+pub forgotten_parts : (regs : List Val) → length regs ≡ 27
+    → ((replicate 8 any_val ++ values_from regs 8 8) ++ replicate 6 any_val) ++ values_from regs 22 5 ≡ forgotten_from 0 regs
+forgotten_parts regs long =
+    let ws = forgotten_from 0 regs in
+    let len : length ws ≡ 27 = length-forgotten 0 regs ∙ long in
+    ap (λ (l : List Val). ((l ++ values_from regs 8 8) ++ replicate 6 any_val) ++ values_from regs 22 5)
+    (sym (take_anys ws 0 8 (omega arith) (λ r h k. forgotten_low regs r (omega arith) k)))
+    ∙ ap (λ (l : List Val). (l ++ replicate 6 any_val) ++ values_from regs 22 5)
+    (part_joins ws regs 8 8 8 (omega arith) (λ r h. kept_middle regs (8 + r) (omega arith) (omega arith) (omega arith)))
+    ∙ ap (λ (l : List Val). l ++ values_from regs 22 5) (sym (take_anys ws 16 6 (omega arith) (λ r h k. forgotten_high regs r (omega arith) h k)))
+    ∙ part_joins ws regs 22 22 5 (omega arith) (λ r h. kept_last regs (22 + r) (omega arith) (omega arith))
+    ∙ take_all 27 ws (omega arith)

@@ -1,7 +1,8 @@
 // Lists of compact values: made from what flows in, compared with it, joined with it.
 ghost use Rattle.std.specs.Prelude.{◌≡◌, ◌↔◌, IsTrue, IfOk, OnOk, length};
 ghost use Rattle.value_domain.specs.State.{AreBelow, AreValues, AreWell, joined_regs};
-ghost use Rattle.vd_transfer.specs.Changes.{put_in, state_after};
+ghost use Rattle.vd_transfer.specs.Changes.{base_of, put_in, state_after};
+ghost use Rattle.vd_transfer.specs.EffectsOnStates.{forgotten_from};
 ghost use Rattle.small_states.specs.Incoming.{sender_state, incoming_values};
 ghost use Rattle.small_states.specs.CompactForms.{all_values};
 
@@ -74,19 +75,53 @@ fn put_over(alloc: Global, values: &mut Values, put: &Put) -> Result<(), AllocEr
     values.put(at, value)
 }
 
-/// Returns a state's values after a change's values were put over them. If there are none, the list
-/// is shared.
+/// Returns the values that a change starts from, with room for more known ones.
+#[inline(always)]
+fn base_values(alloc: Global, own: &Values, base: Base) -> Result<Values, AllocError>
+    requires { length (all_values own.now) ≡ 27 }
+    ensures { IfOk result (λ values. all_values values ≡ base_of base (all_values own.now)) }
+{
+    match base {
+        Base::Same => own.copy(alloc),
+        Base::Forgotten => upper_values(alloc, own),
+        Base::Any => Ok(Values {
+            known: Vec::with_capacity(alloc, 3)?,
+            rest: 27,
+        }),
+    }
+}
+
+/// Returns a state's values with the lower registers unknown.
+#[inline(never)]
+fn upper_values(alloc: Global, own: &Values) -> Result<Values, AllocError>
+    requires { length (all_values own.now) ≡ 27 }
+    ensures { IfOk result (λ values. all_values values ≡ forgotten_from 0 (all_values own.now)) }
+{
+    let mut values = Values {
+        known: Vec::with_capacity(alloc, own.known.len() + 1)?,
+        rest: 8,
+    };
+    values.add_part(own, 8, 8)?;
+    values.add_anys(6);
+    values.add_part(own, 22, 5)?;
+    Ok(values)
+}
+
+/// Returns a state's values after a change. If nothing is put over them, the list is shared.
 #[inline(always)]
 fn put_all_over(alloc: Global, own: &Rc<Values>, c: &Change) -> Result<Rc<Values>, AllocError>
+    requires { length (all_values own.now.value) ≡ 27 }
     ensures { IfOk result
         (λ values. all_values values.value
-        ≡ put_in (put_in (put_in (all_values own.now.value) c.now.first) c.now.second)
-        c.now.third) }
+        ≡ put_in (put_in (put_in (base_of c.now.base (all_values own.now.value)) c.now.first)
+        c.now.second) c.now.third) }
 {
     if c.first.at.is_none() && c.second.at.is_none() && c.third.at.is_none() {
-        return own.clone();
+        if let Base::Same = c.base {
+            return own.clone();
+        }
     }
-    let mut values = own.as_ref().copy(alloc)?;
+    let mut values = base_values(alloc, own.as_ref(), c.base)?;
     put_over(alloc, &mut values, &c.first)?;
     put_over(alloc, &mut values, &c.second)?;
     put_over(alloc, &mut values, &c.third)?;
@@ -94,6 +129,7 @@ fn put_all_over(alloc: Global, own: &Rc<Values>, c: &Change) -> Result<Rc<Values
 }
 
 /// Returns the values of a changed state, from the state's compact values.
+#[inline(always)]
 fn pack_change(
     alloc: Global,
     own: &Rc<Values>,
@@ -103,13 +139,8 @@ fn pack_change(
     requires { all_values own.now.value ≡ s.now.regs }
     ensures { IfOk result (λ values. all_values values.value ≡ (state_after s.now c.now).regs) }
 {
-    match c.base {
-        Base::Same => put_all_over(alloc, own, c),
-        _ => {
-            let values = pack_values(alloc, &Incoming::Changed(s, c))?;
-            Ok(Rc::new(alloc, values)?)
-        }
-    }
+    let _regs = &s.regs[..];
+    put_all_over(alloc, own, c)
 }
 
 /// Returns the incoming values, from a point whose compact values are at hand.
