@@ -7,13 +7,16 @@ ghost use Rattle.depth_cert.specs.Grammar.{flag_at, word_after, set_at, span_at,
 
 use arrayvec::ArrayVec;
 use tcd_base::{BAD_VALUE, Cursor, FormErr, fault, read_u8, read_u32};
-use value_domain::{Val, Words, count_of, write_any};
+use value_domain::{Val, count_of, set_span, set_words, write_any};
 
 /// The first byte of a Span is this plus its step.
 pub const SPAN: u8 = 240;
 
 /// The first byte of a Span of the greatest step, which is 2.
 const LAST_SPAN: u8 = 242;
+
+/// A Set of no more words than these is read through room for as many, which is soon filled.
+const FEW_WORDS: u8 = 8;
 
 /// Reads a flag: a byte 0 or 1. Any other byte is a `BAD_VALUE`.
 #[tactic(auto, unfolding(crate::specs::Grammar::flag_at))]
@@ -52,31 +55,55 @@ fn read_word(c: &mut Cursor<'_>, before: &[u32]) -> Result<u32, FormErr>
     Ok(word)
 }
 
-/// Reads a Set of `n` words.
+/// Reads a Set of `n` words, at most `N`, in place.
 #[tactic(auto, unfolding(crate::specs::Grammar::set_at))]
-fn read_set(c: &mut Cursor<'_>, n: usize) -> Result<Val, FormErr>
+#[inline(never)]
+fn read_set<const N: usize>(c: &mut Cursor<'_>, n: usize, out: &mut Val) -> Result<(), FormErr>
     requires short { length c.old.bytes ≤ 2 ^ 30 }
     requires some { 1 ≤ n }
-    requires few { n ≤ 128 }
-    ensures read { Reads result c.new (set_at n c.old) }
+    requires few { n ≤ N }
+    requires small { N ≤ 128 }
+    ensures ok { OnOk result (set_at n c.old ≡ Ok (out.new, c.new)) }
+    ensures err { IfErr result (λ e. set_at n c.old ≡ Err e) }
     ensures bytes { c.new.bytes ≡ c.old.bytes }
 {
-    let mut words: ArrayVec<u32, 128> = ArrayVec::new();
+    let mut words: ArrayVec<u32, N> = ArrayVec::new();
     for _i in 0..n {
         let word = read_word(c, words.as_slice())?;
         words.push(word);
     }
-    Ok(Val::Set(Words::from_ascending(words)))
+    put_set(words.as_slice(), out);
+    Ok(())
 }
 
-/// Reads the ends of a Span, whose first byte was read at `start`.
+/// Makes a value the Set of ascending words.
+fn put_set(words: &[u32], out: &mut Val)
+    requires some { 1 ≤ length words.now }
+    requires few { length words.now ≤ 128 }
+    requires rising { IsStrictlyIncreasing words.now }
+    ensures { out.new ≡ Set words.now }
+{
+    set_words(out, words);
+}
+
+/// Reads the ends of a Span, whose first byte was read at `start`, in place.
 #[tactic(auto, unfolding(crate::specs::Grammar::span_at))]
-fn read_span(c: &mut Cursor<'_>, version: u8, step: u8, start: usize) -> Result<Val, FormErr>
+fn read_span(
+    c: &mut Cursor<'_>,
+    version: u8,
+    step: u8,
+    start: usize,
+    out: &mut Val,
+) -> Result<(), FormErr>
     requires short { length c.old.bytes ≤ 2 ^ 30 }
     requires step { step ≤ 2 }
     requires start { start ≤ length c.old.bytes }
-    ensures read { Reads result c.new
-        (span_at version step (record { bytes = c.old.bytes; place = start }) c.old) }
+    ensures ok { OnOk result
+        (span_at version step (record { bytes = c.old.bytes; place = start }) c.old
+        ≡ Ok (out.new, c.new)) }
+    ensures err { IfErr result
+        (λ e. span_at version step (record { bytes = c.old.bytes; place = start }) c.old
+        ≡ Err e) }
     ensures bytes { c.new.bytes ≡ c.old.bytes }
 {
     let lo = read_u32(c)?;
@@ -84,7 +111,8 @@ fn read_span(c: &mut Cursor<'_>, version: u8, step: u8, start: usize) -> Result<
     if !is_span(version, lo, last, step) {
         return Err(fault(BAD_VALUE, start));
     }
-    Ok(Val::Span { lo, last, step })
+    set_span(out, lo, last, step);
+    Ok(())
 }
 
 fn is_span(version: u8, lo: u32, last: u32, step: u8) -> bool
@@ -110,15 +138,16 @@ pub fn read_value(c: &mut Cursor<'_>, version: u8, out: &mut Val) -> Result<(), 
         return Ok(());
     }
     let width = if version == 1 { 64 } else { 128 };
+    if byte <= FEW_WORDS {
+        return read_set::<8>(c, byte as usize, out);
+    }
     if byte <= width {
-        *out = read_set(c, byte as usize)?;
-        return Ok(());
+        return read_set::<128>(c, byte as usize, out);
     }
     if byte < SPAN || byte > LAST_SPAN {
         return Err(fault(BAD_VALUE, start));
     }
-    *out = read_span(c, version, byte - SPAN, start)?;
-    Ok(())
+    read_span(c, version, byte - SPAN, start, out)
 }
 
 /// Reads a value into each place of `out`, or returns the first fault.

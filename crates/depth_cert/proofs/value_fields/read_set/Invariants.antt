@@ -5,7 +5,7 @@ use Rattle.depth_cert.specs.Grammar.{word_after}
 use Rattle.depth_cert.proofs.value_fields.read_set.Given as goal
 
 abbrev pub invariant-loop-i : goal.invariant-loop-i
-invariant-loop-i l = record {
+invariant-loop-i g l = record {
   read : many_at word_after l.n [] l.initial.c ≡ many_at word_after (l.n - l._i) l.words.items l.c;
   bytes : l.c.bytes ≡ l.initial.c.bytes;
   count : length l.words.items ≡ l._i;
