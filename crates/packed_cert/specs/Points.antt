@@ -1,13 +1,15 @@
 -- Points by their addresses and the places of their states in the bytes.
-use Rattle.std.specs.Prelude.{◌≡◌, ℕ, List, [], map, false, Result, Ok, Err, ◌≤◌, ◌^◌, length}
+use Rattle.std.specs.Prelude.{◌≡◌, ◌+◌, ℕ, List, [], map, false, Result, Ok, Err, ◌≤◌, ◌^◌, length}
 use Rattle.tcd_base.specs.declared.errors.FormErr.{FormErr}
 use Rattle.tcd_base.specs.Place.{Place}
 use Rattle.value_domain.specs.declared.states.State.{State}
+use Rattle.value_domain.specs.declared.values.Val.{Val}
 use Rattle.depth_cert.specs.declared.points.Point.{Point}
 use Rattle.depth_cert.specs.Grammar.{state_at}
 use Rattle.packed_cert.specs.declared.places.PackedPoint.{PackedPoint}
 use Rattle.packed_cert.specs.declared.places.StatePlaces.{StatePlaces}
-use Rattle.packed_cert.specs.Standing.{at, StandFrom}
+use Rattle.packed_cert.specs.declared.places.RepeatedState.{RepeatedState}
+use Rattle.packed_cert.specs.Standing.{at, StandFrom, StandAlike}
 
 -- what was read, or something else if nothing was
 abbrev pub read_or : {A : Type 0} → A → Result (A × Place) FormErr → A
@@ -46,3 +48,14 @@ pub record StandsAt (version : ℕ) (bytes : List ℕ) (s : State) (p : StatePla
   pub within : p.end ≤ length bytes
   pub read : state_at version (at bytes p.start) ≡ Ok (s, at bytes p.end)
   pub values : StandFrom version bytes s.regs p.values p.end
+
+-- so many bytes of a state come again at a place
+pub record IsRepeated (bytes : List ℕ) (place : ℕ) (p : RepeatedState) : Type 0 where
+  pub first : (p.at).start + p.same ≤ length bytes
+  pub second : place + p.same ≤ length bytes
+  pub alike : StandAlike bytes (p.at).start place p.same
+
+-- these are the values of a state, and so many of its bytes come again at a place
+pub record ComesAgain (version : ℕ) (bytes : List ℕ) (vs : List Val) (place : ℕ) (p : RepeatedState) : Type 0 where
+  pub values : StandFrom version bytes vs (p.at).values (p.at).end
+  pub repeated : IsRepeated bytes place p

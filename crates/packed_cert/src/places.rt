@@ -50,6 +50,13 @@ pub(crate) struct StatePlaces {
     pub(crate) end: usize,
 }
 
+/// A state that was read, and how many of its bytes, from the first one on, come again.
+#[derive(Clone, Copy)]
+pub(crate) struct RepeatedState {
+    pub(crate) at: StatePlaces,
+    pub(crate) same: usize,
+}
+
 /// A state that was read over the one before it.
 #[derive(Clone, Copy)]
 pub(crate) struct ReadState {

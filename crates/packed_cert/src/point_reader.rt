@@ -1,20 +1,24 @@
 // Reads points: their addresses and the places of their states.
-// Fast path: the state of the point before is at hand. If its bytes come again, they are passed
-// over, and else only the values whose bytes differ are read. A state of 27 words takes some 200
-// instructions if it comes again, 800 if one value differs, and 9,800 if all do.
-ghost use Rattle.std.specs.Prelude.{◌≡◌, ◌≤◌, ◌<◌, ◌+◌, ◌^◌, ℕ, List, length, map, vec_len, true, false, Ok, Err, OnOk, IfOk, IfErr, IfSome, IsTrue, IsFalse};
+// Fast path: the state of the point before is at hand, and its bytes are compared with those here.
+// If all come again, they are passed over, and else only the values whose bytes differ are read. In
+// bench/, a point of *functions*, whose state has 106 bytes, takes some 180 instructions if they
+// come again, and 480 more if they don't.
+ghost use Rattle.std.specs.Prelude.{◌≡◌, ◌≤◌, ◌<◌, ◌+◌, ◌-◌, ◌^◌, ℕ, List, length, map, vec_len, true, false, Ok, Err, OnOk, IfOk, IfErr, IfSome, IsTrue, IsFalse};
 ghost use Rattle.std.specs.List.{All};
 ghost use Rattle.tcd_base.specs.FieldReaders.{Reads};
 ghost use Rattle.depth_cert.specs.Grammar.{values_at, state_at, address_after, points_at, is_above};
 ghost use Rattle.depth_cert.specs.Answers.{IsFaultOf};
 ghost use Rattle.std.specs.List.Sorted.{IsStrictlyIncreasing};
-ghost use Rattle.packed_cert.specs.Standing.{StandFrom};
+ghost use Rattle.packed_cert.specs.Standing.{StandFrom, StandAlike};
 ghost use Rattle.packed_cert.specs.ChangedRows.{ChangesRow, IsFrom, IsWhole};
-ghost use Rattle.packed_cert.specs.Points.{HasState, StandsAt, points_in};
+ghost use Rattle.packed_cert.specs.Points.{HasState, StandsAt, IsRepeated, ComesAgain, points_in};
 ghost use Rattle.packed_cert.specs.Moves.{AreMoves};
 
-use crate::places::{ExitPlaces, PackedPoint, ReadState, StatePlaces, VALUES, ValueRow};
-use crate::value_reader::{no_row, passes, read_values_after};
+use crate::places::{
+    ExitPlaces, PackedPoint, ReadState, RepeatedState, StatePlaces, VALUES, ValueRow,
+};
+use crate::repeated_bytes::count_same_before;
+use crate::value_reader::{move_to, no_row, read_values_after};
 use arrayvec::ArrayVec;
 use depth_cert::{CertErr, Exit, read_flag, read_locals, read_point_count, read_values};
 use std::alloc::Global;
@@ -141,6 +145,7 @@ fn for_point(read: ReadState, first: bool) -> ReadState
 
 /// Reads a state over the one whose places are `before`. If its bytes come again, they are passed
 /// over at once, and the places stay those of the first state with these bytes.
+#[inline(always)]
 pub(crate) fn read_state_like(
     c: &mut Cursor<'_>,
     bytes: &[u8],
@@ -159,30 +164,35 @@ pub(crate) fn read_state_like(
     ensures again { IfOk result (λ r. IsTrue r.same → out.new ≡ out.old) }
     ensures bytes { c.new.bytes ≡ c.old.bytes }
 {
-    if let Some(at) = before {
-        if passes(c, bytes, at.start, at.end - at.start) {
-            return Ok(ReadState {
-                at,
-                row: no_row(),
-                same: true,
-            });
-        }
+    let Some(at) = before else {
+        return read_state_after(c, bytes, version, None, out);
+    };
+    let place = c.place();
+    let same = count_same_before(bytes, at.start, place, at.end);
+    if same == at.end - at.start {
+        move_to(c, place + same);
+        return Ok(ReadState {
+            at,
+            row: no_row(),
+            same: true,
+        });
     }
-    read_state_after(c, bytes, version, before, out)
+    let repeated = RepeatedState { at, same };
+    read_state_after(c, bytes, version, Some(repeated), out)
 }
 
-/// Reads a state over the one whose places are `before`, whose bytes don't come again.
+/// Reads a state over the one before, whose bytes don't all come again.
+#[inline(never)]
 pub(crate) fn read_state_after(
     c: &mut Cursor<'_>,
     bytes: &[u8],
     version: u8,
-    before: Option<StatePlaces>,
+    before: Option<RepeatedState>,
     out: &mut State,
 ) -> Result<ReadState, FormErr>
     requires short { length c.old.bytes ≤ 2 ^ 30 }
     requires same { c.old.bytes ≡ bytes.now }
-    requires held { IfSome before
-        (λ p. StandFrom version bytes.now out.old.regs p.values p.end) }
+    requires held { IfSome before (ComesAgain version bytes.now out.old.regs c.old.place) }
     ensures ok { OnOk result (state_at version c.old ≡ Ok (out.new, c.new)) }
     ensures err { IfErr result (λ e. state_at version c.old ≡ Err e) }
     ensures held { IfOk result (λ r. StandsAt version bytes.now out.new r.at) }
@@ -206,20 +216,19 @@ pub(crate) fn read_state_after(
     })
 }
 
-/// Reads the fields of a state over the one whose places are `before`. Returns the place of the
-/// values, and the row of those that were read.
+/// Reads the fields of a state over the one before. Returns the place of the values, and the row of
+/// those that were read.
 #[tactic(auto, unfolding(depth_cert::specs::Grammar::state_at))]
 fn read_state_fields(
     c: &mut Cursor<'_>,
     bytes: &[u8],
     version: u8,
-    before: Option<StatePlaces>,
+    before: Option<RepeatedState>,
     out: &mut State,
 ) -> Result<(usize, ValueRow), FormErr>
     requires short { length c.old.bytes ≤ 2 ^ 30 }
     requires same { c.old.bytes ≡ bytes.now }
-    requires held { IfSome before
-        (λ p. StandFrom version bytes.now out.old.regs p.values p.end) }
+    requires held { IfSome before (ComesAgain version bytes.now out.old.regs c.old.place) }
     ensures ok { OnOk result (state_at version c.old ≡ Ok (out.new, c.new)) }
     ensures err { IfErr result (λ e. state_at version c.old ≡ Err e) }
     ensures held { IfOk result
@@ -228,37 +237,39 @@ fn read_state_fields(
     ensures from { IfOk result (λ r. IsFrom bytes.now r.0 r.1) }
     ensures bytes { c.new.bytes ≡ c.old.bytes }
 {
+    let start = c.place();
     out.ie = read_flag(c)?;
     out.ccpn = read_u8(c)?;
     out.lower = read_flag(c)?;
     out.locals = read_locals(c, version)?;
     let at = c.place();
-    let row = read_values_like(c, bytes, version, before, &mut out.regs)?;
+    let row = read_values_like(c, bytes, version, before, start, &mut out.regs)?;
     Ok((at, row))
 }
 
-/// Reads values, and returns the row of those that were read. If `before` has places, `out` holds
-/// the values of these already.
+/// Reads values of a state that begins at `start`, and returns the row of those that were read. If
+/// there is a state before, `out` holds its values already.
 fn read_values_like(
     c: &mut Cursor<'_>,
     bytes: &[u8],
     version: u8,
-    before: Option<StatePlaces>,
+    before: Option<RepeatedState>,
+    start: usize,
     out: &mut [Val],
 ) -> Result<ValueRow, FormErr>
     requires short { length c.old.bytes ≤ 2 ^ 30 }
     requires same { c.old.bytes ≡ bytes.now }
     requires few { length out.old ≤ 27 }
-    requires held { IfSome before
-        (λ p. StandFrom version bytes.now out.old p.values p.end) }
+    requires held { IfSome before (ComesAgain version bytes.now out.old start) }
     ensures ok { OnOk result (values_at version (length out.old) c.old ≡ Ok (out.new, c.new)) }
     ensures err { IfErr result (λ e. values_at version (length out.old) c.old ≡ Err e) }
     ensures row { IfOk result (ChangesRow out.old out.new) }
     ensures from { IfOk result (IsFrom bytes.now c.old.place) }
     ensures bytes { c.new.bytes ≡ c.old.bytes }
 {
-    if let Some(at) = before {
-        return read_values_after(c, bytes, version, at, out);
+    if let Some(state) = before {
+        let stop = end_of_same(bytes, state, start, c.place());
+        return read_values_after(c, bytes, version, state.at, stop, out);
     }
     let count = out.len() as u8;
     let from = c.place() as u32;
@@ -270,4 +281,24 @@ fn read_values_like(
         }),
         Err(e) => Err(e),
     }
+}
+
+/// Returns the place up to which the bytes of a state's values come again at `at`, where its own
+/// bytes come again at `start`. They are compared again only if more bytes are before the values
+/// there than here, or fewer.
+fn end_of_same(bytes: &[u8], state: RepeatedState, start: usize, at: usize) -> usize
+    requires short { length bytes.now ≤ 2 ^ 30 }
+    requires inside { at ≤ length bytes.now }
+    requires values { state.at.values ≤ length bytes.now }
+    requires again { IsRepeated bytes.now start state }
+    ensures from { state.at.values ≤ result }
+    ensures first { result ≤ length bytes.now }
+    ensures second { at + (result - state.at.values) ≤ length bytes.now }
+    ensures same { StandAlike bytes.now state.at.values at (result - state.at.values) }
+{
+    let front = at.saturating_sub(start);
+    if start + front == at && state.at.start + front == state.at.values && front < state.same {
+        return state.at.start + state.same;
+    }
+    state.at.values + count_same_before(bytes, state.at.values, at, state.at.end)
 }

@@ -1,7 +1,7 @@
 // Reads values over those of the state before.
 // Fast path: a value whose bytes come again isn't read. Bytes are compared for many values at once.
-ghost use Rattle.std.specs.Prelude.{◌≡◌, ◌≤◌, ◌<◌, ◌+◌, ◌^◌, ℕ, List, IsTrue, IsFalse, length, Ok, Err, OnOk, IfOk, IfErr};
-ghost use Rattle.packed_cert.specs.Standing.{StandFrom, MovedOver};
+ghost use Rattle.std.specs.Prelude.{◌≡◌, ◌≤◌, ◌<◌, ◌+◌, ◌-◌, ◌^◌, ℕ, List, IsTrue, IsFalse, length, Ok, Err, OnOk, IfOk, IfErr};
+ghost use Rattle.packed_cert.specs.Standing.{StandFrom, StandAlike, MovedOver};
 ghost use Rattle.packed_cert.specs.ChangedRows.{ChangesRow, IsFrom, IsWithRead, place_after};
 ghost use Rattle.packed_cert.specs.Standing as standing;
 ghost use Rattle.depth_cert.specs.Grammar.{values_at};
@@ -19,7 +19,7 @@ pub(crate) const MOST_WORDS: u8 = 128;
 const FEW_BYTES: usize = 64;
 
 /// Reads a value into each place of `out`, over the values of the state whose places are `before`,
-/// and returns the row of those that were read.
+/// and returns the row of those that were read. The bytes of these values up to `stop` come again.
 // The cursor stays until a value is read: `place` is where it would be, and the bytes from `from`
 // up to `stop` are the same there.
 pub(crate) fn read_values_after(
@@ -27,12 +27,17 @@ pub(crate) fn read_values_after(
     bytes: &[u8],
     version: u8,
     before: StatePlaces,
+    stop: usize,
     out: &mut [Val],
 ) -> Result<ValueRow, FormErr>
     requires short { length c.old.bytes ≤ 2 ^ 30 }
     requires same { c.old.bytes ≡ bytes.now }
     requires few { length out.old ≤ 27 }
     requires held { StandFrom version bytes.now out.old before.values before.end }
+    requires start { before.values ≤ stop }
+    requires first { stop ≤ length bytes.now }
+    requires second { c.old.place + (stop - before.values) ≤ length bytes.now }
+    requires again { StandAlike bytes.now before.values c.old.place (stop - before.values) }
     ensures ok { OnOk result (values_at version (length out.old) c.old ≡ Ok (out.new, c.new)) }
     ensures err { IfErr result (λ e. values_at version (length out.old) c.old ≡ Err e) }
     ensures row { IfOk result (ChangesRow out.old out.new) }
@@ -42,7 +47,7 @@ pub(crate) fn read_values_after(
     let mut row = no_row();
     let mut from = before.values;
     let mut place = c.place();
-    let mut stop = from + count_same_before(bytes, from, place, before.end);
+    let mut stop = stop;
     for i in 0..out.len() {
         if stop == before.end {
             move_to(c, place + (stop - from));
@@ -133,7 +138,7 @@ fn with_read(row: ValueRow, i: u8, place: u32) -> ValueRow
 
 /// Moves a cursor on to a place.
 #[inline(always)]
-fn move_to(c: &mut Cursor<'_>, place: usize)
+pub(crate) fn move_to(c: &mut Cursor<'_>, place: usize)
     requires order { c.old.place ≤ place }
     requires within { place ≤ length c.old.bytes }
     ensures { c.new ≡ record c.old { place = place } }

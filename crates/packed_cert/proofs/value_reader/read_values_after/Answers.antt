@@ -23,8 +23,8 @@ overflow_add-next c =
     let w = (value_stands c.args.version c.args.bytes.now c.loop-i.from _ _ (λ k. (c.type_inv.bytes k).fits) (omega (arith, c.loop-i.invariant.start, c.loop-i.invariant.first)) s.0).within in
     omega (arith, c.length_by-n.ensures)
 
-pub count_same_before-requires-else-next-stop-clause-first : goal.count_same_before-requires-else-next-stop-clause-first
-count_same_before-requires-else-next-stop-clause-first c =
+pub count_same_before-requires-clause-first : goal.count_same_before-requires-clause-first
+count_same_before-requires-clause-first c =
     let s = stand_next c.args.version c.args.bytes.now c.loop-i.from c.loop-i.i _ c.loop-i.out (omega arith) c.loop-i.invariant.held in
     let w = (value_stands c.args.version c.args.bytes.now c.loop-i.from _ _ (λ k. (c.type_inv.bytes k).fits) (omega (arith, c.loop-i.invariant.start, c.loop-i.invariant.first)) s.0).within in
     omega (arith, c.length_by-n.ensures)
@@ -93,7 +93,7 @@ loop-i-preserved c =
           let back : w2.read_value.new.c.bytes ≡ bytes = w2.read_value.ensures.bytes ∙ ap (λ (p : Place). p.bytes) moved in
           let there : at bytes w2.place-place-else-next-stop.result ≡ w2.read_value.new.c = ap (λ (k : ℕ). at bytes k) w2.place-place-else-next-stop.ensures.place ∙ ap (λ (l : List ℕ). at l w2.read_value.new.c.place) (sym back) in
           let left : drop (c.loop-i.i + 1) c.if-next-stop.out ≡ drop (c.loop-i.i + 1) c.loop-i.out = ap (drop (c.loop-i.i + 1)) w2.out-is ∙ drop-set-lt (c.loop-i.i + 1) c.loop-i.out c.loop-i.i w2.read_value.new.out (omega arith) in
-          let count = w2.count_same_before-else-next-stop.result in
+          let count = w2.count_same_before.result in
           let ahead : count ≡ x + n + count - (x + n) = omega arith in
           record {
             read =
@@ -103,9 +103,9 @@ loop-i-preserved c =
             order = rw (w2.c-is, w2.place-is) (omega (arith, w2.place-place-else-next-stop.ensures.place));
             held = rw (left, keep) s.1;
             start = rw w2.stop-is (omega arith);
-            first = rw w2.stop-is w2.count_same_before-else-next-stop.ensures.first;
-            second = rw (w2.stop-is, w2.place-is) (omega (arith, w2.count_same_before-else-next-stop.ensures.second));
-            same = rw (w2.stop-is, w2.place-is) (subst (λ (m : ℕ). StandAlike bytes (x + n) w2.place-place-else-next-stop.result m) ahead w2.count_same_before-else-next-stop.ensures.same);
+            first = rw w2.stop-is w2.count_same_before.ensures.first;
+            second = rw (w2.stop-is, w2.place-is) (omega (arith, w2.count_same_before.ensures.second));
+            same = rw (w2.stop-is, w2.place-is) (subst (λ (m : ℕ). StandAlike bytes (x + n) w2.place-place-else-next-stop.result m) ahead w2.count_same_before.ensures.same);
             row = rw (w2.out-is, w2.row-is) (row_and_more c.args.out.now c.loop-i.out c.loop-i.i w2.read_value.new.out c.loop-i.row _ (omega arith) inv.row w2.with_read-row.ensures.read);
             few = rw w2.row-is (omega (arith, w2.with_read-row.ensures.read.behind));
             placed =
