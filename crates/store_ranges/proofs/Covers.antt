@@ -1,16 +1,19 @@
 -- Covers of what loads give.
-use Rattle.std.proofs.Common.{◌≡◌, ℕ, ◌-◌, ◌*◌, ◌^◌, ◌<◌, ◌≤◌, inl, inr, Bool, true, false, List, [], ◌∷◌, map, length, refl, sym, ap, ◌∙◌, subst, arith}
+use Rattle.std.proofs.Common.{◌≡◌, ℕ, ◌-◌, ◌*◌, ◌/◌, ◌^◌, ◌<◌, ◌≤◌, inl, inr, Bool, true, false, List, [], ◌∷◌, map, length, refl, sym, ap, ◌∙◌, subst, arith}
 use Rattle.std.proofs.lemmas.Bool.{lt-ltb}
 use Rattle.std.proofs.lemmas.Bool.Decides.{nat_tests}
 use Rattle.tcd_base.specs.BitFields.{sext_of}
 use Rattle.csa_chain.specs.Memory.{extend}
 use Rattle.value_domain.specs.Sets.{Among, Within, distinct, alignment_log2}
 use Rattle.value_domain.specs.Limits.{Limits, AreLimits}
+use Rattle.value_domain.specs.declared.values.Val.{Val}
+use Rattle.value_domain.specs.declared.values.Val.TheVariants.{Span}
 use Rattle.value_domain.specs.Floors.{floor, above}
-use Rattle.value_domain.specs.Values.{IsExtent, cover, range, any_val, count_in, first_in}
+use Rattle.value_domain.specs.Values.{IsExtent, IsValue, cover, range, any_val, count_in, first_in}
 use Rattle.value_domain.proofs.SetLaws.{length-put_new, distinct-rising, length-distinct}
 use Rattle.value_domain.proofs.CoverLaws.{among_range, range_among, length-multiples, rising_multiples, unit_some}
-use Rattle.value_domain.proofs.ExtentLaws.{cover_span}
+use Rattle.value_domain.proofs.ExtentLaws.{cover_span, extent_range}
+use Rattle.value_domain.proofs.RangeLaws.{any_cover, many_range, range_value}
 use Rattle.value_domain.proofs.LimitLaws.{floor_le, above_lt, above_le}
 use Rattle.store_ranges.specs.Accesses.{IsSize}
 use Rattle.store_ranges.specs.Loads.{all_extended}
@@ -115,3 +118,35 @@ module _ (size : ℕ) (is : IsSize size) where
       let low : floor b.thresholds 0 ≡ 0 = omega (arith, floor_le b.thresholds 0) in
       let high : above b.thresholds (2 ^ 32 - 1) ≡ 2 ^ 32 = omega (arith, above_lt b.thresholds (2 ^ 32 - 1), above_le b.thresholds (2 ^ 32 - 1) (omega arith)) in
       sym (cover_span b (all_extended size true) (let many = many_signed in omega (arith, limits.narrow)) signed_extent ∙ rw (low, high) refl)
+
+-- the least value that holds all numbers up to one
+pub cover_to : (b : Limits) (greatest : ℕ) → AreLimits b → 128 ≤ greatest → Span 0 (above b.thresholds greatest - 1) 0 ≡ cover b (range 0 greatest 0)
+cover_to b greatest limits many =
+    let low : floor b.thresholds 0 ≡ 0 = omega (arith, floor_le b.thresholds 0) in
+    let last : greatest / 2 ^ 0 * 2 ^ 0 ≡ greatest = omega arith in
+    sym (cover_span b (range 0 greatest 0) (many_range b 0 greatest 0 (omega (arith, limits.narrow))) (extent_range 0 greatest 0 (omega arith) (omega arith))
+    ∙ ap (λ n. Span (floor b.thresholds 0) (above b.thresholds n - 1) 0) last
+    ∙ ap (λ n. Span n (above b.thresholds greatest - 1) 0) low)
+
+-- numbers of a size
+many_numbers : (size : ℕ) → IsSize size → 128 ≤ 2 ^ (8 * size) - 1
+many_numbers size (inl e) = rw e (omega arith)
+many_numbers size (inr (inl e)) = rw e (omega arith)
+many_numbers size (inr (inr e)) = rw e (omega arith)
+
+pub numbers-cover : (b : Limits) (size : ℕ) → AreLimits b → IsSize size → Span 0 (above b.thresholds (2 ^ (8 * size) - 1) - 1) 0 ≡ cover b (all_extended size false)
+numbers-cover b size limits is = cover_to b (2 ^ (8 * size) - 1) limits (many_numbers size is) ∙ anything-unsigned b size
+
+words_below : (size : ℕ) → IsSize size → 2 ^ (8 * size) - 1 < 2 ^ 32
+words_below size (inl e) = rw e (omega arith)
+words_below size (inr (inl e)) = rw e (omega arith)
+words_below size (inr (inr e)) = rw e (omega arith)
+
+pub numbers_value : (b : Limits) (size : ℕ) → AreLimits b → IsSize size → IsValue b (Span 0 (above b.thresholds (2 ^ (8 * size) - 1) - 1) 0)
+numbers_value b size limits is =
+    subst (λ (v : Val). IsValue b v) (sym (cover_to b (2 ^ (8 * size) - 1) limits (many_numbers size is)))
+    (range_value b 0 (2 ^ (8 * size) - 1) 0 limits (omega arith) (omega arith) (words_below size is))
+
+-- without a sign, a word stays
+pub anything-word : (b : Limits) → AreLimits b → any_val ≡ cover b (all_extended 4 false)
+anything-word b limits = sym (any_cover b limits) ∙ anything-unsigned b 4

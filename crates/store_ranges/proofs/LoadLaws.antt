@@ -10,10 +10,10 @@ use Rattle.tcd_plan.specs.PlanData.{PlanData, IsPlan, is_device, is_range}
 use Rattle.value_domain.specs.Sets.{Among}
 use Rattle.value_domain.specs.Limits.{Limits}
 use Rattle.value_domain.specs.declared.values.Val.{Val}
-use Rattle.value_domain.specs.Values.{IsExtent, cover, members, count_in, first_in}
-use Rattle.value_domain.proofs.CoverLaws.{cover-same, length-multiples}
-use Rattle.value_domain.proofs.ExtentLaws.{among_append, append_left, append_right}
-use Rattle.value_domain.proofs.Loops.{among_get}
+use Rattle.value_domain.specs.Values.{IsExtent, IsWell, cover, members, count_in, first_in}
+use Rattle.value_domain.proofs.CoverLaws.{length-multiples}
+use Rattle.value_domain.proofs.ExtentLaws.{append_left, append_right, cover-part}
+use Rattle.value_domain.proofs.RangeLaws.{some_members}
 use Rattle.tcd_base.specs.Ranges.{is_within}
 use Rattle.store_ranges.specs.Loads.{answers, device_of}
 use Rattle.value_domain.proofs.MeetLaws.{cover-parts}
@@ -76,19 +76,30 @@ among_flat f x z (w ∷ ws) i j =
       | inr k ↦ append_right z (f w) (flat_map f ws) (among_flat f x z ws k j)
     ]
 
--- the first word's loads, and those of the words before it
-pub flat_more : (b : Limits) (f : ℕ → List ℕ) (ws : List ℕ) (i : ℕ) (first : List ℕ) (out v : Val) → i < length ws → 1 ≤ length first → 1 ≤ length (f (get_or ws i 0))
-    → out ≡ cover b (first ++ flat_map f (take i ws)) → v ≡ cover b (f (get_or ws i 0)) → cover b (members out ++ members v) ≡ cover b (first ++ flat_map f (take (i + 1) ws))
-flat_more b f ws i first out v lt some_first some e g =
-    ap (λ (o : Val). cover b (members o ++ members v)) e
-    ∙ ap (λ (o : Val). cover b (members (cover b (first ++ flat_map f (take i ws))) ++ members o)) g
-    ∙ cover-parts b (first ++ flat_map f (take i ws)) (f (get_or ws i 0)) (omega (arith, length-append first (flat_map f (take i ws)))) some
-    ∙ ap (cover b) (flat_map_more f first (take i ws) (get_or ws i 0) ∙ ap (λ (l : List ℕ). first ++ flat_map f l) (sym (take_more ws i 0 lt)))
+-- the loads from the first word, those from one word more, and those from all
+pub flat_more : (f : ℕ → List ℕ) (ws : List ℕ) (i : ℕ) → i < length ws → flat_map f (take i ws) ++ f (get_or ws i 0) ≡ flat_map f (take (i + 1) ws)
+flat_more f ws i lt = flat_map_more f [] (take i ws) (get_or ws i 0) ∙ ap (flat_map f) (sym (take_more ws i 0 lt))
 
-pub flat_all : (b : Limits) (f : ℕ → List ℕ) (ws : List ℕ) (i : ℕ) (out : Val) → length ws ≤ i → 1 ≤ length ws → out ≡ cover b (f (get_or ws 0 0) ++ flat_map f (take i ws)) → out ≡ cover b (flat_map f ws)
-flat_all b f ws i out le some e =
-    e
-    ∙ ap (λ (l : List ℕ). cover b (f (get_or ws 0 0) ++ flat_map f l)) (take_all i ws le)
-    ∙ cover-same b (f (get_or ws 0 0) ++ flat_map f ws) (flat_map f ws)
-    (λ z j. elim (among_append z (f (get_or ws 0 0)) (flat_map f ws) j) [ inl k ↦ among_flat f (get_or ws 0 0) z ws (among_get ws 0 some) k | inr k ↦ k ])
-    (λ z j. append_right z (f (get_or ws 0 0)) (flat_map f ws) j)
+pub flat_first : (f : ℕ → List ℕ) (ws : List ℕ) → 1 ≤ length ws → f (get_or ws 0 0) ≡ flat_map f (take 1 ws)
+flat_first f [] some = absurd (let none : 1 ≤ 0 = some in omega arith)
+flat_first f (w ∷ ws) some = flat_more f (w ∷ ws) 0 some
+
+pub flat_some : (f : ℕ → List ℕ) (ws : List ℕ) (i : ℕ) → i < length ws → 1 ≤ length (flat_map f (take i ws)) → 1 ≤ length (flat_map f (take (i + 1) ws))
+flat_some f ws i lt some = subst (λ (l : List ℕ). 1 ≤ length l) (flat_more f ws i lt) (omega (arith, length-append (flat_map f (take i ws)) (f (get_or ws i 0))))
+
+pub cover_more : (b : Limits) (f : ℕ → List ℕ) (ws : List ℕ) (i : ℕ) (out : Val) → i < length ws → 1 ≤ length (flat_map f (take i ws)) → out ≡ cover b (flat_map f (take i ws))
+    → cover b (members out ++ f (get_or ws i 0)) ≡ cover b (flat_map f (take (i + 1) ws))
+cover_more b f ws i out lt some e =
+    ap (λ (o : Val). cover b (members o ++ f (get_or ws i 0))) e
+    ∙ cover-part b (flat_map f (take i ws)) (f (get_or ws i 0)) some
+    ∙ ap (cover b) (flat_more f ws i lt)
+
+pub cover_all : (b : Limits) (f : ℕ → List ℕ) (ws : List ℕ) (i : ℕ) (out : Val) → length ws ≤ i → out ≡ cover b (flat_map f (take i ws)) → out ≡ cover b (flat_map f ws)
+cover_all b f ws i out le e = e ∙ ap (λ (l : List ℕ). cover b (flat_map f l)) (take_all i ws le)
+
+-- a value is the cover of its members
+pub cover_both : (b : Limits) (v w : Val) (ws : List ℕ) → IsWell v → cover b (members v) ≡ v → 1 ≤ length ws → w ≡ cover b ws → cover b (members v ++ members w) ≡ cover b (members v ++ ws)
+cover_both b v w ws well own some e =
+    ap (λ (o : Val). cover b (members o ++ members w)) (sym own)
+    ∙ ap (λ (o : Val). cover b (members (cover b (members v)) ++ members o)) e
+    ∙ cover-parts b (members v) ws (some_members v well) some

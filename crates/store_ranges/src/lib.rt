@@ -8,6 +8,6 @@ mod rom;
 mod stores;
 
 pub use laws::load_laws;
-pub use loads::load_of;
+pub use loads::{LoadKind, load_of, write_load};
 pub use rom::loaded_rom;
-pub use stores::{aligned, store_ok};
+pub use stores::{aligned, is_in_range, store_ok};

@@ -1,9 +1,9 @@
 // The value that a load from the members of a value gives.
-ghost use Rattle.std.specs.Prelude.{◌≡◌, ◌≤◌, ◌<◌, ◌+◌, ◌-◌, ◌*◌, ◌^◌, ◌&&◌, ◌==◌, if◌then◌else◌, find, length, List, ℕ, IfSome};
+ghost use Rattle.std.specs.Prelude.{◌≡◌, ◌≤◌, ◌<◌, ◌+◌, ◌-◌, ◌*◌, ◌^◌, ◌++◌, ◌&&◌, ◌==◌, if◌then◌else◌, find, length, List, ℕ, IfSome, false};
 ghost use Rattle.std.specs.List.{flat_map};
 ghost use Rattle.csa_chain.specs.Memory as memory;
 ghost use Rattle.tcd_base.specs.Ranges.{is_within};
-ghost use Rattle.value_domain.specs.Values.{IsValue, cover, members};
+ghost use Rattle.value_domain.specs.Values.{IsValue, cover, members, range};
 ghost use Rattle.value_domain.specs.declared.values.Val.TheVariants.{Set, Span};
 ghost use Rattle.store_ranges.specs.Accesses.{IsSize};
 ghost use Rattle.store_ranges.specs.Loads as loads;
@@ -14,7 +14,16 @@ use crate::rom::rom_number;
 use elf_image::Image;
 use tcd_base::sext;
 use tcd_plan::{Device, Plan};
-use value_domain::{Bounds, Val, cover, cover_words, extent_of, join};
+use value_domain::{
+    Bounds, Val, add_words, cover, extent_of, join, set_span, set_words, write_any,
+};
+
+/// How many bytes a load takes, and whether it extends their sign.
+#[derive(Clone, Copy)]
+pub struct LoadKind {
+    pub size: u8,
+    pub signed: bool,
+}
 
 /// Returns the least value that holds what loads of 1, 2 or 4 bytes (`size`) from all members of
 /// `at` give. An address in rom gives the image's word, a word of a device what the plan lets the
@@ -26,53 +35,85 @@ pub fn load_of(b: &Bounds, image: &Image, plan: &Plan, at: &Val, size: u8, signe
     ensures value { IsValue b.now result }
     ensures sound { HoldsLoads image.now plan.now at.now size signed result }
 {
-    // Reading the plan gives the facts that hold of every plan.
-    let _areas = plan.areas;
-    match at {
-        Val::Set(words) => load_each(b, image, plan, words.as_slice(), size, signed),
-        Val::Span { .. } => load_span(b, plan, at, size, signed),
-    }
-}
-
-/// Returns the join of what each address gives.
-fn load_each(b: &Bounds, image: &Image, plan: &Plan, words: &[u32], size: u8, signed: bool) -> Val
-    requires some { 1 ≤ length words.now }
-    requires size { IsSize size }
-    ensures loaded { result
-        ≡ cover b.now (flat_map (words_at image.now plan.now size signed) words.now) }
-    ensures value { IsValue b.now result }
-{
-    let mut out = load_at(b, image, plan, words[0], size, signed);
-    for x in words {
-        let one = load_at(b, image, plan, *x, size, signed);
-        out = join(b, &out, &one);
-    }
+    let mut out = Val::any();
+    write_load(b, image, plan, at, LoadKind { size, signed }, &mut out);
     out
 }
 
-fn load_at(b: &Bounds, image: &Image, plan: &Plan, x: u32, size: u8, signed: bool) -> Val
-    requires { IsSize size }
-    ensures loaded { result ≡ cover b.now (words_at image.now plan.now size signed x) }
-    ensures value { IsValue b.now result }
-    ensures some { 1 ≤ length (words_at image.now plan.now size signed x) }
+/// Overwrites a value with what loads from all members of `at` give, as `load_of` does. Only a load
+/// from a device, and one from several addresses of which some aren't in rom, make a value of their
+/// own.
+pub fn write_load(b: &Bounds, image: &Image, plan: &Plan, at: &Val, load: LoadKind, out: &mut Val)
+    requires at { IsValue b.now at.now }
+    requires size { IsSize load.size }
+    ensures loaded { out.new ≡ loaded_of b.now image.now plan.now at.now load.size load.signed }
+    ensures value { IsValue b.now out.new }
+    ensures sound { HoldsLoads image.now plan.now at.now load.size load.signed out.new }
 {
-    let device = device_for(plan, x, x, size);
-    match rom_number(image, plan, x, size) {
-        Some(number) => cover_words(b, &[extend(number, size, signed)]),
-        None => answers(b, device, size, signed),
+    // Reading the plan gives the facts that hold of every plan.
+    let _areas = plan.areas;
+    match at {
+        Val::Set(words) => write_each(b, image, plan, words.as_slice(), load, out),
+        Val::Span { .. } => write_span(b, plan, at, load, out),
     }
 }
 
-fn load_span(b: &Bounds, plan: &Plan, at: &Val, size: u8, signed: bool) -> Val
+/// Overwrites a value with what all addresses give.
+fn write_each(b: &Bounds, image: &Image, plan: &Plan, words: &[u32], load: LoadKind, out: &mut Val)
+    requires some { 1 ≤ length words.now }
+    requires size { IsSize load.size }
+    ensures loaded { out.new
+        ≡ cover b.now (flat_map (words_at image.now plan.now load.size load.signed) words.now) }
+    ensures value { IsValue b.now out.new }
+{
+    write_at(b, image, plan, words[0], load, out);
+    for i in 1..words.len() {
+        add_at(b, image, plan, words[i], load, out);
+    }
+}
+
+/// Overwrites a value with what an address gives.
+fn write_at(b: &Bounds, image: &Image, plan: &Plan, x: u32, load: LoadKind, out: &mut Val)
+    requires { IsSize load.size }
+    ensures loaded { out.new
+        ≡ cover b.now (words_at image.now plan.now load.size load.signed x) }
+    ensures value { IsValue b.now out.new }
+    ensures some { 1 ≤ length (words_at image.now plan.now load.size load.signed x) }
+{
+    let _most_words = b.most_words();
+    let device = device_for(plan, x, x, load.size);
+    match rom_number(image, plan, x, load.size) {
+        Some(number) => set_words(out, &[extend(number, load)]),
+        None => write_answers(b, device, load, out),
+    }
+}
+
+/// Widens a value to the least one that holds what an address gives, too.
+fn add_at(b: &Bounds, image: &Image, plan: &Plan, x: u32, load: LoadKind, out: &mut Val)
+    requires size { IsSize load.size }
+    requires value { IsValue b.now out.old }
+    ensures loaded { out.new ≡ cover b.now
+        (members out.old ++ words_at image.now plan.now load.size load.signed x) }
+    ensures value { IsValue b.now out.new }
+{
+    let device = device_for(plan, x, x, load.size);
+    match rom_number(image, plan, x, load.size) {
+        Some(number) => add_words(b, out, &[extend(number, load)]),
+        None => add_answers(b, device, load, out),
+    }
+}
+
+/// Overwrites a value with what a Span of addresses gives.
+fn write_span(b: &Bounds, plan: &Plan, at: &Val, load: LoadKind, out: &mut Val)
     requires at { IsValue b.now at.now }
-    requires size { IsSize size }
-    ensures loaded { result
-        ≡ cover b.now (loads.answers size signed (loads.device_of plan.now size (members at.now))) }
-    ensures value { IsValue b.now result }
+    requires size { IsSize load.size }
+    ensures loaded { out.new ≡ cover b.now (loads.answers load.size load.signed
+        (loads.device_of plan.now load.size (members at.now))) }
+    ensures value { IsValue b.now out.new }
 {
     let e = extent_of(at);
-    let device = device_for(plan, e.least, e.greatest, size);
-    answers(b, device, size, signed)
+    let device = device_for(plan, e.least, e.greatest, load.size);
+    write_answers(b, device, load, out);
 }
 
 /// Returns the device whose range has a word both at `low` and at `high`. For smaller accesses
@@ -90,45 +131,87 @@ fn device_for(plan: &Plan, low: u32, high: u32, size: u8) -> Option<Device>
     device_at(plan.devices.as_slice(), low, high, 4)
 }
 
-/// Extends a loaded number of `size` bytes to a word.
-fn extend(number: u32, size: u8, signed: bool) -> u32
-    requires size { IsSize size }
-    requires below { number < 2 ^ (8 * size) }
-    ensures { result ≡ memory.extend signed size number }
+/// Extends a loaded number to a word.
+fn extend(number: u32, load: LoadKind) -> u32
+    requires size { IsSize load.size }
+    requires below { number < 2 ^ (8 * load.size) }
+    ensures { result ≡ memory.extend load.signed load.size number }
 {
-    if signed {
-        sext(number, 8 * size)
+    if load.signed {
+        sext(number, 8 * load.size)
     } else {
         number
     }
 }
 
-/// Returns the cover of the words that a device can answer. Without a device, it is that of
-/// `anything`.
-fn answers(b: &Bounds, device: Option<Device>, size: u8, signed: bool) -> Val
-    requires size { IsSize size }
+/// Overwrites a value with the cover of the words that a device can answer. Without a device, it is
+/// that of anything.
+fn write_answers(b: &Bounds, device: Option<Device>, load: LoadKind, out: &mut Val)
+    requires size { IsSize load.size }
     requires bounds { IfSome device (λ d. d.lo ≤ d.hi) }
-    ensures cover { result ≡ cover b.now (loads.answers size signed device) }
-    ensures value { IsValue b.now result }
-    ensures some { 1 ≤ length (loads.answers size signed device) }
+    ensures cover { out.new ≡ cover b.now (loads.answers load.size load.signed device) }
+    ensures value { IsValue b.now out.new }
+    ensures some { 1 ≤ length (loads.answers load.size load.signed device) }
 {
     match device {
-        Some(device) => cover(b, device.lo, device.hi, 0),
-        None => anything(b, size, signed),
+        Some(device) => write_between(b, device.lo, device.hi, out),
+        None => write_anything(b, load, out),
     }
 }
 
-/// Returns the cover of all words that a load of this size and sign can give.
-fn anything(b: &Bounds, size: u8, signed: bool) -> Val
-    requires { IsSize size }
-    ensures cover { result ≡ cover b.now (all_extended size signed) }
-    ensures value { IsValue b.now result }
+/// Widens a value to the least one that holds the words that a device can answer, too. This is a
+/// function of its own, so that its callers need no stack for a value.
+#[inline(never)]
+fn add_answers(b: &Bounds, device: Option<Device>, load: LoadKind, out: &mut Val)
+    requires size { IsSize load.size }
+    requires bounds { IfSome device (λ d. d.lo ≤ d.hi) }
+    requires value { IsValue b.now out.old }
+    ensures cover { out.new
+        ≡ cover b.now (members out.old ++ loads.answers load.size load.signed device) }
+    ensures value { IsValue b.now out.new }
+{
+    let mut answers = Val::any();
+    write_answers(b, device, load, &mut answers);
+    *out = join(b, out, &answers);
+}
+
+/// Overwrites a value with the cover of the words from `lo` to `hi`, in a function of its own, so
+/// that its callers need no stack for a value.
+#[inline(never)]
+fn write_between(b: &Bounds, lo: u32, hi: u32, out: &mut Val)
+    requires { lo ≤ hi }
+    ensures cover { out.new ≡ cover b.now (range lo hi 0) }
+    ensures value { IsValue b.now out.new }
+{
+    *out = cover(b, lo, hi, 0);
+}
+
+/// Overwrites a value with the cover of all words that a load of this kind can give.
+fn write_anything(b: &Bounds, load: LoadKind, out: &mut Val)
+    requires { IsSize load.size }
+    ensures cover { out.new ≡ cover b.now (all_extended load.size load.signed) }
+    ensures value { IsValue b.now out.new }
 {
     let _most_words = b.most_words();
-    if signed {
-        Val::any()
+    if load.signed {
+        write_any(out);
     } else {
-        cover(b, 0, greatest_of(size), 0)
+        write_numbers(b, load.size, out);
+    }
+}
+
+/// Overwrites a value with the cover of all numbers of `size` bytes.
+fn write_numbers(b: &Bounds, size: u8, out: &mut Val)
+    requires { IsSize size }
+    ensures cover { out.new ≡ cover b.now (all_extended size false) }
+    ensures value { IsValue b.now out.new }
+{
+    let _most_words = b.most_words();
+    if size == 4 {
+        write_any(out);
+    } else {
+        let last = b.above(greatest_of(size)) - 1;
+        set_span(out, 0, last as u32, 0);
     }
 }
 

@@ -49,7 +49,9 @@ fn are_in_range(plan: &Plan, words: &[u32], size: u8) -> bool
     true
 }
 
-fn is_in_range(plan: &Plan, x: u32, size: u8) -> bool
+/// Returns true if a store of so many bytes at an address is wholly in one ram range or one device
+/// range.
+pub fn is_in_range(plan: &Plan, x: u32, size: u8) -> bool
     ensures { IsTrue result ↔ IsStoreInRange plan.now (x, size) }
 {
     range_end(plan, x, size).is_some()

@@ -1,9 +1,0 @@
-use Rattle.std.proofs.Common.{[], ◌∷◌, ap, ◌∙◌}
-use Rattle.value_domain.specs.Values.{cover}
-use Rattle.store_ranges.specs.Loads.{device_of, number_or}
-use Rattle.store_ranges.proofs.loads.load_at.Goals as goal
-
-pub returns-in-Some-clause-loaded : goal.returns-in-Some-clause-loaded
-returns-in-Some-clause-loaded c =
-    c.cover_words.ensures.cover
-    ∙ rw c.extend.ensures (ap (λ o. cover c.args.b.now (number_or c.args.size c.args.signed (device_of c.args.plan.now c.args.size (c.args.x ∷ [])) o)) c.in-Some.ensures.value)
