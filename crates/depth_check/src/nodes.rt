@@ -102,7 +102,6 @@ fn packed_fault<'a>(
         let again = scratch.interrupts.covers(node, s);
         let repeats = scratch.walk.repeats_at();
         let here = CurrentPoint {
-            node: &any_node,
             addr,
             state: s,
             again,
@@ -110,7 +109,15 @@ fn packed_fault<'a>(
             next: repeats,
             walk: Some(&scratch.walk),
         };
-        let found = broken_by_point(b, image, plan, cert, here, &mut scratch.point);
+        let at = PointCheck {
+            bounds: b,
+            image,
+            plan,
+            cert,
+            node: &any_node,
+            point: here,
+        };
+        let found = broken_by_point(&at, &mut scratch.point);
         if let Some(fault) = first_of(good, entry, addr, found) {
             return Some(fault);
         }
@@ -134,10 +141,10 @@ fn packed_fault<'a>(
 
 /// The first fault of a node in memory.
 fn plain_fault<'a>(
-    b: &Bounds,
-    image: &Image,
-    plan: &Plan,
-    cert: &AnyCert<'_>,
+    b: &'a Bounds,
+    image: &'a Image,
+    plan: &'a Plan,
+    cert: &'a AnyCert<'a>,
     node: &'a Node,
     scratch: &mut PointScratch,
 ) -> Option<Fault>
@@ -155,7 +162,6 @@ fn plain_fault<'a>(
     for point in &node.points {
         scratch.registers = NO_REGISTERS;
         let here = CurrentPoint {
-            node: &any_node,
             addr: point.addr,
             state: &point.state,
             again: false,
@@ -163,7 +169,15 @@ fn plain_fault<'a>(
             next: None,
             walk: None,
         };
-        let found = broken_by_point(b, image, plan, cert, here, scratch);
+        let at = PointCheck {
+            bounds: &*b,
+            image: &*image,
+            plan: &*plan,
+            cert: &*cert,
+            node: &any_node,
+            point: here,
+        };
+        let found = broken_by_point(&at, scratch);
         if let Some(fault) = first_of(good, entry, point.addr, found) {
             return Some(fault);
         }
@@ -275,7 +289,6 @@ fn common_stack(
         cert,
         node: any_node,
         point: CurrentPoint {
-            node: any_node,
             addr: 0,
             state: s,
             again: false,

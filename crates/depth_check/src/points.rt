@@ -6,7 +6,7 @@ ghost use Rattle.depth_check.specs.DutyTests.{StandsAt, HasOwnNeed};
 ghost use Rattle.value_domain.specs.State.{AreValues};
 ghost use Rattle.depth_check.specs.Points.{IsPointCheck, LooksAhead};
 ghost use Rattle.cfg_recover.specs.SetOperations.{HoldsResults};
-ghost use Rattle.depth_check.specs.CheckedRegisters.{RegistersHoldAt, RegistersHold};
+ghost use Rattle.depth_check.specs.CheckedRegisters.{RegistersHoldAt};
 ghost use Rattle.depth_check.specs.Interrupts.{InterruptsHold};
 ghost use Rattle.depth_check.specs.Forms.{point_here};
 
@@ -32,7 +32,7 @@ pub(crate) struct PointCheck<'a, 'b> {
     pub(crate) plan: &'a Plan,
     pub(crate) cert: &'a AnyCert<'a>,
     pub(crate) node: &'a AnyNode<'a>,
-    pub(crate) point: CurrentPoint<'a, 'b>,
+    pub(crate) point: CurrentPoint<'b>,
 }
 
 /// A point of a node: its address, and the state before its instruction.
@@ -41,8 +41,7 @@ pub(crate) struct PointCheck<'a, 'b> {
 /// whether its values are known to be values of the plan, an address at which the node is known to
 /// have a point with the same state, and the walk over the node's points.
 #[derive(Clone, Copy)]
-pub(crate) struct CurrentPoint<'a, 'b> {
-    pub(crate) node: &'a AnyNode<'a>,
+pub(crate) struct CurrentPoint<'b> {
     pub(crate) addr: u32,
     pub(crate) state: &'b State,
     pub(crate) again: bool,
@@ -86,46 +85,31 @@ pub(crate) fn no_change() -> Change {
 }
 
 /// The least rule that fails at a point of a node. `scratch.change` is overwritten.
-pub(crate) fn broken_by_point(
-    b: &Bounds,
-    image: &Image,
-    plan: &Plan,
-    cert: &AnyCert<'_>,
-    point: CurrentPoint<'_, '_>,
-    scratch: &mut PointScratch,
-) -> Option<u8>
-    requires limits { b.now ≡ limits_in plan.now cert.now }
-    requires nodes { All IsWellNode cert.now.nodes }
-    requires node { IsWellNode point.node.now }
-    requires again { IsTrue point.again
-        → InterruptsHold plan.now cert.now point.node.now point.state.now }
-    requires known { IsTrue point.known → AreValues b.now point.state.now.regs }
-    requires next { IfSome point.next (λ a. StandsAt point.node.now a point.state.now) }
-    requires walk { IfSome point.walk
-        (λ w. LooksAhead point.node.now point.state.now w.now) }
-    requires results { HoldsResults b.now scratch.old.cache }
-    requires registers { RegistersHold plan.now cert.now point.node.now point.state.now
-        scratch.old.registers }
-    ensures found { Finds (RuleHolds image.now plan.now cert.now point.entry.node.now
-        (point_here point.entry)) result }
-    ensures results { HoldsResults b.now scratch.new.cache }
-    ensures registers { RegistersHold plan.now cert.now point.entry.node.now point.entry.state.now
-        scratch.new.registers }
+pub(crate) fn broken_by_point(at: &PointCheck<'_, '_>, scratch: &mut PointScratch) -> Option<u8>
+    requires limits { at.now.bounds.now ≡ limits_in at.now.plan.now at.now.cert.now }
+    requires nodes { All IsWellNode at.now.cert.now.nodes }
+    requires node { IsWellNode at.now.node.now }
+    requires again { IsTrue at.now.point.again
+        → InterruptsHold at.now.plan.now at.now.cert.now at.now.node.now at.now.point.state.now }
+    requires known { IsTrue at.now.point.known
+        → AreValues at.now.bounds.now at.now.point.state.now.regs }
+    requires next { IfSome at.now.point.next
+        (λ a. StandsAt at.now.node.now a at.now.point.state.now) }
+    requires walk { IfSome at.now.point.walk
+        (λ w. LooksAhead at.now.node.now at.now.point.state.now w.now) }
+    requires results { HoldsResults at.now.bounds.now scratch.old.cache }
+    requires registers { RegistersHoldAt at.now scratch.old.registers }
+    ensures found { Finds (RuleHolds at.now.image.now at.now.plan.now at.now.cert.now
+        at.now.node.now (point_here at.now.point)) result }
+    ensures results { HoldsResults at.now.bounds.now scratch.new.cache }
+    ensures registers { RegistersHoldAt at.now scratch.new.registers }
 {
-    if !has_values(b, point) {
+    if !has_values(at.bounds, at.point) {
         return Some(BAD_VALUES);
     }
-    let at = PointCheck {
-        bounds: b,
-        image,
-        plan,
-        cert,
-        node: point.node,
-        point,
-    };
-    match idle_next(&at, &mut scratch.codes) {
-        Some(next) => broken_by_idle(&at, next),
-        None => broken_by_any(&at, scratch),
+    match idle_next(at, &mut scratch.codes) {
+        Some(next) => broken_by_idle(at, next),
+        None => broken_by_any(at, scratch),
     }
 }
 
@@ -154,7 +138,7 @@ fn broken_by_any(at: &PointCheck<'_, '_>, scratch: &mut PointScratch) -> Option<
 }
 
 /// Whether the values of a point are values of the plan.
-fn has_values(b: &Bounds, point: CurrentPoint<'_, '_>) -> bool
+fn has_values(b: &Bounds, point: CurrentPoint<'_>) -> bool
     requires { IsTrue point.known → AreValues b.now point.state.now.regs }
     ensures { IsTrue result ↔ AreValues b.now point.entry.state.now.regs }
 {

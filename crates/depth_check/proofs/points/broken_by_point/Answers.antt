@@ -5,7 +5,8 @@ use Rattle.depth_check.proofs.points.broken_by_point.Goals as goal
 
 pub returns-then-not-has_values-clause-found : goal.returns-then-not-has_values-clause-found
 returns-then-not-has_values-clause-found c =
-    values_broken c.args.image.now c.args.plan.now c.args.cert.now c.args.point.node.now (point_here c.args.point) c.args.b.now c.requires.limits (refuted c.has_values.result _ c.if-not-has_values.true c.has_values.ensures)
+    let t = c.args.at.now in
+    values_broken t.image.now t.plan.now t.cert.now t.node.now (point_here t.point) t.bounds.now c.requires.limits (refuted c.has_values.result _ c.if-not-has_values.true c.has_values.ensures)
 
 pub broken_by_idle-requires-clause-point : goal.broken_by_idle-requires-clause-point
 broken_by_idle-requires-clause-point c = record {
