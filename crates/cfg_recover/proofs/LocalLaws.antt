@@ -16,7 +16,9 @@ use Rattle.value_domain.specs.Sets.{Among}
 use Rattle.value_domain.specs.Values.{members, IsWell}
 use Rattle.value_domain.proofs.CoverLaws.{member_same}
 use Rattle.vd_transfer.specs.EffectsOnStates.{address_of}
-use Rattle.store_ranges.specs.Accesses.{AreAligned}
+use Rattle.tcd_plan.specs.Regions.{IsStoreInRange}
+use Rattle.vd_transfer.specs.Registers.{word_val}
+use Rattle.store_ranges.specs.Accesses.{AreAligned, AreStoresInRange}
 use Rattle.depth_cert.specs.declared.keys.Key.{Key}
 use Rattle.cfg_recover.specs.Code.{IsCode}
 use Rattle.cfg_recover.specs.LocalRules.{are_aligned, StoresInRange, MayAccess, LocalRule, LocalHolds}
@@ -66,6 +68,19 @@ MayAccess-at b plan s shape at t e is =
     let there : IsTrue t ↔ MayAccessAt plan (address_of b plan shape s) shape = subst (λ (v : Val). IsTrue t ↔ MayAccessAt plan v shape) e is in
     let same = access_same b plan s shape in
     (λ h. same.0 (there.0 h), λ h. there.1 (same.1 h))
+
+pub word_allowed : (fields plan : PlanData) (x size : ℕ) → fields ≡ plan → fields.aln ≡ false → IsTrue (x % size == 0) ↔ ((are_aligned (word_val x) size ≡ true) ⊎ (plan.aln ≡ true))
+word_allowed fields plan x size e off = (
+  (λ h. inl (and_from (x % size == 0) true h refl)),
+  (λ h. elim h [ inl a ↦ (and_parts (x % size == 0) true a).0 | inr on ↦ let none : plan.aln ≡ false = ap (λ (p : PlanData). p.aln) (sym e) ∙ off in cc ]),
+)
+
+-- the only access from one word
+pub word_stores : (plan : PlanData) (x size : ℕ) (t : Bool) → IsTrue t ↔ IsStoreInRange plan (x, size) → IsTrue t ↔ AreStoresInRange plan (word_val x) size
+word_stores plan x size t is = (
+  (λ h y i. elim i [ inl e ↦ subst (λ (z : ℕ). IsStoreInRange plan (z, size)) (sym e) (is.0 h) | inr none ↦ absurd none ]),
+  (λ each. is.1 (each x (inl refl))),
+)
 
 -- ---- the least rule that fails
 -- if a test says no, P doesn't hold

@@ -18,7 +18,7 @@ use crate::flow_targets::{one, targets};
 use crate::inst_at::InstAt;
 use arrayvec::ArrayVec;
 use elf_image::Image;
-use store_ranges::load_of;
+use store_ranges::{LoadKind, write_load};
 use tc_isa::{Inst, Shape, shape};
 use tcd_plan::Plan;
 use value_domain::{Bounds, State, Val, write_any};
@@ -89,9 +89,7 @@ fn step(b: &Bounds, image: &Image, plan: &Plan, s: &State, at: InstAt<'_>) -> Ju
     }
 }
 
-/// Writes what an instruction of this shape loads from these addresses into `out`. It is a function
-/// of its own, so that steps without a load don't fill the room of a value.
-#[inline(never)]
+/// Writes what an instruction of this shape loads from these addresses into `out`.
 fn write_loaded(b: &Bounds, image: &Image, plan: &Plan, shape: Shape, at: &Val, out: &mut Val)
     requires shape { IsShape shape }
     requires value { IsValue b.now at.now }
@@ -101,7 +99,9 @@ fn write_loaded(b: &Bounds, image: &Image, plan: &Plan, shape: Shape, at: &Val, 
 {
     let _most_words = b.most_words();
     match shape {
-        Shape::Load { size, signed, .. } => *out = load_of(b, image, plan, at, size, signed),
+        Shape::Load { size, signed, .. } => {
+            write_load(b, image, plan, at, LoadKind { size, signed }, out)
+        }
         _ => write_any(out),
     }
 }

@@ -4,22 +4,28 @@ ghost use Rattle.std.specs.Prelude.{◌≡◌, ℕ, IfErr, IfOk, IfSome, MatchRe
 ghost use Rattle.elf_image.specs.Images.{ImageData};
 ghost use Rattle.tc_isa.specs.Bounded.{IsShape};
 ghost use Rattle.tc_isa.specs.Meanings.{shape_of};
+ghost use Rattle.value_domain.specs.declared.states.State.{State};
+ghost use Rattle.value_domain.specs.Limits.{Limits};
 ghost use Rattle.value_domain.specs.State.{AreValues};
+ghost use Rattle.vd_transfer.specs.EffectsOnStates.{address_of};
+ghost use Rattle.vd_transfer.specs.Registers.{word_val};
 ghost use Rattle.cfg_recover.specs.LocalFaults.{IsLocalFault, IsLeastBroken, IsAccessFault, FindsFaultless};
 ghost use Rattle.cfg_recover.specs.Changes.{StandsFaultless};
 ghost use Rattle.cfg_recover.specs.Code.{LocatesCode};
 
+use crate::built_states::only_address;
 use crate::code::code_at;
 use crate::local_rules::{
     has_base_value, has_value, knows_target, loads_into_values, lowers_a_value, may_access,
-    may_call_system, may_restore, may_return, may_return_from_exception, may_save, stores_in_range,
+    may_access_at, may_call_system, may_restore, may_return, may_return_from_exception, may_save,
+    stores_in_range, stores_in_range_at,
 };
 use depth_cert::Key;
 use elf_image::Image;
 use tc_isa::{Inst, Shape, shape};
 use tcd_plan::Plan;
-use value_domain::{Bounds, State};
-use vd_transfer::address_by;
+use value_domain::{Bounds, State, Val};
+use vd_transfer::write_address;
 
 // The rules that have an own part, by what fails there.
 
@@ -149,15 +155,43 @@ pub fn unless(holds: bool, rule: u8) -> Option<u8>
     if holds { None } else { Some(rule) }
 }
 
-/// Tries rule 9, then rule 10, for an access. The addresses are computed here, so that other
-/// instructions make no value.
-#[inline(never)]
+/// Tries rule 9, then rule 10, for an access.
 fn broken_by_access(b: &Bounds, plan: &Plan, s: &State, shape: Shape) -> Option<u8>
     requires shape { IsShape shape }
     requires values { AreValues b.now s.now.regs }
     ensures { IsAccessFault b.now plan.now s.now shape result }
 {
-    let at = address_by(b, plan, shape, s);
+    match only_address(b, plan, s, shape) {
+        Some(x) => broken_at_word(plan, x, shape),
+        None => broken_at_value(b, plan, s, shape),
+    }
+}
+
+/// Tries the rules for an access with one address.
+fn broken_at_word(plan: &Plan, x: u32, shape: Shape) -> Option<u8>
+    requires shape { IsShape shape }
+    ensures { (b : Limits) (s : State) → address_of b plan.now shape s ≡ word_val x
+        → IsAccessFault b plan.now s shape result }
+{
+    if !stores_in_range_at(plan, x, shape) {
+        return Some(STORE_OUT_OF_RANGE);
+    }
+    if !may_access_at(plan, x, shape) {
+        return Some(MISALIGNED);
+    }
+    None
+}
+
+/// Tries the rules for an access with any addresses. It is a function of its own, so that an access
+/// with one address makes no value.
+#[inline(never)]
+fn broken_at_value(b: &Bounds, plan: &Plan, s: &State, shape: Shape) -> Option<u8>
+    requires shape { IsShape shape }
+    requires values { AreValues b.now s.now.regs }
+    ensures { IsAccessFault b.now plan.now s.now shape result }
+{
+    let mut at = Val::any();
+    write_address(b, plan, shape, s, &mut at);
     if !stores_in_range(plan, &at, shape) {
         return Some(STORE_OUT_OF_RANGE);
     }

@@ -4,12 +4,12 @@ ghost use Rattle.tc_isa.specs.Bounded.{IsShape, IsSize, IsTarget};
 ghost use Rattle.tc_isa.specs.declared.shapes.Shape.TheVariants.{Ret, Rfe};
 ghost use Rattle.value_domain.specs.Values.{IsWell};
 ghost use Rattle.vd_transfer.specs.Holding.{HasBaseValue};
-ghost use Rattle.vd_transfer.specs.Registers.{HasValue};
+ghost use Rattle.vd_transfer.specs.Registers.{HasValue, word_val};
 ghost use Rattle.cfg_recover.specs.LocalRules.{are_aligned, named_by, targets_of, MayReturn, MayReturnFromException};
 ghost use Rattle.cfg_recover.specs.LocalFaults.{StoresInRangeAt, MayAccessAt};
 
 use depth_cert::{ALN, CALL, IRQ, Key, SYS};
-use store_ranges::{aligned, store_ok};
+use store_ranges::{aligned, is_in_range, store_ok};
 use tc_isa::{Arg, Shape, Target};
 use tcd_plan::Plan;
 use value_domain::{Bounds, State, Val};
@@ -98,6 +98,16 @@ pub(crate) fn stores_in_range(plan: &Plan, at: &Val, shape: Shape) -> bool
     }
 }
 
+/// Rule 9, if the access has only one address.
+pub(crate) fn stores_in_range_at(plan: &Plan, x: u32, shape: Shape) -> bool
+    ensures { IsTrue result ↔ StoresInRangeAt plan.now (word_val x) shape }
+{
+    match shape {
+        Shape::Store { size, .. } => is_in_range(plan, x, size),
+        _ => true,
+    }
+}
+
 /// Rule 10: each possible address is a multiple of the size, or the plan states the trap of
 /// misaligned accesses.
 pub(crate) fn may_access(plan: &Plan, at: &Val, shape: Shape) -> bool
@@ -110,6 +120,26 @@ pub(crate) fn may_access(plan: &Plan, at: &Val, shape: Shape) -> bool
         Shape::Store { size, .. } => is_allowed(plan, at, size),
         _ => true,
     }
+}
+
+/// Rule 10, if the access has only one address.
+pub(crate) fn may_access_at(plan: &Plan, x: u32, shape: Shape) -> bool
+    requires { IsShape shape }
+    ensures { IsTrue result ↔ MayAccessAt plan.now (word_val x) shape }
+{
+    match shape {
+        Shape::Load { size, .. } => is_allowed_at(plan, x, size),
+        Shape::Store { size, .. } => is_allowed_at(plan, x, size),
+        _ => true,
+    }
+}
+
+fn is_allowed_at(plan: &Plan, x: u32, size: u8) -> bool
+    requires { IsSize size }
+    ensures { IsTrue result
+        ↔ ((are_aligned (word_val x) size ≡ true) ⊎ (plan.now.aln ≡ true)) }
+{
+    plan.aln || x % u32::from(size) == 0
 }
 
 fn is_allowed(plan: &Plan, at: &Val, size: u8) -> bool

@@ -46,7 +46,7 @@ pub(crate) fn arg_in<'a>(b: &Bounds, plan: &Plan, s: &'a State, a: Arg) -> Optio
 
 /// Returns the word of an operand that has only one word and isn't one of the plan's registers.
 #[inline(always)]
-pub(crate) fn arg_word(b: &Bounds, plan: &Plan, s: &State, a: Arg) -> Option<u32>
+pub fn arg_word(b: &Bounds, plan: &Plan, s: &State, a: Arg) -> Option<u32>
     requires operand { IsArg a }
     requires values { AreValues b.now s.now.regs }
     ensures arg { IfSome result (λ w. arg_of plan.now s.now a ≡ word_val w) }

@@ -8,7 +8,7 @@ use Rattle.cfg_recover.proofs.flow_successors.write_loaded.Goals as goal
 pub returns-in-Load-clause-loaded : goal.returns-in-Load-clause-loaded
 returns-in-Load-clause-loaded c s e =
     rw c.in-Load.is
-    (c.load_of.ensures.loaded ∙ ap (λ (v : Val). loaded_of c.args.b.now c.args.image.now c.args.plan.now v c.in-Load.size c.in-Load.signed) (rw c.in-Load.is at e))
+    (c.write_load.ensures.loaded ∙ ap (λ (v : Val). loaded_of c.args.b.now c.args.image.now c.args.plan.now v c.in-Load.size c.in-Load.signed) (rw c.in-Load.is at e))
 
 pub returns-in_default : goal.returns-in_default
 returns-in_default c =
