@@ -24,12 +24,30 @@ pub(crate) fn count_same(bytes: &[u8], x: usize, y: usize, n: usize) -> usize
     ensures within { result ≤ n }
     ensures same { StandAlike bytes.now x y result }
 {
+    if n >= MANY_BYTES && are_same(bytes, x, y, n) {
+        return n;
+    }
     let blocks = same_blocks(bytes, x, y, n);
     let from = same_eights(bytes, x, y, blocks, n);
     if ends_alike(bytes, x, y, from, n) {
         return n;
     }
     same_from(bytes, x, y, from, n)
+}
+
+/// From so many bytes on they are compared as slices first. That takes 17 instructions for 64 bytes,
+/// but doesn't tell where they differ.
+const MANY_BYTES: usize = 1024;
+
+/// Returns true only if these bytes are equal at two places.
+fn are_same(bytes: &[u8], x: usize, y: usize, n: usize) -> bool
+    requires first { x + n ≤ length bytes.now }
+    requires second { y + n ≤ length bytes.now }
+    ensures { IsTrue result → StandAlike bytes.now x y n }
+{
+    let first = &bytes[x..x + n];
+    let second = &bytes[y..y + n];
+    first == second
 }
 
 /// The number of bytes that are compared in a turn.
