@@ -23,6 +23,7 @@ use Rattle.tc_asm.specs.Drafts.{UseData, DraftData, part, start, place_of, has_s
 use Rattle.tc_asm.specs.Rules.{label_rule, section_rule, name_rule, symbol_room, reloc_room, bytes_room, defined_rule, content_rule, item_rule, items_rule, line_rule}
 use Rattle.tc_asm.specs.Sources.{with_line, drafted, symbols_of, symbols_in}
 use Rattle.tc_asm.specs.KnownSymbols.{nameless, kept, is_new, has_symbol_room, are_new, kept_rule}
+use Rattle.tc_asm.proofs.CodeLaws.{found_far}
 use Rattle.tc_asm.proofs.AlikeDrafts.{alike_same, step_alike, passes_agree}
 use Rattle.tc_asm.proofs.SourceItems.{source_are}
 use Rattle.tc_asm.proofs.Passes.{item_here, drafted_more, behind_here}
@@ -203,6 +204,19 @@ global_rule_known labels d name = refl
 pub plain_rule : (labels : List SymbolData) (d : DraftData) (k : ℕ) (f : Fields) → item_rule labels d (code k f None) ≡ item_rule labels (nameless d) (code k f None)
 unfolding item_rule code_bytes
 plain_rule labels d k f = ap (λ (x : RowFieldsData). min x.rule (content_rule (nameless d) (length (bytes_of k x.fields)) None)) (resolved_nameless labels d k f None)
+
+-- an instruction without a symbol
+pub alone_step : (labels : List SymbolData) (d next : DraftData) (k : ℕ) (f : Fields) (bs : List ℕ) → bs ≡ bytes_of k f → next ≡ with_bytes d bs → next ≡ stepped labels d (code k f None)
+unfolding stepped code_bytes with_reference
+alone_step labels d next k f bs is e = e ∙ ap (with_bytes d) (is ∙ sym (ap (λ (x : RowFieldsData). bytes_of k x.fields) (found_far labels d k f None refl)))
+
+pub alone_rule : (labels : List SymbolData) (d : DraftData) (k : ℕ) (f : Fields) (bs : List ℕ) (a rule : ℕ) → bs ≡ bytes_of k f → a ≡ content_rule d (length bs) None → rule ≡ min 15 a
+    → rule ≡ item_rule labels d (code k f None)
+unfolding item_rule code_bytes
+alone_rule labels d k f bs a rule is e m =
+    m
+    ∙ ap (min 15) (e ∙ ap (λ (ys : List ℕ). content_rule d (length ys) None) is)
+    ∙ ap (λ (x : RowFieldsData). min x.rule (content_rule d (length (bytes_of k x.fields)) None)) (sym (found_far labels d k f None refl))
 
 pub section_rule_same : (labels : List SymbolData) (d : DraftData) (name : List ℕ) → item_rule labels d (section name) ≡ item_rule labels (nameless d) (section name)
 unfolding item_rule

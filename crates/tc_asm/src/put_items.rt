@@ -262,6 +262,25 @@ impl<'a> Draft<'a> {
         Self::name_rule(name).min(room)
     }
 
+    // Adds an instruction without a symbol, and returns the least rule that it breaks.
+    #[inline(always)]
+    fn put_alone(
+        &mut self,
+        labels: &Symbols<'a>,
+        row: u8,
+        fields: &Fields,
+    ) -> Result<u8, AllocError>
+        ensures draft { OnOk result
+            (self.new ≡ stepped labels.now self.old (code row fields.now None)) }
+        ensures rule { IfOk result
+            (λ rule. rule ≡ item_rule labels.now self.old (code row fields.now None)) }
+    {
+        let code = code_of(row, fields);
+        let rule = self.put_plain(first_bytes(&code.bytes, code.len))?;
+        // There is no target that breaks a rule.
+        Ok(NO_RULE.min(rule))
+    }
+
     // Adds an item but no symbol, and returns the least rule that it breaks after a draft without
     // symbols.
     fn put_nameless(
@@ -278,7 +297,7 @@ impl<'a> Draft<'a> {
         match item {
             Item::Label(name) => Ok(self.known_label_rule(labels, *name)),
             Item::Global(name) => Ok(self.known_global_rule(labels, *name)),
-            Item::Code(row, fields) => self.put_code(labels, *row, fields, &None),
+            Item::Code(row, fields) => self.put_alone(labels, *row, fields),
             Item::Linked(row, kind, minus, fields, size, name) => {
                 let r = reference_to(*kind, *name, *minus, *size);
                 self.put_linked(labels, *row, fields, r)

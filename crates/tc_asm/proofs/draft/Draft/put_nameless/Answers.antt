@@ -20,7 +20,7 @@ returns-in-Global-clause-draft c =
 
 pub returns-in-Code-clause-rule : goal.returns-in-Code-clause-rule
 returns-in-Code-clause-rule c =
-    if_ok c.put_code.result _ _ c.put_code.ensures.rule
+    if_ok c.put_alone.result _ _ c.put_alone.ensures.rule
     (λ rule h.
     h
     ∙ plain_rule c.args.labels.now c.args.self.now c.in-Code.row c.in-Code.fields
