@@ -1,5 +1,5 @@
 -- Meets: the members of a value that are in a range or among given words.
-use Rattle.std.specs.Prelude.{ℕ, nat_le, ◌==◌, Bool, ◌&&◌, List, [], ◌∷◌, Option, Some, None}
+use Rattle.std.specs.Prelude.{ℕ, nat_le, ◌==◌, Bool, true, false, ◌&&◌, List, [], ◌∷◌, Option, Some, None}
 use Rattle.std.specs.List.{list_any}
 use Rattle.value_domain.specs.declared.values.Val.{Val}
 use Rattle.value_domain.specs.declared.values.Val.TheVariants.{Set, Span}
@@ -11,6 +11,11 @@ use Rattle.value_domain.specs.Values.{cover}
 abbrev pub cover_some : Limits → List ℕ → Option Val
 cover_some b [] = None
 cover_some b (x ∷ xs) = Some (cover b (x ∷ xs))
+
+-- a value, if there is one
+abbrev pub value_if : Bool → Val → Option Val
+value_if true v = Some v
+value_if false v = None
 
 -- a word is in a range
 abbrev pub in_span : ℕ → ℕ → ℕ → ℕ → Bool

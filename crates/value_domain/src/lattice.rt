@@ -9,7 +9,7 @@ ghost use Rattle.value_domain.specs.Values.{IsMember, IsWell, IsValue, IsBelow, 
 ghost use Rattle.value_domain.specs.declared.values.Val.TheVariants.{Set, Span};
 
 use crate::merging::merge;
-use crate::values::{has, set_span};
+use crate::values::{has, set_span, set_word, set_words};
 use crate::{Bounds, Val, Words};
 use arrayvec::ArrayVec;
 
@@ -99,17 +99,15 @@ pub fn extent_of(v: &Val) -> Extent
     }
 }
 
-/// Returns the Span from the greatest threshold that is at most `least` to the least one above
-/// `greatest`.
-pub fn span(b: &Bounds, least: u32, greatest: u32, step: u8) -> Val
-    ensures { result
+/// Overwrites a value with the Span from the greatest threshold that is at most `least` to the
+/// least one above `greatest`.
+pub fn write_span(b: &Bounds, least: u32, greatest: u32, step: u8, out: &mut Val)
+    ensures { out.new
         ≡ Span (floor b.now.thresholds least) (above b.now.thresholds greatest - 1) step }
 {
-    Val::Span {
-        lo: b.floor(least),
-        last: (b.above(greatest) - 1) as u32,
-        step,
-    }
+    let lo = b.floor(least);
+    let last = (b.above(greatest) - 1) as u32;
+    set_span(out, lo, last, step);
 }
 
 /// Widens a value to the least one that holds the word too.
@@ -137,21 +135,22 @@ fn put_word(b: &Bounds, v: &mut Val, x: u32)
         }
     }
     let e = extent_of(v);
-    *v = wider(b, &e, x);
+    write_wider(b, &e, x, v);
 }
 
-fn wider(b: &Bounds, e: &Extent, x: u32) -> Val
-    ensures { result
+fn write_wider(b: &Bounds, e: &Extent, x: u32, out: &mut Val)
+    ensures { out.new
         ≡ Span (floor b.now.thresholds (min x e.now.least))
         (above b.now.thresholds (max x e.now.greatest) - 1)
         (min (sets.alignment_log2 x) e.now.step) }
 {
-    span(
+    write_span(
         b,
         x.min(e.least),
         x.max(e.greatest),
         alignment_log2(x).min(e.step),
-    )
+        out,
+    );
 }
 
 /// Widens a value to the least one that holds the words too.
@@ -193,7 +192,7 @@ fn widen(b: &Bounds, v: &mut Val, words: &[u32])
     ensures { v.new ≡ cover b.now (members v.old ++ words.now) }
 {
     let e = extent_with(&extent_of(v), words);
-    *v = span(b, e.least, e.greatest, e.step);
+    write_span(b, e.least, e.greatest, e.step, v);
 }
 
 /// Returns the extent of these words and those of another extent together.
@@ -222,10 +221,20 @@ pub fn cover_words(b: &Bounds, words: &[u32]) -> Val
     ensures cover { result ≡ cover b.now words.now }
     ensures value { IsValue b.now result }
 {
-    let _most_words = b.most_words();
     let mut out = Val::one(words[0]);
-    add_words(b, &mut out, words);
+    write_cover_words(b, words, &mut out);
     out
+}
+
+/// Overwrites a value with the least one that holds the words.
+pub fn write_cover_words(b: &Bounds, words: &[u32], out: &mut Val)
+    requires { 1 ≤ length words.now }
+    ensures cover { out.new ≡ cover b.now words.now }
+    ensures value { IsValue b.now out.new }
+{
+    let _most_words = b.most_words();
+    set_word(out, words[0]);
+    add_words(b, out, words);
 }
 
 /// Returns true if two values are equal.
@@ -261,53 +270,77 @@ pub fn join(b: &Bounds, v: &Val, w: &Val) -> Val
     ensures cover { result ≡ cover b.now (members v.now ++ members w.now) }
     ensures value { IsValue b.now result }
 {
+    let mut out = v.copy();
+    add_value(b, &mut out, w);
+    out
+}
+
+/// Widens a value to the least one that holds the other too.
+pub fn add_value(b: &Bounds, v: &mut Val, w: &Val)
+    requires left { IsValue b.now v.old }
+    requires right { IsValue b.now w.now }
+    ensures cover { v.new ≡ cover b.now (members v.old ++ members w.now) }
+    ensures value { IsValue b.now v.new }
+{
     let _most_words = b.most_words();
     match w {
-        Val::Set(words) => join_set(b, v, words),
-        Val::Span { lo, last, step } => join_span(b, v, *lo, *last, *step),
+        Val::Set(words) => add_set(b, v, words),
+        Val::Span { lo, last, step } => add_span(b, v, *lo, *last, *step),
     }
 }
 
-fn join_set(b: &Bounds, v: &Val, words: &Words) -> Val
-    requires left { IsValue b.now v.now }
+fn add_set(b: &Bounds, v: &mut Val, words: &Words)
+    requires left { IsValue b.now v.old }
     requires right { IsValue b.now (Set words.now) }
-    ensures { result ≡ cover b.now (members v.now ++ words.now) }
+    ensures { v.new ≡ cover b.now (members v.old ++ words.now) }
+{
+    if is_set(v) {
+        merge_in(b, v, words)
+    } else {
+        widen(b, v, words.as_slice())
+    }
+}
+
+/// Widens a Set to the least value that holds the words of another too. It is a function of its
+/// own, so that its callers need no stack for the words.
+#[inline(never)]
+fn merge_in(b: &Bounds, v: &mut Val, words: &Words)
+    requires { IsSome (words_of v.old) }
+    ensures { v.new ≡ cover b.now (members v.old ++ words.now) }
 {
     match v {
-        Val::Set(own) => value_of(b, merge(own.as_slice(), words.as_slice()).as_slice()),
-        Val::Span { .. } => {
-            let mut out = v.copy();
-            widen(b, &mut out, words.as_slice());
-            out
-        }
+        Val::Set(own) => write_value_of(b, merge(own.as_slice(), words.as_slice()).as_slice(), v),
+        Val::Span { .. } => unreachable!(),
     }
 }
 
-/// Returns the least value that holds an ascending list of words.
-fn value_of(b: &Bounds, words: &[u32]) -> Val
+/// Overwrites a value with the least one that holds an ascending list of words.
+fn write_value_of(b: &Bounds, words: &[u32], out: &mut Val)
     requires some { 1 ≤ length words.now }
     requires rising { Rising words.now }
-    ensures { result ≡ values.value_of b.now words.now }
+    ensures { out.new ≡ values.value_of b.now words.now }
 {
     if words.len() <= b.most_words() {
-        return Val::Set(Words::from_slice(words));
+        set_words(out, words);
+        return;
     }
-    span(b, words[0], words[words.len() - 1], least_step(words))
+    write_span(b, words[0], words[words.len() - 1], least_step(words), out);
 }
 
-fn join_span(b: &Bounds, v: &Val, lo: u32, last: u32, step: u8) -> Val
-    requires left { IsValue b.now v.now }
+fn add_span(b: &Bounds, v: &mut Val, lo: u32, last: u32, step: u8)
+    requires left { IsValue b.now v.old }
     requires right { IsValue b.now (Span lo last step) }
-    ensures { result ≡ cover b.now (members v.now ++ range lo last step) }
+    ensures { v.new ≡ cover b.now (members v.old ++ range lo last step) }
 {
     let e = extent_of(v);
     let f = span_extent(lo, last, step);
-    span(
+    write_span(
         b,
         e.least.min(f.least),
         e.greatest.max(f.greatest),
         e.step.min(f.step),
-    )
+        v,
+    );
 }
 
 /// Returns true if each member of `v` is a member of `w`.
@@ -442,29 +475,42 @@ pub fn cover(b: &Bounds, first: u32, last: u32, step: u8) -> Val
     ensures cover { result ≡ cover b.now (range first last step) }
     ensures value { IsValue b.now result }
 {
+    let mut out = Val::any();
+    write_cover(b, first, last, step, &mut out);
+    out
+}
+
+/// Overwrites a value with the least one that holds the multiples of `2 ^ step` in `first..=last`.
+pub fn write_cover(b: &Bounds, first: u32, last: u32, step: u8, out: &mut Val)
+    requires step { step ≤ 2 }
+    requires some { 1 ≤ count_in first last step }
+    ensures cover { out.new ≡ cover b.now (range first last step) }
+    ensures value { IsValue b.now out.new }
+{
     let most_words = b.most_words();
     if count_of(first, last, step) > most_words as u64 {
-        many(b, first, last, step)
+        write_many(b, first, last, step, out)
     } else {
-        few(b, first, last, step)
+        write_few(b, first, last, step, out)
     }
 }
 
-fn many(b: &Bounds, first: u32, last: u32, step: u8) -> Val
+fn write_many(b: &Bounds, first: u32, last: u32, step: u8, out: &mut Val)
     requires step { step ≤ 2 }
     requires many { b.now.most_words < count_in first last step }
     requires limits { AreLimits b.now }
-    ensures { result ≡ cover b.now (range first last step) }
+    ensures { out.new ≡ cover b.now (range first last step) }
 {
     let e = span_extent(first, last, step);
-    span(b, e.least, e.greatest, e.step)
+    write_span(b, e.least, e.greatest, e.step, out);
 }
 
-fn few(b: &Bounds, first: u32, last: u32, step: u8) -> Val
+#[inline(never)]
+fn write_few(b: &Bounds, first: u32, last: u32, step: u8, out: &mut Val)
     requires step { step ≤ 2 }
     requires some { 1 ≤ count_in first last step }
     requires few { count_in first last step ≤ 128 }
-    ensures { result ≡ cover b.now (range first last step) }
+    ensures { out.new ≡ cover b.now (range first last step) }
 {
     let unit = 1u64 << step;
     let start = (u64::from(first) + (unit - 1)) / unit;
@@ -473,5 +519,5 @@ fn few(b: &Bounds, first: u32, last: u32, step: u8) -> Val
     for k in start..end {
         words.push((k * unit) as u32);
     }
-    value_of(b, words.as_slice())
+    write_value_of(b, words.as_slice(), out);
 }

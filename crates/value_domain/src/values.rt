@@ -92,8 +92,22 @@ impl Words {
         requires { AreWords words.now }
         ensures { self.new ≡ words.now }
     {
+        if words.len() == 1 {
+            self.set_one(words[0]);
+            return;
+        }
         self.words.clear();
         self.words.try_extend_from_slice(words).unwrap();
+    }
+
+    /// Overwrites the list with one word, in place. If it had one, only that is written.
+    #[inline(always)]
+    fn set_one(&mut self, x: u32)
+        ensures { self.new ≡ x ∷ [] }
+    {
+        self.words.truncate(1);
+        let _last = self.words.pop();
+        self.words.push(x);
     }
 
     /// Inserts a word at its place.
@@ -225,7 +239,7 @@ impl Val {
 }
 
 /// Overwrites `out` with a copy of a value. If both are of one kind, only its parts are written.
-pub(crate) fn copy_to(v: &Val, out: &mut Val)
+pub fn copy_to(v: &Val, out: &mut Val)
     ensures { out.new ≡ v.now }
 {
     match v {
@@ -245,13 +259,37 @@ pub fn set_words(out: &mut Val, words: &[u32])
     }
 }
 
-// A function of its own, so that its callers need no stack for a value.
+/// Overwrites a value with the Set of one word. If it is a Set, only its words are written.
+#[inline(always)]
+pub fn set_word(out: &mut Val, x: u32)
+    ensures { out.new ≡ Set (x ∷ []) }
+{
+    match out {
+        Val::Set(own) => own.set_one(x),
+        Val::Span { .. } => one_from_span(out, x),
+    }
+}
+
+// The functions below write all bytes of a value. They are functions of their own, so that their
+// callers need no stack for a value.
+
+#[inline(never)]
+fn one_from_span(out: &mut Val, x: u32)
+    ensures { out.new ≡ Set (x ∷ []) }
+{
+    *out = Val::one(x);
+}
+
 #[inline(never)]
 fn set_from_span(out: &mut Val, words: &[u32])
     requires { AreWords words.now }
     ensures { out.new ≡ Set words.now }
 {
-    *out = Val::Set(Words::from_slice(words));
+    one_from_span(out, words[0]);
+    match out {
+        Val::Set(own) => own.set(words),
+        Val::Span { .. } => unreachable!(),
+    }
 }
 
 /// Overwrites a value with a Span. If it is a Span, only its ends and step are written.

@@ -47,6 +47,12 @@ third-free s c v free =
     ap (λ (o : Option ℕ). record (state_after s c) { regs = value_put (two_put s c) v o }) free
     ∙ sym (ap (λ (o : Option ℕ). record (state_after s c) { regs = value_put (two_put s c) c.third.value o }) free)
 
+-- nor is a second one
+pub second-free : (s : State) (c : Change) (v : Val) → c.second.at ≡ None → state_after s (record c { second = record c.second { value = v } }) ≡ state_after s c
+second-free s c v free =
+    ap (λ (o : Option ℕ). record (state_after s c) { regs = put_in (value_put (put_in (base_of c.base s.regs) c.first) v o) c.third }) free
+    ∙ sym (ap (λ (o : Option ℕ). record (state_after s c) { regs = put_in (value_put (put_in (base_of c.base s.regs) c.first) c.second.value o) c.third }) free)
+
 pub written_last-is : (s : State) (c : Change) (r : ℕ) → c.third.at ≡ None
     → state_after s (record c { third = record c.third { at = slot r }; lower = c.lower && not (is_lower r) }) ≡ write_reg (state_after s c) r c.third.value
 written_last-is s c r free =

@@ -1,10 +1,11 @@
 -- The members that are in a relation to some member of another value.
-use Rattle.std.proofs.Common.{◌≡◌, ℕ, ◌^◌, ◌<◌, ◌≤◌, ◌⊎◌, inl, inr, Bool, true, false, not, List, ◌++◌, append-nil, refl, sym, ap, ◌∙◌, subst, arith, leb, ltb, eqb}
+use Rattle.std.proofs.Common.{◌≡◌, ℕ, ◌^◌, ◌<◌, ◌≤◌, ◌⊎◌, inl, inr, Bool, true, false, not, List, [], ◌∷◌, Option, Some, None, ◌++◌, append-nil, refl, sym, ap, ◌∙◌, subst, arith, leb, ltb, eqb}
 use Rattle.std.specs.List.{filter, list_any}
 use Rattle.std.proofs.lemmas.Bool.{cases_Bool, leb-true, le-leb, cases_order, eqb-true, eqb-false, eq-eqb, ne_eqb, lt-ltb, ltb-true, not-true, not_from_false}
 use Rattle.value_domain.specs.Sets.{Among}
 use Rattle.value_domain.specs.Limits.{Limits}
-use Rattle.value_domain.specs.Values.{IsExtent, range}
+use Rattle.value_domain.specs.declared.values.Val.{Val}
+use Rattle.value_domain.specs.Values.{IsExtent, cover, range}
 use Rattle.value_domain.specs.Meets.{cover_some, in_span}
 use Rattle.value_domain.proofs.CoverLaws.{range_among, among_range}
 use Rattle.value_domain.proofs.ExtentLaws.{append_left, append_right, among_append}
@@ -59,12 +60,19 @@ not_in lo last z lt =
       | inr f ↦ f
     ]
 
-pub first_alone : (b : Limits) (i j : Interval) (vs : List ℕ) → j.last < j.lo
-    → cover_some b (filter (in_span i.lo i.last 0) vs) ≡ cover_some b (filter (in_span i.lo i.last 0) vs ++ filter (in_span j.lo j.last 0) vs)
-first_alone b i j vs lt =
+pub past_empty : (b : Limits) (i : Interval) (xs vs : List ℕ) → i.last < i.lo → cover_some b xs ≡ cover_some b (xs ++ filter (in_span i.lo i.last 0) vs)
+past_empty b i xs vs lt =
     ap (cover_some b)
-    (sym (append-nil (filter (in_span i.lo i.last 0) vs))
-    ∙ ap (λ (l : List ℕ). filter (in_span i.lo i.last 0) vs ++ l) (sym (filter_none (in_span j.lo j.last 0) vs (λ z. not_in j.lo j.last z lt))))
+    (sym (append-nil xs) ∙ ap (λ (l : List ℕ). xs ++ l) (sym (filter_none (in_span i.lo i.last 0) vs (λ z. not_in i.lo i.last z lt))))
+
+-- parts without members
+pub none_before : (b : Limits) (xs ys : List ℕ) (o : Option Val) → None ≡ cover_some b xs → o ≡ cover_some b ys → o ≡ cover_some b (xs ++ ys)
+none_before b [] ys o e f = f
+none_before b (x ∷ xs) ys o e f = absurd (let g : None ≡ Some (cover b (x ∷ xs)) = e in cc)
+
+pub none_after : (b : Limits) (xs ys : List ℕ) (o : Option Val) → o ≡ cover_some b xs → None ≡ cover_some b ys → o ≡ cover_some b (xs ++ ys)
+none_after b xs [] o e f = e ∙ ap (cover_some b) (sym (append-nil xs))
+none_after b xs (y ∷ ys) o e f = absurd (let g : None ≡ Some (cover b (y ∷ ys)) = f in cc)
 
 -- the members of two intervals
 pub kept_intervals : (b : Limits) (rel : Relation) (vs ws : List ℕ) (i j : Interval) (low high s : ℕ) → (rel ≡ Same → ⊥) → IsExtent ws low high s

@@ -6,7 +6,7 @@ ghost use Rattle.tc_isa.specs.Bounded.{IsArg, IsShape};
 ghost use Rattle.tc_isa.specs.declared.shapes.Arg.TheVariants.{Word};
 ghost use Rattle.tc_isa.specs.declared.shapes.Op.TheVariants.{Sub};
 ghost use Rattle.vd_transfer.specs.Refinement.{holds, kept_left, kept_right};
-ghost use Rattle.value_domain.specs.Meets.{cover_some};
+ghost use Rattle.value_domain.specs.Meets.{cover_some, value_if};
 ghost use Rattle.vd_transfer.specs.Relations.{relation_of, is_signed, converse, self_holds};
 ghost use Rattle.vd_transfer.specs.Registers.{reg_of, arg_of, write_reg, word_val};
 ghost use Rattle.vd_transfer.specs.Operations.{value_of};
@@ -16,7 +16,7 @@ ghost use Rattle.vd_transfer.specs.Changes.{state_after};
 use crate::change::{Change, write_last};
 use crate::changed_states::changed_reg;
 use crate::operands::{arg, arg_word, constant, operand_slot};
-use crate::operations::operation;
+use crate::operations::{operation, write_word};
 use crate::refinement::{Relation, narrow};
 use crate::registers::{reg_in, reg_value, slot_of};
 use crate::signed_refinement::narrow_signed;
@@ -96,36 +96,37 @@ fn converse(rel: Relation) -> Relation
     }
 }
 
-/// Returns the cover of the members of `v` for which some member of `w` makes the condition go to
-/// the side.
-pub(crate) fn narrow_left(b: &Bounds, cond: Cond, side: bool, v: &Val, w: &Val) -> Option<Val>
+/// Overwrites `out` with the cover of the members of `v` for which some member of `w` makes the
+/// condition go to the side. Returns false if there are none; then `out` may be any value.
+fn narrow_left(b: &Bounds, test: Comparison, v: &Val, w: &Val, out: &mut Val) -> bool
     requires left { IsValue b.now v.now }
     requires right { IsValue b.now w.now }
-    ensures kept { result ≡ cover_some b.now (kept_left cond side (members v.now) (members w.now)) }
-    ensures value { IfSome result (IsValue b.now) }
+    ensures kept { value_if result out.new
+        ≡ cover_some b.now (kept_left test.cond test.side (members v.now) (members w.now)) }
+    ensures value { IfSome (value_if result out.new) (IsValue b.now) }
 {
-    let rel = relation(cond, side);
-    if is_signed(cond) {
-        narrow_signed(b, rel, v, w)
+    let rel = relation(test.cond, test.side);
+    if is_signed(test.cond) {
+        narrow_signed(b, rel, v, w, out)
     } else {
-        narrow(b, rel, v, w)
+        narrow(b, rel, v, w, out)
     }
 }
 
-/// Returns the cover of the members of `w` for which some member of `v` makes the condition go to
-/// the side.
-pub(crate) fn narrow_right(b: &Bounds, cond: Cond, side: bool, v: &Val, w: &Val) -> Option<Val>
+/// Overwrites `out` with the cover of the members of `w` for which some member of `v` makes the
+/// condition go to the side. Returns false if there are none; then `out` may be any value.
+fn narrow_right(b: &Bounds, test: Comparison, v: &Val, w: &Val, out: &mut Val) -> bool
     requires left { IsValue b.now v.now }
     requires right { IsValue b.now w.now }
-    ensures kept { result
-        ≡ cover_some b.now (kept_right cond side (members v.now) (members w.now)) }
-    ensures value { IfSome result (IsValue b.now) }
+    ensures kept { value_if result out.new
+        ≡ cover_some b.now (kept_right test.cond test.side (members v.now) (members w.now)) }
+    ensures value { IfSome (value_if result out.new) (IsValue b.now) }
 {
-    let rel = converse(relation(cond, side));
-    if is_signed(cond) {
-        narrow_signed(b, rel, w, v)
+    let rel = converse(relation(test.cond, test.side));
+    if is_signed(test.cond) {
+        narrow_signed(b, rel, w, v, out)
     } else {
-        narrow(b, rel, w, v)
+        narrow(b, rel, w, v, out)
     }
 }
 
@@ -160,11 +161,9 @@ pub(crate) fn is_same(x: u8, y: Arg) -> bool
     }
 }
 
-// The functions below write the change of a side into the caller's `Change`, whatever it held. A
-// function that builds a value is a function of its own, so that its callers need no stack for it.
+// The functions below write the change of a side into the caller's `Change`, whatever it held.
 
 /// Narrows the register to the members that are possible. Returns false if there are none.
-#[inline(never)]
 fn narrow_one(b: &Bounds, test: Comparison, s: &State, v: &Val, w: &Val, c: &mut Change) -> bool
     requires values { AreValues b.now s.now.regs }
     requires left { IsValue b.now v.now }
@@ -176,18 +175,14 @@ fn narrow_one(b: &Bounds, test: Comparison, s: &State, v: &Val, w: &Val, c: &mut
     ensures free { (c.new.second.at ≡ None) × (c.new.third.at ≡ None) }
 {
     c.keep(s);
-    match narrow_left(b, test.cond, test.side, v, w) {
-        Some(kept) => {
-            c.first.at = slot_of(test.x);
-            c.first.value = kept;
-            true
-        }
-        None => false,
+    if !narrow_left(b, test, v, w, &mut c.first.value) {
+        return false;
     }
+    c.first.at = slot_of(test.x);
+    true
 }
 
 /// Narrows both operands to the members that are possible. Returns false if one has none.
-#[inline(never)]
 fn narrow_two(b: &Bounds, test: Comparison, s: &State, v: &Val, w: &Val, c: &mut Change) -> bool
     requires values { AreValues b.now s.now.regs }
     requires left { IsValue b.now v.now }
@@ -202,18 +197,14 @@ fn narrow_two(b: &Bounds, test: Comparison, s: &State, v: &Val, w: &Val, c: &mut
     if !narrow_one(b, test, s, v, w, c) {
         return false;
     }
-    match narrow_right(b, test.cond, test.side, v, w) {
-        Some(kept) => {
-            c.second.at = operand_slot(test.y);
-            c.second.value = kept;
-            true
-        }
-        None => false,
+    if !narrow_right(b, test, v, w, &mut c.second.value) {
+        return false;
     }
+    c.second.at = operand_slot(test.y);
+    true
 }
 
 /// Narrows the register of a comparison with a constant. Returns false if no member is possible.
-#[inline(never)]
 fn narrow_constant(b: &Bounds, test: Comparison, s: &State, v: &Val, z: u32, c: &mut Change) -> bool
     requires values { AreValues b.now s.now.regs }
     requires left { IsValue b.now v.now }
@@ -224,10 +215,17 @@ fn narrow_constant(b: &Bounds, test: Comparison, s: &State, v: &Val, z: u32, c: 
     ensures values { AreValues b.now (state_after s.now c.new).regs }
     ensures free { c.new.third.at ≡ None }
 {
-    narrow_one(b, test, s, v, &constant(b, z), c)
+    c.keep(s);
+    write_word(b, z, &mut c.second.value);
+    if !narrow_left(b, test, v, &c.second.value, &mut c.first.value) {
+        return false;
+    }
+    c.first.at = slot_of(test.x);
+    true
 }
 
-/// Narrows operands whose values have to be built. Returns false if the side isn't possible.
+/// Narrows operands whose values have to be built. Returns false if the side isn't possible. It is
+/// a function of its own, so that its callers need no stack for the values.
 #[inline(never)]
 fn narrow_made(b: &Bounds, plan: &Plan, test: Comparison, s: &State, c: &mut Change) -> bool
     requires operands { (test.x < 32) × IsArg test.y }

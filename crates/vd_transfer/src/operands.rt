@@ -10,7 +10,7 @@ use crate::operations::operation;
 use crate::registers::{only_word, reg_in, reg_value, slot_of};
 use tc_isa::{Arg, Op};
 use tcd_plan::Plan;
-use value_domain::{Bounds, State, Val};
+use value_domain::{Bounds, State, Val, copy_to};
 
 /// An operation and its operands.
 #[derive(Clone, Copy)]
@@ -87,10 +87,23 @@ pub(crate) fn arg(b: &Bounds, plan: &Plan, s: &State, a: Arg) -> Val
     }
 }
 
-/// Overwrites a value with that of an operand. It is a function of its own, so that its callers
-/// need no stack for a value.
-#[inline(never)]
+/// Overwrites a value with that of an operand.
 pub(crate) fn write_arg(b: &Bounds, plan: &Plan, s: &State, a: Arg, out: &mut Val)
+    requires operand { IsArg a }
+    requires values { AreValues b.now s.now.regs }
+    ensures arg { out.new ≡ arg_of plan.now s.now a }
+    ensures value { IsValue b.now out.new }
+{
+    match arg_in(b, plan, s, a) {
+        Some(v) => copy_to(v, out),
+        None => write_made(b, plan, s, a, out),
+    }
+}
+
+/// Overwrites a value with that of an operand that has to be built. It is a function of its own, so
+/// that its callers need no stack for a value.
+#[inline(never)]
+fn write_made(b: &Bounds, plan: &Plan, s: &State, a: Arg, out: &mut Val)
     requires operand { IsArg a }
     requires values { AreValues b.now s.now.regs }
     ensures arg { out.new ≡ arg_of plan.now s.now a }

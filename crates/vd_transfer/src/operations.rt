@@ -7,23 +7,23 @@ ghost use Rattle.vd_transfer.specs.Registers.{word_val, arg_of};
 ghost use Rattle.value_domain.specs.State.{AreValues};
 ghost use Rattle.tc_isa.specs.Bounded.{IsArg};
 
-use crate::operands::{Operation, arg, arg_in, arg_word, constant};
+use crate::operands::{Operation, arg, arg_in, arg_word};
 use crate::strided_interval::interval_of_row;
 use tc_isa::{Op, alu};
 use tcd_plan::Plan;
 use value_domain::{
-    Bounds, State, Val, add_word, add_words, cover, cover_words, extent_of, extent_with, is_set,
-    span,
+    Bounds, State, Val, add_word, copy_to, extent_of, extent_with, is_set, set_word, write_cover,
+    write_cover_words, write_span,
 };
 
-/// Overwrites a value with that of one word. It is a function of its own, so that its callers need
-/// no stack for a value.
-#[inline(never)]
+/// Overwrites a value with that of one word.
+#[inline(always)]
 pub(crate) fn write_word(b: &Bounds, x: u32, out: &mut Val)
     ensures word { out.new ≡ word_val x }
     ensures value { IsValue b.now out.new }
 {
-    *out = constant(b, x);
+    let _most_words = b.most_words();
+    set_word(out, x);
 }
 
 /// Overwrites a value with that of an operation.
@@ -130,7 +130,7 @@ fn widen(b: &Bounds, v: &mut Val, op: Op, xs: &[u32], ys: &[u32], row: &mut [u32
         fill(op, *x, ys, row);
         e = extent_with(&e, row);
     }
-    *v = span(b, e.least, e.greatest, e.step);
+    write_span(b, e.least, e.greatest, e.step, v);
 }
 
 /// Adds words to a value, eight at a time, except eight that were added together lately. `met` has
@@ -255,7 +255,6 @@ fn fill_by(op: Op, x: u32, ys: &[u32], row: &mut [u32])
 }
 
 /// Writes the value that the operation's row in the table of operations gives.
-#[inline(never)]
 fn from_row(b: &Bounds, op: Op, v: &Val, w: &Val, out: &mut Val)
     requires left { IsValue b.now v.now }
     requires right { IsValue b.now w.now }
@@ -264,14 +263,14 @@ fn from_row(b: &Bounds, op: Op, v: &Val, w: &Val, out: &mut Val)
 {
     let _most_words = b.most_words();
     if gives_truth(op) {
-        *out = cover_words(b, &[0, 1]);
+        write_cover_words(b, &[0, 1], out);
         return;
     }
     match op {
-        Op::Second => *out = w.copy(),
+        Op::Second => copy_to(w, out),
         _ => {
             let run = interval_of_row(op, &extent_of(v), &extent_of(w), w);
-            *out = cover(b, run.first, run.last, run.step);
+            write_cover(b, run.first, run.last, run.step, out);
         }
     }
 }

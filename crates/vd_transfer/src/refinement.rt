@@ -1,12 +1,12 @@
 // Refinement: the members of two values for which a comparison holds.
-ghost use Rattle.std.specs.Prelude.{◌≡◌, ◌==◌, ◌<◌, ◌≤◌, ◌+◌, ◌-◌, ◌^◌, ℕ, IfSome, ◌↔◌, ◌⊎◌, ◌≢◌};
+ghost use Rattle.std.specs.Prelude.{◌≡◌, ◌==◌, ◌<◌, ◌≤◌, ◌+◌, ◌-◌, ◌^◌, ◌++◌, filter, List, ℕ, IfSome, Some, ◌↔◌, ◌⊎◌, ◌≢◌};
 ghost use Rattle.value_domain.specs.Values.{IsValue, members};
 ghost use Rattle.value_domain.specs.declared.values.Val.TheVariants.{Set, Span};
-ghost use Rattle.value_domain.specs.Meets.{cover_some};
+ghost use Rattle.value_domain.specs.Meets.{cover_some, value_if, in_span};
 ghost use Rattle.vd_transfer.specs.Relations.{IsIn, Reaches, kept_by};
 ghost use Rattle.vd_transfer.specs.declared.refinement.Relation.TheVariants.{Same};
 
-use value_domain::{Bounds, Val, cover_of_words, extent_of, join_some, meet};
+use value_domain::{Bounds, Val, add_value, extent_of, write_common, write_meet};
 
 /// A relation between two words.
 #[derive(Clone, Copy, PartialEq, Eq)]
@@ -78,45 +78,84 @@ pub(crate) fn words_reached(rel: Relation, low: u32, high: u32) -> (Interval, In
     }
 }
 
-/// Returns the cover of the members of `v` that are in a relation to some member of `w`.
-pub fn narrow(b: &Bounds, rel: Relation, v: &Val, w: &Val) -> Option<Val>
+/// Overwrites `out` with the cover of the members of `v` that are in a relation to some member of
+/// `w`. Returns false if there are none; then `out` may be any value.
+pub fn narrow(b: &Bounds, rel: Relation, v: &Val, w: &Val, out: &mut Val) -> bool
     requires left { IsValue b.now v.now }
     requires right { IsValue b.now w.now }
-    ensures kept { result ≡ cover_some b.now (kept_by rel (members v.now) (members w.now)) }
-    ensures value { IfSome result (IsValue b.now) }
+    ensures kept { value_if result out.new
+        ≡ cover_some b.now (kept_by rel (members v.now) (members w.now)) }
+    ensures value { IfSome (value_if result out.new) (IsValue b.now) }
 {
     match rel {
-        Relation::Same => common(b, v, w),
-        _ => by_intervals(b, rel, v, w),
+        Relation::Same => common(b, v, w, out),
+        _ => by_intervals(b, rel, v, w, out),
     }
 }
 
-fn by_intervals(b: &Bounds, rel: Relation, v: &Val, w: &Val) -> Option<Val>
+fn by_intervals(b: &Bounds, rel: Relation, v: &Val, w: &Val, out: &mut Val) -> bool
     requires left { IsValue b.now v.now }
     requires right { IsValue b.now w.now }
     requires order { rel ≢ Same }
-    ensures kept { result ≡ cover_some b.now (kept_by rel (members v.now) (members w.now)) }
-    ensures value { IfSome result (IsValue b.now) }
+    ensures kept { value_if result out.new
+        ≡ cover_some b.now (kept_by rel (members v.now) (members w.now)) }
+    ensures value { IfSome (value_if result out.new) (IsValue b.now) }
 {
     let e = extent_of(w);
     let (first, second) = words_reached(rel, e.least, e.greatest);
-    if second.last < second.lo {
-        return meet(b, v, first.lo, first.last, 0);
-    }
-    let here = meet(b, v, first.lo, first.last, 0);
-    let there = meet(b, v, second.lo, second.last, 0);
-    join_some(b, here, there)
+    let found = write_meet(b, v, first.lo, first.last, 0, out);
+    add_meet(b, v, second, found, out)
 }
 
-/// Returns the cover of the members of both.
-fn common(b: &Bounds, v: &Val, w: &Val) -> Option<Val>
+/// Widens a value by the members of `v` in an interval. If nothing was found before, the value
+/// becomes the cover of these members. Returns false if nothing is found, before or now.
+pub(crate) fn add_meet(b: &Bounds, v: &Val, i: Interval, found: bool, out: &mut Val) -> bool
+    requires value { IsValue b.now v.now }
+    requires before { IfSome (value_if found out.old) (IsValue b.now) }
+    ensures more { (xs : List ℕ) → value_if found out.old ≡ cover_some b.now xs
+        → value_if result out.new
+        ≡ cover_some b.now (xs ++ filter (in_span i.lo i.last 0) (members v.now)) }
+    ensures value { IfSome (value_if result out.new) (IsValue b.now) }
+{
+    if i.last < i.lo {
+        return found;
+    }
+    if found {
+        join_meet(b, v, i, out);
+        true
+    } else {
+        write_meet(b, v, i.lo, i.last, 0, out)
+    }
+}
+
+/// Widens a value by the members of `v` in an interval. It is a function of its own, so that its
+/// callers need no stack for a value.
+#[inline(never)]
+fn join_meet(b: &Bounds, v: &Val, i: Interval, out: &mut Val)
+    requires value { IsValue b.now v.now }
+    requires before { IsValue b.now out.old }
+    ensures more { (xs : List ℕ) → Some out.old ≡ cover_some b.now xs
+        → Some out.new
+        ≡ cover_some b.now (xs ++ filter (in_span i.lo i.last 0) (members v.now)) }
+    ensures value { IsValue b.now out.new }
+{
+    let mut others = Val::any();
+    if !write_meet(b, v, i.lo, i.last, 0, &mut others) {
+        return;
+    }
+    add_value(b, out, &others);
+}
+
+/// Overwrites `out` with the cover of the members of both. Returns false if there are none.
+fn common(b: &Bounds, v: &Val, w: &Val, out: &mut Val) -> bool
     requires left { IsValue b.now v.now }
     requires right { IsValue b.now w.now }
-    ensures kept { result ≡ cover_some b.now (kept_by Same (members v.now) (members w.now)) }
-    ensures value { IfSome result (IsValue b.now) }
+    ensures kept { value_if result out.new
+        ≡ cover_some b.now (kept_by Same (members v.now) (members w.now)) }
+    ensures value { IfSome (value_if result out.new) (IsValue b.now) }
 {
     match w {
-        Val::Set(words) => cover_of_words(b, words.as_slice(), v),
-        Val::Span { lo, last, step } => meet(b, v, *lo, *last, *step),
+        Val::Set(words) => write_common(b, words.as_slice(), v, out),
+        Val::Span { lo, last, step } => write_meet(b, v, *lo, *last, *step, out),
     }
 }

@@ -2,14 +2,14 @@
 ghost use Rattle.std.specs.Prelude.{◌≡◌, ◌≢◌, ◌<◌, ◌≤◌, ◌+◌, ◌^◌, length, ℕ, IfSome, ◌↔◌, ◌⊎◌, ◌-◌};
 ghost use Rattle.value_domain.specs.Values.{IsValue, IsWell, members, range};
 ghost use Rattle.value_domain.specs.declared.values.Val.TheVariants.{Set, Span};
-ghost use Rattle.value_domain.specs.Meets.{cover_some};
+ghost use Rattle.value_domain.specs.Meets.{cover_some, value_if};
 ghost use Rattle.tc_isa.specs.Arithmetic.{signed_place};
 ghost use Rattle.vd_transfer.specs.Relations.{IsIn};
 ghost use Rattle.vd_transfer.specs.Signs.{IsSignedRange, kept_signed};
 ghost use Rattle.vd_transfer.specs.declared.refinement.Relation.TheVariants.{Same};
 
-use crate::refinement::{Interval, NONE, Relation, words_reached};
-use value_domain::{Bounds, Val, extent_of, join_some, meet};
+use crate::refinement::{Interval, NONE, Relation, add_meet, words_reached};
+use value_domain::{Bounds, Val, extent_of, write_meet};
 
 const HALF: u32 = 1 << 31;
 
@@ -73,30 +73,24 @@ fn signed_span(lo: u32, last: u32, step: u8) -> (u32, u32)
     }
 }
 
-/// Returns the cover of the members of `v` that are in a relation to some member of `w` in the
-/// signed order.
-pub fn narrow_signed(b: &Bounds, rel: Relation, v: &Val, w: &Val) -> Option<Val>
+/// Overwrites `out` with the cover of the members of `v` that are in a relation to some member of
+/// `w` in the signed order. Returns false if there are none; then `out` may be any value.
+pub fn narrow_signed(b: &Bounds, rel: Relation, v: &Val, w: &Val, out: &mut Val) -> bool
     requires left { IsValue b.now v.now }
     requires right { IsValue b.now w.now }
     requires order { rel ≢ Same }
-    ensures kept { result ≡ cover_some b.now (kept_signed rel (members v.now) (members w.now)) }
-    ensures value { IfSome result (IsValue b.now) }
+    ensures kept { value_if result out.new
+        ≡ cover_some b.now (kept_signed rel (members v.now) (members w.now)) }
+    ensures value { IfSome (value_if result out.new) (IsValue b.now) }
 {
     let (low, high) = signed_range(w);
     let (i, j) = words_reached(rel, signed_place(low), signed_place(high));
     let (first, second) = parts(i);
     let (third, fourth) = parts(j);
-    let here = join_some(
-        b,
-        meet(b, v, first.lo, first.last, 0),
-        meet(b, v, second.lo, second.last, 0),
-    );
-    let there = join_some(
-        b,
-        meet(b, v, third.lo, third.last, 0),
-        meet(b, v, fourth.lo, fourth.last, 0),
-    );
-    join_some(b, here, there)
+    let one = write_meet(b, v, first.lo, first.last, 0, out);
+    let two = add_meet(b, v, second, one, out);
+    let three = add_meet(b, v, third, two, out);
+    add_meet(b, v, fourth, three, out)
 }
 
 fn signed_min(x: u32, low: u32) -> u32

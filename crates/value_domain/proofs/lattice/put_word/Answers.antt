@@ -22,7 +22,7 @@ returns c =
     elim c.match-v.branch [
       | in-Set+else-as_slice-most_words w ↦
           let same : c.match-v.v ≡ c.args.v.now = cc in
-          c.wider.ensures
+          c.write_wider.ensures
           ∙ with_wider c.args.b.now c.args.v.now c.args.x c.requires absent
           (λ ws e.
           let words : w.in-Set.words ≡ ws = same_words w.in-Set.words ws (sym w.in-Set.is ∙ e) in
@@ -30,5 +30,5 @@ returns c =
           (subst family same c.extent_of-e.ensures)
       | in_default w ↦
           let same : c.match-v.v ≡ c.args.v.now = cc in
-          c.wider.ensures ∙ with_wider c.args.b.now c.args.v.now c.args.x c.requires absent (λ ws e. absurd (w.in_default.not-Set ws e)) (subst family same c.extent_of-e.ensures)
+          c.write_wider.ensures ∙ with_wider c.args.b.now c.args.v.now c.args.x c.requires absent (λ ws e. absurd (w.in_default.not-Set ws e)) (subst family same c.extent_of-e.ensures)
     ]

@@ -5,5 +5,5 @@ use Rattle.value_domain.proofs.lattice.widen.Goals as goal
 
 pub returns : goal.returns
 returns c =
-    c.span.ensures
+    c.write_span.ensures
     ∙ widened c.args.b.now c.args.v.now c.args.words.now c.requires.value c.requires.span (c.extent_with-e.ensures (members c.args.v.now) c.extent_of.ensures)

@@ -6,4 +6,4 @@ pub returns-then-count_of-eq0-clause-meet : goal.returns-then-count_of-eq0-claus
 returns-then-count_of-eq0-clause-meet c = none_range c.args.b.now c.args.lo c.args.last c.args.step (sym c.count_of.ensures ∙ c.if-count_of-eq0.true)
 
 pub returns-clause-meet : goal.returns-clause-meet
-returns-clause-meet c = rw c.cover.ensures.cover (some_range c.args.b.now c.args.lo c.args.last c.args.step (λ e. c.if-count_of-eq0.false (c.count_of.ensures ∙ e)))
+returns-clause-meet c = rw c.write_cover.ensures.cover (some_range c.args.b.now c.args.lo c.args.last c.args.step (λ e. c.if-count_of-eq0.false (c.count_of.ensures ∙ e)))

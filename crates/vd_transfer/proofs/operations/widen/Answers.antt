@@ -20,12 +20,12 @@ loop-x-preserved c = record {
 
 pub returns-clause-cover : goal.returns-clause-cover
 returns-clause-cover c =
-    c.span.ensures
+    c.write_span.ensures
     ∙ widened c.args.b.now c.args.v.now (pairs c.args.op c.args.xs.now c.args.ys.now) c.requires.value c.requires.span
     (rw (take_all c.loop-x.x-index c.args.xs.now c.loop-x-test.false) at c.loop-x.invariant.extent)
 
 pub returns-clause-value : goal.returns-clause-value
 returns-clause-value c =
     let extent = rw (take_all c.loop-x.x-index c.args.xs.now c.loop-x-test.false) at c.loop-x.invariant.extent in
-    rw (c.span.ensures ∙ widened c.args.b.now c.args.v.now (pairs c.args.op c.args.xs.now c.args.ys.now) c.requires.value c.requires.span extent)
+    rw (c.write_span.ensures ∙ widened c.args.b.now c.args.v.now (pairs c.args.op c.args.xs.now c.args.ys.now) c.requires.value c.requires.span extent)
     (pairs_value c.args.b.now c.args.v.now c.args.op c.args.xs.now c.args.ys.now c.most_words-most_words.ensures.limits c.requires.value (λ k. (c.type_inv.xs k).fits) (λ k. (c.type_inv.ys k).fits))

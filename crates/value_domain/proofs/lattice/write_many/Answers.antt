@@ -2,9 +2,9 @@ use Rattle.std.proofs.Common.{◌∙◌, sym}
 use Rattle.value_domain.proofs.ExtentLaws.{cover_span}
 use Rattle.value_domain.specs.Values.{range}
 use Rattle.value_domain.proofs.RangeLaws.{many_range}
-use Rattle.value_domain.proofs.lattice.many.Goals as goal
+use Rattle.value_domain.proofs.lattice.write_many.Goals as goal
 
 pub returns : goal.returns
 returns c =
-    c.span.ensures
+    c.write_span.ensures
     ∙ sym (cover_span c.args.b.now (range c.args.first c.args.last c.args.step) (many_range c.args.b.now c.args.first c.args.last c.args.step c.requires.many) c.span_extent-e.ensures)

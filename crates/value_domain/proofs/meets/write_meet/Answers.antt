@@ -1,6 +1,6 @@
 use Rattle.std.proofs.Common.{◌∙◌}
 use Rattle.value_domain.proofs.MeetLaws.{meet_range}
-use Rattle.value_domain.proofs.meets.meet.Goals as goal
+use Rattle.value_domain.proofs.meets.write_meet.Goals as goal
 
 pub returns-in-Span-clause-meet : goal.returns-in-Span-clause-meet
 returns-in-Span-clause-meet c =
