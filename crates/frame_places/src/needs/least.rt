@@ -82,7 +82,7 @@ fn run_passes(needs: &mut [u32], rows: &[NeedRow], cap: u32)
 
 /// The number of passes that is mostly enough: one or two for frames that were found before those
 /// that they enter.
-const FEW: u32 = 64;
+const FEW: u32 = 16;
 
 /// Makes a few passes, and returns whether the last one changed nothing.
 fn run_few_passes(needs: &mut [u32], rows: &[NeedRow], cap: u32) -> bool
