@@ -7,4 +7,5 @@ pub mod ReachLemmas
 pub mod ReaderLemmas
 pub mod RowLemmas
 pub mod SpotLemmas
+pub mod StretchLemmas
 pub mod WorkLemmas
