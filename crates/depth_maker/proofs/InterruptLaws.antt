@@ -9,7 +9,7 @@ use Rattle.value_domain.specs.declared.values.Val.{Val}
 use Rattle.value_domain.specs.declared.states.State.{State}
 use Rattle.value_domain.specs.Limits.{Limits}
 use Rattle.value_domain.specs.State.{Covers}
-use Rattle.value_domain.specs.Values.{IsBelow, IsWell, any_val}
+use Rattle.value_domain.specs.Values.{IsBelow, IsValue, any_val}
 use Rattle.vd_transfer.specs.Registers.{slot, word_val}
 use Rattle.depth_cert.specs.declared.keys.Key.{Key}
 use Rattle.depth_cert.specs.Known.{CoversKnown, Known, leaving, state}
@@ -118,7 +118,7 @@ interrupts_settle b plan t k p s h entered asks d c =
 pub interrupts_new : (b : Limits) (plan : PlanData) (t : TableView) (k : Key) (p : ℕ) (s : State) (h : InterruptContext) → IsContextOf h k.is s → IsProper b s → IsTrue s.ie
     → ((d : Owed) → Contains (interrupts_of plan k s) d → IsProperDuty b d.duty) → ((d : Owed) → Contains (interrupts_of plan k s) d → Settled t k p s d.duty) → AreEntered b plan t.cells h
 interrupts_new b plan t k p s h from ps on proper settled = record {
-  stack = subst IsWell (sym from.sp) (ps.values 22 (omega (arith, ps.regs))).well;
+  stack = subst (IsValue b) (sym from.sp) (ps.values 22 (omega (arith, ps.regs)));
   each = λ q c lt.
       let f : ℕ → Owed = λ (q : ℕ). owed 11 (enter (irq_key plan q) (irq_entry plan k s q)) in
       let i = contains_map f (irqs_of plan s) q (takes s.ie s.ccpn plan.irqs q on c (omega (arith, lt, from.ccpn))) in

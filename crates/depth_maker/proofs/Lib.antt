@@ -22,6 +22,7 @@ pub mod PlaceLaws
 pub mod PlaceRanges
 pub mod ProperDuties
 pub mod Reached
+pub mod JoinedContexts
 pub mod JoinLemmas
 pub mod RecursLaws
 pub mod RecursSteps

@@ -1,25 +1,28 @@
 -- Entries of handlers that the last contexts of interrupts show as covered, and the context that a
 -- point notes.
-use Rattle.std.proofs.Common.{◌≡◌, ℕ, false, IsTrue, Some, Contains}
+use Rattle.std.proofs.Common.{◌≡◌, ℕ, false, IsTrue, Some, Contains, refl, sym, subst}
 use Rattle.elf_image.specs.Images.{ImageData}
 use Rattle.tcd_plan.specs.PlanData.{PlanData}
 use Rattle.value_domain.specs.declared.states.State.{State}
-use Rattle.value_domain.specs.Limits.{Limits}
+use Rattle.value_domain.specs.Limits.{AreLimits, Limits}
 use Rattle.depth_cert.specs.declared.keys.Key.{Key}
 use Rattle.depth_cert.specs.Proper.{IsProper}
 use Rattle.cfg_recover.specs.Assignments.{point}
 use Rattle.cfg_recover.specs.Duties.{Owed, interrupts_of}
 use Rattle.frame_places.specs.Marks.{is_queued, mark_for}
-use Rattle.depth_maker.specs.InterruptHandlers.{AreEntered, IsWithinContext, IsContextOf}
+use Rattle.depth_maker.specs.InterruptHandlers.{AreEntered, ContextsEntered, IsAlike, IsContextEntered, IsContextOf, IsWithinContext, a10_of, joined_context}
 use Rattle.depth_maker.specs.Levels.{level}
 use Rattle.depth_maker.specs.Laws.{AreLawful}
 use Rattle.depth_maker.specs.Spots.{spot_of}
 use Rattle.depth_maker.specs.Table.{IsFine, seen}
 use Rattle.depth_maker.specs.VisitDuties.{Owes, DutiesJoined}
 use Rattle.depth_maker.specs.declared.interrupt_contexts.InterruptContext.{InterruptContext}
+use Rattle.depth_maker.specs.declared.interrupt_contexts.LastInterrupts.{LastInterrupts}
 use Rattle.depth_maker.specs.declared.table.Table as made
 use Rattle.depth_maker.proofs.InterruptLaws.{interrupts_new, interrupts_settle}
+use Rattle.depth_maker.proofs.JoinedContexts.{contexts_join}
 use Rattle.depth_maker.proofs.PartLemmas.{keeps_all, owed_proper}
+use Rattle.depth_maker.proofs.TableLaws.{derived_proper}
 
 module _ (b : Limits) (image : ImageData) (plan : PlanData) (k : Key) (p : ℕ) (u : State) where
   -- nothing has to be joined
@@ -30,17 +33,16 @@ module _ (b : Limits) (image : ImageData) (plan : PlanData) (k : Key) (p : ℕ) 
     settled = λ free d c. interrupts_settle b plan (seen s) k p u h entered asks d c;
   }
 
-  -- the context of the point is noted
-  pub joined_and_noted : (laws : AreLawful b image plan) (s m : made.Table) (h : InterruptContext) → IsContextOf h k.is u → IsProper b u → IsTrue u.ie
-      → ((d : Owed) → Contains (interrupts_of plan k u) d → Owes b image plan k p u d.duty) → is_queued (mark_for m.places (spot_of (point k p))) ≡ false
-      → DutiesJoined b image plan s m k p u (interrupts_of plan k u) → DutiesJoined b image plan s (record m { covered = record { interrupts = record { last = Some h; before = (m.covered).interrupts.last }; call = (m.covered).call } }) k p u (interrupts_of plan k u)
+  -- other contexts are noted
+  contexts_noted : (s m : made.Table) (interrupts : LastInterrupts) → ContextsEntered b plan (seen m).cells interrupts
+      → DutiesJoined b image plan s m k p u (interrupts_of plan k u) → DutiesJoined b image plan s (record m { covered = record { interrupts = interrupts; call = (m.covered).call } }) k p u (interrupts_of plan k u)
   unfolding seen level
-  joined_and_noted laws s m h from pu on owes free paid = record {
+  contexts_noted s m interrupts entered paid = record {
     fine = record {
       table = (paid.fine).table;
       listed = (paid.fine).listed;
       counted = (paid.fine).counted;
-      covered = ((interrupts_new b plan (seen m) k p u h from pu on (λ d c. owed_proper b image plan k p u laws d.duty pu (owes d c)) (λ d c. paid.settled free d c), (paid.fine).covered.0.0), (paid.fine).covered.1);
+      covered = (entered, (paid.fine).covered.1);
       exits = (paid.fine).exits;
       readers = (paid.fine).readers;
       plain = (paid.fine).plain;
@@ -56,3 +58,25 @@ module _ (b : Limits) (image : ImageData) (plan : PlanData) (k : Key) (p : ℕ) 
     };
     settled = paid.settled;
   }
+
+  module _ (laws : AreLawful b image plan) (s m : made.Table) (pu : IsProper b u) (on : IsTrue u.ie) (owes : (d : Owed) → Contains (interrupts_of plan k u) d → Owes b image plan k p u d.duty)
+      (free : is_queued (mark_for m.places (spot_of (point k p))) ≡ false) (paid : DutiesJoined b image plan s m k p u (interrupts_of plan k u)) where
+    -- the entries of the point are covered
+    point_entered : (h : InterruptContext) → IsContextOf h k.is u → AreEntered b plan (seen m).cells h
+    point_entered h from = interrupts_new b plan (seen m) k p u h from pu on (λ d c. owed_proper b image plan k p u laws d.duty pu (owes d c)) (λ d c. paid.settled free d c)
+
+    -- the context of the point is noted
+    pub joined_and_noted : (h : InterruptContext) → IsContextOf h k.is u
+        → DutiesJoined b image plan s (record m { covered = record { interrupts = record { last = Some h; before = (m.covered).interrupts.last }; call = (m.covered).call } }) k p u (interrupts_of plan k u)
+    joined_and_noted h from = contexts_noted s m (record { last = Some h; before = (m.covered).interrupts.last }) (point_entered h from, (paid.fine).covered.0.0) paid
+
+    -- it is joined with the last one
+    pub joined_with_last : (h : InterruptContext) → AreLimits b → IsAlike h k.is u → (m.covered).interrupts.last ≡ Some h
+        → DutiesJoined b image plan s (record m { covered = record { interrupts = record { last = Some (joined_context b h (a10_of u)); before = (m.covered).interrupts.before }; call = (m.covered).call } }) k p u (interrupts_of plan k u)
+    joined_with_last h limits alike last =
+        let g : InterruptContext = record { is = k.is; sp = a10_of u; ccpn = u.ccpn } in
+        let cells = (seen m).cells in
+        let entered : AreEntered b plan cells h = subst (IsContextEntered b plan cells) last (paid.fine).covered.0.0 in
+        let proper = derived_proper b image plan laws cells ((paid.fine).table).derived in
+        let both = contexts_join b cells limits proper plan h g (sym alike.same) (sym alike.ccpn) entered (point_entered g (record { same = refl; sp = refl; ccpn = refl })) in
+        contexts_noted s m (record { last = Some (joined_context b h (a10_of u)); before = (m.covered).interrupts.before }) (both, (paid.fine).covered.0.1) paid

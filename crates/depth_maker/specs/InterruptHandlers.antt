@@ -5,7 +5,8 @@ use Rattle.tcd_plan.specs.PlanData.{PlanData}
 use Rattle.value_domain.specs.declared.values.Val.{Val}
 use Rattle.value_domain.specs.declared.states.State.{State}
 use Rattle.value_domain.specs.Limits.{Limits}
-use Rattle.value_domain.specs.Values.{IsBelow, IsWell, any_val}
+use Rattle.value_domain.specs.State.{join_of}
+use Rattle.value_domain.specs.Values.{IsBelow, IsValue, any_val}
 use Rattle.vd_transfer.specs.Registers.{word_val}
 use Rattle.depth_cert.specs.Known.{state}
 use Rattle.depth_cert.specs.Proper.{IsProper}
@@ -33,7 +34,7 @@ pub record IsEntered (b : Limits) (plan : PlanData) (a : Assignment) (h : Interr
 
 -- the entries of the handlers of all stated interrupts above the context's priority are covered
 pub record AreEntered (b : Limits) (plan : PlanData) (a : Assignment) (h : InterruptContext) : Type 0 where
-  pub stack : IsWell h.sp
+  pub stack : IsValue b h.sp
   pub each : (p : ℕ) → Contains plan.irqs p → h.ccpn < p → IsEntered b plan a h p
 
 -- the entries are covered in a context, if there is one
@@ -49,6 +50,15 @@ pub record IsContextOf (h : InterruptContext) (inner : Bool) (s : State) : Type 
   pub same : h.is ≡ inner
   pub sp : h.sp ≡ a10_of s
   pub ccpn : h.ccpn ≡ s.ccpn
+
+-- the context of a frame with this state differs from another at most in A10
+pub record IsAlike (h : InterruptContext) (inner : Bool) (s : State) : Type 0 where
+  pub same : h.is ≡ inner
+  pub ccpn : h.ccpn ≡ s.ccpn
+
+-- the context with its A10 joined with another
+abbrev pub joined_context : Limits → InterruptContext → Val → InterruptContext
+joined_context b h v = record h { sp = join_of b h.sp v }
 
 -- A frame with this state takes no interrupt that the context doesn't: its CCPN isn't lower. On the
 -- interrupt stack its A10 is covered.

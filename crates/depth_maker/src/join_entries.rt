@@ -7,7 +7,7 @@ ghost use Rattle.cfg_recover.specs.Entries.{irqs_of};
 ghost use Rattle.cfg_recover.specs.Flows.{told_irqs};
 ghost use Rattle.frame_places.specs.declared.places.Spot.TheVariants.{Point};
 ghost use Rattle.frame_places.specs.Numbers.{StandsAt};
-ghost use Rattle.depth_maker.specs.Table.{AnsweredOn};
+ghost use Rattle.depth_maker.specs.Table.{AnsweredOn, FineOn};
 ghost use Rattle.depth_maker.specs.VisitDuties.{OwesAll, JoinedBy, StandsBy, StayJoined, access_by, entries_by, interrupts_by, misaligned_by, system_by};
 ghost use Rattle.depth_maker.specs.Visits.{VisitedBy};
 
@@ -159,9 +159,11 @@ fn are_noted(table: &Table, v: &Visit) -> bool
 }
 
 /// Notes the context of these interrupts, unless the point has new work: then some entries may have
-/// been skipped. It is a call of its own, since it has room for a value.
+/// been skipped. If it differs from the last one at most in A10, both are joined. It is a call of
+/// its own, since it has room for a value.
 #[inline(never)]
 fn note_interrupts(table: &mut Table, v: &Visit)
+    requires fine { FineOn v.now.ground.now table.old }
     requires near { StandsAt table.old.places table.old.near (Point v.now.key v.now.addr) }
     requires proper { IsProper v.now.ground.now.bounds.now v.now.state.now }
     requires on { IsTrue v.now.state.now.ie }
@@ -170,6 +172,12 @@ fn note_interrupts(table: &mut Table, v: &Visit)
 {
     if has_work(&table.places, table.near) {
         return;
+    }
+    if let Some(last) = &mut table.covered.interrupts.last {
+        if last.is_alike(v.key.is, v.state) {
+            last.join_stack(v.ground.bounds, v.state);
+            return;
+        }
     }
     let context = InterruptContext::at(v.key.is, v.state);
     let before = table.covered.interrupts.last.take();

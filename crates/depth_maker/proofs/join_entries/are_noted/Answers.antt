@@ -7,7 +7,7 @@ use Rattle.depth_maker.proofs.join_entries.are_noted.Goals as goal
 pub covers-requires-clause-own : goal.covers-requires-clause-own
 covers-requires-clause-own c =
     let g = c.args.v.now.ground.now in
-    (subst (IsContextEntered g.bounds.now g.plan.now (seen c.args.table.now).cells) c.in-Some.is c.requires.fine.covered.0.0).stack
+    (subst (IsContextEntered g.bounds.now g.plan.now (seen c.args.table.now).cells) c.in-Some.is c.requires.fine.covered.0.0).stack.well
 
 pub covers-requires-clause-other : goal.covers-requires-clause-other
 covers-requires-clause-other c = (c.requires.proper.values 22 (omega (arith, c.requires.proper.regs))).well
@@ -15,7 +15,7 @@ covers-requires-clause-other c = (c.requires.proper.values 22 (omega (arith, c.r
 pub covers-requires-in-Some-before-clause-own : goal.covers-requires-in-Some-before-clause-own
 covers-requires-in-Some-before-clause-own c =
     let g = c.args.v.now.ground.now in
-    (subst (IsContextEntered g.bounds.now g.plan.now (seen c.args.table.now).cells) c.in-Some-before.is c.requires.fine.covered.0.1).stack
+    (subst (IsContextEntered g.bounds.now g.plan.now (seen c.args.table.now).cells) c.in-Some-before.is c.requires.fine.covered.0.1).stack.well
 
 pub covers-requires-in-Some-before-clause-other : goal.covers-requires-in-Some-before-clause-other
 covers-requires-in-Some-before-clause-other c = (c.requires.proper.values 22 (omega (arith, c.requires.proper.regs))).well

@@ -28,5 +28,8 @@ join_handlers-requires-clause-irqs c = c.as_slice.ensures.value ∙ c.interrupts
 pub note_interrupts-requires-clause-on : goal.note_interrupts-requires-clause-on
 note_interrupts-requires-clause-on c = taken_on c.args.v.now.state.now.ie _ c.interrupts-irqs.result.items c.interrupts-irqs.ensures (sym c.is_empty.ensures ∙ c.if-is_empty.false)
 
+pub note_interrupts-requires-clause-fine : goal.note_interrupts-requires-clause-fine
+note_interrupts-requires-clause-fine c = c.in_ok-join_handlers.ensures.ok.fine
+
 pub returns-clause-ok : goal.returns-clause-ok
 returns-clause-ok c = c.note_interrupts.ensures c.args.table.now c.in_ok-join_handlers.ensures.ok
