@@ -8,7 +8,7 @@ use Rattle.tcd_plan.specs.PlanData.{PlanData}
 use Rattle.tc_isa.specs.Insts.{InstData}
 use Rattle.tc_isa.specs.Spelling.{Spells}
 use Rattle.tc_isa.specs.Meanings.{shape_of}
-use Rattle.tc_isa.specs.Bounded.{IsShape}
+use Rattle.tc_isa.specs.InBounds.{IsShape}
 use Rattle.tc_isa.specs.declared.shapes.Shape.{Shape}
 use Rattle.tc_isa.proofs.ShapeBounds.{shape_is}
 use Rattle.tc_encode.specs.Decoding.{decoded_of}

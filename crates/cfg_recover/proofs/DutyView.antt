@@ -19,7 +19,8 @@ use Rattle.vd_transfer.specs.Branches.{refine_of}
 use Rattle.depth_cert.specs.declared.keys.Key.{Key}
 use Rattle.depth_cert.specs.Exits.{exit_of}
 use Rattle.cfg_recover.specs.Entries.{call_key, irq_key, sys_key, aln_key, call_entry, irq_entry, sys_entry, aln_entry, irqs_of}
-use Rattle.cfg_recover.specs.LocalRules.{targets_of, are_aligned}
+use Rattle.cfg_recover.specs.LocalRules.{targets_of}
+use Rattle.store_ranges.specs.Accesses.{are_aligned}
 use Rattle.cfg_recover.specs.Duties.{Owed, owed, jump, enter, resume, leave, loaded_at, jump_on, next_of, successors_of, entered_and_back, entries_of, misaligned_at, misaligned_of, interrupts_of, leavings_of, duties_of}
 use Rattle.cfg_recover.proofs.Members.{contained_map, contained_flat, contains_first, contains_map, contains_flat, contains_jump, only_one, owes_successor, owes_entry, owes_misaligned, owes_interrupt, owes_leaving}
 

@@ -4,9 +4,9 @@ use Rattle.tcd_plan.specs.PlanData.{PlanData}
 use Rattle.value_domain.specs.declared.values.Val.{Val}
 use Rattle.value_domain.specs.declared.states.State.{State}
 use Rattle.value_domain.specs.Limits.{Limits, AreLimits}
-use Rattle.value_domain.specs.Values.{IsValue}
+use Rattle.value_domain.specs.Values.{IsValue, word_val}
 use Rattle.value_domain.specs.State.{AreValues}
-use Rattle.vd_transfer.specs.Registers.{slot, word_val}
+use Rattle.vd_transfer.specs.Registers.{slot}
 use Rattle.vd_transfer.specs.Changes.{state_after}
 use Rattle.depth_cert.specs.declared.keys.Key.{Key}
 use Rattle.cfg_recover.specs.Entries.{stack_of, entry_with, aln_entry, sys_entry}

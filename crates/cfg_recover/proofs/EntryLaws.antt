@@ -20,12 +20,12 @@ use Rattle.tc_machine.proofs.Words.{register_lt}
 use Rattle.value_domain.specs.declared.values.Val.{Val}
 use Rattle.value_domain.specs.declared.states.State.{State}
 use Rattle.value_domain.specs.Limits.{Limits}
-use Rattle.value_domain.specs.Values.{IsMember, any_val}
+use Rattle.value_domain.specs.Values.{IsMember, any_val, word_val}
 use Rattle.value_domain.specs.State.{AreBelow, Covers, is_lower_slot}
 use Rattle.vd_transfer.specs.Operations.{value_of}
-use Rattle.vd_transfer.specs.Registers.{slot, reg_of, value_at, fixed_of, set_reg, word_val, is_lower}
+use Rattle.vd_transfer.specs.Registers.{slot, reg_of, value_at, fixed_of, set_reg, is_lower, set_arg}
 use Rattle.vd_transfer.specs.EffectsOnStates.{with_base, transfer_of}
-use Rattle.vd_transfer.specs.Branches.{refine_of, state_on_side, with_lowered_counter, with_one, with_two, set_arg, is_reg}
+use Rattle.vd_transfer.specs.Branches.{refine_of, state_on_side, with_lowered_counter, with_one, with_two, is_reg}
 use Rattle.vd_transfer.specs.Holding.{Holds}
 use Rattle.vd_transfer.specs.EffectsOnWords.{set_word}
 use Rattle.vd_transfer.proofs.RegisterLaws.{length-forgotten}

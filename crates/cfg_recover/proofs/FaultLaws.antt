@@ -8,11 +8,11 @@ use Rattle.depth_cert.specs.declared.keys.Key.{Key}
 use Rattle.depth_cert.specs.declared.points.Point.{Point}
 use Rattle.depth_cert.specs.Keys.{number_of_key}
 use Rattle.depth_cert.specs.Points.{IsPoint}
-use Rattle.depth_cert.specs.Nodes.{NodeData, IsNode}
+use Rattle.depth_cert.specs.Nodes.{NodeData, IsNode, need_of}
 use Rattle.depth_cert.specs.Certs.{CertData, IsCert}
 use Rattle.cfg_recover.specs.Entries.{start_key}
-use Rattle.cfg_recover.specs.Accepting.{limits_in, RuleHolds, HoldsAtNode, Accepts, Fails, at_start, at_entry, at_point, need_of}
-use Rattle.cfg_recover.specs.FaultLaws.{IsPlace, start, entry, point, FirstFaultsSay, NeedSays}
+use Rattle.cfg_recover.specs.RulesHoldOrFail.{limits_in, RuleHolds, HoldsAtNode, Accepts, Fails, at_start, at_entry, at_point}
+use Rattle.cfg_recover.specs.FirstFaultLaws.{IsPlace, start, entry, point, FirstFaultsSay, NeedSays}
 use Rattle.cfg_recover.proofs.DutyRules.{duty_asked}
 
 -- a certificate with a fault isn't accepted

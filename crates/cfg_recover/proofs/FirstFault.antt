@@ -15,7 +15,7 @@ use Rattle.depth_cert.specs.Keys.{number_of_key}
 use Rattle.depth_cert.specs.Points.{ArePoints, IsPoint}
 use Rattle.depth_cert.specs.Nodes.{NodeData, IsNode}
 use Rattle.depth_cert.specs.Certs.{CertData, IsCert}
-use Rattle.cfg_recover.specs.Accepting.{limits_in, Accepts, HoldsAtNode}
+use Rattle.cfg_recover.specs.RulesHoldOrFail.{limits_in, Accepts, HoldsAtNode}
 
 -- ---- rising lists
 -- In a list in ascending order, an element is before the one at i, or is that one, or has a greater

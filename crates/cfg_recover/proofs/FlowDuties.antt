@@ -12,7 +12,7 @@ use Rattle.vd_transfer.specs.Registers.{slot}
 use Rattle.depth_cert.specs.declared.keys.Key.{Key}
 use Rattle.cfg_recover.specs.Entries.{irq_entry, irqs_of}
 use Rattle.cfg_recover.specs.Duties.{interrupts_of}
-use Rattle.cfg_recover.specs.Flows.{told_irqs}
+use Rattle.cfg_recover.specs.FlowDuties.{told_irqs}
 
 -- the state at an interrupt's entry is that of priority 0 with another priority
 pub told_irqs-is : (plan : PlanData) (key : Key) (s entry : State) (irqs : List ℕ) → entry ≡ irq_entry plan key s 0 → irqs ≡ irqs_of plan s → told_irqs plan entry irqs ≡ interrupts_of plan key s

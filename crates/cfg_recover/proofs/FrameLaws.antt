@@ -10,7 +10,7 @@ use Rattle.tc_machine.specs.declared.events.Cause.{Cause}
 use Rattle.tc_machine.specs.declared.events.Event.{Event}
 use Rattle.tc_machine.specs.declared.state.Machine.{Machine}
 use Rattle.tc_machine.specs.Machine.{moved}
-use Rattle.tc_machine.specs.Fetching.{fetched}
+use Rattle.tc_machine.specs.Fetching.{fetched, size_in}
 use Rattle.tc_machine.specs.Stepping.{is_taken, step, run}
 use Rattle.depth_cert.specs.declared.points.Point.{Point}
 use Rattle.depth_cert.specs.Points.{find_point}
@@ -19,11 +19,12 @@ use Rattle.depth_cert.specs.Certs.{CertData, find_node}
 use Rattle.depth_cert.proofs.KeyLaws.{found_in}
 use Rattle.cfg_recover.specs.Entries.{start_key}
 use Rattle.cfg_recover.specs.Duties.{Owed, duties_of}
-use Rattle.cfg_recover.specs.Accepting.{limits_in}
-use Rattle.cfg_recover.specs.OwedMoves.{InState, traps}
-use Rattle.cfg_recover.specs.Frames.{Standing, frames_by, frames_after, frames_from, frames, size_in, AreHeld, HoldFrames}
-use Rattle.cfg_recover.specs.OwedEdges.{IsReturn, IsOwed, EdgeOwed}
-use Rattle.cfg_recover.specs.Edges.{Way, to, call, irq, sys, aln, ret, rfe, way_of_shape, way_by, way_in, way_of_step}
+use Rattle.cfg_recover.specs.RulesHoldOrFail.{limits_in}
+use Rattle.cfg_recover.specs.MovesAreOwed.{InState}
+use Rattle.tc_machine.specs.Instructions.{traps}
+use Rattle.cfg_recover.specs.Frames.{Standing, frames_by, frames_after, frames_from, frames, AreHeld, HoldFrames, IsReturn}
+use Rattle.cfg_recover.specs.EdgesAreOwed.{IsOwed, EdgeOwed}
+use Rattle.cfg_recover.specs.StepEdges.{Way, to, call, irq, sys, aln, ret, rfe, way_of_shape, way_by, way_in, way_of_step}
 use Rattle.cfg_recover.specs.FrameLaws.{Meets, KeepsFrame, EdgeIs, EdgesAre, FramesNext, FramesAre, FramesSay, HeldFramesSay, GoesBack, StepOwed, EdgeSays, OwedEdgesSay}
 
 -- ---- edges

@@ -13,15 +13,14 @@ use Rattle.tc_isa.specs.declared.shapes.Shape.TheVariants.{Compute, Scaled, Load
 use Rattle.value_domain.specs.declared.values.Val.{Val}
 use Rattle.value_domain.specs.declared.states.State.{State}
 use Rattle.value_domain.specs.Limits.{Limits}
-use Rattle.value_domain.specs.Values.{any_val}
+use Rattle.value_domain.specs.Values.{any_val, word_val}
 use Rattle.vd_transfer.specs.Operations.{value_of}
-use Rattle.vd_transfer.specs.Registers.{slot, reg_of, set_at, set_reg, write_reg, word_val, is_lower, HasValue}
+use Rattle.vd_transfer.specs.Registers.{slot, reg_of, set_at, set_reg, write_reg, is_lower, HasValue, set_arg}
 use Rattle.vd_transfer.specs.EffectsOnStates.{with_base, transfer_of}
-use Rattle.vd_transfer.specs.Branches.{is_reg, set_arg, with_one, with_two, state_on_side, with_lowered_counter, refine_of}
+use Rattle.vd_transfer.specs.Branches.{is_reg, with_one, with_two, state_on_side, with_lowered_counter, refine_of}
 use Rattle.vd_transfer.specs.Holding.{HasBaseValue, WritesNoFixedRegister}
 use Rattle.vd_transfer.specs.EffectsOnWords.{set_word, with_base_word, words_after}
-use Rattle.vd_transfer.specs.Soundness.{StaysPlain}
-use Rattle.cfg_recover.specs.OwedMoves.{StaysInFrame}
+use Rattle.vd_transfer.specs.Soundness.{StaysPlain, StaysInFrame}
 use Rattle.cfg_recover.proofs.Went.{set_word-other}
 
 -- If t says that the lower registers are the entry's, so does s, and their words are the same.

@@ -8,12 +8,12 @@ use Rattle.tcd_base.specs.Bytes.{bytes_of_word}
 use Rattle.tcd_plan.specs.PlanData.{PlanData}
 use Rattle.tc_isa.specs.Insts.{InstData, fields_in}
 use Rattle.tc_isa.specs.Spelling.{spelling, Spells}
-use Rattle.tc_isa.specs.Bounded.{IsShape}
+use Rattle.tc_isa.specs.InBounds.{IsShape}
 use Rattle.tc_encode.specs.Decoding.{decoded_of}
 use Rattle.tc_encode.specs.declared.errors.DecodeErr.{DecodeErr}
 use Rattle.tc_encode.proofs.DecodeProofs.{decode_laws}
 use Rattle.tc_encode.proofs.Wholes.{even_need, length_of_spelling}
-use Rattle.cfg_recover.specs.declared.local.Located.{Located}
+use Rattle.cfg_recover.specs.declared.local_rules.Located.{Located}
 use Rattle.cfg_recover.specs.HeldBytes.{FindsInRom}
 use Rattle.cfg_recover.specs.Code.{FindsBytes, LocatesCode, located_of, located_in}
 use Rattle.cfg_recover.proofs.CodeLaws.{by_four, IsCode-bounded}

@@ -20,7 +20,7 @@ use Rattle.depth_cert.specs.Nodes.{NodeData, IsNode}
 use Rattle.depth_cert.specs.Certs.{CertData, IsCert}
 use Rattle.depth_cert.specs.Known.{Known, state, leaving, CoversKnown}
 use Rattle.depth_cert.proofs.KeyLaws.{found_in}
-use Rattle.cfg_recover.specs.Accepting.{limits_in, Accepts}
+use Rattle.cfg_recover.specs.RulesHoldOrFail.{limits_in, Accepts}
 use Rattle.cfg_recover.specs.Assignments.{point, known_at, known_in, IsBelowAt}
 use Rattle.cfg_recover.proofs.PointLaws.{limits_are}
 use Rattle.cfg_recover.proofs.FirstFault.{accepted_values}

@@ -13,15 +13,14 @@ use Rattle.value_domain.specs.declared.values.Val.{Val}
 use Rattle.value_domain.specs.declared.states.State.{State}
 use Rattle.value_domain.specs.Limits.{Limits}
 use Rattle.value_domain.specs.Sets.{Among}
-use Rattle.value_domain.specs.Values.{members, IsWell}
+use Rattle.value_domain.specs.Values.{members, IsWell, word_val}
 use Rattle.value_domain.proofs.CoverLaws.{member_same}
 use Rattle.vd_transfer.specs.EffectsOnStates.{address_of}
 use Rattle.tcd_plan.specs.Regions.{IsStoreInRange}
-use Rattle.vd_transfer.specs.Registers.{word_val}
-use Rattle.store_ranges.specs.Accesses.{AreAligned, AreStoresInRange}
+use Rattle.store_ranges.specs.Accesses.{AreAligned, AreStoresInRange, are_aligned}
 use Rattle.depth_cert.specs.declared.keys.Key.{Key}
 use Rattle.cfg_recover.specs.Code.{IsCode}
-use Rattle.cfg_recover.specs.LocalRules.{are_aligned, StoresInRange, MayAccess, LocalRule, LocalHolds}
+use Rattle.cfg_recover.specs.LocalRules.{StoresInRange, MayAccess, LocalRule, LocalHolds}
 use Rattle.cfg_recover.specs.LocalFaults.{IsLocalFault, IsLeastBroken, FindsFaultless, StoresInRangeAt, MayAccessAt}
 use Rattle.cfg_recover.proofs.CodeLaws.{IsCode-one}
 

@@ -4,7 +4,7 @@ use Rattle.std.specs.Prelude.{IfSome, IsSome, IsSomeAnd, Contains}
 use Rattle.std.specs.FinMap as memory_map
 use Rattle.std.proofs.lemmas.Bool.{cases_Bool, and_parts, both_ways, not-true, ltb-true, lt-ltb, eq-eqb, false≢true, cond_both}
 use Rattle.std.proofs.lemmas.List.Elements.{Contains-append_left, Contains-append_right}
-use Rattle.csa_chain.specs.Memory.{Memory, load_number, with_bytes, extend}
+use Rattle.csa_chain.specs.MemoryBytes.{Memory, load_number, with_bytes, extend}
 use Rattle.elf_image.specs.Images.{ImageData}
 use Rattle.tcd_plan.specs.PlanData.{PlanData, IsPlan}
 use Rattle.tc_isa.specs.declared.shapes.Arg.{Arg}
@@ -15,13 +15,13 @@ use Rattle.tc_isa.specs.declared.shapes.Target.TheVariants as target
 use Rattle.tc_isa.specs.declared.shapes.Shape.{Shape}
 use Rattle.tc_isa.specs.declared.shapes.Shape.TheVariants.{Compute, Scaled, Load, Store, Branch, Jump, Call, Enable, Disable, Syscall, Mfcr, Nothing}
 use Rattle.tc_isa.specs.Arithmetic.{taken_of}
-use Rattle.tc_isa.specs.Bounded.{IsArg, IsTarget}
+use Rattle.tc_isa.specs.InBounds.{IsArg, IsTarget}
 use Rattle.tc_machine.specs.declared.events.Event.{Event}
 use Rattle.tc_machine.specs.declared.events.End.TheVariants.{Running}
 use Rattle.tc_machine.specs.declared.state.Machine.{Machine}
 use Rattle.tc_machine.specs.Machine.{reg, a11, moved}
 use Rattle.tc_machine.specs.Fetching.{fetched}
-use Rattle.tc_machine.specs.Instructions.{does, access_address, traps_at, target_of, core_register}
+use Rattle.tc_machine.specs.Instructions.{does, access_address, traps_at, target_of, core_register, traps}
 use Rattle.tc_machine.specs.Stepping.{is_taken, load_in, store_in, where_running, stored, step}
 use Rattle.tcd_plan.specs.Regions.{IsInAreas, AnswersLoad, IsStoreInRange}
 use Rattle.tc_machine.specs.Safe.{IsMachine, Fits}
@@ -32,15 +32,15 @@ use Rattle.value_domain.specs.declared.values.Val.{Val}
 use Rattle.value_domain.specs.declared.values.Val.TheVariants.{Set, Span}
 use Rattle.value_domain.specs.declared.states.State.{State}
 use Rattle.value_domain.specs.Limits.{Limits}
-use Rattle.value_domain.specs.Values.{IsMember, IsValue, IsWell, members}
+use Rattle.value_domain.specs.Values.{IsMember, IsValue, IsWell, members, word_val}
 use Rattle.value_domain.proofs.CoverLaws.{among_member, has_step}
 use Rattle.value_domain.proofs.RangeLaws.{one_value}
 use Rattle.value_domain.proofs.SetLaws.{distinct_has}
-use Rattle.vd_transfer.specs.Registers.{slot, reg_of, arg_of, word_val, set_reg}
-use Rattle.vd_transfer.specs.EffectsOnStates.{access_of, address_of, transfer_of}
+use Rattle.vd_transfer.specs.Registers.{slot, reg_of, arg_of, set_reg}
+use Rattle.vd_transfer.specs.EffectsOnStates.{access_of, address_of, transfer_of, ie_after}
 use Rattle.vd_transfer.specs.Branches.{refine_of}
 use Rattle.vd_transfer.specs.Holding.{Holds}
-use Rattle.vd_transfer.specs.EffectsOnWords.{word_of, words_after, ie_after, ccpn_after}
+use Rattle.vd_transfer.specs.EffectsOnWords.{word_of, words_after, ccpn_after}
 use Rattle.vd_transfer.specs.Soundness.{ReadsMember, IsSetting}
 use Rattle.vd_transfer.proofs.HoldLaws.{same_length, reg_of-other, reg_of-here, transfer_holds, branch_holds, address_holds, arg_value}
 use Rattle.vd_transfer.proofs.ValueLaws.{value_of_value}
@@ -49,9 +49,11 @@ use Rattle.store_ranges.proofs.Covers.{map_has}
 use Rattle.store_ranges.proofs.Sound.{set_sound, span_sound}
 use Rattle.depth_cert.specs.declared.keys.Key.{Key}
 use Rattle.cfg_recover.specs.Entries.{aln_key, aln_entry, irq_key, irq_entry, call_key, call_entry, stack_of, sys_entry, irqs_of}
-use Rattle.cfg_recover.specs.LocalRules.{named_by, targets_of, are_aligned}
+use Rattle.cfg_recover.specs.LocalRules.{named_by, targets_of}
+use Rattle.store_ranges.specs.Accesses.{are_aligned}
 use Rattle.cfg_recover.specs.Duties.{owed, jump, enter, entered_and_back, loaded_at, successors_of, jump_on, misaligned_at, duties_of}
-use Rattle.cfg_recover.specs.OwedMoves.{InState, IsAtPoint, MovesTo, traps, Moved, MovesInFrame, TrapsOwed, CallsOwed, SystemCallsOwed, InterruptsOwed, StoresHeld}
+use Rattle.cfg_recover.specs.MovesAreOwed.{InState, IsAtPoint, MovesTo, Moved, MovesInFrame, TrapsOwed, InterruptsOwed, StoresHeld}
+use Rattle.cfg_recover.specs.EdgesAreOwed.{CallsOwed, SystemCallsOwed}
 use Rattle.cfg_recover.proofs.EntryLaws.{reg_lt}
 use Rattle.cfg_recover.proofs.Points.{setting, bounded, writes, fetched_at}
 use Rattle.cfg_recover.proofs.Members.{contains_first, contains_among, contains_map, contains_flat, contains_filter, passes_each, contains_jump, owes_successor, owes_entry, owes_misaligned, owes_interrupt}

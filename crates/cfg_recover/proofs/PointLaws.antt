@@ -21,7 +21,7 @@ use Rattle.cfg_recover.specs.Entries.{start_key}
 use Rattle.cfg_recover.specs.LocalRules.{LocalRule}
 use Rattle.cfg_recover.specs.LocalFaults.{IsFaultless}
 use Rattle.cfg_recover.specs.Duties.{Owed, duties_of}
-use Rattle.cfg_recover.specs.Accepting.{limits_in, IsMet, IsNeedAbove, RuleHolds, HasNeed, HoldsAtNode, Accepts}
+use Rattle.cfg_recover.specs.RulesHoldOrFail.{limits_in, IsMet, IsNeedAbove, RuleHolds, HasNeed, HoldsAtNode, Accepts}
 
 -- ---- limits
 pub limits_are : (plan : PlanData) (version : ℕ) → AreLimits (limits_for plan version)

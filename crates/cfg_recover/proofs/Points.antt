@@ -1,26 +1,26 @@
 -- What holds of a machine at a point, and what the other instructions of its frame do.
 use Rattle.std.proofs.Common.{◌≡◌, ℕ, ◌/◌, ◌*◌, length, true, false, Ok, refl, ap, ◌∙◌, subst}
 use Rattle.std.proofs.lemmas.Bool.{false≢true}
-use Rattle.csa_chain.specs.Contexts.{pcpn_of, pie_of}
+use Rattle.csa_chain.specs.ContextWords.{pcpn_of, pie_of}
 use Rattle.elf_image.specs.Images.{ImageData}
 use Rattle.tcd_plan.specs.PlanData.{PlanData}
 use Rattle.tc_isa.specs.declared.shapes.Shape.{Shape}
 use Rattle.tc_isa.specs.declared.shapes.Shape.TheVariants.{Load, Store, Rfe, Svlcx, Rslcx, Bisr, Syscall}
-use Rattle.tc_isa.specs.Bounded.{IsShape}
+use Rattle.tc_isa.specs.InBounds.{IsShape}
 use Rattle.tc_isa.proofs.ShapeBounds.{shape_is}
 use Rattle.tc_machine.specs.declared.events.Event.{Event}
 use Rattle.tc_machine.specs.declared.state.Machine.{Machine}
-use Rattle.tc_machine.specs.Machine.{a11, moved, advanced, then_}
-use Rattle.tc_machine.specs.Contexts.{save, restore}
+use Rattle.tc_machine.specs.Machine.{a11, moved, then_}
+use Rattle.tc_machine.specs.Instructions.{advanced, does, trap, misaligned, traps}
+use Rattle.tc_machine.specs.SavesAndRestores.{save, restore}
 use Rattle.tc_machine.specs.Fetching.{fetched}
-use Rattle.tc_machine.specs.Instructions.{does, trap, misaligned}
 use Rattle.tc_machine.proofs.Fetched.{fetched-is}
 use Rattle.value_domain.specs.declared.states.State.{State}
 use Rattle.value_domain.specs.Limits.{Limits}
 use Rattle.vd_transfer.specs.Holding.{WritesNoFixedRegister}
 use Rattle.vd_transfer.specs.Soundness.{IsSetting}
 use Rattle.depth_cert.specs.declared.keys.Key.{Key}
-use Rattle.cfg_recover.specs.OwedMoves.{IsAtPoint, traps}
+use Rattle.cfg_recover.specs.MovesAreOwed.{IsAtPoint}
 
 module _ {b : Limits} {image : ImageData} {plan : PlanData} {key : Key} {m : Machine} {s : State} {shape : Shape} {n : ℕ} (at : IsAtPoint b image plan key m s shape n) where
   -- the premises of the laws of effects

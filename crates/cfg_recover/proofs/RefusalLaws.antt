@@ -5,8 +5,8 @@ use Rattle.tcd_plan.specs.PlanData.{PlanData}
 use Rattle.value_domain.specs.Limits.{Limits}
 use Rattle.depth_cert.specs.declared.keys.Key.{Key}
 use Rattle.cfg_recover.specs.Assignments.{Assignment, Derived}
-use Rattle.cfg_recover.specs.Refusals.{HasFault, own, locals, IsFault, derived, limits, IsRefusalWith, fault, recursion, need}
-use Rattle.cfg_recover.specs.RefusalLaws.{RefusalSays, by_rule, by_locals, by_limits, by_recursion, by_need, RefusalsSay}
+use Rattle.cfg_recover.specs.CertRefusals.{HasFault, own, locals, IsFault, derived, limits, IsRefusalWith, fault, recursion, need, RefusalSays, by_rule, by_locals, by_limits, by_recursion, by_need}
+use Rattle.cfg_recover.specs.RefusalLaws.{RefusalsSay}
 
 module _ (b : Limits) (image : ImageData) (plan : PlanData) where
   fault_says : (a : Assignment) (r : ℕ) (k : Key) (p : ℕ) → Derived b image plan a → HasFault b image plan a r k p → RefusalSays b image plan r k p

@@ -1,7 +1,7 @@
 -- What instructions that stay in their frame do to the machine: registers, pc, IE and memory.
 use Rattle.std.proofs.Common.{◌≡◌, ◌≢◌, ℕ, ◌+◌, ◌-◌, ◌*◌, ◌%◌, ◌^◌, ◌<◌, inl, inr, Bool, true, false, cond, List, length, get_or, set, length-set, get_or-set_same, get_or-set_other, ltb, eqb, refl, ap, ◌∙◌, subst, arith}
 use Rattle.std.proofs.lemmas.Bool.{cases_eq, cases_lt, lt-ltb, le-ltb, eq-eqb, ne_eqb}
-use Rattle.csa_chain.specs.Memory.{Memory, load_number, with_bytes, extend}
+use Rattle.csa_chain.specs.MemoryBytes.{Memory, load_number, with_bytes, extend}
 use Rattle.tc_isa.specs.declared.shapes.Arg.{Arg}
 use Rattle.tc_isa.specs.declared.shapes.Arg.TheVariants.{Reg, Word}
 use Rattle.tc_isa.specs.declared.shapes.Cond.{Cond}
@@ -9,11 +9,11 @@ use Rattle.tc_isa.specs.declared.shapes.Op.{Op}
 use Rattle.tc_isa.specs.declared.shapes.Shape.TheVariants.{Compute, Scaled, Load, Store, Branch, Jump, Enable, Disable, Mfcr, Nothing}
 use Rattle.tc_isa.specs.declared.shapes.Target.{Target}
 use Rattle.tc_isa.specs.Arithmetic.{alu_of, taken_of}
-use Rattle.tc_isa.specs.Bounded.{IsArg}
+use Rattle.tc_isa.specs.InBounds.{IsArg}
 use Rattle.tc_machine.specs.declared.events.Event.{Event}
 use Rattle.tc_machine.specs.declared.state.Machine.{Machine}
-use Rattle.tc_machine.specs.Machine.{reg, with_reg, arg, moved, advanced}
-use Rattle.tc_machine.specs.Instructions.{access_address, with_base, traps_at, core_register, lowered, target_of, does}
+use Rattle.tc_machine.specs.Machine.{reg, with_reg, moved}
+use Rattle.tc_machine.specs.Instructions.{arg, advanced, access_address, with_base, traps_at, core_register, lowered, target_of, does}
 use Rattle.tc_machine.specs.Safe.{IsMachine}
 use Rattle.vd_transfer.specs.EffectsOnWords.{set_word, word_of, access_word, with_base_word, words_after}
 

@@ -2,7 +2,7 @@
 use Rattle.std.proofs.Common.{◌≡◌, ℕ, ◌+◌, ◌-◌, ◌<◌, ◌≤◌, ◌⊎◌, inl, inr, true, List, [], ◌∷◌, ◌++◌, map, sym, ap, ◌∙◌, subst, arith, append_assoc}
 use Rattle.std.proofs.lemmas.Bool.{cases_lt}
 use Rattle.std.specs.FinMap as memory_map
-use Rattle.csa_chain.specs.Memory.{Memory, with_bytes}
+use Rattle.csa_chain.specs.MemoryBytes.{Memory, with_bytes}
 use Rattle.csa_chain.proofs.MemoryLaws.{get-with_bytes_other, is_mapped-with_bytes}
 use Rattle.elf_image.specs.Images.{ImageData}
 use Rattle.tcd_base.specs.declared.range.Range.{Range}

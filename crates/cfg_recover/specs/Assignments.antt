@@ -121,3 +121,7 @@ pub data Derived (b : Limits) (image : ImageData) (plan : PlanData) : Assignment
 pub record Closed (b : Limits) (image : ImageData) (plan : PlanData) (a : Assignment) : Type 0 where
   pub start : CoversAt a (first_place image plan) (state (start_state plan))
   pub duties : (y : Place) (v : Known) → Asks b image plan a y v → CoversAt a y v
+
+-- no point has a fault of its own
+abbrev pub AllFaultless : Limits → ImageData → PlanData → Assignment → Type 0
+AllFaultless b image plan a = (k : Key) (p : ℕ) (s : State) → a (point k p) ≡ Some (state s) → IsFaultless b image plan k p s

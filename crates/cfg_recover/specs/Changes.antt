@@ -1,20 +1,12 @@
 -- How the entry of a frame changes the state of the point that enters it, and a point at which no
 -- rule's own part fails.
 use Rattle.std.specs.Prelude.{ℕ, false, true, []}
-use Rattle.elf_image.specs.Images.{ImageData}
-use Rattle.tcd_plan.specs.PlanData.{PlanData}
-use Rattle.tc_isa.specs.Bounded.{IsShape}
 use Rattle.value_domain.specs.declared.values.Val.{Val}
 use Rattle.value_domain.specs.declared.states.State.{State}
-use Rattle.value_domain.specs.Limits.{Limits}
 use Rattle.vd_transfer.specs.declared.change.Base.TheVariants.{Any}
 use Rattle.vd_transfer.specs.declared.change.Change.{Change}
-use Rattle.vd_transfer.specs.Registers.{word_val}
+use Rattle.value_domain.specs.Values.{word_val}
 use Rattle.vd_transfer.specs.Changes.{kept_of, no_put, reg_put}
-use Rattle.depth_cert.specs.declared.keys.Key.{Key}
-use Rattle.cfg_recover.specs.declared.local.Located.{Located}
-use Rattle.cfg_recover.specs.Code.{IsCode}
-use Rattle.cfg_recover.specs.LocalFaults.{IsFaultless}
 
 -- a called function begins with its caller's values and without locals
 abbrev pub call_change : State → Change
@@ -41,9 +33,3 @@ handler_change sp ccpn = record {
 -- the handler of misaligned accesses does, too, with the trap's number 4 in D15
 abbrev pub misaligned_change : Val → ℕ → Change
 misaligned_change sp ccpn = record (handler_change sp ccpn) { second = reg_put 15 (word_val 4) }
-
--- An instruction of this shape and size is at p, and no rule's own part fails there.
-pub record StandsFaultless (b : Limits) (image : ImageData) (plan : PlanData) (key : Key) (p : ℕ) (s : State) (found : Located) : Type 0 where
-  pub faultless : IsFaultless b image plan key p s
-  pub code : IsCode image plan p found.shape found.size
-  pub shape : IsShape found.shape

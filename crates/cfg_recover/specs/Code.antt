@@ -7,7 +7,7 @@ use Rattle.tc_isa.specs.Meanings.{shape_of}
 use Rattle.tc_isa.specs.declared.shapes.Shape.{Shape}
 use Rattle.tc_machine.specs.Safe.{SpellsAt}
 use Rattle.tc_encode.specs.Decoding.{decoded_of}
-use Rattle.cfg_recover.specs.declared.local.Located.{Located}
+use Rattle.cfg_recover.specs.declared.local_rules.Located.{Located}
 use Rattle.tcd_base.specs.Bytes.{bytes_of_word}
 use Rattle.tc_encode.specs.declared.errors.DecodeErr.{DecodeErr}
 

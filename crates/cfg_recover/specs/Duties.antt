@@ -19,7 +19,8 @@ use Rattle.depth_cert.specs.declared.keys.Key.{Key}
 use Rattle.depth_cert.specs.declared.points.Exit.{Exit}
 use Rattle.cfg_recover.specs.Entries.{call_key, irq_key, sys_key, aln_key, call_entry, irq_entry, sys_entry, aln_entry, irqs_of}
 use Rattle.depth_cert.specs.Exits.{exit_of}
-use Rattle.cfg_recover.specs.LocalRules.{targets_of, are_aligned}
+use Rattle.cfg_recover.specs.LocalRules.{targets_of}
+use Rattle.store_ranges.specs.Accesses.{are_aligned}
 
 -- One duty, met in this way:
 -- - jump: the same node has a point at this address, and its state covers this one
@@ -118,6 +119,10 @@ duties_of b image plan key p s shape n =
 abbrev pub OwesJump : List Owed → ℕ → Type 0
 OwesJump ds q = (t : State) × Contains ds (owed 4 (jump q t))
 
--- this rule asks for an entry of this key, with some state
-abbrev pub OwesEntry : List Owed → ℕ → Key → Type 0
-OwesEntry ds rule key = (t : State) × Contains ds (owed rule (enter key t))
+abbrev pub system_call_rule : ℕ
+system_call_rule = 12
+
+-- the key of the node whose entry a duty asks for
+abbrev pub key_by : Duty → List Key
+key_by (enter k t) = k ∷ []
+key_by _ = []

@@ -1,13 +1,13 @@
 -- The frames that an instruction, an interrupt or a trap enters: their keys, and the states at
 -- their entries.
-use Rattle.std.specs.Prelude.{◌*◌, ◌^◌, ℕ, Bool, true, false, if◌then◌else◌, replicate, bit_or, nat_lt, List, filter, []}
+use Rattle.std.specs.Prelude.{◌*◌, ◌^◌, ℕ, Bool, true, false, if◌then◌else◌, replicate, bit_or, nat_lt, List, filter, map, []}
 use Rattle.depth_cert.specs.Keys.{start_kind, call_kind, irq_kind, sys_kind, aln_kind}
 use Rattle.elf_image.specs.Images.{ImageData}
 use Rattle.tcd_plan.specs.PlanData.{PlanData}
 use Rattle.value_domain.specs.declared.values.Val.{Val}
 use Rattle.value_domain.specs.declared.states.State.{State}
-use Rattle.value_domain.specs.Values.{any_val}
-use Rattle.vd_transfer.specs.Registers.{reg_of, set_reg, word_val}
+use Rattle.value_domain.specs.Values.{any_val, word_val}
+use Rattle.vd_transfer.specs.Registers.{reg_of, set_reg}
 use Rattle.depth_cert.specs.declared.keys.Key.{Key}
 
 -- ---- keys: kind 0 is the start, 1 a call, 2 an interrupt, 3 a system call, 4 a misaligned access
@@ -77,3 +77,11 @@ handler_key kind entry prio = record { kind = kind; entry = entry; prio = prio; 
 -- the lower bound of CCPN.
 abbrev pub irqs_of : PlanData → State → List ℕ
 irqs_of plan s = if s.ie then filter (λ p. nat_lt s.ccpn p) plan.irqs else []
+
+-- the stack pointer of a handler, from A10 of the frame that it interrupts
+abbrev pub stack_with : PlanData → Key → Val → Val
+stack_with plan key sp = if key.is then sp else word_val plan.isp
+
+-- the entries of the handlers of interrupts
+abbrev pub vectors_in : PlanData → List ℕ → List ℕ
+vectors_in plan irqs = map (λ p. (irq_key plan p).entry) irqs

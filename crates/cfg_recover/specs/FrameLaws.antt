@@ -1,6 +1,6 @@
 -- What edges, frames and the promises about them say, in the machine's own words: the statements of
 -- the laws that guard these definitions.
-use Rattle.std.specs.Prelude.{◌≡◌, ◌%◌, ◌<◌, ◌≤◌, ℕ, Bool, true, false, not, ◌&&◌, ◌==◌, List, [], ◌∷◌, ◌++◌, IsSome, All, Contains, Some, Ok}
+use Rattle.std.specs.Prelude.{◌≡◌, ◌%◌, ◌<◌, ◌≤◌, ℕ, Bool, true, false, not, ◌&&◌, ◌==◌, List, ◌∷◌, ◌++◌, IsSome, All, Contains, Some, Ok, []}
 use Rattle.elf_image.specs.Images.{ImageData}
 use Rattle.tcd_plan.specs.PlanData.{PlanData}
 use Rattle.tc_isa.specs.declared.shapes.Arg.{Arg}
@@ -11,7 +11,7 @@ use Rattle.tc_machine.specs.declared.events.Event.{Event}
 use Rattle.tc_machine.specs.declared.state.Machine.{Machine}
 use Rattle.tc_machine.specs.Machine.{reg, is_of, moved}
 use Rattle.tc_machine.specs.Fetching.{fetched}
-use Rattle.tc_machine.specs.Instructions.{access_address}
+use Rattle.tc_machine.specs.Instructions.{access_address, traps}
 use Rattle.tc_machine.specs.Stepping.{is_taken, step, run}
 use Rattle.tc_machine.specs.Safe.{Starts, Fits, AllFit}
 use Rattle.value_domain.specs.declared.states.State.{State}
@@ -21,12 +21,11 @@ use Rattle.depth_cert.specs.declared.points.Point.{Point}
 use Rattle.depth_cert.specs.Nodes.{NodeData}
 use Rattle.depth_cert.specs.Certs.{CertData, find_node}
 use Rattle.cfg_recover.specs.Code.{IsCode}
-use Rattle.cfg_recover.specs.Duties.{Owed, jump, enter, duties_of}
-use Rattle.cfg_recover.specs.Accepting.{limits_in}
-use Rattle.cfg_recover.specs.OwedMoves.{traps}
-use Rattle.cfg_recover.specs.Frames.{Standing, frames, FramesHeld}
-use Rattle.cfg_recover.specs.OwedEdges.{EdgesOwed}
-use Rattle.cfg_recover.specs.Edges.{to, call, irq, sys, aln, ret, rfe, way_of_step, edge_of_step}
+use Rattle.cfg_recover.specs.Duties.{Owed, jump, duties_of}
+use Rattle.cfg_recover.specs.RulesHoldOrFail.{limits_in}
+use Rattle.cfg_recover.specs.Frames.{Standing, frames, entered, going_on, HoldFrames}
+use Rattle.cfg_recover.specs.EdgesAreOwed.{EdgesOwed, Enters}
+use Rattle.cfg_recover.specs.StepEdges.{to, call, irq, sys, aln, ret, rfe, way_of_step, edge_of_step}
 
 -- ---- steps
 -- the machine takes no interrupt, and the instruction at its pc has this shape and n bytes
@@ -67,14 +66,6 @@ abbrev pub EdgesAre : Type 0
 EdgesAre = (m : Machine) (e : Event) → EdgeIs m e
 
 -- ---- frames
--- the frame that is entered at an address: kind 1 by a call, 2 by an interrupt, 3 by a system call,
--- 4 by a misaligned access
-abbrev pub entered : ℕ → ℕ → ℕ → Bool → Standing
-entered kind at prio is = record { key = record { kind = kind; entry = at; prio = prio; is = is }; at = at }
-
--- a frame that goes on at an address
-abbrev pub going_on : Standing → ℕ → Standing
-going_on f at = record { key = f.key; at = at }
 
 -- The frames after a step, from the newest one and the older ones. A call and a system call return
 -- to the next instruction, an interrupt and a misaligned access to the one at pc. Handlers run on
@@ -130,6 +121,10 @@ pub record FramesSay (plan : PlanData) (cert : CertData) (m : Machine) (all : Li
   pub priority : (point.state).ccpn ≤ m.ccpn
   pub callers : All (λ g. IsSome (find_node g.key cert.nodes)) older
 
+-- the frames are held in every run from every start state
+abbrev pub FramesHeld : ImageData → PlanData → CertData → Type 0
+FramesHeld image plan cert = (m : Machine) (es : List Event) → Starts image plan m → AllFit plan m es → HoldFrames plan cert (run m es) (frames image plan m es)
+
 -- at each boundary of every run from every start state
 abbrev pub HeldFramesSay : Type 0
 HeldFramesSay =
@@ -138,10 +133,6 @@ HeldFramesSay =
     → FramesSay plan cert (run m es) (frames image plan m es)
 
 -- ---- what edges that are owed say
--- with some state, this rule asks for the entry of a key
-abbrev pub Enters : List Owed → ℕ → ℕ → ℕ → ℕ → Bool → Type 0
-Enters ds rule kind entry prio is =
-    (t : State) × Contains ds (record { rule = rule; duty = enter (record { kind = kind; entry = entry; prio = prio; is = is }) t })
 
 -- there is an older frame, and it goes on at this address
 pub record GoesBack (older : List Standing) (q : ℕ) : Type 0 where

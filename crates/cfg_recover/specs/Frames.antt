@@ -1,21 +1,18 @@
 -- The frames of a run, and what an accepted certificate says about them.
-use Rattle.std.specs.Prelude.{◌≡◌, ℕ, List, ◌∷◌, IsSome, IsSomeAnd, All, Result, Ok, Err, []}
+use Rattle.std.specs.Prelude.{◌≡◌, ℕ, List, ◌∷◌, IsSome, IsSomeAnd, All, Bool, []}
 use Rattle.elf_image.specs.Images.{ImageData}
 use Rattle.tcd_plan.specs.PlanData.{PlanData}
-use Rattle.tc_isa.specs.declared.shapes.Shape.{Shape}
-use Rattle.tc_machine.specs.declared.events.Cause.{Cause}
 use Rattle.tc_machine.specs.declared.events.Event.{Event}
 use Rattle.tc_machine.specs.declared.state.Machine.{Machine}
 use Rattle.tc_machine.specs.Machine.{is_of, moved}
-use Rattle.tc_machine.specs.Fetching.{fetched}
-use Rattle.tc_machine.specs.Stepping.{step, run}
-use Rattle.tc_machine.specs.Safe.{Starts, AllFit}
+use Rattle.tc_machine.specs.Fetching.{fetched, size_in}
+use Rattle.tc_machine.specs.Stepping.{step}
 use Rattle.depth_cert.specs.declared.keys.Key.{Key}
 use Rattle.depth_cert.specs.Points.{find_point}
 use Rattle.depth_cert.specs.Certs.{CertData, find_node}
 use Rattle.cfg_recover.specs.Entries.{start_key, call_key, handler_key}
-use Rattle.cfg_recover.specs.OwedMoves.{InState}
-use Rattle.cfg_recover.specs.Edges.{Way, aln, call, irq, ret, rfe, sys, to, way_of_step}
+use Rattle.cfg_recover.specs.MovesAreOwed.{InState}
+use Rattle.cfg_recover.specs.StepEdges.{Way, aln, call, irq, ret, rfe, sys, to, way_of_step}
 
 -- ---- frames
 -- a frame of a run: its key, and the address at which it is or goes on
@@ -50,11 +47,6 @@ frames_by p next prio (aln q) fs = frames_entered (λ k. handler_key 4 q k.prio)
 frames_by p next prio ret fs = frames_left fs
 frames_by p next prio rfe fs = frames_left fs
 
--- the size of what was fetched
-abbrev pub size_in : Result (Shape × ℕ) Cause → ℕ
-size_in (Ok found) = found.1
-size_in (Err cause) = 0
-
 -- the frames after one step of the machine
 abbrev pub frames_after : Machine → Event → List Standing → List Standing
 frames_after m e fs = frames_by m.pc (moved m.pc (size_in (fetched m))) e.irq (way_of_step m e) fs
@@ -86,6 +78,17 @@ abbrev pub HoldFrames : PlanData → CertData → Machine → List Standing → 
 HoldFrames plan cert m [] = ⊥
 HoldFrames plan cert m (f ∷ fs) = AreHeld plan cert m f fs
 
--- the frames are held in every run from every start state
-abbrev pub FramesHeld : ImageData → PlanData → CertData → Type 0
-FramesHeld image plan cert = (m : Machine) (es : List Event) → Starts image plan m → AllFit plan m es → HoldFrames plan cert (run m es) (frames image plan m es)
+-- the frame that is entered at an address: kind 1 by a call, 2 by an interrupt, 3 by a system call,
+-- 4 by a misaligned access
+abbrev pub entered : ℕ → ℕ → ℕ → Bool → Standing
+entered kind at prio is = record { key = record { kind = kind; entry = at; prio = prio; is = is }; at = at }
+
+-- a frame that goes on at an address
+abbrev pub going_on : Standing → ℕ → Standing
+going_on f at = record { key = f.key; at = at }
+
+-- the frame before the newest one goes on at an address
+abbrev pub IsReturn : ℕ → List Standing → Type 0
+IsReturn q [] = ⊥
+IsReturn q (f ∷ []) = ⊥
+IsReturn q (f ∷ g ∷ fs) = g.at ≡ q

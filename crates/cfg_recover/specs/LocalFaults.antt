@@ -9,10 +9,12 @@ use Rattle.tc_isa.specs.declared.shapes.Shape.TheVariants.{Load, Store}
 use Rattle.value_domain.specs.declared.values.Val.{Val}
 use Rattle.value_domain.specs.declared.states.State.{State}
 use Rattle.value_domain.specs.Limits.{Limits}
-use Rattle.store_ranges.specs.Accesses.{AreStoresInRange}
+use Rattle.store_ranges.specs.Accesses.{AreStoresInRange, are_aligned}
 use Rattle.depth_cert.specs.declared.keys.Key.{Key}
 use Rattle.cfg_recover.specs.Code.{IsCode}
-use Rattle.cfg_recover.specs.LocalRules.{are_aligned, StoresInRange, MayAccess, LocalRule, LocalHolds}
+use Rattle.cfg_recover.specs.LocalRules.{StoresInRange, MayAccess, LocalRule, LocalHolds}
+use Rattle.tc_isa.specs.InBounds.{IsShape}
+use Rattle.cfg_recover.specs.declared.local_rules.Located.{Located}
 
 -- The own part of this rule fails for the shape, and that of each lesser one holds; if there is no
 -- such rule, all hold.
@@ -53,3 +55,9 @@ abbrev pub MayAccessAt : PlanData → Val → Shape → Type 0
 MayAccessAt plan at (Load dst base offset size signed after) = (are_aligned at size ≡ true) ⊎ (plan.aln ≡ true)
 MayAccessAt plan at (Store src base offset size after) = (are_aligned at size ≡ true) ⊎ (plan.aln ≡ true)
 MayAccessAt plan at _ = Unit {0}
+
+-- An instruction of this shape and size is at p, and no rule's own part fails there.
+pub record StandsFaultless (b : Limits) (image : ImageData) (plan : PlanData) (key : Key) (p : ℕ) (s : State) (found : Located) : Type 0 where
+  pub faultless : IsFaultless b image plan key p s
+  pub code : IsCode image plan p found.shape found.size
+  pub shape : IsShape found.shape

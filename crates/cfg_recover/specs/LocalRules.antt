@@ -1,7 +1,6 @@
 -- The own parts of rules: what they ask of a point's instruction alone, whatever other points the
 -- certificate has.
-use Rattle.std.specs.Prelude.{◌≡◌, ◌*◌, ◌/◌, ◌%◌, ◌==◌, ◌⊎◌, ℕ, Bool, true, List, ◌∷◌, length, map, Option, Some, None, IsSome, []}
-use Rattle.std.specs.List.{list_all}
+use Rattle.std.specs.Prelude.{◌≡◌, ◌*◌, ◌/◌, ◌⊎◌, ℕ, true, List, ◌∷◌, length, map, Option, Some, None, IsSome, []}
 use Rattle.depth_cert.specs.Keys.{call_kind, irq_kind, aln_kind, sys_kind}
 use Rattle.elf_image.specs.Images.{ImageData}
 use Rattle.tcd_plan.specs.PlanData.{PlanData}
@@ -15,11 +14,10 @@ use Rattle.value_domain.specs.declared.values.Val.TheVariants.{Set, Span}
 use Rattle.value_domain.specs.declared.states.State.{State}
 use Rattle.value_domain.specs.Limits.{Limits}
 use Rattle.value_domain.specs.Sets.{distinct}
-use Rattle.value_domain.specs.Values.{members}
 use Rattle.vd_transfer.specs.Registers.{reg_of}
 use Rattle.vd_transfer.specs.EffectsOnStates.{address_of, HasRoom}
 use Rattle.vd_transfer.specs.Holding.{WritesNoFixedRegister}
-use Rattle.store_ranges.specs.Accesses.{AreStoresInRange}
+use Rattle.store_ranges.specs.Accesses.{AreStoresInRange, are_aligned}
 use Rattle.depth_cert.specs.declared.keys.Key.{Key}
 use Rattle.cfg_recover.specs.Code.{IsCode, HasCode}
 
@@ -42,11 +40,6 @@ abbrev pub direct_target : ℕ → Target → Option ℕ
 direct_target p (target.Rel by) = Some (moved p by)
 direct_target p (target.Abs x) = Some x
 direct_target p (target.Reg r) = None
-
--- ---- accesses
--- each address is a multiple of the size
-abbrev pub are_aligned : Val → ℕ → Bool
-are_aligned v size = list_all (λ x. x % size == 0) (members v)
 
 -- ---- the rules' own parts, by shape; nothing is asked of other shapes
 -- rule 5: the targets of a jump or a call are a known list of addresses

@@ -1,8 +1,7 @@
 // How the entry of a frame changes the state of the point that enters it.
 ghost use Rattle.std.specs.Prelude.{◌≡◌, false, true};
-ghost use Rattle.value_domain.specs.Values.{IsValue};
+ghost use Rattle.value_domain.specs.Values.{IsValue, word_val};
 ghost use Rattle.value_domain.specs.State.{AreValues};
-ghost use Rattle.vd_transfer.specs.Registers.{word_val};
 ghost use Rattle.vd_transfer.specs.Changes.{state_after};
 ghost use Rattle.cfg_recover.specs.Changes as changes;
 ghost use Rattle.cfg_recover.specs.Entries as entries;

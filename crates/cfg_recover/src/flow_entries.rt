@@ -3,17 +3,16 @@ ghost use Rattle.std.specs.Prelude.{◌≡◌, Some};
 ghost use Rattle.tc_isa.specs.Meanings.{shape_of};
 ghost use Rattle.value_domain.specs.Values.{IsValue};
 ghost use Rattle.value_domain.specs.State.{AreValues};
-ghost use Rattle.store_ranges.specs.Accesses.{IsSize};
-ghost use Rattle.cfg_recover.specs.LocalRules.{are_aligned};
+ghost use Rattle.store_ranges.specs.Accesses.{IsSize, are_aligned};
 ghost use Rattle.cfg_recover.specs.Duties.{entries_of, misaligned_at, misaligned_of, leavings_of};
-ghost use Rattle.cfg_recover.specs.FlowValues.{EntersWithValues};
-ghost use Rattle.cfg_recover.specs.Flows.{told_entry, rule_of_entry, told_leaving, leave_of};
+ghost use Rattle.cfg_recover.specs.FlowStates.{EntersWithValues};
+ghost use Rattle.cfg_recover.specs.FlowDuties.{told_entry, rule_of_entry, told_leaving, leave_of};
 
-use crate::built_states::{address, changed_state};
+use crate::decoded_inst::InstAt;
 use crate::entry_changes::{call_change, misaligned_change, system_change};
 use crate::flow_targets::{one, targets};
-use crate::inst_at::InstAt;
 use crate::keys::{ALN_VECTOR, SYS_VECTOR};
+use crate::states_after::{address, changed_state};
 use crate::{Enter, Leave};
 use depth_cert::{ALN, CALL, Key, SYS};
 use store_ranges::aligned;
@@ -101,7 +100,7 @@ pub fn is_aligned(b: &Bounds, at: &Val, size: u8) -> bool
 }
 
 /// How the instruction leaves its frame, if it does.
-#[tactic(auto, unfolding(crate::specs::Flows::leave_of))]
+#[tactic(auto, unfolding(crate::specs::FlowDuties::leave_of))]
 pub(crate) fn leaving(key: &Key, s: &State, inst: &Inst) -> Leave
     ensures told { told_leaving key.now s.now result
         ≡ leavings_of key.now s.now (shape_of inst.now) }

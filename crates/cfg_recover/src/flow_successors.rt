@@ -1,6 +1,6 @@
 // The successors of a point in its frame.
 ghost use Rattle.std.specs.Prelude.{◌≡◌, All, Some};
-ghost use Rattle.tc_isa.specs.Bounded.{IsShape};
+ghost use Rattle.tc_isa.specs.InBounds.{IsShape};
 ghost use Rattle.tc_isa.specs.Meanings.{shape_of};
 ghost use Rattle.value_domain.specs.declared.states.State.{State};
 ghost use Rattle.value_domain.specs.Values.{IsValue};
@@ -9,13 +9,13 @@ ghost use Rattle.vd_transfer.specs.Changes.{state_after};
 ghost use Rattle.vd_transfer.specs.EffectsOnStates.{HasRoom, address_of, transfer_of};
 ghost use Rattle.vd_transfer.specs.Branches.{refine_of};
 ghost use Rattle.cfg_recover.specs.Duties.{jump_on, loaded_at, next_of, successors_of};
-ghost use Rattle.cfg_recover.specs.FlowValues.{JumpsWithValues};
-ghost use Rattle.cfg_recover.specs.Flows.{told_jump, told_jumps};
+ghost use Rattle.cfg_recover.specs.FlowStates.{JumpsWithValues};
+ghost use Rattle.cfg_recover.specs.FlowDuties.{told_jump, told_jumps};
 
 use crate::Jump;
-use crate::built_states::{changed_state, refine};
+use crate::decoded_inst::InstAt;
 use crate::flow_targets::{one, targets};
-use crate::inst_at::InstAt;
+use crate::states_after::{changed_state, refine};
 use arrayvec::ArrayVec;
 use elf_image::Image;
 use store_ranges::{LoadKind, write_load};

@@ -1,7 +1,7 @@
 // The targets of jumps and calls.
 ghost use Rattle.std.specs.Prelude.{◌≡◌, ◌<◌, ◌≤◌, ◌-◌, ◌*◌, ◌/◌, ◌↔◌, [], ◌∷◌, ℕ, IsTrue, Some, length, map, slice_get, unwrap_or, IfSome};
 ghost use Rattle.tcd_plan.specs.PlanData.{PlanData};
-ghost use Rattle.tc_isa.specs.Bounded.{IsTarget};
+ghost use Rattle.tc_isa.specs.InBounds.{IsTarget};
 ghost use Rattle.value_domain.specs.declared.states.State.{State};
 ghost use Rattle.value_domain.specs.Sets.{Among, AreWords, Rising, distinct, sorted_insert};
 ghost use Rattle.vd_transfer.specs.Registers.{reg_of};

@@ -1,10 +1,9 @@
 // The keys of frames.
 ghost use Rattle.std.specs.Prelude.{◌≡◌};
 ghost use Rattle.cfg_recover.specs.Entries as entries;
-ghost use Rattle.cfg_recover.specs.Flows as flows;
+ghost use Rattle.cfg_recover.specs.FlowDuties as flows;
 
-use depth_cert::{ALN, CALL, IRQ, Key, START, SYS};
-use elf_image::Image;
+use depth_cert::{ALN, CALL, IRQ, Key, SYS};
 use tcd_plan::Plan;
 
 /// The place of the handler of system calls, class 6, in the vector table of traps.
@@ -12,18 +11,6 @@ pub(crate) const SYS_VECTOR: u32 = 6 * 32;
 
 /// The place of the handler of misaligned accesses, class 2, in the vector table of traps.
 pub(crate) const ALN_VECTOR: u32 = 2 * 32;
-
-/// The key of the frame in which a run starts.
-pub fn start_key(image: &Image, plan: &Plan) -> Key
-    ensures { result ≡ entries.start_key image.now plan.now }
-{
-    Key {
-        kind: START,
-        entry: image.entry,
-        prio: 0,
-        is: plan.start_is,
-    }
-}
 
 /// The key of the frame that a frame enters at `entry` by a call (`kind` is CALL), a system call
 /// (SYS) or a misaligned access (ALN). The priority stays. A called function runs on the caller's

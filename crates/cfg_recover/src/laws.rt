@@ -1,7 +1,8 @@
 // The laws of points, edges, frames, faults and refusals.
-ghost use Rattle.cfg_recover.specs.FaultLaws.{FirstFaultsSay, NeedSays};
+ghost use Rattle.cfg_recover.specs.FirstFaultLaws.{FirstFaultsSay, NeedSays};
 ghost use Rattle.cfg_recover.specs.FrameLaws.{EdgesAre, FramesAre, HeldFramesSay, OwedEdgesSay};
-ghost use Rattle.cfg_recover.specs.OwedMoves.{CallsOwed, InterruptsOwed, MovesInFrame, StoresHeld, SystemCallsOwed, TrapsOwed};
+ghost use Rattle.cfg_recover.specs.MovesAreOwed.{InterruptsOwed, MovesInFrame, StoresHeld, TrapsOwed};
+ghost use Rattle.cfg_recover.specs.EdgesAreOwed.{CallsOwed, SystemCallsOwed};
 ghost use Rattle.cfg_recover.specs.RefusalLaws.{RefusalsSay};
 
 /// The laws of a machine at a point whose instruction breaks no rule by itself and whose state

@@ -1,8 +1,8 @@
 //! The rules of certificates: what a point owes, and when a certificate is accepted.
 #![tactic(auto)]
 
-mod built_states;
-mod code;
+mod code_cache;
+mod decoded_inst;
 mod entry_changes;
 mod flow_after;
 mod flow_entries;
@@ -11,17 +11,15 @@ mod flow_point;
 mod flow_successors;
 mod flow_targets;
 mod flows;
-mod inst_at;
 mod keys;
-mod known_codes;
 mod laws;
-mod local;
 mod local_rules;
 mod operation_cache;
+mod rom_code;
 mod start;
+mod states_after;
 
-pub use built_states::{address, changed_state, refine, transfer};
-pub use code::code_at;
+pub use code_cache::KnownCodes;
 pub use entry_changes::{call_change, handler_change, misaligned_change, system_change};
 pub use flow_after::{after, covers_after};
 pub use flow_entries::is_aligned;
@@ -30,9 +28,10 @@ pub use flow_point::flow;
 pub use flow_successors::step_change;
 pub use flow_targets::{direct_target, targets};
 pub use flows::{Enter, Flow, Jump, Leave};
-pub use keys::{aln_key, entered_key, irq_key, start_key, sys_key};
-pub use known_codes::KnownCodes;
+pub use keys::{aln_key, entered_key, irq_key, sys_key};
 pub use laws::{fault_laws, frame_laws, move_laws, refusal_laws};
-pub use local::{Located, check_located, local_check, unless};
+pub use local_rules::{Located, check_located, local_check, unless};
 pub use operation_cache::OperationCache;
-pub use start::start_state;
+pub use rom_code::code_at;
+pub use start::{start_key, start_state};
+pub use states_after::{address, changed_state, refine, transfer};

@@ -4,7 +4,7 @@ ghost use Rattle.value_domain.specs.declared.values.Val.{Val};
 ghost use Rattle.value_domain.specs.declared.values.Val.TheVariants.{Set};
 ghost use Rattle.value_domain.specs.Limits.{Limits};
 ghost use Rattle.value_domain.specs.State.{AreValues};
-ghost use Rattle.tc_isa.specs.Bounded.{IsShape};
+ghost use Rattle.tc_isa.specs.InBounds.{IsShape};
 ghost use Rattle.vd_transfer.specs.Changes.{state_after};
 ghost use Rattle.vd_transfer.specs.EffectsOnStates.{transfer_of};
 ghost use Rattle.cfg_recover.specs.SetOperations.{IsOperand, IsSetOperation, IsSameOperation, HoldsResult, HoldsResults};

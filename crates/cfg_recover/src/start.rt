@@ -4,6 +4,8 @@ ghost use Rattle.value_domain.specs.Values.{any_val};
 ghost use Rattle.cfg_recover.specs.Entries as entries;
 
 use arrayvec::ArrayVec;
+use depth_cert::{Key, START};
+use elf_image::Image;
 use tcd_plan::Plan;
 use value_domain::{A10_SLOT, State, Val};
 
@@ -27,4 +29,16 @@ pub(crate) fn any_regs() -> [Val; 27]
     ensures { result ≡ replicate 27 any_val }
 {
     std::array::from_fn(|_| Val::any())
+}
+
+/// The key of the frame in which a run starts.
+pub fn start_key(image: &Image, plan: &Plan) -> Key
+    ensures { result ≡ entries.start_key image.now plan.now }
+{
+    Key {
+        kind: START,
+        entry: image.entry,
+        prio: 0,
+        is: plan.start_is,
+    }
 }

@@ -11,14 +11,15 @@ use Rattle.tcd_base.specs.Bytes.{bytes_of_half, bytes_of_word}
 use Rattle.tcd_base.specs.Place.{Place, place_between}
 use Rattle.tcd_base.specs.FieldReaders.{u8_at, u16_at, u32_at, many_at}
 use Rattle.value_domain.specs.declared.states.State.{State}
-use Rattle.value_domain.specs.Versions.{most_locals_of}
+use Rattle.value_domain.specs.VersionLimits.{most_locals_of}
 use Rattle.depth_cert.specs.declared.keys.Key.{Key}
 use Rattle.depth_cert.specs.declared.points.Exit.{Exit}
 use Rattle.depth_cert.specs.declared.points.Point.{Point}
 use Rattle.depth_cert.specs.Keys.{byte_of, key_number, number_of_key, IsKey}
-use Rattle.depth_cert.specs.Points.{IsState, IsPoint, IsExit, ArePoints, addresses}
-use Rattle.depth_cert.specs.Nodes.{NodeData, IsNode}
-use Rattle.depth_cert.specs.Certs.{CertData, IsCert, key_numbers, count_points}
+use Rattle.depth_cert.specs.Points.{IsState, IsPoint, ArePoints, addresses}
+use Rattle.depth_cert.specs.Exits.{IsExit}
+use Rattle.depth_cert.specs.Nodes.{NodeData, IsNode, count_points}
+use Rattle.depth_cert.specs.Certs.{CertData, IsCert, key_numbers}
 use Rattle.depth_cert.specs.Grammar.{checked, is_above, flag_at, values_at, locals_at, state_at, address_after, point_after, key_after, need_at, has_exit_at, exit_at, exits_at, point_count_at, points_at, node_after, magic_at, version_at, node_count_at, cert_at, certificate_of}
 use Rattle.depth_cert.specs.Spelling.{bytes_of_value, bytes_of_state, bytes_of_point, bytes_of_key, bytes_of_exit, bytes_of_node, bytes_of}
 use Rattle.depth_cert.proofs.WrittenLaws.{IsRead, done, seq, test, byte, half, word, many_read, one_of, above_map, flag, values_read}

@@ -8,7 +8,7 @@ use Rattle.tcd_base.specs.Place.{Place, place_between}
 use Rattle.tcd_base.specs.FieldReaders.{u8_at, u32_at, many_at}
 use Rattle.tcd_base.proofs.FieldReads.{bind_ok}
 use Rattle.value_domain.specs.declared.states.State.{State}
-use Rattle.value_domain.specs.Versions.{most_locals_of}
+use Rattle.value_domain.specs.VersionLimits.{most_locals_of}
 use Rattle.depth_cert.specs.declared.keys.Key.{Key}
 use Rattle.depth_cert.specs.declared.points.Point.{Point}
 use Rattle.depth_cert.specs.Keys.{byte_of, key_number, number_of_key, IsKey}

@@ -8,16 +8,17 @@ use Rattle.std.specs.List.Sorted.{IsStrictlyIncreasing}
 use Rattle.tcd_base.specs.declared.errors.FormErr.{FormErr}
 use Rattle.tcd_base.specs.Bytes.{bytes_of_word}
 use Rattle.tcd_base.specs.Place.{Place, place_between}
-use Rattle.tcd_base.specs.FieldReaders.{fault_at, u8_at, u32_at, many_at}
+use Rattle.tcd_base.specs.FieldReaders.{u8_at, u32_at, many_at}
+use Rattle.tcd_base.specs.Refusing.{fault_at}
 use Rattle.tcd_base.proofs.FieldReads.{bind_ok}
 use Rattle.value_domain.specs.declared.values.Val.{Val}
 use Rattle.value_domain.specs.declared.values.Val.TheVariants.{Set, Span}
-use Rattle.value_domain.specs.Values.{any_val, count_in}
-use Rattle.value_domain.specs.Versions.{most_words_of, most_locals_of}
+use Rattle.value_domain.specs.Values.{any_val, count_in, is_any}
+use Rattle.value_domain.specs.VersionLimits.{most_words_of, most_locals_of}
 use Rattle.value_domain.proofs.WordLaws.{rising_from, among_place}
 use Rattle.depth_cert.specs.Keys.{byte_of}
 use Rattle.depth_cert.specs.Points.{IsWellOf}
-use Rattle.depth_cert.specs.Grammar.{checked, flag_at, word_after, set_at, span_at, value_at, values_at, is_any, is_span, is_above}
+use Rattle.depth_cert.specs.Grammar.{checked, flag_at, word_after, set_at, span_at, value_at, values_at, is_span, is_above}
 use Rattle.depth_cert.specs.Spelling.{bytes_of_value}
 use Rattle.depth_cert.proofs.ManyLaws.{rising_push}
 use Rattle.tcd_base.proofs.PassedLaws.{AreBytes, Passed, passed_bytes, passed_both, ok_pair, passed_test, byte_passed, word_passed, many_passed}

@@ -12,10 +12,11 @@ use Rattle.tcd_base.specs.Bytes.{bytes_of_word}
 use Rattle.depth_cert.specs.declared.points.Exit.{Exit}
 use Rattle.depth_cert.specs.declared.points.Point.{Point}
 use Rattle.depth_cert.specs.Keys.{byte_of}
-use Rattle.depth_cert.specs.Points.{IsWellOf, IsState, IsPoint, IsExit}
-use Rattle.depth_cert.specs.Nodes.{NodeData, IsNode}
-use Rattle.depth_cert.specs.Certs.{CertData, IsCert, count_points}
-use Rattle.depth_cert.specs.Grammar.{is_any}
+use Rattle.depth_cert.specs.Points.{IsWellOf, IsState, IsPoint}
+use Rattle.depth_cert.specs.Exits.{IsExit}
+use Rattle.depth_cert.specs.Nodes.{NodeData, IsNode, count_points}
+use Rattle.depth_cert.specs.Certs.{CertData, IsCert}
+use Rattle.value_domain.specs.Values.{is_any}
 use Rattle.depth_cert.specs.Spelling.{bytes_of_value, bytes_of_state, bytes_of_point, bytes_of_key, bytes_of_exit, bytes_of_node, bytes_of}
 use Rattle.depth_cert.proofs.GrammarLaws.{width_le, most_le}
 

@@ -1,9 +1,8 @@
 -- A certificate that was written is read back.
 use Rattle.std.proofs.Common.{◌≡◌, ℕ, zero, suc, ◌+◌, ◌-◌, ◌<◌, ◌≤◌, ◌^◌, inl, List, [], ◌∷◌, ◌++◌, length, get_or, map, Bool, true, false, cond, Result, Ok, refl, sym, ap, ◌∙◌, subst, arith, append_assoc, length-append, ltb, leb, eqb, ◌&&◌}
 use Rattle.std.proofs.lemmas.Bool.{lt-ltb, le-leb, ne_eqb, lt-leb, and_parts, eqb-true}
-use Rattle.std.proofs.lemmas.List.{append-nil, map-append}
+use Rattle.std.proofs.lemmas.List.{append-nil, map-append, get_or_append_left, get_or_default}
 use Rattle.std.proofs.Math.Seq.{get_or-append_seam}
-use Rattle.std.proofs.lemmas.List.{get_or_append_left, get_or_default}
 use Rattle.value_domain.proofs.CoverLaws.{step_cases}
 use Rattle.value_domain.proofs.Loops.{among_get}
 use Rattle.std.specs.List.{All, flat_map}
@@ -16,11 +15,11 @@ use Rattle.tcd_base.proofs.FieldReads.{u8_at-between, u16_at-between, u32_at-bet
 use Rattle.value_domain.specs.declared.values.Val.{Val}
 use Rattle.value_domain.specs.declared.values.Val.TheVariants.{Set, Span}
 use Rattle.value_domain.specs.Sets.{AreWords, Rising}
-use Rattle.value_domain.specs.Values.{any_val, count_in}
-use Rattle.value_domain.specs.Versions.{most_words_of}
+use Rattle.value_domain.specs.Values.{any_val, count_in, is_any}
+use Rattle.value_domain.specs.VersionLimits.{most_words_of}
 use Rattle.depth_cert.specs.Keys.{byte_of}
 use Rattle.depth_cert.specs.Points.{IsWellOf}
-use Rattle.depth_cert.specs.Grammar.{checked, is_above, is_any, is_span, flag_at, word_after, set_at, span_at, value_at, values_at}
+use Rattle.depth_cert.specs.Grammar.{checked, is_above, is_span, flag_at, word_after, set_at, span_at, value_at, values_at}
 use Rattle.depth_cert.specs.Spelling.{bytes_of_value}
 use Rattle.depth_cert.proofs.ManyLaws.{is_above-last}
 use Rattle.depth_cert.proofs.GrammarLaws.{width_le}

@@ -1,10 +1,10 @@
 -- Certificates as plain data, and what holds of them.
-use Rattle.std.specs.Prelude.{◌≡◌, ◌≤◌, ◌⊎◌, ◌^◌, ◌==◌, ℕ, List, length, map, sum_by, find, Option}
+use Rattle.std.specs.Prelude.{◌≡◌, ◌≤◌, ◌⊎◌, ◌^◌, ◌==◌, ℕ, List, length, map, find, Option}
 use Rattle.std.specs.List.{All}
 use Rattle.std.specs.List.Sorted.{IsStrictlyIncreasing}
 use Rattle.depth_cert.specs.declared.keys.Key.{Key}
 use Rattle.depth_cert.specs.Keys.{number_of_key}
-use Rattle.depth_cert.specs.Nodes.{NodeData, IsNode}
+use Rattle.depth_cert.specs.Nodes.{NodeData, IsNode, count_points}
 
 -- a certificate: its version, and its nodes in their order
 pub record CertData : Type 0 where
@@ -14,10 +14,6 @@ pub record CertData : Type 0 where
 -- the keys of nodes, as numbers
 abbrev pub key_numbers : List NodeData → List ℕ
 key_numbers ns = map (λ n. number_of_key n.key) ns
-
--- the number of points of the nodes together
-abbrev pub count_points : List NodeData → ℕ
-count_points ns = sum_by (λ n. length n.points) ns
 
 -- the order and the limits of a certificate: nodes by ascending key, at most 2,048 of them with at
 -- most 65,536 points

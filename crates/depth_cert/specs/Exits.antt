@@ -1,5 +1,5 @@
 -- Exits of frames: the exit of a state, the state after a return by it, and their order.
-use Rattle.std.specs.Prelude.{◌+◌, ◌-◌, ◌==◌, ℕ, false, nat_lt, if◌then◌else◌, List, ◌∷◌, ◌++◌, take, drop, slice_index_or, ◌≤◌, IsTrue, ◌||◌, min, []}
+use Rattle.std.specs.Prelude.{◌+◌, ◌-◌, ◌==◌, ℕ, false, nat_lt, if◌then◌else◌, List, ◌∷◌, ◌++◌, take, drop, slice_index_or, ◌≤◌, IsTrue, ◌||◌, min, ◌≡◌, ◌<◌, ◌^◌, length, []}
 use Rattle.depth_cert.specs.Keys.{call_kind}
 use Rattle.value_domain.specs.declared.values.Val.{Val}
 use Rattle.value_domain.specs.declared.states.State.{State}
@@ -7,6 +7,8 @@ use Rattle.value_domain.specs.Values.{any_val}
 use Rattle.value_domain.specs.State.{is_lower_slot, AreBelow, joined_regs}
 use Rattle.depth_cert.specs.declared.points.Exit.{Exit}
 use Rattle.value_domain.specs.Limits.{Limits}
+use Rattle.std.specs.List.{All}
+use Rattle.depth_cert.specs.Points.{IsWellOf}
 
 -- ---- exits
 -- the values of the lower registers D0..D7 and A2..A7, which have the places 0 to 7 and 16 to 21 in
@@ -43,3 +45,13 @@ pub record ExitCovers (upper x : Exit) : Type 0 where
 -- the least exit that covers both
 abbrev pub joined_exit : Limits → Exit → Exit → Exit
 joined_exit b x y = record { ie = x.ie || y.ie; ccpn = min x.ccpn y.ccpn; lower = joined_regs b x.lower y.lower }
+
+-- an exit that knows nothing
+abbrev pub no_exit : Exit
+no_exit = record { ie = false; ccpn = 0; lower = [] }
+
+-- an exit that a certificate of the version can have: values of the 14 lower registers, and a CCPN
+pub record IsExit (version : ℕ) (e : Exit) : Type 0 where
+  pub lower : length e.lower ≡ 14
+  pub values : All (IsWellOf version) e.lower
+  pub ccpn : e.ccpn < 2 ^ 8

@@ -1,21 +1,22 @@
 -- The grammar of certificates: fields read from left to right, and the first fault.
 -- Its kinds are SHORT, BAD_MAGIC, BAD_ORDER, BAD_VALUE, ABOVE_LIMIT and TRAILING of tcd_base.
-use Rattle.std.specs.Prelude.{◌+◌, ◌-◌, ◌^◌, ◌==◌, ◌&&◌, ◌||◌, not, nat_lt, nat_le, if◌then◌else◌, ℕ, Bool, true, List, [], ◌∷◌, length, Option, Some, None, Result, Ok}
+use Rattle.std.specs.Prelude.{◌+◌, ◌-◌, ◌^◌, ◌==◌, ◌&&◌, ◌||◌, not, nat_lt, nat_le, if◌then◌else◌, ℕ, Bool, true, List, ◌∷◌, length, Option, Some, None, Result, Ok, []}
 use Rattle.depth_cert.specs.Keys.{call_kind, sys_kind, key_number}
 use Rattle.tcd_base.specs.declared.errors.FormErr.{FormErr}
 use Rattle.tcd_base.specs.Place.{Place}
-use Rattle.tcd_base.specs.FieldReaders.{◌>>=◌, fault_at, u8_at, u16_at, u32_at, many_at}
+use Rattle.tcd_base.specs.FieldReaders.{◌>>=◌, u8_at, u16_at, u32_at, many_at}
+use Rattle.tcd_base.specs.Refusing.{fault_at}
 use Rattle.value_domain.specs.declared.values.Val.{Val}
 use Rattle.value_domain.specs.declared.values.Val.TheVariants.{Set, Span}
 use Rattle.value_domain.specs.declared.states.State.{State}
-use Rattle.value_domain.specs.Values.{any_val, count_in}
-use Rattle.value_domain.specs.Versions.{most_words_of, most_locals_of}
+use Rattle.value_domain.specs.Values.{any_val, count_in, is_any}
+use Rattle.value_domain.specs.VersionLimits.{most_words_of, most_locals_of}
 use Rattle.depth_cert.specs.declared.keys.Key.{Key}
 use Rattle.depth_cert.specs.declared.points.Exit.{Exit}
 use Rattle.depth_cert.specs.declared.points.Point.{Point}
 use Rattle.depth_cert.specs.Points.{addresses}
-use Rattle.depth_cert.specs.Nodes.{NodeData}
-use Rattle.depth_cert.specs.Certs.{CertData, key_numbers, count_points}
+use Rattle.depth_cert.specs.Nodes.{NodeData, count_points}
+use Rattle.depth_cert.specs.Certs.{CertData, key_numbers}
 
 -- ---- fields
 -- a valid number, or a fault of this kind at the field
@@ -40,10 +41,6 @@ word_after before p = u32_at p >>= λ w. checked 4 (is_above before w.0) p w
 -- a Set of n words, each above the one before
 unfoldable pub set_at : ℕ → Place → Result (Val × Place) FormErr
 set_at n p = many_at word_after n [] p >>= λ ws. Ok (Set ws.0, ws.1)
-
--- the Span has all words
-abbrev pub is_any : ℕ → ℕ → ℕ → Bool
-is_any lo last step = lo == 0 && last == 4294967295 && step == 0
 
 -- the Span has more members than a Set can have (so lo isn't above last), but not all words, which
 -- are spelled otherwise

@@ -1,6 +1,9 @@
 -- Keys and their order.
 use Rattle.std.specs.Prelude.{◌≤◌, ◌<◌, ◌+◌, ◌*◌, ◌^◌, ◌==◌, ◌&&◌, ℕ, Bool, true, false}
 use Rattle.depth_cert.specs.declared.keys.Key.{Key}
+use Rattle.std.specs.declared.cmp.Ordering.{Ordering}
+use Rattle.depth_cert.specs.contracts.keys.KeyPartialEq.TheImpl as block
+use Rattle.depth_cert.specs.contracts.keys.KeyOrd.TheImpl as order_block
 
 -- the kind of the frame in which a run starts
 abbrev pub start_kind : ℕ
@@ -44,3 +47,11 @@ pub record IsKey (k : Key) : Type 0 where
   pub kind : k.kind ≤ aln_kind
   pub entry : k.entry < 2 ^ 32
   pub prio : k.prio < 2 ^ 8
+
+-- the comparison of keys in maps
+abbrev pub key_eq : Key → Key → Bool
+key_eq = (block.ghosts).eq
+
+-- the order of keys in sorting
+abbrev pub key_cmp : Key → Key → Ordering
+key_cmp = (order_block.ghosts).cmp

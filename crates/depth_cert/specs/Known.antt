@@ -1,10 +1,11 @@
 -- What is known at a place of a frame (the state of a point, or an exit), its order and joins.
-use Rattle.std.specs.Prelude.{Option, Some, None, option_map, ℕ}
+use Rattle.std.specs.Prelude.{Option, Some, None, option_map, ℕ, ◌≡◌}
 use Rattle.value_domain.specs.declared.states.State.{State}
 use Rattle.value_domain.specs.Limits.{Limits}
 use Rattle.value_domain.specs.State.{Covers, joined_states}
 use Rattle.depth_cert.specs.declared.points.Exit.{Exit}
 use Rattle.depth_cert.specs.Exits.{ExitCovers, joined_exit}
+use Rattle.depth_cert.specs.declared.points.Exit as exits
 
 -- what is known at a place
 pub data Known : Type 0 where
@@ -29,3 +30,19 @@ joined_known b (leaving x) (state t) = None
 abbrev pub priority_of : Known → ℕ
 priority_of (state s) = s.ccpn
 priority_of (leaving x) = x.ccpn
+
+-- u is the known state; nothing is said of an exit
+abbrev pub IsStateAt : Known → State → Type 0
+IsStateAt (state s) u = u ≡ s
+IsStateAt (leaving x) u = Unit {0}
+
+-- no exit is known
+abbrev pub IsNoExit : Known → Type 0
+IsNoExit (state s) = Unit {0}
+IsNoExit (leaving x) = ⊥
+
+-- the known exit, if any
+abbrev pub exit_at : Option Known → Option exits.Exit
+exit_at None = None
+exit_at (Some (state s)) = None
+exit_at (Some (leaving x)) = Some x

@@ -1,11 +1,12 @@
 -- Nodes as plain data, and what holds of them.
-use Rattle.std.specs.Prelude.{◌≡◌, ◌≤◌, ◌⊎◌, ℕ, List, Option, IfSome}
+use Rattle.std.specs.Prelude.{◌≡◌, ◌≤◌, ◌⊎◌, ℕ, List, Option, IfSome, Some, None, length, sum_by}
 use Rattle.std.specs.List.{All}
 use Rattle.depth_cert.specs.Keys.{call_kind, sys_kind, IsKey}
 use Rattle.depth_cert.specs.declared.keys.Key.{Key}
 use Rattle.depth_cert.specs.declared.points.Exit.{Exit}
 use Rattle.depth_cert.specs.declared.points.Point.{Point}
-use Rattle.depth_cert.specs.Points.{ArePoints, IsExit, IsPoint}
+use Rattle.depth_cert.specs.Points.{ArePoints, IsPoint}
+use Rattle.depth_cert.specs.Exits.{IsExit}
 
 -- a node, with its points as a list
 pub record NodeData : Type 0 where
@@ -21,3 +22,12 @@ pub record IsNode (version : ℕ) (n : NodeData) : Type 0 where
   pub exit : IfSome n.exit (λ e. ((n.key.kind ≡ call_kind) ⊎ (n.key.kind ≡ sys_kind)) × IsExit version e)
   pub rising : ArePoints n.points
   pub points : All (IsPoint version) n.points
+
+-- the need of a node, if there is one
+abbrev pub need_of : Option NodeData → ℕ
+need_of None = 0
+need_of (Some n) = n.need
+
+-- the number of points of the nodes together
+abbrev pub count_points : List NodeData → ℕ
+count_points ns = sum_by (λ n. length n.points) ns

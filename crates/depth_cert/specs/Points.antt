@@ -7,8 +7,7 @@ use Rattle.value_domain.specs.declared.values.Val.TheVariants.{Set, Span}
 use Rattle.value_domain.specs.declared.states.State.{State}
 use Rattle.value_domain.specs.Sets.{AreWords}
 use Rattle.value_domain.specs.Values.{count_in}
-use Rattle.value_domain.specs.Versions.{most_words_of, most_locals_of}
-use Rattle.depth_cert.specs.declared.points.Exit.{Exit}
+use Rattle.value_domain.specs.VersionLimits.{most_words_of, most_locals_of}
 use Rattle.depth_cert.specs.declared.points.Point.{Point}
 
 -- a well-formed value of the version: a Set within its width, or a Span of more members than that
@@ -28,12 +27,6 @@ pub record IsPoint (version : ℕ) (p : Point) : Type 0 where
   pub addr : p.addr < 2 ^ 32
   pub state : IsState version p.state
 
--- an exit that a certificate of the version can have: values of the 14 lower registers, and a CCPN
-pub record IsExit (version : ℕ) (e : Exit) : Type 0 where
-  pub lower : length e.lower ≡ 14
-  pub values : All (IsWellOf version) e.lower
-  pub ccpn : e.ccpn < 2 ^ 8
-
 -- the addresses of points
 abbrev pub addresses : List Point → List ℕ
 addresses ps = map (λ p. p.addr) ps
@@ -45,3 +38,7 @@ ArePoints ps = IsStrictlyIncreasing (addresses ps)
 -- the point at an address, if there is one
 abbrev pub find_point : ℕ → List Point → Option Point
 find_point addr ps = find (λ p. p.addr == addr) ps
+
+-- the point with this address and this state before its instruction
+abbrev pub point_of : ℕ → State → Point
+point_of addr s = record { addr = addr; state = s }

@@ -11,7 +11,7 @@ use Rattle.depth_cert.specs.declared.points.Point.{Point}
 use Rattle.depth_cert.specs.Keys.{byte_of}
 use Rattle.depth_cert.specs.Nodes.{NodeData}
 use Rattle.depth_cert.specs.Certs.{CertData}
-use Rattle.depth_cert.specs.Grammar.{is_any}
+use Rattle.value_domain.specs.Values.{is_any}
 
 -- a Set as its number of words and these; any word as 0; a Span as its step plus 240, and its ends
 unfoldable pub bytes_of_value : Val → List ℕ

@@ -4,9 +4,9 @@ ghost use Rattle.std.specs.Option.{option_map};
 ghost use Rattle.depth_cert.specs.declared.errors.CertErr.TheVariants.{NoMemory};
 ghost use Rattle.depth_cert.specs.Answers.{IsFaultOf};
 
-use crate::cert_fields::{MAGIC, read_parts};
+use crate::cert_reader::{MAGIC, read_parts};
+use crate::keys::number_of;
 use crate::lookup::{node_at, node_place};
-use crate::node_fields::number_of;
 use crate::writing::write_nodes;
 use crate::{CertErr, Key, Node};
 use std::alloc::Global;

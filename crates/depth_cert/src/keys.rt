@@ -1,4 +1,8 @@
 // Kinds of frames, and the keys of nodes.
+ghost use Rattle.std.specs.Prelude.{◌≡◌, ◌-◌};
+ghost use Rattle.depth_cert.specs.Keys.{number_of_key};
+
+use crate::node_reader::number;
 
 /// The kind of the frame in which a run starts.
 pub const START: u8 = 0;
@@ -26,4 +30,11 @@ pub struct Key {
     pub prio: u8,
     /// The frame runs on the interrupt stack (PSW.IS).
     pub is: bool,
+}
+
+/// Returns the number of a key. Keys are ordered by it.
+pub fn number_of(key: &Key) -> u64
+    ensures { result ≡ number_of_key key.now }
+{
+    number(key.kind, key.entry, key.prio, if key.is { 1 } else { 0 })
 }

@@ -1,12 +1,20 @@
 // Finds nodes by their keys.
-ghost use Rattle.std.specs.Prelude.{◌≡◌, nat_lt, ◌==◌, true, false, find};
+ghost use Rattle.std.specs.Prelude.{◌≡◌, nat_lt, ◌==◌, true, false, find, ◌<◌, ◌-◌};
 ghost use Rattle.std.specs.Option.{option_map};
 ghost use Rattle.std.specs.List.Sorted.{IsPartitionPoint, IsStrictlyIncreasing};
 ghost use Rattle.depth_cert.specs.Keys.{number_of_key};
 ghost use Rattle.depth_cert.specs.Certs.{key_numbers};
+ghost use Rattle.depth_cert.specs.Points.{ArePoints, find_point};
 
-use crate::Node;
-use crate::node_fields::number_of;
+use crate::keys::number_of;
+use crate::{Node, Point};
+use std::marker::Model;
+
+fn is_point_below(point: &Point, addr: u32) -> bool
+    ensures { result ≡ nat_lt point.now.addr addr }
+{
+    point.addr < addr
+}
 
 fn is_below(node: &Node, number: u64) -> bool
     ensures { result ≡ nat_lt (number_of_key node.now.key) number }
@@ -37,6 +45,27 @@ pub(crate) fn node_at(nodes: &[Node], number: u64, at: usize) -> Option<&Node>
 {
     if at < nodes.len() && is_node(&nodes[at], number) {
         return Some(&nodes[at]);
+    }
+    None
+}
+
+/// Returns the number of points whose addresses are below `addr`.
+pub(crate) fn point_place(points: &[Point], addr: u32) -> usize
+    requires { ArePoints points.now }
+    ensures { IsPartitionPoint (λ p. nat_lt p.addr addr ≡ true)
+        (λ p. nat_lt p.addr addr ≡ false) points.now result }
+{
+    points.partition_point(|p| is_point_below(p, addr))
+}
+
+pub(crate) fn point_at(points: &[Point], addr: u32, at: usize) -> Option<&Point>
+    requires rising { ArePoints points.now }
+    requires place { IsPartitionPoint (λ p. nat_lt p.addr addr ≡ true)
+        (λ p. nat_lt p.addr addr ≡ false) points.now at }
+    ensures { option_map (λ p. p.now) result ≡ find_point addr points.now }
+{
+    if at < points.len() && points[at].addr == addr {
+        return Some(&points[at]);
     }
     None
 }

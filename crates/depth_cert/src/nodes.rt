@@ -1,11 +1,15 @@
 // The type `Node`: a kind of frame with its points.
-ghost use Rattle.std.specs.Prelude.{◌≡◌, ◌<◌, nat_lt, true, false};
+ghost use Rattle.std.specs.Prelude.{◌≡◌, ◌<◌, nat_lt, true, false, ◌-◌};
 ghost use Rattle.std.specs.Option.{option_map};
-ghost use Rattle.std.specs.List.Sorted.{IsPartitionPoint};
 ghost use Rattle.depth_cert.specs.Points.{ArePoints, find_point};
+ghost use Rattle.depth_cert.specs.Grammar.{is_above};
+ghost use Rattle.depth_cert.specs.Certs.{key_numbers};
 
+use crate::keys::number_of;
+use crate::lookup::{point_at, point_place};
 use crate::{Exit, Key, Point};
 use std::marker::Model;
+use value_domain::Val;
 
 /// A kind of frame with its points.
 #[derive(Drop)]
@@ -40,29 +44,25 @@ impl Node {
     }
 }
 
-fn is_below(point: &Point, addr: u32) -> bool
-    ensures { result ≡ nat_lt point.now.addr addr }
+/// Returns true if a key's number is above that of the last node.
+pub(crate) fn is_next(before: &[Node], key: u64) -> bool
+    ensures { result ≡ is_above (key_numbers before.now) key }
 {
-    point.addr < addr
-}
-
-/// Returns the number of points whose addresses are below `addr`.
-fn point_place(points: &[Point], addr: u32) -> usize
-    requires { ArePoints points.now }
-    ensures { IsPartitionPoint (λ p. nat_lt p.addr addr ≡ true)
-        (λ p. nat_lt p.addr addr ≡ false) points.now result }
-{
-    points.partition_point(|p| is_below(p, addr))
-}
-
-fn point_at(points: &[Point], addr: u32, at: usize) -> Option<&Point>
-    requires rising { ArePoints points.now }
-    requires place { IsPartitionPoint (λ p. nat_lt p.addr addr ≡ true)
-        (λ p. nat_lt p.addr addr ≡ false) points.now at }
-    ensures { option_map (λ p. p.now) result ≡ find_point addr points.now }
-{
-    if at < points.len() && points[at].addr == addr {
-        return Some(&points[at]);
+    if before.is_empty() {
+        return true;
     }
-    None
+    let last = &before[before.len() - 1];
+    number_of(&last.key) < key
+}
+
+/// Returns an exit that knows nothing.
+pub fn no_exit() -> Exit
+    ensures ie { result.ie ≡ false }
+    ensures ccpn { result.ccpn ≡ 0 }
+{
+    Exit {
+        ie: false,
+        ccpn: 0,
+        lower: std::array::from_fn(|_| Val::any()),
+    }
 }

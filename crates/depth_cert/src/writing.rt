@@ -4,12 +4,11 @@ ghost use Rattle.std.specs.List.{All, flat_map};
 ghost use Rattle.tcd_base.specs.Bytes.{bytes_of_word};
 ghost use Rattle.depth_cert.specs.Keys.{byte_of};
 ghost use Rattle.depth_cert.specs.Spelling.{bytes_of_value, bytes_of_state, bytes_of_point, bytes_of_key, bytes_of_exit, bytes_of_node};
-ghost use Rattle.depth_cert.specs.Nodes.{IsNode};
-ghost use Rattle.depth_cert.specs.Certs.{count_points};
+ghost use Rattle.depth_cert.specs.Nodes.{IsNode, count_points};
 ghost use Rattle.value_domain.specs.Values.{IsWell};
 ghost use Rattle.value_domain.specs.declared.values.Val.TheVariants.{Set, Span};
 
-use crate::value_fields::SPAN;
+use crate::value_reader::SPAN;
 use crate::{Exit, Key, Node, Point};
 use tcd_base::{NoMemory, put_u16, put_u32};
 use value_domain::{State, Val};

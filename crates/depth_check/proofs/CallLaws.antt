@@ -14,14 +14,14 @@ use Rattle.depth_cert.specs.declared.points.Point.{Point}
 use Rattle.depth_cert.specs.Exits.{after_of}
 use Rattle.depth_cert.specs.Nodes.{NodeData}
 use Rattle.depth_cert.specs.Certs.{CertData, find_node}
-use Rattle.cfg_recover.specs.Accepting.{HasPoint}
+use Rattle.cfg_recover.specs.RulesHoldOrFail.{HasPoint}
 use Rattle.cfg_recover.specs.Entries.{call_key, call_entry}
 use Rattle.cfg_recover.specs.LocalRules.{named_by}
 use Rattle.cfg_recover.specs.Duties.{Owed, owed, enter, resume, entered_and_back}
 use Rattle.packed_cert.specs.Walks.{WalkData, RepeatsAt}
 use Rattle.depth_check.specs.declared.fast_paths.CheckedRegisters.{CheckedRegisters}
 use Rattle.depth_check.specs.CheckedRegisters.{calls_by, CallsHold, RegistersHold}
-use Rattle.depth_check.specs.DutyTests.{StandsAt, DutyHolds, DutiesHold}
+use Rattle.depth_check.specs.DutiesHold.{StandsAt, DutyHolds, DutiesHold}
 
 -- points with the same state cover the same states
 cover_alike : (node : NodeData) (a b : ℕ) (s t : State) → StandsAt node a s → StandsAt node b s → HasPoint node a t → HasPoint node b t

@@ -21,16 +21,17 @@ use Rattle.cfg_recover.specs.declared.flows.Enter.{Enter}
 use Rattle.cfg_recover.specs.declared.flows.Leave.{Leave}
 use Rattle.cfg_recover.specs.declared.flows.Leave.TheVariants.{Stays, Ret, Rfe}
 use Rattle.vd_transfer.specs.EffectsOnStates.{HasRoom, address_of}
-use Rattle.cfg_recover.specs.declared.local.Located.{Located}
-use Rattle.cfg_recover.specs.Changes.{StandsFaultless}
+use Rattle.cfg_recover.specs.declared.local_rules.Located.{Located}
+use Rattle.cfg_recover.specs.LocalFaults.{StandsFaultless}
 use Rattle.cfg_recover.specs.Entries.{irq_key, irq_entry, aln_key, aln_entry, irqs_of}
 use Rattle.depth_cert.specs.Exits.{exit_of}
-use Rattle.cfg_recover.specs.LocalRules.{are_aligned, MayAccess}
+use Rattle.cfg_recover.specs.LocalRules.{MayAccess}
+use Rattle.store_ranges.specs.Accesses.{are_aligned}
 use Rattle.cfg_recover.specs.Duties.{Owed, owed, jump, enter, resume, leave, jumps_to, successors_of, entries_of, misaligned_at, misaligned_of, interrupts_of, leavings_of, duties_of}
-use Rattle.cfg_recover.specs.Flows.{entered_key, told_back, told_irqs, told_leaving, leave_of}
-use Rattle.cfg_recover.specs.Accepting.{HasPoint}
+use Rattle.cfg_recover.specs.FlowDuties.{entered_key, told_back, told_irqs, told_leaving, leave_of}
+use Rattle.cfg_recover.specs.RulesHoldOrFail.{HasPoint}
 use Rattle.depth_check.specs.LeastBroken.{Finds, least_of, unless}
-use Rattle.depth_check.specs.DutyTests.{DutyHolds, DutiesHold, HasPoints, GoesOn, HasExit, LeavingHolds}
+use Rattle.depth_check.specs.DutiesHold.{DutyHolds, DutiesHold, HasPoints, GoesOn, HasExit, LeavingHolds}
 use Rattle.depth_check.proofs.LeastLaws.{found_by, found_both, found_same}
 
 -- a property of an appended list holds of its parts

@@ -1,17 +1,17 @@
 -- A save of the upper context begins a frame.
 use Rattle.std.proofs.Common.{◌≡◌, ℕ, suc, ◌+◌, ◌-◌, ◌^◌, ◌<◌, ◌≤◌, ◌↔◌, Bool, true, List, [], ◌∷◌, length, get_or, Some, refl, sym, ap, ◌∙◌, subst, arith}
-use Rattle.csa_chain.specs.Memory.{Memory, with_words}
+use Rattle.csa_chain.specs.MemoryBytes.{Memory, with_words}
 use Rattle.csa_chain.specs.Chain.{link_in, link_address, area_word}
-use Rattle.csa_chain.specs.Contexts.{pcxi_word_of, pcpn_of}
+use Rattle.csa_chain.specs.ContextWords.{pcxi_word_of, pcpn_of}
 use Rattle.csa_chain.proofs.MemoryLaws.{is_mapped-with_words}
 use Rattle.csa_chain.proofs.ChainLaws.{SameAreas-written, area_word-written, is_area-written}
 use Rattle.csa_chain.proofs.ContextLaws.{reg_of, upper_regs, global_regs, upper_word, link_in-pcxi_word, ul_of-pcxi_word, pie_of-pcxi_word, pcpn_of-pcxi_word, link_in-lt}
 use Rattle.elf_image.specs.Images.{ImageData}
-use Rattle.tcd_plan.specs.PlanData.{PlanData, IsPlan}
+use Rattle.tcd_plan.specs.PlanData.{PlanData, IsPlan, global_of}
 use Rattle.tc_machine.specs.declared.events.End.TheVariants.{Running}
 use Rattle.tc_machine.specs.declared.state.Machine.{Machine}
 use Rattle.tc_machine.specs.Machine.{reg, a11, is_of}
-use Rattle.tc_machine.specs.Contexts.{context_of, saved, save}
+use Rattle.tc_machine.specs.SavesAndRestores.{context_of, saved, save}
 use Rattle.tcd_plan.specs.Regions.{IsMappedBy}
 use Rattle.tc_machine.specs.Safe.{IsMachine}
 use Rattle.tc_machine.proofs.Words.{register_lt}
@@ -21,7 +21,6 @@ use Rattle.tc_machine.proofs.Areas.{HasFree, has_free, Areas-saved}
 use Rattle.value_domain.specs.declared.states.State.{State}
 use Rattle.value_domain.specs.State.{ImpliedBy}
 use Rattle.vd_transfer.specs.Holding.{Holds}
-use Rattle.vd_transfer.specs.Registers.{global_of}
 use Rattle.depth_cert.specs.declared.keys.Key.{Key}
 use Rattle.depth_cert.specs.declared.points.Point.{Point}
 use Rattle.depth_cert.specs.Points.{find_point}

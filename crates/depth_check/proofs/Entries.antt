@@ -22,7 +22,7 @@ use Rattle.depth_cert.specs.Nodes.{NodeData}
 use Rattle.depth_cert.specs.Certs.{CertData, IsCert}
 use Rattle.cfg_recover.specs.Entries.{call_key, call_entry}
 use Rattle.depth_cert.specs.Exits.{after_of}
-use Rattle.cfg_recover.specs.Accepting.{Accepts}
+use Rattle.cfg_recover.specs.RulesHoldOrFail.{Accepts}
 use Rattle.cfg_recover.proofs.EntryLaws.{holds_covered, holds_same, holds_call, holds_after_call, after_length}
 use Rattle.depth_check.proofs.Frames.{Frame, LowerSame, UpperSame, Leaves, by_return, from_system, from_handler, Resumed, Invariant, length-ImpliedBy, ImpliedBy-trans}
 use Rattle.depth_check.proofs.Registers.{set_a11}

@@ -16,7 +16,7 @@ use Rattle.depth_cert.specs.Certs.{CertData, IsCert, find_node}
 use Rattle.value_domain.specs.State.{Covers}
 use Rattle.cfg_recover.specs.LocalFaults.{IsFaultless}
 use Rattle.cfg_recover.specs.Entries.{start_key, start_state}
-use Rattle.cfg_recover.specs.Accepting.{limits_in, RuleHolds, HasPoint, HoldsAtStart, HoldsAtEntry, HoldsAtNode, Accepts, Fails, at_start, at_entry, at_point, fault_number, IsFirstFault}
+use Rattle.cfg_recover.specs.RulesHoldOrFail.{limits_in, RuleHolds, HasPoint, HoldsAtStart, HoldsAtEntry, HoldsAtNode, Accepts, Fails, at_start, at_entry, at_point, fault_number, IsFirstFault}
 use Rattle.cfg_recover.proofs.FaultLaws as faults
 use Rattle.depth_check.specs.NodeFaults.{IsNodeFault}
 use Rattle.depth_check.proofs.NodeLaws.{place_of}

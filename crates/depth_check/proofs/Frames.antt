@@ -1,21 +1,21 @@
 -- The invariant of a run of certified code: the state has a list of frames, the newest first.
 use Rattle.std.proofs.Common.{◌≡◌, ◌≢◌, ℕ, suc, ◌+◌, ◌*◌, ◌/◌, ◌^◌, ◌<◌, ◌≤◌, ◌⊎◌, Bool, true, false, List, [], ◌∷◌, ◌++◌, length, get_or, Some, refl, sym, ap, ◌∙◌, subst, arith, length-append}
 use Rattle.std.proofs.lemmas.List.{append-nil}
-use Rattle.csa_chain.specs.Memory.{Memory}
+use Rattle.csa_chain.specs.MemoryBytes.{Memory}
 use Rattle.csa_chain.specs.Chain.{link_in, is_area, area_word}
-use Rattle.csa_chain.specs.Contexts.{ul_of, pie_of, pcpn_of}
+use Rattle.csa_chain.specs.ContextWords.{ul_of, pie_of, pcpn_of}
 use Rattle.csa_chain.proofs.ChainLaws.{Links, SameAreas, SameArea, is_area_same, area_word_same}
 use Rattle.csa_chain.proofs.ContextLaws.{upper_regs, lower_regs, global_regs}
 use Rattle.elf_image.specs.Images.{ImageData}
 use Rattle.tcd_base.specs.declared.core_version.Core.{Core}
-use Rattle.tcd_plan.specs.PlanData.{PlanData}
+use Rattle.tcd_plan.specs.PlanData.{PlanData, global_of}
 use Rattle.tc_machine.specs.declared.events.End.TheVariants.{Running}
 use Rattle.tc_machine.specs.declared.state.Machine.{Machine}
 use Rattle.tc_machine.specs.Machine.{reg, a11, is_of}
 use Rattle.tc_mem.specs.PlanMemory.{HoldsRom, IsPlanMemory}
 use Rattle.tc_machine.proofs.Areas.{Areas}
 use Rattle.value_domain.specs.State.{ImpliedBy}
-use Rattle.vd_transfer.specs.Registers.{is_lower, global_of}
+use Rattle.vd_transfer.specs.Registers.{is_lower}
 use Rattle.vd_transfer.specs.Holding.{Holds}
 use Rattle.depth_cert.specs.declared.points.Exit.{Exit}
 use Rattle.depth_cert.specs.declared.points.Point.{Point}
@@ -23,7 +23,7 @@ use Rattle.depth_cert.specs.Points.{find_point}
 use Rattle.depth_cert.specs.Nodes.{NodeData}
 use Rattle.depth_cert.specs.Certs.{CertData}
 use Rattle.cfg_recover.specs.Frames.{Standing}
-use Rattle.cfg_recover.specs.OwedMoves.{InState}
+use Rattle.cfg_recover.specs.MovesAreOwed.{InState}
 use Rattle.cfg_recover.proofs.EntryLaws.{HoldsExit}
 use Rattle.cfg_recover.proofs.PointLaws.{Stands}
 

@@ -13,13 +13,13 @@ use Rattle.tc_machine.specs.Safe.{IsMachine, AreRegisters}
 use Rattle.tc_machine.proofs.Words.{register_lt, AreRegisters-set}
 use Rattle.value_domain.specs.declared.states.State.{State}
 use Rattle.value_domain.specs.declared.values.Val.{Val}
-use Rattle.value_domain.specs.Values.{IsMember, any_val}
-use Rattle.vd_transfer.specs.Registers.{slot, set_at, word_val}
+use Rattle.value_domain.specs.Values.{IsMember, any_val, word_val}
+use Rattle.vd_transfer.specs.Registers.{slot, set_at}
 use Rattle.depth_cert.specs.Nodes.{NodeData}
 use Rattle.depth_cert.specs.Certs.{CertData, IsCert}
 use Rattle.cfg_recover.specs.Entries.{irq_key, sys_key, aln_key, irq_entry, sys_entry, aln_entry, stack_of, entry_with, handler_key}
 use Rattle.depth_cert.specs.Exits.{after_of}
-use Rattle.cfg_recover.specs.Accepting.{Accepts}
+use Rattle.cfg_recover.specs.RulesHoldOrFail.{Accepts}
 use Rattle.cfg_recover.proofs.EntryLaws.{holds_covered, holds_irq, holds_aln, holds_sys, entry_length, aln_length, sys_length, stack_member, holds_after_system}
 use Rattle.depth_check.proofs.Frames.{Frame, LowerSame, UpperSame, Leaves, by_return, from_system, from_handler, Resumed, Invariant, length-ImpliedBy}
 use Rattle.depth_check.proofs.Registers.{reg_of_lt, set_a11, set_a10, set_d15}

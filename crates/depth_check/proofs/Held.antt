@@ -1,7 +1,7 @@
 -- The certificate holds the frames of runs, and each edge is a duty.
 use Rattle.std.proofs.Common.{ℕ, zero, suc, ◌-◌, ◌<◌, ◌≤◌, List, [], ◌∷◌, length, get_or, refl, sym, ap, subst, arith}
 use Rattle.std.specs.Prelude.{IsSome, IsSomeAnd, is_some}
-use Rattle.csa_chain.specs.Memory.{Memory}
+use Rattle.csa_chain.specs.MemoryBytes.{Memory}
 use Rattle.csa_chain.specs.Chain.{area_word}
 use Rattle.elf_image.specs.Images.{ImageData}
 use Rattle.tcd_base.specs.declared.core_version.Core.{Core}
@@ -14,11 +14,11 @@ use Rattle.tc_machine.specs.Safe.{IsMachine, Fits}
 use Rattle.tc_machine.proofs.Stays.{stays_run}
 use Rattle.depth_cert.specs.Points.{find_point}
 use Rattle.depth_cert.specs.Certs.{CertData, IsCert, find_node}
-use Rattle.cfg_recover.specs.Accepting.{Accepts, certified_need}
+use Rattle.cfg_recover.specs.RulesHoldOrFail.{Accepts, certified_need}
 use Rattle.cfg_recover.specs.Frames.{Standing, LiesAt, HoldFrames}
-use Rattle.cfg_recover.specs.OwedEdges.{EdgeOwed}
-use Rattle.cfg_recover.specs.OwedMoves.{InState}
-use Rattle.depth_check.specs.Headline.{AcceptedHoldsFrames, AcceptedOwesEdges}
+use Rattle.cfg_recover.specs.EdgesAreOwed.{EdgeOwed}
+use Rattle.cfg_recover.specs.MovesAreOwed.{InState}
+use Rattle.depth_check.specs.AcceptedPromises.{AcceptedHoldsFrames, AcceptedOwesEdges}
 use Rattle.cfg_recover.proofs.PointLaws.{Stands}
 use Rattle.depth_check.proofs.Frames.{Frame, standing, Frames, Invariant}
 use Rattle.depth_check.proofs.Step.{step-done}

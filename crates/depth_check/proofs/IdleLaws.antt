@@ -21,8 +21,8 @@ use Rattle.cfg_recover.specs.LocalFaults.{IsFaultless}
 use Rattle.cfg_recover.specs.Duties.{owed, jump, jumps_to, successors_of, entries_of, misaligned_of, interrupts_of, leavings_of, duties_of}
 use Rattle.cfg_recover.proofs.LocalLaws.{LocalHolds-found}
 use Rattle.depth_check.specs.LeastBroken.{Finds, least_of}
-use Rattle.depth_check.specs.DutyTests.{DutiesHold}
-use Rattle.depth_check.specs.Passing.{Passes, PassesOn}
+use Rattle.depth_check.specs.DutiesHold.{DutiesHold}
+use Rattle.depth_check.specs.PassingInstructions.{Passes, PassesOn}
 use Rattle.depth_check.proofs.DutyLaws.{nothing_found, parts_found}
 
 -- the target of such an instruction is known

@@ -9,14 +9,14 @@ use Rattle.elf_image.specs.Images.{ImageData}
 use Rattle.tcd_plan.specs.PlanData.{PlanData}
 use Rattle.value_domain.specs.declared.values.Val.{Val}
 use Rattle.value_domain.specs.declared.states.State.{State}
-use Rattle.value_domain.specs.Values.{any_val, IsWell, IsValue, IsBelow}
+use Rattle.value_domain.specs.Values.{any_val, IsWell, IsValue, IsBelow, word_val}
 use Rattle.value_domain.specs.Limits.{Limits}
 use Rattle.value_domain.specs.State.{AreValues, AreWell, Covers}
 use Rattle.value_domain.proofs.RegLaws.{read_at}
 use Rattle.arrayvec.specs.ArrayVec.{ArrayVec}
 use Rattle.vd_transfer.specs.declared.change.Base.TheVariants.{Any}
 use Rattle.vd_transfer.specs.declared.change.Put.{Put}
-use Rattle.vd_transfer.specs.Registers.{slot, word_val}
+use Rattle.vd_transfer.specs.Registers.{slot}
 use Rattle.vd_transfer.specs.Changes.{state_after, no_put, reg_put}
 use Rattle.depth_cert.specs.declared.keys.Key.{Key}
 use Rattle.depth_cert.specs.declared.points.Point.{Point}
@@ -24,18 +24,20 @@ use Rattle.depth_cert.specs.Points.{find_point}
 use Rattle.depth_cert.specs.Nodes.{NodeData}
 use Rattle.depth_cert.specs.Certs.{CertData, find_node}
 use Rattle.cfg_recover.specs.Code.{HasCode}
-use Rattle.cfg_recover.specs.Entries.{irq_key, irq_entry, entry_with, stack_of, irqs_of}
+use Rattle.cfg_recover.specs.Entries.{irq_key, irq_entry, entry_with, stack_of, irqs_of, stack_with}
 use Rattle.cfg_recover.specs.LocalFaults.{IsFaultless}
 use Rattle.cfg_recover.specs.Duties.{Owed, owed, enter, successors_of, entries_of, misaligned_of, interrupts_of, leavings_of, duties_of}
-use Rattle.cfg_recover.specs.Flows.{told_irqs}
-use Rattle.cfg_recover.specs.Accepting.{limits_in, HasPoint, RuleHolds}
+use Rattle.cfg_recover.specs.FlowDuties.{told_irqs}
+use Rattle.cfg_recover.specs.RulesHoldOrFail.{limits_in, HasPoint, RuleHolds}
 use Rattle.cfg_recover.proofs.EntryLaws.{entry_length}
 use Rattle.cfg_recover.proofs.EntryChanges.{handler-is}
 use Rattle.depth_check.specs.declared.last_interrupts.InterruptContext.{InterruptContext}
 use Rattle.depth_check.specs.declared.last_interrupts.LastInterrupts.{LastInterrupts}
-use Rattle.depth_check.specs.LeastBroken.{IsWellNode, Finds}
-use Rattle.depth_check.specs.DutyTests.{DutyHolds, DutiesHold}
-use Rattle.depth_check.specs.Interrupts.{IsContext, IsBelowContext, InterruptsHold, stack_with, HoldsWith, HoldsInContext, AreWellStacks, LastInterruptsHold}
+use Rattle.depth_check.specs.LeastBroken.{Finds}
+use Rattle.depth_cert.specs.Proper.{IsWellNode}
+use Rattle.depth_check.specs.DutiesHold.{DutyHolds, DutiesHold}
+use Rattle.depth_check.specs.Interrupts.{IsContext, IsBelowContext, InterruptsHold, HoldsInContext, AreWellStacks, LastInterruptsHold}
+use Rattle.depth_check.specs.PassingInstructions.{HoldsWith}
 use Rattle.depth_check.proofs.AfterLaws.{at_well}
 use Rattle.depth_check.proofs.DutyLaws.{All-left, All-right}
 use Rattle.depth_check.proofs.RuleLaws.{holds_from}

@@ -6,7 +6,7 @@ use Rattle.tc_machine.specs.Safe.{Safe}
 use Rattle.depth_cert.specs.Certs.{CertData, IsCert}
 use Rattle.depth_check.specs.declared.verdicts.Verdict.{Verdict}
 use Rattle.depth_check.specs.declared.verdicts.Verdict.TheVariants.{Yes, No}
-use Rattle.depth_check.specs.Judging.{Judges, IfYes}
+use Rattle.depth_check.specs.CheckAnswers.{Judges, IfYes}
 use Rattle.depth_check.proofs.Sound.{accepted_is_safe}
 
 -- for a plan and a certificate with their invariants

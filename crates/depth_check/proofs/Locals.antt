@@ -1,9 +1,9 @@
 -- Lower contexts that a frame saves and restores.
 use Rattle.std.proofs.Common.{◌≡◌, ℕ, suc, ◌-◌, ◌^◌, ◌<◌, ◌≤◌, inl, inr, Bool, true, false, not, List, [], ◌∷◌, ◌++◌, length, get_or, take, refl, sym, ap, ◌∙◌, subst, arith, IsTrue}
 use Rattle.std.proofs.lemmas.Bool.{cases_eq}
-use Rattle.csa_chain.specs.Memory.{Memory, with_words}
+use Rattle.csa_chain.specs.MemoryBytes.{Memory, with_words}
 use Rattle.csa_chain.specs.Chain.{link_in, link_address, area_word}
-use Rattle.csa_chain.specs.Contexts.{pcxi_word_of, with_link, d_after_lower, a_after_lower}
+use Rattle.csa_chain.specs.ContextWords.{pcxi_word_of, with_link, d_after_lower, a_after_lower}
 use Rattle.csa_chain.proofs.ChainLaws.{Links, SameAreas-written, area_word-written, is_area-written}
 use Rattle.csa_chain.proofs.ContextLaws.{reg_of, lower_regs, lower_word, lower_back, link_in-pcxi_word, ul_of-pcxi_word, link_in-lt}
 use Rattle.elf_image.specs.Images.{ImageData}
@@ -12,7 +12,7 @@ use Rattle.tcd_plan.specs.PlanData.{PlanData, IsPlan}
 use Rattle.tc_machine.specs.declared.events.End.TheVariants.{Running}
 use Rattle.tc_machine.specs.declared.state.Machine.{Machine}
 use Rattle.tc_machine.specs.Machine.{reg, a11}
-use Rattle.tc_machine.specs.Contexts.{context_of, saved, last_context, restored, restore}
+use Rattle.tc_machine.specs.SavesAndRestores.{context_of, saved, last_context, restored, restore}
 use Rattle.tc_machine.specs.Safe.{IsMachine}
 use Rattle.tc_machine.proofs.Words.{register_lt}
 use Rattle.tc_machine.proofs.PlanLaws.{HoldsRom-written}

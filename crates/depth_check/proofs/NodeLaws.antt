@@ -14,7 +14,7 @@ use Rattle.depth_cert.specs.Points.{ArePoints}
 use Rattle.depth_cert.specs.Nodes.{NodeData}
 use Rattle.depth_cert.specs.Certs.{CertData}
 use Rattle.depth_cert.proofs.FindLaws.{non_decreasing}
-use Rattle.cfg_recover.specs.Accepting.{limits_in, RuleHolds, HoldsAtEntry, Fails, at_entry, at_point}
+use Rattle.cfg_recover.specs.RulesHoldOrFail.{limits_in, RuleHolds, HoldsAtEntry, Fails, at_entry, at_point}
 use Rattle.depth_check.specs.declared.nodes.Fault.{Fault}
 use Rattle.depth_check.specs.LeastBroken.{Finds}
 use Rattle.depth_check.specs.NodeFaults.{IsNodeFault, first_of}

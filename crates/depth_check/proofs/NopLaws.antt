@@ -5,7 +5,8 @@ use Rattle.elf_image.specs.Images.{ImageData, image_byte}
 use Rattle.tcd_base.specs.Ranges.{IsInOne}
 use Rattle.tcd_plan.specs.PlanData.{PlanData}
 use Rattle.tc_isa.specs.declared.shapes.Shape.TheVariants.{Nothing}
-use Rattle.tc_isa.specs.Forms.{bounds, word}
+use Rattle.tc_isa.specs.Forms.{bounds}
+use Rattle.tc_isa.specs.Spelling.{word}
 use Rattle.tc_isa.specs.Insts.{InstData, IsInst}
 use Rattle.tc_isa.specs.Meanings.{shape_of}
 use Rattle.cfg_recover.specs.Code.{IsCode}

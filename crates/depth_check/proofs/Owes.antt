@@ -3,7 +3,7 @@ use Rattle.std.proofs.Common.{◌≡◌, ℕ, ◌*◌, ◌/◌, ◌^◌, Bool, t
 use Rattle.std.proofs.lemmas.Bool.{eq-eqb}
 use Rattle.std.proofs.lemmas.List.Elements.{Contains-append_right}
 use Rattle.std.specs.Prelude.{bit_or}
-use Rattle.csa_chain.specs.Contexts.{pie_of, pcpn_of}
+use Rattle.csa_chain.specs.ContextWords.{pie_of, pcpn_of}
 use Rattle.elf_image.specs.Images.{ImageData}
 use Rattle.tcd_plan.specs.PlanData.{PlanData}
 use Rattle.tc_isa.specs.declared.shapes.Shape.{Shape}
@@ -12,10 +12,11 @@ use Rattle.tc_isa.specs.declared.shapes.Target.{Target}
 use Rattle.tc_machine.specs.declared.events.Event.{Event}
 use Rattle.tc_machine.specs.declared.events.End.TheVariants.{Running}
 use Rattle.tc_machine.specs.declared.state.Machine.{Machine}
-use Rattle.tc_machine.specs.Machine.{reg, a11, moved, advanced, then_, with_reg, handler_psw}
-use Rattle.tc_machine.specs.Contexts.{saved, save, restored, restore}
-use Rattle.csa_chain.specs.Memory.{load_number, with_bytes, extend}
-use Rattle.tc_machine.specs.Instructions.{interrupt, trap, misaligned, does, access_address, with_base, target_of}
+use Rattle.tc_machine.specs.Machine.{reg, a11, moved, then_, with_reg, handler_psw}
+use Rattle.tc_machine.specs.Instructions.{advanced, trap, misaligned, does, access_address, with_base, target_of, traps}
+use Rattle.tc_machine.specs.Stepping.{interrupt}
+use Rattle.tc_machine.specs.SavesAndRestores.{saved, save, restored, restore}
+use Rattle.csa_chain.specs.MemoryBytes.{load_number, with_bytes, extend}
 use Rattle.tc_machine.proofs.Saves.{then_-running}
 use Rattle.value_domain.specs.declared.states.State.{State}
 use Rattle.value_domain.specs.Limits.{Limits}
@@ -24,7 +25,6 @@ use Rattle.depth_cert.specs.declared.keys.Key.{Key}
 use Rattle.cfg_recover.specs.Entries.{sys_key, sys_entry}
 use Rattle.depth_cert.specs.Exits.{exit_of}
 use Rattle.cfg_recover.specs.Duties.{jump, enter, resume, leave, owed, interrupts_of, duties_of}
-use Rattle.cfg_recover.specs.OwedMoves.{traps}
 use Rattle.depth_check.proofs.Enter.{begun}
 use Rattle.depth_check.proofs.Handlers.{handler_a}
 

@@ -1,7 +1,7 @@
 -- A step inside a frame keeps the frames.
 use Rattle.std.specs.FinMap as map
 use Rattle.std.proofs.Common.{◌≡◌, ℕ, zero, suc, ◌+◌, ◌<◌, List, [], ◌∷◌, length, Some, sym, ap, ◌∙◌, subst, arith}
-use Rattle.csa_chain.specs.Memory.{Memory}
+use Rattle.csa_chain.specs.MemoryBytes.{Memory}
 use Rattle.csa_chain.specs.Chain.{link_address}
 use Rattle.csa_chain.proofs.ChainLaws.{SameArea, SameAreas, Links-same, reverse_onto}
 use Rattle.elf_image.specs.Images.{ImageData}
@@ -16,7 +16,7 @@ use Rattle.value_domain.specs.State.{Covers, ImpliedBy}
 use Rattle.depth_cert.specs.declared.points.Point.{Point}
 use Rattle.depth_cert.specs.Points.{find_point}
 use Rattle.depth_cert.specs.Certs.{CertData}
-use Rattle.cfg_recover.specs.OwedMoves.{MovesTo}
+use Rattle.cfg_recover.specs.MovesAreOwed.{MovesTo}
 use Rattle.cfg_recover.proofs.EntryLaws.{holds_covered}
 use Rattle.depth_check.proofs.Frames.{Frame, Frames, used_by, Invariant, Frames-same, ImpliedBy-trans}
 use Rattle.tc_machine.specs.PlanAreas.{links_up, first_link, plan_areas}

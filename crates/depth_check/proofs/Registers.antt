@@ -3,7 +3,7 @@ use Rattle.std.proofs.Common.{◌≡◌, ◌≢◌, ℕ, zero, suc, ◌+◌, ◌
 use Rattle.std.proofs.lemmas.Bool.{cond_both, cases_lt, le-ltb, lt-ltb, le-leb, lt-leb}
 use Rattle.std.proofs.lemmas.List.{get_or-set_other}
 use Rattle.std.specs.Prelude.{nat_lt}
-use Rattle.csa_chain.specs.Contexts.{d_after_upper, a_after_upper, d_after_lower, a_after_lower}
+use Rattle.csa_chain.specs.ContextWords.{d_after_upper, a_after_upper, d_after_lower, a_after_lower}
 use Rattle.csa_chain.proofs.ContextLaws.{reg_of, upper_regs, lower_regs, global_regs, below_14, below_16, upper_leaves_lower, lower_leaves_upper}
 use Rattle.tc_machine.specs.Safe.{AreRegisters}
 use Rattle.tc_machine.proofs.Words.{register_lt}

@@ -13,12 +13,12 @@ use Rattle.depth_cert.specs.declared.points.Point.{Point}
 use Rattle.depth_cert.specs.Points.{ArePoints, find_point}
 use Rattle.depth_cert.specs.Nodes.{NodeData}
 use Rattle.depth_cert.proofs.FindLaws.{non_decreasing, found}
-use Rattle.cfg_recover.specs.Accepting.{HasPoint}
+use Rattle.cfg_recover.specs.RulesHoldOrFail.{HasPoint}
 use Rattle.packed_cert.specs.Walks.{WalkData, RepeatsAt, KeepsOthers}
 use Rattle.packed_cert.proofs.NodeFinds.{covers_same}
 use Rattle.packed_cert.proofs.WalkedPoints.{split_more}
-use Rattle.depth_check.specs.DutyTests.{StandsAt}
-use Rattle.depth_check.specs.Points.{LooksAhead}
+use Rattle.depth_check.specs.DutiesHold.{StandsAt}
+use Rattle.depth_check.specs.PointChecks.{LooksAhead}
 use Rattle.depth_check.proofs.WalkLaws.{stands_behind}
 
 -- ---- an element of a list that rises by a number is found by its number

@@ -16,10 +16,10 @@ use Rattle.depth_cert.specs.Certs.{CertData}
 use Rattle.cfg_recover.specs.Code.{IsCode}
 use Rattle.cfg_recover.specs.LocalFaults.{IsLocalFault, IsFaultless}
 use Rattle.cfg_recover.specs.Duties.{Owed, duties_of}
-use Rattle.cfg_recover.specs.Accepting.{limits_in, RuleHolds, IsNeedAbove}
+use Rattle.cfg_recover.specs.RulesHoldOrFail.{limits_in, RuleHolds, IsNeedAbove}
 use Rattle.cfg_recover.proofs.CodeLaws.{IsCode-one}
 use Rattle.depth_check.specs.LeastBroken.{Finds, least_of, unless}
-use Rattle.depth_check.specs.DutyTests.{DutyHolds, DutiesHold, HasOwnNeed}
+use Rattle.depth_check.specs.DutiesHold.{DutyHolds, DutiesHold, HasOwnNeed}
 use Rattle.depth_check.proofs.LeastLaws.{found_by, found_both, found_same}
 
 -- a property of each element that a list contains

@@ -13,17 +13,17 @@ use Rattle.tc_machine.specs.Safe.{IsMachine, Starts, AllFit, IsSafeAt}
 use Rattle.tc_machine.proofs.Fetched.{IsAtCode-from}
 use Rattle.tc_machine.proofs.Stays.{irq_lt, stays_step, stays_run}
 use Rattle.tc_machine.proofs.Areas.{Areas-start, ChainsAreWhole-from}
-use Rattle.vd_transfer.specs.Registers.{word_val}
+use Rattle.value_domain.specs.Values.{word_val}
 use Rattle.depth_cert.specs.Keys.{IsKey}
 use Rattle.depth_cert.specs.Points.{find_point}
-use Rattle.depth_cert.specs.Nodes.{NodeData}
+use Rattle.depth_cert.specs.Nodes.{NodeData, need_of}
 use Rattle.depth_cert.specs.Certs.{CertData, IsCert, find_node}
 use Rattle.cfg_recover.specs.Entries.{start_key, start_state}
 use Rattle.cfg_recover.specs.Frames.{Standing, frames_after, frames_from, frames}
-use Rattle.cfg_recover.specs.Accepting.{limits_in, HasPoint, Accepts, need_of, certified_need}
+use Rattle.cfg_recover.specs.RulesHoldOrFail.{limits_in, HasPoint, Accepts, certified_need}
 use Rattle.cfg_recover.proofs.MoveLaws.{stores_held}
 use Rattle.cfg_recover.proofs.EntryLaws.{holds_covered, holds_start, entry_length}
-use Rattle.depth_check.specs.Headline.{AcceptedIsSafe}
+use Rattle.depth_check.specs.AcceptedPromises.{AcceptedIsSafe}
 use Rattle.depth_check.proofs.Frames.{Frame, used_by, Invariant, Links-Frames, need-Frames, length-ImpliedBy}
 use Rattle.depth_check.proofs.Enter.{implied_none, counted}
 use Rattle.cfg_recover.proofs.PointLaws.{rules_at, Found, node_found}

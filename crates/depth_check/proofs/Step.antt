@@ -4,7 +4,7 @@ use Rattle.std.proofs.lemmas.Bool.{cases_Bool}
 use Rattle.std.proofs.lemmas.Nat.{or_lt}
 use Rattle.std.specs.Prelude.{Result, Option, None, IsSomeAnd, IfSome, bit_or}
 use Rattle.csa_chain.specs.Chain.{link_in}
-use Rattle.csa_chain.specs.Contexts.{pie_of, pcpn_of}
+use Rattle.csa_chain.specs.ContextWords.{pie_of, pcpn_of}
 use Rattle.elf_image.specs.Images.{ImageData}
 use Rattle.tcd_plan.specs.PlanData.{PlanData, IsPlan}
 use Rattle.tc_isa.specs.declared.shapes.Shape.{Shape}
@@ -15,11 +15,11 @@ use Rattle.tc_machine.specs.declared.events.Cause.{Cause}
 use Rattle.tc_machine.specs.declared.events.Event.{Event}
 use Rattle.tc_machine.specs.declared.events.End.TheVariants.{Running}
 use Rattle.tc_machine.specs.declared.state.Machine.{Machine}
-use Rattle.tc_machine.specs.Machine.{reg, a11, is_of, handler_psw, moved, with_status}
-use Rattle.tc_machine.specs.Contexts.{saved, save, restored, restore}
-use Rattle.tc_machine.specs.Instructions.{interrupt, target_of, does}
-use Rattle.tc_machine.specs.Stepping.{is_taken, executed, done, step}
-use Rattle.tc_machine.specs.Fetching.{fetched}
+use Rattle.tc_machine.specs.Machine.{reg, a11, is_of, handler_psw, moved}
+use Rattle.tc_machine.specs.Instructions.{with_status, target_of, does, traps}
+use Rattle.tc_machine.specs.Stepping.{interrupt, is_taken, executed, done, step}
+use Rattle.tc_machine.specs.SavesAndRestores.{saved, save, restored, restore}
+use Rattle.tc_machine.specs.Fetching.{fetched, size_in}
 use Rattle.tc_machine.specs.Safe.{IsMachine, Fits}
 use Rattle.tc_machine.proofs.Saves.{moved-lt}
 use Rattle.tc_machine.proofs.Fetched.{fetched-is}
@@ -37,12 +37,13 @@ use Rattle.depth_cert.specs.Certs.{CertData, IsCert, find_node}
 use Rattle.cfg_recover.specs.Code.{IsCode}
 use Rattle.cfg_recover.specs.Entries.{call_key, irq_key, sys_key, aln_key, call_entry, irq_entry, sys_entry, aln_entry, handler_key}
 use Rattle.depth_cert.specs.Exits.{exit_of, after_of, ExitCovers}
-use Rattle.cfg_recover.specs.Duties.{Owed, jump, enter, resume, leave, owed, OwesEntry}
-use Rattle.cfg_recover.specs.Accepting.{limits_in, HasPoint, Accepts}
-use Rattle.cfg_recover.specs.Frames.{Standing, frames_at, frames_entered, frames_left, frames_by, size_in, frames_after}
-use Rattle.cfg_recover.specs.OwedEdges.{IsReturn, IsOwed}
-use Rattle.cfg_recover.specs.Edges.{Way, to, call, irq, sys, aln, way_of_shape, way_by, way_in}
-use Rattle.cfg_recover.specs.OwedMoves.{IsAtPoint, StaysInFrame, traps}
+use Rattle.cfg_recover.specs.Duties.{Owed, jump, enter, resume, leave, owed}
+use Rattle.cfg_recover.specs.EdgesAreOwed.{OwesEntry, IsOwed}
+use Rattle.cfg_recover.specs.Frames.{IsReturn, Standing, frames_at, frames_entered, frames_left, frames_by, frames_after}
+use Rattle.cfg_recover.specs.RulesHoldOrFail.{limits_in, HasPoint, Accepts}
+use Rattle.cfg_recover.specs.StepEdges.{Way, to, call, irq, sys, aln, way_of_shape, way_by, way_in}
+use Rattle.cfg_recover.specs.MovesAreOwed.{IsAtPoint}
+use Rattle.vd_transfer.specs.Soundness.{StaysInFrame}
 use Rattle.cfg_recover.proofs.MoveLaws.{moves_in_frame, traps_owed, calls_owed, interrupts_owed}
 use Rattle.cfg_recover.proofs.EntryLaws.{holds_same, holds_exit}
 use Rattle.depth_check.proofs.Frames.{Frame, standing, Leaves, by_return, from_system, from_handler, Invariant, length-ImpliedBy}

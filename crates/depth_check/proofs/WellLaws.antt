@@ -4,20 +4,20 @@ use Rattle.std.specs.Prelude.{IfSome, All}
 use Rattle.std.proofs.lemmas.Bool.{cases_Bool}
 use Rattle.tcd_plan.specs.PlanData.{PlanData, IsPlan}
 use Rattle.value_domain.specs.declared.values.Val.{Val}
-use Rattle.value_domain.specs.Values.{any_val}
+use Rattle.value_domain.specs.Values.{any_val, word_val}
 use Rattle.value_domain.specs.Limits.{AreLimits}
 use Rattle.value_domain.specs.Thresholds.{limits_for}
 use Rattle.value_domain.specs.State.{AreWell}
 use Rattle.value_domain.proofs.RangeLaws.{one_value}
-use Rattle.vd_transfer.specs.Registers.{word_val}
 use Rattle.depth_cert.specs.declared.points.Exit.{Exit}
-use Rattle.depth_cert.specs.Points.{IsWellOf, IsExit}
+use Rattle.depth_cert.specs.Points.{IsWellOf}
+use Rattle.depth_cert.specs.Exits.{IsExit}
 use Rattle.depth_cert.specs.Nodes.{NodeData, IsNode}
 use Rattle.depth_cert.specs.Certs.{CertData, IsCert}
 use Rattle.packed_cert.proofs.ValueShapes.{well_of}
 use Rattle.cfg_recover.specs.Entries.{start_state}
 use Rattle.cfg_recover.proofs.FlowStates.{entry_values}
-use Rattle.depth_check.specs.LeastBroken.{IsWellNode}
+use Rattle.depth_cert.specs.Proper.{IsWellNode}
 use Rattle.depth_check.proofs.RuleLaws.{values_well}
 
 -- the limits of any version

@@ -7,10 +7,10 @@ use Rattle.tc_machine.specs.Safe.{Safe}
 use Rattle.depth_cert.specs.declared.keys.Key.{Key}
 use Rattle.depth_cert.specs.Nodes.{NodeData}
 use Rattle.depth_cert.specs.Certs.{CertData, IsCert, find_node}
-use Rattle.cfg_recover.specs.Accepting.{Fails}
-use Rattle.cfg_recover.specs.FaultLaws.{FirstFaultSays}
+use Rattle.cfg_recover.specs.RulesHoldOrFail.{Fails, Accepts, IsFirstFault}
+use Rattle.cfg_recover.specs.FirstFaultLaws.{FirstFaultSays}
 use Rattle.depth_check.specs.declared.verdicts.Verdict.TheVariants.{Yes, No}
-use Rattle.depth_check.specs.Judging.{Judges, IfYes}
+use Rattle.depth_check.specs.CheckAnswers.{Judges, IfYes}
 
 -- the number is the need of the start's node, the areas have room for it and the reserve, and no
 -- rule fails
@@ -31,3 +31,7 @@ pub record AnswerSays (image : ImageData) (plan : PlanData) (cert : CertData) : 
 abbrev pub AnswersSay : Type 0
 AnswersSay =
     (image : ImageData) (plan : PlanData) (cert : CertData) → image.entry < 2 ^ 32 → IsPlan plan → IsCert cert → AnswerSays image plan cert
+
+-- a certificate with a first fault isn't accepted, so the answer of a check is exact both ways
+abbrev pub FirstFaultsRefute : Type 0
+FirstFaultsRefute = (image : ImageData) (plan : PlanData) (cert : CertData) (r : ℕ) (k : Key) (p : ℕ) → IsFirstFault image plan cert r k p → Accepts image plan cert → ⊥

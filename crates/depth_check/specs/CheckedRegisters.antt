@@ -12,7 +12,7 @@ use Rattle.cfg_recover.specs.LocalRules.{named_by}
 use Rattle.cfg_recover.specs.Duties.{Owed, entered_and_back}
 use Rattle.depth_check.specs.declared.fast_paths.CheckedRegisters.{CheckedRegisters}
 use Rattle.depth_check.specs.declared.points.PointCheck.{PointCheck}
-use Rattle.depth_check.specs.DutyTests.{StandsAt, HasPoints, DutiesHold}
+use Rattle.depth_check.specs.DutiesHold.{StandsAt, HasPoints, DutiesHold}
 
 -- the entries of all functions that a register names in a state; they return to one address
 abbrev pub calls_by : PlanData → Key → State → ℕ → ℕ → List Owed

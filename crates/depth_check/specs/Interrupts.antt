@@ -1,19 +1,18 @@
 -- What the entries of interrupts depend on, and in which states they hold.
-use Rattle.std.specs.Prelude.{◌≡◌, ◌≤◌, ◌+◌, ◌-◌, ℕ, true, false, IsTrue, IfSome, if◌then◌else◌, List, map, length, slice_index_or}
+use Rattle.std.specs.Prelude.{◌≡◌, ◌≤◌, ◌+◌, ◌-◌, ℕ, true, false, IsTrue, IfSome, List, map, length, slice_index_or}
 use Rattle.tcd_plan.specs.PlanData.{PlanData}
 use Rattle.value_domain.specs.declared.values.Val.{Val}
 use Rattle.value_domain.specs.declared.states.State.{State}
 use Rattle.value_domain.specs.Values.{IsWell, IsValue, IsBelow, any_val}
-use Rattle.vd_transfer.specs.Registers.{word_val}
 use Rattle.depth_cert.specs.declared.keys.Key.{Key}
 use Rattle.depth_cert.specs.Nodes.{NodeData}
 use Rattle.depth_cert.specs.Certs.{CertData}
-use Rattle.cfg_recover.specs.Entries.{irq_key, entry_with, irqs_of}
+use Rattle.cfg_recover.specs.Entries.{irq_key, entry_with, irqs_of, stack_with}
 use Rattle.cfg_recover.specs.Duties.{Owed, owed, enter, interrupts_of}
-use Rattle.cfg_recover.specs.Accepting.{limits_in}
+use Rattle.cfg_recover.specs.RulesHoldOrFail.{limits_in}
 use Rattle.depth_check.specs.declared.last_interrupts.InterruptContext.{InterruptContext}
 use Rattle.depth_check.specs.declared.last_interrupts.LastInterrupts.{LastInterrupts}
-use Rattle.depth_check.specs.DutyTests.{DutiesHold}
+use Rattle.depth_check.specs.DutiesHold.{DutiesHold}
 
 -- the context of a state of a node's point, apart from A10: the stack in use, IE, CCPN, and the
 -- areas that the node's need leaves beside the locals
@@ -39,17 +38,9 @@ pub record IsBelowContext (context : InterruptContext) (node : NodeData) (s : St
 abbrev pub InterruptsHold : PlanData → CertData → NodeData → State → Type 0
 InterruptsHold plan cert node s = (q : ℕ) → DutiesHold cert node s (interrupts_of plan node.key s) q
 
--- the stack pointer of a handler, from A10 of the frame that it interrupts
-abbrev pub stack_with : PlanData → Key → Val → Val
-stack_with plan key sp = if key.is then sp else word_val plan.isp
-
 -- the entries of the interrupts that may be taken in a state, with this A10 instead of the state's
 abbrev pub entries_with : PlanData → Key → State → Val → List Owed
 entries_with plan key s sp = map (λ p. owed 11 (enter (irq_key plan p) (entry_with (stack_with plan key sp) false p true))) (irqs_of plan s)
-
--- all rules hold of these
-abbrev pub HoldsWith : PlanData → CertData → NodeData → State → Val → Type 0
-HoldsWith plan cert node s sp = (q : ℕ) → DutiesHold cert node s (entries_with plan node.key s sp) q
 
 -- the context's A10 is a value of the limits, and the entries hold in each state below the context
 pub record HoldsInContext (plan : PlanData) (cert : CertData) (context : InterruptContext) : Type 0 where

@@ -1,12 +1,8 @@
 -- The least rule that fails.
-use Rattle.std.specs.Prelude.{◌<◌, ◌≤◌, ℕ, Bool, if◌then◌else◌, min, Option, Some, None, IfSome, All}
-use Rattle.value_domain.specs.State.{AreWell}
-use Rattle.depth_cert.specs.Nodes.{NodeData}
-
--- the values of a node are well-formed
-pub record IsWellNode (node : NodeData) : Type 0 where
-  pub points : All (λ p. AreWell (p.state).regs) node.points
-  pub exit : IfSome node.exit (λ x. AreWell x.lower)
+use Rattle.std.specs.Prelude.{◌<◌, ◌≤◌, ℕ, Bool, if◌then◌else◌, min, Option, Some, None, List}
+use Rattle.cfg_recover.specs.Duties.{Owed}
+use Rattle.depth_check.specs.declared.points.PointCheck.{PointCheck}
+use Rattle.depth_check.specs.DutiesHold.{DutiesHold}
 
 -- r is the least rule that fails
 pub record IsLeastBroken (holds : ℕ → Type 0) (r : ℕ) : Type 0 where
@@ -28,3 +24,7 @@ least_of (Some a) (Some b) = Some (min a b)
 -- the rule, unless its condition holds
 abbrev pub unless : Bool → ℕ → Option ℕ
 unless holds rule = if holds then None else Some rule
+
+-- the least rule that these duties of the point break
+abbrev pub Breaks : PointCheck → List Owed → Option ℕ → Type 0
+Breaks at duties found = Finds (DutiesHold at.cert.now at.node.now at.point.state.now duties) found

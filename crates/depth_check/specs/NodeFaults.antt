@@ -6,7 +6,7 @@ use Rattle.tcd_plan.specs.PlanData.{PlanData}
 use Rattle.depth_cert.specs.declared.points.Point.{Point}
 use Rattle.depth_cert.specs.Nodes.{NodeData}
 use Rattle.depth_cert.specs.Certs.{CertData}
-use Rattle.cfg_recover.specs.Accepting.{limits_in, RuleHolds, HoldsAtEntry, Fails}
+use Rattle.cfg_recover.specs.RulesHoldOrFail.{limits_in, RuleHolds, HoldsAtEntry, Fails}
 use Rattle.depth_check.specs.declared.nodes.Fault.{Fault}
 
 -- rule r at the address p is the first fault of a node

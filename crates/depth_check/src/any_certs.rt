@@ -27,7 +27,7 @@ impl<'a> Model for AnyCert<'a> {
 
     ghost Value = { CertData };
 
-    ghost use Rattle.depth_check.specs.Forms.{cert_data, IsAnyCert};
+    ghost use Rattle.depth_check.specs.PlainOrPackedCerts.{cert_data, IsAnyCert};
 
     ghost view = { λ c. cert_data c.form };
 

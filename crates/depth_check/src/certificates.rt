@@ -1,27 +1,22 @@
 // The check of a certificate.
 ghost use Rattle.std.specs.Prelude.{◌≡◌, All, IsNone, IfSome, Some};
 ghost use Rattle.depth_cert.specs.Certs.{find_node};
-ghost use Rattle.cfg_recover.specs.Accepting.{HoldsAtStart};
-ghost use Rattle.depth_check.specs.LeastBroken.{IsWellNode};
-ghost use Rattle.depth_check.specs.Judging.{Judges, IfYes};
+ghost use Rattle.cfg_recover.specs.RulesHoldOrFail.{HoldsAtStart};
+ghost use Rattle.depth_cert.specs.Proper.{IsWellNode};
+ghost use Rattle.depth_check.specs.CheckAnswers.{Judges, IfYes};
 ghost use Rattle.tc_machine.specs.Safe.{Safe};
 ghost use Rattle.cfg_recover.specs.Entries as entries;
 
 use crate::Verdict;
 use crate::any_certs::AnyCert;
 use crate::any_nodes::AnyNode;
-use crate::fast_paths::NO_REGISTERS;
-use crate::last_interrupts::LastInterrupts;
 use crate::node_covers::has_point;
-use crate::nodes::{NodeScratch, node_fault};
-use crate::points::{PointScratch, no_change};
-use crate::rules::NO_START;
-use cfg_recover::{KnownCodes, OperationCache, start_key, start_state};
+use crate::verdicts::judge;
+use cfg_recover::{start_key, start_state};
 use depth_cert::Cert;
 use elf_image::Image;
-use packed_cert::{PackedCert, PointWalk};
+use packed_cert::PackedCert;
 use tcd_plan::Plan;
-use value_domain::Bounds;
 
 /// Whether the rules accept a certificate for an image under a plan. The answer is yes, with the
 /// need of the start in areas, or the first rule that fails, with its node and its address. It
@@ -48,46 +43,10 @@ pub fn check_packed(image: &Image, plan: &Plan, cert: &PackedCert) -> Verdict
     judge(image, plan, &AnyCert::on_bytes(cert))
 }
 
-/// The answer of a check: the need of the start, or the first rule that fails.
-fn judge(image: &Image, plan: &Plan, cert: &AnyCert<'_>) -> Verdict
-    ensures { Judges image.now plan.now cert.now result }
-{
-    let b = Bounds::of(plan, cert.version);
-    let Some(start) = start_node(image, plan, cert) else {
-        return Verdict::No {
-            rule: NO_START,
-            key: start_key(image, plan),
-            addr: image.entry,
-        };
-    };
-    let mut scratch = NodeScratch {
-        point: PointScratch {
-            change: no_change(),
-            cache: OperationCache::empty(),
-            codes: KnownCodes::new(),
-            registers: NO_REGISTERS,
-        },
-        interrupts: LastInterrupts::none(),
-        walk: PointWalk::none(),
-    };
-    for i in 0..cert.len() {
-        if let Some(node) = cert.get(i) {
-            if let Some(fault) = node_fault(&b, image, plan, cert, &node, &mut scratch) {
-                return Verdict::No {
-                    rule: fault.rule,
-                    key: node.key,
-                    addr: fault.addr,
-                };
-            }
-        }
-    }
-    Verdict::Yes(u32::from(start.need))
-}
-
 /// The node of the start, if it has a point at the image's entry that covers the start state.
 // A function of its own: the room of the start state is let go before the nodes are checked.
 #[inline(never)]
-fn start_node<'a>(image: &Image, plan: &Plan, cert: &AnyCert<'a>) -> Option<AnyNode<'a>>
+pub(crate) fn start_node<'a>(image: &Image, plan: &Plan, cert: &AnyCert<'a>) -> Option<AnyNode<'a>>
     requires nodes { All IsWellNode cert.now.nodes }
     ensures none { IsNone result → HoldsAtStart image.now plan.now cert.now → ⊥ }
     ensures holds { IfSome result (λ n. HoldsAtStart image.now plan.now cert.now) }

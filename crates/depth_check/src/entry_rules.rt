@@ -1,30 +1,30 @@
 // The rules of the duties of a point: what it enters, its interrupts, and how it leaves the node.
 ghost use Rattle.std.specs.Prelude.{◌≡◌, length, ◌≤◌, ◌↔◌, IsTrue, ◌+◌, [], ◌∷◌, unwrap_or};
 ghost use Rattle.std.specs.List.{flat_map};
-ghost use Rattle.depth_check.specs.LeastBroken.{IsWellNode, Finds};
-ghost use Rattle.depth_check.specs.DutyTests.{GoesOn, LeavingHolds};
+ghost use Rattle.depth_check.specs.LeastBroken.{Finds, Breaks};
+ghost use Rattle.depth_cert.specs.Proper.{IsWellNode};
+ghost use Rattle.depth_check.specs.DutiesHold.{GoesOn, LeavingHolds};
 ghost use Rattle.value_domain.specs.State.{AreWell};
 ghost use Rattle.vd_transfer.specs.Changes.{state_after};
-ghost use Rattle.depth_check.specs.Points.{IsPointCheck, Breaks};
-ghost use Rattle.tc_isa.specs.Bounded.{IsShape, IsSize, IsTarget};
+ghost use Rattle.depth_check.specs.PointChecks.{IsPointCheck};
+ghost use Rattle.tc_isa.specs.InBounds.{IsShape, IsSize, IsTarget};
 ghost use Rattle.vd_transfer.specs.EffectsOnStates.{address_of};
-ghost use Rattle.cfg_recover.specs.Changes.{StandsFaultless};
+ghost use Rattle.cfg_recover.specs.LocalFaults.{StandsFaultless};
 ghost use Rattle.cfg_recover.specs.Entries.{call_key, irqs_of};
 ghost use Rattle.cfg_recover.specs.LocalRules.{targets_of};
 ghost use Rattle.cfg_recover.specs.Duties.{owed, enter, entered_and_back, entries_of, misaligned_at, misaligned_of, interrupts_of, duties_of};
-ghost use Rattle.cfg_recover.specs.Flows.{told_back, told_irqs};
+ghost use Rattle.cfg_recover.specs.FlowDuties.{told_back, told_irqs};
 ghost use Rattle.cfg_recover.specs.SetOperations.{HoldsResults};
 ghost use Rattle.depth_check.specs.CheckedRegisters.{CallsHoldAt, RegistersHoldAt};
 ghost use Rattle.cfg_recover.specs.Entries as entries;
-ghost use Rattle.cfg_recover.specs.Flows as flows;
-ghost use Rattle.depth_check.specs.LeastBroken as finding;
+ghost use Rattle.cfg_recover.specs.FlowDuties as flows;
 
 use crate::any_nodes::AnyNode;
 use crate::node_covers::{comes_back, has_changed, has_exit};
 use crate::points::{PointCheck, PointScratch};
 use crate::rules::{
     NO_EXCEPTION_RETURN, NO_FUNCTION, NO_INTERRUPT, NO_MISALIGNED, NO_POINT, NO_RETURN,
-    NO_SYSTEM_CALL, SMALL_NEED,
+    NO_SYSTEM_CALL, SMALL_NEED, least,
 };
 use crate::successor_rules::broken_by_successors;
 use cfg_recover::{
@@ -99,17 +99,6 @@ pub(crate) fn broken_by_irqs(at: &PointCheck<'_, '_>, irqs: &[u8], entry: Change
         found = least(found, one);
     }
     found
-}
-
-/// The lesser of two rules that fail.
-pub(crate) fn least(a: Option<u8>, b: Option<u8>) -> Option<u8>
-    ensures { result ≡ finding.least_of a b }
-{
-    match (a, b) {
-        (None, found) => found,
-        (found, None) => found,
-        (Some(a), Some(b)) => Some(a.min(b)),
-    }
 }
 
 /// The least rule that the entries of a call or a system call break.
@@ -315,7 +304,7 @@ fn broken_by_taken(at: &PointCheck<'_, '_>, irqs: &[u8]) -> Option<u8>
 }
 
 /// The least rule that an instruction of this shape breaks when it leaves the node.
-#[tactic(auto, unfolding(cfg_recover::specs::Flows::leave_of))]
+#[tactic(auto, unfolding(cfg_recover::specs::FlowDuties::leave_of))]
 fn broken_by_leaving(node: &AnyNode<'_>, s: &State, shape: Shape) -> Option<u8>
     requires node { IsWellNode node.now }
     requires state { AreWell s.now.regs }

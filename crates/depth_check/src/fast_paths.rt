@@ -1,26 +1,27 @@
 // Fast paths of the check. Each one skips work whose outcome is known, and its comment says what it
 // saves.
-ghost use Rattle.std.specs.Prelude.{◌≡◌, IfSome, Some, IsTrue, Bool};
-ghost use Rattle.cfg_recover.specs.Accepting.{RuleHolds};
-ghost use Rattle.depth_check.specs.LeastBroken.{Finds};
+ghost use Rattle.std.specs.Prelude.{◌≡◌, IfSome, Some, IsTrue, Bool, [], ◌∷◌, ◌<◌};
+ghost use Rattle.cfg_recover.specs.RulesHoldOrFail.{RuleHolds};
+ghost use Rattle.depth_check.specs.LeastBroken.{Finds, Breaks};
 ghost use Rattle.value_domain.specs.State.{AreValues, Covers};
-ghost use Rattle.depth_check.specs.Points.{IsPointCheck};
+ghost use Rattle.depth_check.specs.PointChecks.{IsPointCheck};
 ghost use Rattle.vd_transfer.specs.EffectsOnStates.{transfer_of};
 ghost use Rattle.tcd_plan.specs.PlanData.{PlanData};
 ghost use Rattle.elf_image.specs.Images.{image_byte};
 ghost use Rattle.tc_isa.specs.declared.shapes.Shape.TheVariants.{Nothing};
 ghost use Rattle.cfg_recover.specs.Code.{IsCode};
-ghost use Rattle.depth_check.specs.Forms.{point_here};
-ghost use Rattle.depth_check.specs.Passing.{PassesOn};
+ghost use Rattle.depth_check.specs.PlainOrPackedCerts.{point_here};
+ghost use Rattle.depth_check.specs.PassingInstructions.{PassesOn};
 ghost use Rattle.value_domain.specs.declared.values.Val.{Val};
 ghost use Rattle.value_domain.specs.declared.states.State.{State};
 ghost use Rattle.value_domain.specs.Limits.{Limits};
 ghost use Rattle.vd_transfer.specs.Branches.{refine_of};
+ghost use Rattle.cfg_recover.specs.Duties.{owed, jump};
 
-use crate::entry_rules::{broken_by_interrupts, least};
-use crate::points::{PointCheck, has_own_need};
-use crate::rules::SMALL_NEED;
-use crate::successor_rules::broken_by_pass;
+use crate::entry_rules::broken_by_interrupts;
+use crate::node_covers::has_next;
+use crate::points::PointCheck;
+use crate::rules::{NO_POINT, SMALL_NEED, has_own_need, least};
 use cfg_recover::{KnownCodes, direct_target, unless};
 use elf_image::Image;
 use tc_isa::Shape;
@@ -130,3 +131,11 @@ pub(crate) const NO_REGISTERS: CheckedRegisters = CheckedRegisters {
     called: None,
     jumped: None,
 };
+
+/// The least rule that a step breaks which changes nothing.
+pub(crate) fn broken_by_pass(at: &PointCheck<'_, '_>, next: u32) -> Option<u8>
+    requires { IsPointCheck at.now }
+    ensures { Breaks at.now (owed 4 (jump next at.now.point.state.now) ∷ []) result }
+{
+    unless(has_next(at, next), NO_POINT)
+}

@@ -1,15 +1,25 @@
 // A fast path: entries of interrupts that hold in one state hold in other states too.
-ghost use Rattle.std.specs.Prelude.{◌≡◌, IfSome, IsTrue, IsSomeAnd, slice_index_or};
+ghost use Rattle.std.specs.Prelude.{◌≡◌, IfSome, IsTrue, IsSomeAnd, slice_index_or, All, ◌<◌};
 ghost use Rattle.depth_cert.specs.Certs.{CertData};
-ghost use Rattle.cfg_recover.specs.Accepting.{limits_in};
+ghost use Rattle.cfg_recover.specs.RulesHoldOrFail.{limits_in};
 ghost use Rattle.value_domain.specs.State.{AreValues};
 ghost use Rattle.value_domain.specs.Values.{IsWell, IsValue, any_val};
 ghost use Rattle.tcd_plan.specs.PlanData.{PlanData};
-ghost use Rattle.depth_check.specs.Interrupts.{IsContext, FitsContext, IsBelowContext, InterruptsHold, HoldsWith, AreWellStacks, LastInterruptsHold};
+ghost use Rattle.depth_check.specs.Interrupts.{IsContext, FitsContext, IsBelowContext, InterruptsHold, AreWellStacks, LastInterruptsHold};
+ghost use Rattle.depth_check.specs.PassingInstructions.{HoldsWith};
+ghost use Rattle.depth_cert.specs.Proper.{IsWellNode};
 
+use crate::any_certs::AnyCert;
 use crate::any_nodes::{AnyNode, NodeForm};
+use crate::entry_rules::broken_by_irqs;
+use crate::nodes::NodeScratch;
+use crate::points::{CurrentPoint, PointCheck};
+use cfg_recover::interrupts;
+use elf_image::Image;
 use packed_cert::PackedNode;
+use tcd_plan::Plan;
 use value_domain::{A10_SLOT, Bounds, State, Val, join, leq};
+use vd_transfer::{A10, Base, put_register, unchanged};
 
 /// The last two contexts in which entries of interrupts were found to hold. They are checked again
 /// only at points that need more. In bench/, 16 interrupts at each of 4,000 points cost 32
@@ -132,5 +142,63 @@ fn context_covers(context: &Option<InterruptContext>, node: &PackedNode<'_>, s: 
         Some(context) => context.is_like(node, s)
             && (!context.is || leq(&s.regs[A10_SLOT], &context.sp)),
         None => false,
+    }
+}
+
+/// An A10 with which the entries of interrupts hold at the current point of the walk, if they hold
+/// with the point's own. It is the join of the point's own A10 and the last one that was kept, if
+/// the point needs more only because of A10 and the entries hold with the join; else it is the
+/// point's own.
+///
+/// With the join kept, an A10 that changes from point to point soon needs nothing more: after some
+/// 64 points the join has all of its values.
+#[inline(never)]
+pub(crate) fn common_stack(
+    b: &Bounds,
+    image: &Image,
+    plan: &Plan,
+    cert: &AnyCert<'_>,
+    any_node: &AnyNode<'_>,
+    scratch: &NodeScratch<'_>,
+) -> Val
+    requires limits { b.now ≡ limits_in plan.now cert.now }
+    requires nodes { All IsWellNode cert.now.nodes }
+    requires node { IsWellNode any_node.now }
+    requires values { AreValues b.now scratch.now.walk.current.regs }
+    requires holds { InterruptsHold plan.now cert.now any_node.now scratch.now.walk.current }
+    requires interrupts { LastInterruptsHold plan.now cert.now scratch.now.interrupts }
+    ensures value { IsValue b.now result }
+    ensures holds { HoldsWith plan.now cert.now any_node.now scratch.now.walk.current result }
+{
+    let s = scratch.walk.state();
+    let own = s.regs[A10_SLOT].copy();
+    let Some(sp) = scratch.interrupts.join_stack(b, any_node, s) else {
+        return own;
+    };
+    let _most_words = b.most_words();
+    let mut entry = unchanged(s);
+    entry.base = Base::Any;
+    entry.first = put_register(A10, sp.copy());
+    entry.ie = false;
+    entry.lower = true;
+    entry.locals.clear();
+    let at = PointCheck {
+        bounds: b,
+        image,
+        plan,
+        cert,
+        node: any_node,
+        point: CurrentPoint {
+            addr: 0,
+            state: s,
+            again: false,
+            known: false,
+            next: None,
+            walk: None,
+        },
+    };
+    match broken_by_irqs(&at, interrupts(plan, s).as_slice(), entry) {
+        Some(_) => own,
+        None => sp,
     }
 }

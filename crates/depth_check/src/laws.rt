@@ -1,7 +1,6 @@
 // The laws of accepted certificates and of answers.
-ghost use Rattle.depth_check.specs.FirstFaults.{FirstFaultsRefute};
-ghost use Rattle.depth_check.specs.AnswerLaws.{AnswersSay};
-ghost use Rattle.depth_check.specs.Headline.{AcceptedHoldsFrames, AcceptedIsSafe, AcceptedOwesEdges};
+ghost use Rattle.depth_check.specs.AnswerLaws.{FirstFaultsRefute, AnswersSay};
+ghost use Rattle.depth_check.specs.AcceptedPromises.{AcceptedHoldsFrames, AcceptedIsSafe, AcceptedOwesEdges};
 
 /// If the rules accept a certificate, every run of the image under the plan is safe with its need,
 /// whatever interrupts, traps and devices do.

@@ -1,14 +1,14 @@
 // Whether the points and the exit of a node cover states.
 ghost use Rattle.std.specs.Prelude.{◌≡◌, length, IfSome, ◌↔◌, IsTrue};
-ghost use Rattle.cfg_recover.specs.Accepting.{HasPoint};
-ghost use Rattle.depth_check.specs.LeastBroken.{IsWellNode};
-ghost use Rattle.depth_check.specs.DutyTests.{HasPoints, HasExit};
+ghost use Rattle.cfg_recover.specs.RulesHoldOrFail.{HasPoint};
+ghost use Rattle.depth_cert.specs.Proper.{IsWellNode};
+ghost use Rattle.depth_check.specs.DutiesHold.{HasPoints, HasExit};
 ghost use Rattle.value_domain.specs.State.{AreWell, AreBelow, AreValues};
 ghost use Rattle.vd_transfer.specs.Changes.{state_after};
 ghost use Rattle.depth_cert.specs.Exits.{after_of, exit_of, lower_values, ExitCovers};
-ghost use Rattle.depth_check.specs.Points.{IsPointCheck};
+ghost use Rattle.depth_check.specs.PointChecks.{IsPointCheck};
 
-use crate::any_nodes::{AnyNode, NodeForm};
+use crate::any_nodes::{AnyNode, NodeForm, plain_has_after};
 use crate::points::PointCheck;
 use cfg_recover::{after, covers_after};
 use depth_cert::{Exit, Node};
@@ -256,17 +256,6 @@ fn plain_has_read(node: &Node, addr: u32, s: &State, exit: &ExitAt<'_>, kind: u8
     ensures { IsTrue result ↔ HasPoint node.now addr (after_of s.now exit.now kind) }
 {
     plain_has_after(node, addr, s, &exit.read(), kind)
-}
-
-fn plain_has_after(node: &Node, addr: u32, s: &State, exit: &Exit, kind: u8) -> bool
-    requires node { IsWellNode node.now }
-    requires state { AreWell (after_of s.now exit.now kind).regs }
-    ensures { IsTrue result ↔ HasPoint node.now addr (after_of s.now exit.now kind) }
-{
-    match node.point(addr) {
-        Some(point) => covers_after(&point.state, s, exit, kind),
-        None => false,
-    }
 }
 
 fn packed_has_after(

@@ -1,19 +1,16 @@
 // The rules of a node, and its first fault.
-ghost use Rattle.std.specs.Prelude.{◌≡◌, All, ◌↔◌, IsTrue, ◌<◌, ◌^◌, Contains, MatchOption};
-ghost use Rattle.cfg_recover.specs.Accepting.{limits_in, HoldsAtEntry, HoldsAtNode};
-ghost use Rattle.depth_check.specs.LeastBroken.{IsWellNode};
-ghost use Rattle.value_domain.specs.State.{AreValues};
+ghost use Rattle.std.specs.Prelude.{◌≡◌, All, ◌<◌, ◌^◌, Contains, MatchOption};
+ghost use Rattle.cfg_recover.specs.RulesHoldOrFail.{limits_in, HoldsAtNode};
+ghost use Rattle.depth_cert.specs.Proper.{IsWellNode};
 ghost use Rattle.cfg_recover.specs.SetOperations.{HoldsResults};
-ghost use Rattle.value_domain.specs.Values.{IsValue};
-ghost use Rattle.depth_check.specs.Interrupts.{InterruptsHold, HoldsWith, LastInterruptsHold};
+ghost use Rattle.depth_check.specs.Interrupts.{LastInterruptsHold};
 ghost use Rattle.depth_check.specs.NodeFaults.{IsNodeFault};
 ghost use Rattle.depth_check.specs.NodeFaults as nodes;
 
 use crate::any_certs::AnyCert;
-use crate::any_nodes::{AnyNode, NodeForm};
-use crate::entry_rules::broken_by_irqs;
+use crate::any_nodes::{AnyNode, NodeForm, packed_holds_at_entry, plain_holds_at_entry};
 use crate::fast_paths::{CheckedRegisters, NO_REGISTERS};
-use crate::last_interrupts::LastInterrupts;
+use crate::last_interrupts::{LastInterrupts, common_stack};
 use crate::node_covers::are_values;
 use crate::points::{CurrentPoint, PointCheck, PointScratch, broken_by_point};
 use crate::rules::BAD_VALUES;
@@ -22,8 +19,7 @@ use depth_cert::Node;
 use elf_image::Image;
 use packed_cert::{PackedNode, PointWalk};
 use tcd_plan::Plan;
-use value_domain::{A10_SLOT, Bounds, Val};
-use vd_transfer::{A10, Base, put_register, unchanged};
+use value_domain::Bounds;
 
 /// A rule that fails in a node, and the address where it fails.
 #[derive(Clone, Copy)]
@@ -185,34 +181,6 @@ fn plain_fault<'a>(
     if good { None } else { Some(entry_fault(entry)) }
 }
 
-/// Whether a node on bytes has a point at its entry, and values of the plan in its exit if it has
-/// one.
-fn packed_holds_at_entry(b: &Bounds, node: &PackedNode<'_>) -> bool
-    ensures { IsTrue result ↔ HoldsAtEntry b.now node.now }
-{
-    if node.state(node.key.entry, 0).is_none() {
-        return false;
-    }
-    match node.exit() {
-        Some(exit) => exit.are_values(b),
-        None => true,
-    }
-}
-
-/// Whether a node in memory has a point at its entry, and values of the plan in its exit if it has
-/// one.
-fn plain_holds_at_entry(b: &Bounds, node: &Node) -> bool
-    ensures { IsTrue result ↔ HoldsAtEntry b.now node.now }
-{
-    if node.point(node.key.entry).is_none() {
-        return false;
-    }
-    match &node.exit {
-        Some(exit) => are_values(b, &exit.lower),
-        None => true,
-    }
-}
-
 /// The first of two faults: that of a point, and rule 2 at the node's entry unless `good`. An entry
 /// after the point doesn't count yet.
 fn first_of(good: bool, entry: u32, addr: u32, found: Option<u8>) -> Option<Fault>
@@ -244,61 +212,3 @@ fn entry_fault(entry: u32) -> Fault
 fn is_word(addr: u32)
     ensures { addr < 2 ^ 32 }
 {}
-
-/// An A10 with which the entries of interrupts hold at the current point of the walk, if they hold
-/// with the point's own. It is the join of the point's own A10 and the last one that was kept, if
-/// the point needs more only because of A10 and the entries hold with the join; else it is the
-/// point's own.
-///
-/// With the join kept, an A10 that changes from point to point soon needs nothing more: after some
-/// 64 points the join has all of its values.
-#[inline(never)]
-fn common_stack(
-    b: &Bounds,
-    image: &Image,
-    plan: &Plan,
-    cert: &AnyCert<'_>,
-    any_node: &AnyNode<'_>,
-    scratch: &NodeScratch<'_>,
-) -> Val
-    requires limits { b.now ≡ limits_in plan.now cert.now }
-    requires nodes { All IsWellNode cert.now.nodes }
-    requires node { IsWellNode any_node.now }
-    requires values { AreValues b.now scratch.now.walk.current.regs }
-    requires holds { InterruptsHold plan.now cert.now any_node.now scratch.now.walk.current }
-    requires interrupts { LastInterruptsHold plan.now cert.now scratch.now.interrupts }
-    ensures value { IsValue b.now result }
-    ensures holds { HoldsWith plan.now cert.now any_node.now scratch.now.walk.current result }
-{
-    let s = scratch.walk.state();
-    let own = s.regs[A10_SLOT].copy();
-    let Some(sp) = scratch.interrupts.join_stack(b, any_node, s) else {
-        return own;
-    };
-    let _most_words = b.most_words();
-    let mut entry = unchanged(s);
-    entry.base = Base::Any;
-    entry.first = put_register(A10, sp.copy());
-    entry.ie = false;
-    entry.lower = true;
-    entry.locals.clear();
-    let at = PointCheck {
-        bounds: b,
-        image,
-        plan,
-        cert,
-        node: any_node,
-        point: CurrentPoint {
-            addr: 0,
-            state: s,
-            again: false,
-            known: false,
-            next: None,
-            walk: None,
-        },
-    };
-    match broken_by_irqs(&at, interrupts(plan, s).as_slice(), entry) {
-        Some(_) => own,
-        None => sp,
-    }
-}

@@ -1,23 +1,28 @@
 // The rules at a point of a node.
-ghost use Rattle.std.specs.Prelude.{◌≡◌, All, IfSome, ◌↔◌, IsTrue};
-ghost use Rattle.cfg_recover.specs.Accepting.{limits_in, RuleHolds};
-ghost use Rattle.depth_check.specs.LeastBroken.{IsWellNode, Finds};
-ghost use Rattle.depth_check.specs.DutyTests.{StandsAt, HasOwnNeed};
+ghost use Rattle.std.specs.Prelude.{◌≡◌, All, IfSome, ◌↔◌, IsTrue, ◌<◌};
+ghost use Rattle.cfg_recover.specs.RulesHoldOrFail.{limits_in, RuleHolds};
+ghost use Rattle.depth_check.specs.LeastBroken.{Finds};
+ghost use Rattle.depth_cert.specs.Proper.{IsWellNode};
+ghost use Rattle.depth_check.specs.DutiesHold.{StandsAt};
 ghost use Rattle.value_domain.specs.State.{AreValues};
-ghost use Rattle.depth_check.specs.Points.{IsPointCheck, LooksAhead};
+ghost use Rattle.depth_check.specs.PointChecks.{IsPointCheck, LooksAhead};
 ghost use Rattle.cfg_recover.specs.SetOperations.{HoldsResults};
 ghost use Rattle.depth_check.specs.CheckedRegisters.{RegistersHoldAt};
 ghost use Rattle.depth_check.specs.Interrupts.{InterruptsHold};
-ghost use Rattle.depth_check.specs.Forms.{point_here};
+ghost use Rattle.depth_check.specs.PlainOrPackedCerts.{point_here};
+ghost use Rattle.vd_transfer.specs.Changes.{state_after};
+ghost use Rattle.vd_transfer.specs.EffectsOnStates.{transfer_of};
+ghost use Rattle.cfg_recover.specs.LocalFaults.{StandsFaultless};
+ghost use Rattle.cfg_recover.specs.Duties.{loaded_at};
 
 use crate::any_certs::AnyCert;
 use crate::any_nodes::AnyNode;
-use crate::entry_rules::{broken_by_duties, least};
+use crate::entry_rules::broken_by_duties;
 use crate::fast_paths::{CheckedRegisters, broken_by_idle, idle_next};
 use crate::node_covers::are_values;
-use crate::rules::{BAD_VALUES, SMALL_NEED};
+use crate::rules::{BAD_VALUES, SMALL_NEED, has_own_need, least};
 use arrayvec::ArrayVec;
-use cfg_recover::{KnownCodes, OperationCache, check_located, start_key, unless};
+use cfg_recover::{KnownCodes, Located, OperationCache, check_located, step_change, unless};
 use elf_image::Image;
 use packed_cert::PointWalk;
 use tcd_plan::Plan;
@@ -148,20 +153,36 @@ fn has_values(b: &Bounds, point: CurrentPoint<'_>) -> bool
     are_values(b, &point.state.regs)
 }
 
-/// Whether the node's need has room for the point's locals and, at the start's entry, leaves the
-/// reserve free.
-pub(crate) fn has_own_need(at: &PointCheck<'_, '_>) -> bool
-    ensures { IsTrue result
-        ↔ HasOwnNeed at.now.image.now at.now.plan.now at.now.node.now (point_here at.now.point) }
+/// Writes what the instruction changes into the change of `scratch`. The result of an operation on
+/// two sets may be in its cache.
+#[inline(always)]
+pub(crate) fn change_at(at: &PointCheck<'_, '_>, found: &Located, scratch: &mut PointScratch)
+    requires point { IsPointCheck at.now }
+    requires found { StandsFaultless at.now.bounds.now at.now.image.now at.now.plan.now
+        at.now.node.now.key at.now.point.addr at.now.point.state.now found.now }
+    requires results { HoldsResults at.now.bounds.now scratch.old.cache }
+    ensures change { state_after at.now.point.state.now scratch.new.change
+        ≡ transfer_of at.now.bounds.now at.now.plan.now found.now.shape at.now.point.state.now
+        (loaded_at at.now.bounds.now at.now.image.now at.now.plan.now at.now.point.state.now
+        found.now.shape) }
+    ensures values { AreValues at.now.bounds.now
+        (state_after at.now.point.state.now scratch.new.change).regs }
+    ensures results { HoldsResults at.now.bounds.now scratch.new.cache }
+    ensures registers { scratch.new.registers ≡ scratch.old.registers }
 {
-    let image = at.image;
-    let plan = at.plan;
-    let node = at.node;
-    if usize::from(node.need) < at.point.state.locals.len() {
-        return false;
+    let s = at.point.state;
+    if scratch
+        .cache
+        .change(at.bounds, at.plan, found.shape, s, &mut scratch.change)
+    {
+        return;
     }
-    if at.point.addr == image.entry && node.key == start_key(image, plan) {
-        return u32::from(node.need) <= plan.areas - plan.reserve;
-    }
-    true
+    step_change(
+        at.bounds,
+        at.image,
+        at.plan,
+        found.shape,
+        s,
+        &mut scratch.change,
+    );
 }

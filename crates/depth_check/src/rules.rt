@@ -1,4 +1,11 @@
 // The rules that are tested here, by what fails. `check_located` of cfg_recover tests the others.
+ghost use Rattle.std.specs.Prelude.{◌≡◌, ◌↔◌, IsTrue};
+ghost use Rattle.depth_check.specs.LeastBroken as finding;
+ghost use Rattle.depth_check.specs.DutiesHold.{HasOwnNeed};
+ghost use Rattle.depth_check.specs.PlainOrPackedCerts.{point_here};
+
+use crate::points::PointCheck;
+use cfg_recover::start_key;
 
 /// Rule 1: the start has no node, or no point that covers the start state.
 pub(crate) const NO_START: u8 = 1;
@@ -29,3 +36,32 @@ pub(crate) const NO_SYSTEM_CALL: u8 = 12;
 
 /// Rule 14: the need of the node is too small. It is the last rule that a point may break.
 pub(crate) const SMALL_NEED: u8 = 14;
+
+/// The lesser of two rules that fail.
+pub(crate) fn least(a: Option<u8>, b: Option<u8>) -> Option<u8>
+    ensures { result ≡ finding.least_of a b }
+{
+    match (a, b) {
+        (None, found) => found,
+        (found, None) => found,
+        (Some(a), Some(b)) => Some(a.min(b)),
+    }
+}
+
+/// Whether the node's need has room for the point's locals and, at the start's entry, leaves the
+/// reserve free.
+pub(crate) fn has_own_need(at: &PointCheck<'_, '_>) -> bool
+    ensures { IsTrue result
+        ↔ HasOwnNeed at.now.image.now at.now.plan.now at.now.node.now (point_here at.now.point) }
+{
+    let image = at.image;
+    let plan = at.plan;
+    let node = at.node;
+    if usize::from(node.need) < at.point.state.locals.len() {
+        return false;
+    }
+    if at.point.addr == image.entry && node.key == start_key(image, plan) {
+        return u32::from(node.need) <= plan.areas - plan.reserve;
+    }
+    true
+}

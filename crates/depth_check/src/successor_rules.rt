@@ -1,24 +1,21 @@
 // Rule 4 for the successors of a point in its frame.
-ghost use Rattle.std.specs.Prelude.{◌≡◌, ◌+◌, [], ◌∷◌, unwrap_or, ◌<◌, ◌++◌, false, true};
-ghost use Rattle.value_domain.specs.State.{AreValues};
-ghost use Rattle.vd_transfer.specs.Changes.{state_after};
-ghost use Rattle.depth_check.specs.Points.{IsPointCheck, Breaks};
-ghost use Rattle.tc_isa.specs.Bounded.{IsShape, IsTarget};
-ghost use Rattle.vd_transfer.specs.EffectsOnStates.{transfer_of};
-ghost use Rattle.cfg_recover.specs.Changes.{StandsFaultless};
+ghost use Rattle.std.specs.Prelude.{◌≡◌, ◌+◌, [], unwrap_or, ◌<◌, ◌++◌, false, true};
+ghost use Rattle.depth_check.specs.PointChecks.{IsPointCheck};
+ghost use Rattle.depth_check.specs.LeastBroken.{Breaks};
+ghost use Rattle.tc_isa.specs.InBounds.{IsShape, IsTarget};
+ghost use Rattle.cfg_recover.specs.LocalFaults.{StandsFaultless};
 ghost use Rattle.cfg_recover.specs.LocalRules.{targets_of, named_by};
-ghost use Rattle.cfg_recover.specs.Duties.{owed, jump, jumps_to, jump_on, loaded_at, next_of, successors_of};
+ghost use Rattle.cfg_recover.specs.Duties.{jump, jumps_to, jump_on, next_of, successors_of};
 ghost use Rattle.cfg_recover.specs.SetOperations.{HoldsResults};
 ghost use Rattle.depth_check.specs.CheckedRegisters.{RegistersHoldAt, JumpsHoldAt};
 ghost use Rattle.vd_transfer.specs.Registers.{reg_of};
 ghost use Rattle.vd_transfer.specs.Branches.{refine_of};
 
-use crate::entry_rules::least;
-use crate::fast_paths::{keeps_state, only_narrows};
-use crate::node_covers::{has_changed_next, has_kept_next, has_next, has_points};
-use crate::points::{PointCheck, PointScratch};
-use crate::rules::NO_POINT;
-use cfg_recover::{Located, step_change, targets, unless};
+use crate::fast_paths::{broken_by_pass, keeps_state, only_narrows};
+use crate::node_covers::{has_changed_next, has_kept_next, has_points};
+use crate::points::{PointCheck, PointScratch, change_at};
+use crate::rules::{NO_POINT, least};
+use cfg_recover::{Located, targets, unless};
 use tc_isa::{Shape, Target};
 use vd_transfer::{Change, change_on};
 
@@ -55,14 +52,6 @@ pub(crate) fn broken_by_successors(
             None,
         _ => broken_by_next(at, found, scratch),
     }
-}
-
-/// The least rule that a step breaks which changes nothing.
-pub(crate) fn broken_by_pass(at: &PointCheck<'_, '_>, next: u32) -> Option<u8>
-    requires { IsPointCheck at.now }
-    ensures { Breaks at.now (owed 4 (jump next at.now.point.state.now) ∷ []) result }
-{
-    unless(has_next(at, next), NO_POINT)
 }
 
 /// The least rule that both sides of a branch break.
@@ -217,38 +206,4 @@ fn broken_by_step(
     change_at(at, found, scratch);
     let next = at.point.addr.wrapping_add(found.size);
     unless(has_changed_next(at, next, &scratch.change), NO_POINT)
-}
-
-/// Writes what the instruction changes into the change of `scratch`. The result of an operation on
-/// two sets may be in its cache.
-#[inline(always)]
-fn change_at(at: &PointCheck<'_, '_>, found: &Located, scratch: &mut PointScratch)
-    requires point { IsPointCheck at.now }
-    requires found { StandsFaultless at.now.bounds.now at.now.image.now at.now.plan.now
-        at.now.node.now.key at.now.point.addr at.now.point.state.now found.now }
-    requires results { HoldsResults at.now.bounds.now scratch.old.cache }
-    ensures change { state_after at.now.point.state.now scratch.new.change
-        ≡ transfer_of at.now.bounds.now at.now.plan.now found.now.shape at.now.point.state.now
-        (loaded_at at.now.bounds.now at.now.image.now at.now.plan.now at.now.point.state.now
-        found.now.shape) }
-    ensures values { AreValues at.now.bounds.now
-        (state_after at.now.point.state.now scratch.new.change).regs }
-    ensures results { HoldsResults at.now.bounds.now scratch.new.cache }
-    ensures registers { scratch.new.registers ≡ scratch.old.registers }
-{
-    let s = at.point.state;
-    if scratch
-        .cache
-        .change(at.bounds, at.plan, found.shape, s, &mut scratch.change)
-    {
-        return;
-    }
-    step_change(
-        at.bounds,
-        at.image,
-        at.plan,
-        found.shape,
-        s,
-        &mut scratch.change,
-    );
 }

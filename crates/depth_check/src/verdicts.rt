@@ -1,6 +1,20 @@
 // The answer of a check.
+ghost use Rattle.std.specs.Prelude.{Some};
+ghost use Rattle.depth_check.specs.CheckAnswers.{Judges};
 
+use crate::any_certs::AnyCert;
+use crate::certificates::start_node;
+use crate::fast_paths::NO_REGISTERS;
+use crate::last_interrupts::LastInterrupts;
+use crate::nodes::{NodeScratch, node_fault};
+use crate::points::{PointScratch, no_change};
+use crate::rules::NO_START;
+use cfg_recover::{KnownCodes, OperationCache, start_key};
 use depth_cert::Key;
+use elf_image::Image;
+use packed_cert::PointWalk;
+use tcd_plan::Plan;
+use value_domain::Bounds;
 
 /// The certified number of areas, or the first rule that fails, with its node's key and its
 /// address.
@@ -8,4 +22,40 @@ use depth_cert::Key;
 pub enum Verdict {
     Yes(u32),
     No { rule: u8, key: Key, addr: u32 },
+}
+
+/// The answer of a check: the need of the start, or the first rule that fails.
+pub(crate) fn judge(image: &Image, plan: &Plan, cert: &AnyCert<'_>) -> Verdict
+    ensures { Judges image.now plan.now cert.now result }
+{
+    let b = Bounds::of(plan, cert.version);
+    let Some(start) = start_node(image, plan, cert) else {
+        return Verdict::No {
+            rule: NO_START,
+            key: start_key(image, plan),
+            addr: image.entry,
+        };
+    };
+    let mut scratch = NodeScratch {
+        point: PointScratch {
+            change: no_change(),
+            cache: OperationCache::empty(),
+            codes: KnownCodes::new(),
+            registers: NO_REGISTERS,
+        },
+        interrupts: LastInterrupts::none(),
+        walk: PointWalk::none(),
+    };
+    for i in 0..cert.len() {
+        if let Some(node) = cert.get(i) {
+            if let Some(fault) = node_fault(&b, image, plan, cert, &node, &mut scratch) {
+                return Verdict::No {
+                    rule: fault.rule,
+                    key: node.key,
+                    addr: fault.addr,
+                };
+            }
+        }
+    }
+    Verdict::Yes(u32::from(start.need))
 }

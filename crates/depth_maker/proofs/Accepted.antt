@@ -12,22 +12,22 @@ use Rattle.depth_cert.specs.declared.keys.Key.{Key}
 use Rattle.depth_cert.specs.declared.points.Exit.{Exit}
 use Rattle.depth_cert.specs.declared.points.Point.{Point}
 use Rattle.depth_cert.specs.Keys.{byte_of, key_number, number_of_key, IsKey, same_key}
-use Rattle.depth_cert.specs.Points.{find_point, IsPoint, IsExit}
-use Rattle.depth_cert.specs.Nodes.{NodeData, IsNode}
+use Rattle.depth_cert.specs.Points.{find_point, IsPoint}
+use Rattle.depth_cert.specs.Exits.{IsExit, after_of, ExitCovers}
+use Rattle.depth_cert.specs.Nodes.{NodeData, IsNode, need_of}
 use Rattle.depth_cert.specs.Certs.{CertData, IsCert, find_node}
 use Rattle.cfg_recover.specs.Code.{IsCode}
 use Rattle.cfg_recover.specs.Entries.{start_key, start_state}
-use Rattle.depth_cert.specs.Exits.{after_of, ExitCovers}
 use Rattle.cfg_recover.specs.LocalFaults.{IsFaultless}
 use Rattle.cfg_recover.specs.Duties.{Duty, jump, enter, resume, leave, Owed, duties_of}
-use Rattle.cfg_recover.specs.Accepting.{limits_in, HasPoint, IsMet, IsNeedAbove, RuleHolds, HoldsAtNode, Accepts, need_of}
-use Rattle.cfg_recover.specs.Assignments.{Place, point, exit, known_at, known_in, CoversAt, asked, HasDuty, Closed, first_place}
+use Rattle.cfg_recover.specs.RulesHoldOrFail.{limits_in, HasPoint, IsMet, IsNeedAbove, RuleHolds, HoldsAtNode, Accepts}
+use Rattle.cfg_recover.specs.Assignments.{Place, point, exit, known_at, known_in, CoversAt, asked, HasDuty, Closed, first_place, AllFaultless}
 use Rattle.depth_cert.specs.Known.{Known, state, leaving}
 use Rattle.depth_cert.specs.Proper.{IsProper, IsProperKnown}
-use Rattle.cfg_recover.specs.Refusals.{MeetsNeeds}
+use Rattle.cfg_recover.specs.CertRefusals.{MeetsNeeds}
 use Rattle.cfg_recover.proofs.CodeLaws.{IsCode-bounded}
-use Rattle.depth_maker.specs.Growth.{IsGround}
-use Rattle.depth_maker.specs.ProperAssignments.{AllProper, AllFaultless}
+use Rattle.depth_maker.specs.DutiesGrow.{IsGround}
+use Rattle.depth_maker.specs.ProperAssignments.{AllProper}
 use Rattle.frame_places.proofs.KeyLaws.{key_tells, key_same}
 use Rattle.depth_maker.proofs.PlaceLaws.{resumed_some, one_state}
 use Rattle.depth_maker.proofs.KeyDuties.{HasKey, duties_keys}

@@ -10,13 +10,13 @@ use Rattle.depth_cert.specs.declared.keys.Key.{Key}
 use Rattle.cfg_recover.specs.Entries.{start_state}
 use Rattle.depth_cert.specs.Exits.{after_of}
 use Rattle.cfg_recover.specs.Duties.{Duty, jump, enter, resume, leave}
-use Rattle.cfg_recover.specs.Assignments.{Place, point, exit, Assignment, same_place, CoversAt, IsBelowAt, raised, asked, resumed, HasDuty, Asks, Joins, Derived, begins, joins, Closed, first_place}
+use Rattle.cfg_recover.specs.Assignments.{Place, point, exit, Assignment, same_place, CoversAt, IsBelowAt, raised, asked, resumed, HasDuty, Asks, Joins, Derived, begins, joins, Closed, first_place, AllFaultless}
 use Rattle.depth_cert.specs.Known.{Known, state, leaving, CoversKnown, joined_known}
 use Rattle.depth_cert.specs.Proper.{IsProper, IsProperKnown}
-use Rattle.cfg_recover.specs.Refusals.{HasManyNodes, HasManyPoints, IsTooLarge, HasFault, own, locals, IsFault, derived, limits}
-use Rattle.depth_maker.specs.Growth.{IsDutyBelow}
-use Rattle.depth_maker.specs.ProperAssignments.{IsProperDuty, AllProper, AllFaultless}
-use Rattle.depth_maker.specs.Laws.{AreLawful}
+use Rattle.cfg_recover.specs.CertRefusals.{HasManyNodes, HasManyPoints, IsTooLarge, HasFault, own, locals, IsFault, derived, limits}
+use Rattle.depth_maker.specs.DutiesGrow.{IsDutyBelow}
+use Rattle.depth_maker.specs.ProperAssignments.{IsProperDuty, AllProper}
+use Rattle.depth_maker.specs.MakerLaws.{AreLawful}
 use Rattle.depth_maker.proofs.PlaceLaws.{place_tells, over_state, over_exit, resumed_some, from_if}
 
 module _ (b : Limits) (image : ImageData) (plan : PlanData) (laws : AreLawful b image plan) where

@@ -13,7 +13,7 @@ use Rattle.depth_cert.specs.declared.keys.Key.{Key}
 use Rattle.depth_cert.specs.Keys.{same_key}
 use Rattle.cfg_recover.specs.Assignments.{Place, point, exit, Assignment, same_place, frame_of, Asks, Joins, Derived, raised}
 use Rattle.depth_cert.specs.Known.{Known}
-use Rattle.cfg_recover.specs.Refusals.{IsFault}
+use Rattle.cfg_recover.specs.CertRefusals.{IsFault}
 use Rattle.depth_maker.specs.Counts.{AreCounted, AreFew, IsCountedIn}
 use Rattle.depth_maker.proofs.CountLaws.{none_some, distinct_more, frame_stands, counted_rises, counted_exit, counted_point, counted_entry, passed_points, passed_frames}
 use Rattle.depth_maker.proofs.Reached.{entry_of}
@@ -27,7 +27,7 @@ use Rattle.frame_places.specs.Marks.{value_for}
 use Rattle.frame_places.specs.declared.places.Marked.{Marked}
 use Rattle.depth_maker.specs.Spots.{spot_of, place_of}
 use Rattle.frame_places.specs.Counting.{points_after, frames_after, Passing}
-use Rattle.depth_maker.specs.Table.{Answered}
+use Rattle.depth_maker.specs.Answers.{Answered}
 
 -- few spots are few places
 places_length : (ps : List Spot) → length (map place_of ps) ≡ length ps

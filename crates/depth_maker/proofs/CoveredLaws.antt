@@ -13,9 +13,10 @@ use Rattle.cfg_recover.specs.Assignments.{Assignment, CoversAt, Joins, Place, po
 use Rattle.cfg_recover.specs.Duties.{Owed, enter, owed}
 use Rattle.cfg_recover.specs.Entries.{call_key}
 use Rattle.cfg_recover.proofs.Members.{contains_map}
-use Rattle.depth_maker.specs.Covered.{AreCalled, EntriesCovered, IsCallEntered, IsCallOf, IsWithinCall, called_key}
+use Rattle.depth_maker.specs.Covered.{AreCalled, EntriesCovered, IsCallEntered, IsCallOf, IsWithinCall}
+use Rattle.depth_maker.specs.EnteredFrames.{called_key}
 use Rattle.depth_maker.specs.ProperAssignments.{AllProper}
-use Rattle.depth_maker.specs.Laws.{AreLawful}
+use Rattle.depth_maker.specs.MakerLaws.{AreLawful}
 use Rattle.depth_maker.specs.TableView.{Settled, TableView}
 use Rattle.depth_maker.specs.declared.covered.CoveredEntries.{CoveredEntries}
 use Rattle.depth_maker.specs.declared.last_call.LastCall.{LastCall}

@@ -9,16 +9,16 @@ use Rattle.tc_isa.specs.declared.shapes.Arg.{Arg}
 use Rattle.tc_isa.specs.declared.shapes.Cond.{Cond}
 use Rattle.tc_isa.specs.declared.shapes.Shape.{Shape}
 use Rattle.tc_isa.specs.declared.shapes.Shape.TheVariants.{Compute, Load, Branch, Jump, Call, Ret, Rfe, Syscall}
-use Rattle.tc_isa.specs.Bounded.{IsShape}
+use Rattle.tc_isa.specs.InBounds.{IsShape}
 use Rattle.tc_machine.specs.Machine.{moved}
 use Rattle.value_domain.specs.declared.values.Val.{Val}
 use Rattle.value_domain.specs.declared.states.State.{State}
 use Rattle.value_domain.specs.Limits.{Limits}
-use Rattle.value_domain.specs.Values.{IsBelow, any_val}
+use Rattle.value_domain.specs.Values.{IsBelow, any_val, word_val}
 use Rattle.value_domain.specs.State.{Covers, AreBelow, is_lower_slot}
 use Rattle.vd_transfer.specs.Branches.{refine_of}
 use Rattle.vd_transfer.specs.EffectsOnStates.{address_of}
-use Rattle.vd_transfer.specs.Registers.{set_reg, word_val}
+use Rattle.vd_transfer.specs.Registers.{set_reg}
 use Rattle.vd_transfer.specs.Soundness.{IsSetting}
 use Rattle.vd_transfer.proofs.HoldLaws.{same_length}
 use Rattle.store_ranges.proofs.Growth.{loads_grow}
@@ -26,7 +26,7 @@ use Rattle.depth_cert.specs.declared.keys.Key.{Key}
 use Rattle.cfg_recover.specs.Code.{IsCode}
 use Rattle.cfg_recover.specs.Entries.{stack_of, entry_with, call_entry, aln_entry, sys_entry}
 use Rattle.depth_cert.specs.Exits.{lower_values, exit_of, with_lower_from, ExitCovers}
-use Rattle.cfg_recover.specs.LocalRules.{are_aligned}
+use Rattle.store_ranges.specs.Accesses.{are_aligned}
 use Rattle.cfg_recover.specs.LocalFaults.{IsFaultless}
 use Rattle.cfg_recover.specs.Duties.{jump, Owed, owed, loaded_at, duties_of}
 use Rattle.cfg_recover.proofs.CodeLaws.{IsCode-bounded}
@@ -35,7 +35,7 @@ use Rattle.depth_cert.proofs.ExitValues.{after-at, with_lower_length}
 use Rattle.cfg_recover.proofs.DutyView.{DutyAt, next, straight, taken, target, called, called_back, system, system_back, misaligned, interrupt, returns, resumes, duty_at, duty_listed}
 pub use Rattle.cfg_recover.proofs.Members.{contained_map, contained_flat, contained_filter}
 use Rattle.cfg_recover.proofs.Members.{contains_filter}
-use Rattle.depth_maker.specs.Growth.{IsDutyBelow, IsOwedBelow, DutiesGrow, AfterGrows}
+use Rattle.depth_maker.specs.DutiesGrow.{IsDutyBelow, IsOwedBelow, DutiesGrow, AfterGrows}
 use Rattle.depth_maker.proofs.StateGrowth.{reg_grows, set_covers}
 use Rattle.depth_maker.proofs.EffectGrowth.{transfer_covers, address_grows, address_value, branch_grows}
 use Rattle.depth_maker.proofs.OwnGrowth.{targets_within, aligned_falls, setting_of}

@@ -10,21 +10,21 @@ use Rattle.tc_isa.specs.declared.shapes.Op.{Op}
 use Rattle.tc_isa.specs.declared.shapes.Op.TheVariants.{Add, Sub, Sh}
 use Rattle.tc_isa.specs.declared.shapes.Shape.{Shape}
 use Rattle.tc_isa.specs.declared.shapes.Shape.TheVariants.{Compute, Scaled, Load, Store, Branch, Svlcx, Rslcx, Bisr, Enable, Disable, Mfcr}
-use Rattle.tc_isa.specs.Bounded.{IsArg, IsShape}
+use Rattle.tc_isa.specs.InBounds.{IsArg, IsShape}
 use Rattle.value_domain.specs.declared.values.Val.{Val}
 use Rattle.value_domain.specs.declared.states.State.{State}
 use Rattle.value_domain.specs.Limits.{Limits, AreLimits}
 use Rattle.value_domain.specs.Sets.{Among, Within}
-use Rattle.value_domain.specs.Values.{IsValue, IsBelow, any_val, members, cover}
+use Rattle.value_domain.specs.Values.{IsValue, IsBelow, any_val, members, cover, word_val}
 use Rattle.value_domain.specs.State.{Covers, AreBelow, is_lower_slot}
 use Rattle.value_domain.proofs.CoverLaws.{cover_mono}
 use Rattle.value_domain.proofs.RangeLaws.{one_value, cover_value, members_below, any_value}
 use Rattle.vd_transfer.specs.Operations.{value_of}
 use Rattle.vd_transfer.specs.Refinement.{kept_left, kept_right, kept_both, holds}
 use Rattle.value_domain.specs.Meets.{cover_some}
-use Rattle.vd_transfer.specs.Registers.{reg_of, arg_of, set_reg, write_reg, word_val}
+use Rattle.vd_transfer.specs.Registers.{reg_of, arg_of, set_reg, write_reg, set_arg}
 use Rattle.vd_transfer.specs.EffectsOnStates.{with_base, access_of, forgotten_from, transfer_of, address_of, saved_lower, restored_lower}
-use Rattle.vd_transfer.specs.Branches.{is_reg, set_arg, with_one, with_two, state_on_side, with_lowered_counter, refine_of}
+use Rattle.vd_transfer.specs.Branches.{is_reg, with_one, with_two, state_on_side, with_lowered_counter, refine_of}
 use Rattle.vd_transfer.specs.Soundness.{IsSetting}
 use Rattle.vd_transfer.proofs.HoldLaws.{reg_value, arg_value}
 use Rattle.value_domain.proofs.MeetLaws.{filter_has, among_any, among_filter, any_among}

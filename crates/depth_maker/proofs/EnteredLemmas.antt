@@ -19,7 +19,8 @@ use Rattle.vd_transfer.specs.Branches.{refine_of}
 use Rattle.vd_transfer.specs.EffectsOnStates.{address_of}
 use Rattle.depth_cert.specs.declared.keys.Key.{Key}
 use Rattle.cfg_recover.specs.Entries.{call_key, irq_key, aln_entry, aln_key, irq_entry}
-use Rattle.cfg_recover.specs.LocalRules.{MayAccess, are_aligned, targets_of}
+use Rattle.cfg_recover.specs.LocalRules.{MayAccess, targets_of}
+use Rattle.store_ranges.specs.Accesses.{are_aligned}
 use Rattle.cfg_recover.specs.Duties.{Duty, jump, enter, resume, leave, Owed, owed, entered_and_back, entries_of, jump_on, jumps_to, leavings_of, misaligned_at, misaligned_of, interrupts_of, successors_of, duties_of}
 use Rattle.cfg_recover.proofs.Members.{contains_flat}
 use Rattle.depth_maker.specs.EnteredFrames.{entered_by, entered_in}

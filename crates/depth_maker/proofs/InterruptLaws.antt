@@ -9,8 +9,8 @@ use Rattle.value_domain.specs.declared.values.Val.{Val}
 use Rattle.value_domain.specs.declared.states.State.{State}
 use Rattle.value_domain.specs.Limits.{Limits}
 use Rattle.value_domain.specs.State.{Covers}
-use Rattle.value_domain.specs.Values.{IsBelow, IsValue, any_val}
-use Rattle.vd_transfer.specs.Registers.{slot, word_val}
+use Rattle.value_domain.specs.Values.{IsBelow, IsValue, any_val, word_val}
+use Rattle.vd_transfer.specs.Registers.{slot}
 use Rattle.depth_cert.specs.declared.keys.Key.{Key}
 use Rattle.depth_cert.specs.Known.{CoversKnown, Known, leaving, state}
 use Rattle.depth_cert.specs.Proper.{IsProper}
@@ -20,7 +20,7 @@ use Rattle.cfg_recover.specs.Entries.{irqs_of, entry_with, irq_entry, irq_key, s
 use Rattle.cfg_recover.proofs.EntryLaws.{entry_length}
 use Rattle.cfg_recover.proofs.Members.{contains_filter, contains_map}
 use Rattle.depth_maker.specs.ProperAssignments.{IsProperDuty, AllProper}
-use Rattle.depth_maker.specs.Laws.{AreLawful}
+use Rattle.depth_maker.specs.MakerLaws.{AreLawful}
 use Rattle.depth_maker.specs.InterruptHandlers.{AreEntered, IsWithinContext, ContextsEntered, IsContextOf, IsContextEntered, context_stack}
 use Rattle.depth_maker.specs.TableView.{Settled, TableView}
 use Rattle.depth_maker.specs.declared.interrupt_contexts.InterruptContext.{InterruptContext}

@@ -10,9 +10,9 @@ use Rattle.value_domain.specs.Limits.{Limits}
 use Rattle.cfg_recover.specs.Assignments.{Place, same_place, CoversAt, Asks, raised, Joins}
 use Rattle.depth_cert.specs.declared.keys.Key.{Key}
 use Rattle.depth_cert.specs.Known.{Known, priority_of, joined_known}
-use Rattle.cfg_recover.specs.Refusals.{derived}
-use Rattle.depth_maker.specs.Laws.{AreLawful}
-use Rattle.depth_maker.specs.TableView.{IsTable, Marks}
+use Rattle.cfg_recover.specs.CertRefusals.{derived}
+use Rattle.depth_maker.specs.MakerLaws.{AreLawful}
+use Rattle.depth_maker.specs.TableView.{IsTable, Marks, seen}
 use Rattle.depth_maker.proofs.TableLaws.{table_rises, settled_stays, joined_covers, derived_proper}
 use Rattle.depth_maker.proofs.PlaceKinds.{unjoined_fault}
 use Rattle.frame_places.specs.declared.places.Spot.{Spot}
@@ -28,13 +28,14 @@ use Rattle.depth_maker.proofs.CountedLemmas.{counted_after}
 use Rattle.depth_maker.proofs.LevelLaws.{rank_rises}
 use Rattle.depth_maker.proofs.LevelSteps.{level_rises}
 use Rattle.depth_maker.specs.Covered.{EntriesCovered}
-use Rattle.depth_maker.specs.Levels.{rank_at}
+use Rattle.depth_maker.specs.TableLevels.{rank_at}
 use Rattle.depth_maker.proofs.CoveredLaws.{covered_stay}
 use Rattle.frame_places.proofs.SpotLemmas.{spot_tells}
 use Rattle.depth_maker.proofs.SpotLemmas.{forth, agrees}
 use Rattle.frame_places.specs.Marks.{AllListed, is_idle, is_queued, mark_for, value_for, AreKnown, Reads, Requeues}
 use Rattle.depth_maker.specs.Counts.{AreFew, IsCountedIn}
-use Rattle.depth_maker.specs.Table.{seen, IsFine, Answered, AreExitsRead}
+use Rattle.depth_maker.specs.TableInvariant.{IsFine, AreExitsRead}
+use Rattle.depth_maker.specs.Answers.{Answered}
 use Rattle.depth_maker.specs.Joins.{Keeps, Joined, JoinedAlone}
 use Rattle.depth_maker.specs.ProperAssignments.{CellsProper}
 use Rattle.frame_places.proofs.MarkLemmas.{sides}

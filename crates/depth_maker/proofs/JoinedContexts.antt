@@ -10,9 +10,9 @@ use Rattle.value_domain.specs.declared.values.Val.{Val}
 use Rattle.value_domain.specs.declared.states.State.{State}
 use Rattle.value_domain.specs.Limits.{AreLimits, Limits}
 use Rattle.value_domain.specs.State.{AreBelow, Covers, join_of}
-use Rattle.value_domain.specs.Values.{IsBelow, IsValue, any_val}
+use Rattle.value_domain.specs.Values.{IsBelow, IsValue, any_val, word_val}
 use Rattle.value_domain.proofs.JoinLaws.{join_least}
-use Rattle.vd_transfer.specs.Registers.{slot, word_val}
+use Rattle.vd_transfer.specs.Registers.{slot}
 use Rattle.depth_cert.specs.Known.{CoversKnown, Known, leaving, state}
 use Rattle.depth_cert.specs.Proper.{IsProper}
 use Rattle.cfg_recover.specs.Assignments.{Assignment, CoversAt, Place, point}

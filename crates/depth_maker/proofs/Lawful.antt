@@ -7,11 +7,10 @@ use Rattle.tcd_plan.specs.PlanData.{PlanData}
 use Rattle.value_domain.specs.declared.values.Val.{Val}
 use Rattle.value_domain.specs.declared.states.State.{State}
 use Rattle.value_domain.specs.Limits.{Limits, AreLimits}
-use Rattle.value_domain.specs.Values.{any_val}
+use Rattle.value_domain.specs.Values.{any_val, word_val}
 use Rattle.value_domain.specs.State.{Covers, joined_states, joined_of, joined_regs, join_of}
 use Rattle.value_domain.proofs.JoinLaws.{join_least, joined_least}
 use Rattle.value_domain.proofs.RegLaws.{get_or-joined, length-joined, length-and}
-use Rattle.vd_transfer.specs.Registers.{word_val}
 use Rattle.depth_cert.specs.declared.points.Exit.{Exit}
 use Rattle.cfg_recover.specs.Entries.{start_state}
 use Rattle.depth_cert.specs.Exits.{ExitCovers, joined_exit}
@@ -19,13 +18,13 @@ use Rattle.depth_cert.specs.Known.{Known, state, leaving, CoversKnown, joined_kn
 use Rattle.depth_cert.specs.Proper.{IsProper, IsProperExit, IsProperKnown}
 use Rattle.cfg_recover.proofs.EntryLaws.{entry_length}
 use Rattle.cfg_recover.proofs.FlowStates.{entry_values}
-use Rattle.depth_maker.specs.Growth.{IsGround}
+use Rattle.depth_maker.specs.DutiesGrow.{IsGround}
 use Rattle.depth_maker.proofs.StateGrowth.{below_same, below_through, covers_same, covers_through, same_locals, set_locals}
 use Rattle.depth_maker.proofs.EffectGrowth.{word_value}
 use Rattle.depth_maker.proofs.OwnGrowth.{faults_fall}
 use Rattle.depth_maker.proofs.DutyGrowth.{after_grows, duties_grow}
 use Rattle.depth_maker.proofs.ProperDuties.{after_proper, duties_proper}
-use Rattle.depth_maker.specs.Laws.{AreLawful}
+use Rattle.depth_maker.specs.MakerLaws.{AreLawful}
 
 -- ---- coverings
 known_same : (v : Known) → CoversKnown v v

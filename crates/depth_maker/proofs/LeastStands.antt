@@ -2,10 +2,9 @@
 use Rattle.elf_image.specs.Images.{ImageData}
 use Rattle.tcd_plan.specs.PlanData.{PlanData}
 use Rattle.value_domain.specs.Limits.{Limits}
-use Rattle.cfg_recover.specs.Assignments.{Assignment, Derived, Closed}
-use Rattle.cfg_recover.specs.Refusals.{IsTooLarge, IsLeast}
-use Rattle.depth_maker.specs.ProperAssignments.{AllFaultless}
-use Rattle.depth_maker.specs.Laws.{AreLawful}
+use Rattle.cfg_recover.specs.Assignments.{Assignment, Derived, Closed, AllFaultless}
+use Rattle.cfg_recover.specs.CertRefusals.{IsTooLarge, IsLeast}
+use Rattle.depth_maker.specs.MakerLaws.{AreLawful}
 use Rattle.depth_maker.proofs.Below.{fault_refuted}
 use Rattle.depth_maker.proofs.TableLaws.{derived_proper}
 

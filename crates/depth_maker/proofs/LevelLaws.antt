@@ -19,8 +19,8 @@ use Rattle.depth_cert.specs.declared.points.Exit as exits
 use Rattle.cfg_recover.specs.Assignments.{raised}
 use Rattle.depth_cert.specs.Known.{Known, state, leaving, CoversKnown, priority_of}
 use Rattle.depth_cert.specs.Proper.{IsProper, IsProperExit, IsProperKnown}
-use Rattle.depth_maker.specs.Levels.{rank_at, rank_of, size_of}
-use Rattle.depth_maker.specs.Laws.{AreLawful}
+use Rattle.depth_maker.specs.TableLevels.{rank_at, rank_of, size_of}
+use Rattle.depth_maker.specs.MakerLaws.{AreLawful}
 
 -- ---- values
 -- an ascending list within another that is no longer has all that the other has

@@ -16,7 +16,7 @@ use Rattle.frame_places.specs.declared.places.Marked.{Marked}
 use Rattle.frame_places.specs.declared.places.Mark.TheVariants.{Queued}
 use Rattle.depth_maker.specs.declared.table.Table as made
 use Rattle.frame_places.specs.Marks.{AllListed, mark_for, value_for}
-use Rattle.depth_maker.specs.Levels.{level, rank_at, Rises, Steps}
+use Rattle.depth_maker.specs.TableLevels.{level, rank_at, Rises, Steps}
 use Rattle.frame_places.specs.Spots.{spot_eq}
 use Rattle.depth_maker.specs.ProperAssignments.{CellsProper}
 use Rattle.depth_maker.specs.Counts.{IsCountedIn}

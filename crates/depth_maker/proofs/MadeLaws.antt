@@ -6,17 +6,17 @@ use Rattle.value_domain.specs.Thresholds.{limits_for}
 use Rattle.depth_cert.specs.declared.keys.Key.{Key}
 use Rattle.value_domain.specs.Limits.{Limits}
 use Rattle.depth_cert.specs.Keys.{IsKey}
-use Rattle.depth_cert.specs.Nodes.{IsNode}
+use Rattle.depth_cert.specs.Nodes.{IsNode, need_of}
 use Rattle.depth_cert.specs.Certs.{CertData, IsCert, find_node}
 use Rattle.cfg_recover.specs.Duties.{enter}
 use Rattle.cfg_recover.specs.Entries.{start_key}
-use Rattle.cfg_recover.specs.Accepting.{Accepts, limits_in, need_of}
+use Rattle.cfg_recover.specs.RulesHoldOrFail.{Accepts, limits_in}
 use Rattle.cfg_recover.specs.Assignments.{Place, point, exit, Assignment, frame_of, Derived, Closed, IsBelowAt, known_in}
 use Rattle.depth_cert.specs.Known.{Known, state, leaving, CoversKnown}
-use Rattle.cfg_recover.specs.Refusals.{MeetsNeeds, IsRefusal}
-use Rattle.depth_maker.specs.Growth.{IsGround}
-use Rattle.depth_maker.specs.Laws.{IsSolution, RefusalsHold, WrittenIsMade, RefusedIsNone}
-use Rattle.depth_maker.specs.Made.{needs_in, IsNoWorse, IsMade, IsWritten, MadeIsLeast}
+use Rattle.cfg_recover.specs.CertRefusals.{MeetsNeeds, IsRefusal}
+use Rattle.depth_maker.specs.DutiesGrow.{IsGround}
+use Rattle.depth_maker.specs.MakerLaws.{IsSolution, RefusalsHold, WrittenIsMade, RefusedIsNone, MadeIsLeast}
+use Rattle.depth_maker.specs.LeastCertMade.{needs_in, IsNoWorse, IsMade, IsWritten}
 use Rattle.depth_maker.proofs.Lawful.{lawful}
 use Rattle.depth_maker.proofs.Below.{derived_below}
 use Rattle.depth_maker.proofs.TableLaws.{derived_proper}

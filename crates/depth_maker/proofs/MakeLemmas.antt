@@ -14,16 +14,16 @@ use Rattle.depth_cert.proofs.BackLaws.{written_is_read}
 use Rattle.depth_cert.proofs.SizeLaws.{cert_most}
 use Rattle.cfg_recover.specs.Entries.{start_key}
 use Rattle.cfg_recover.specs.Assignments.{point, exit}
-use Rattle.cfg_recover.specs.Refusals.{IsFault, IsLeast, IsRefusal, IsRefusalWith, fault, recursion, need}
-use Rattle.depth_maker.specs.Growth.{IsGround}
-use Rattle.depth_maker.specs.Answers.{AreMade, IsGroundOf, IsRefused, Refuses}
+use Rattle.cfg_recover.specs.CertRefusals.{IsFault, IsLeast, IsRefusal, IsRefusalWith, fault, recursion, need}
+use Rattle.depth_maker.specs.DutiesGrow.{IsGround}
+use Rattle.depth_maker.specs.Answers.{IsGroundOf, IsRefused, Refuses, AnsweredOn}
+use Rattle.depth_maker.specs.LeastCertMade.{AreMade, IsMade}
 use Rattle.depth_maker.specs.SpelledCert.{AreWritten}
-use Rattle.depth_maker.specs.Made.{IsMade}
 use Rattle.depth_maker.specs.Needs.{NeedsOn, NeedsAre}
 use Rattle.depth_maker.specs.Recursing.{IsRecursion}
 use Rattle.depth_maker.specs.Rows.{IsSource}
 use Rattle.depth_maker.specs.Spots.{place_of}
-use Rattle.depth_maker.specs.Table.{AnsweredOn, seen}
+use Rattle.depth_maker.specs.TableView.{seen}
 use Rattle.depth_maker.specs.declared.inputs_and_limits.Ground.{Ground}
 use Rattle.depth_maker.specs.declared.answering.MakeErr.{MakeErr}
 use Rattle.depth_maker.specs.declared.answering.MakeErr.TheVariants.{Refused, NoMemory}

@@ -8,14 +8,14 @@ use Rattle.value_domain.specs.Limits.{Limits}
 use Rattle.depth_cert.specs.declared.keys.Key.{Key}
 use Rattle.depth_cert.specs.Certs.{CertData, IsCert}
 use Rattle.cfg_recover.specs.Duties.{Duty, enter}
-use Rattle.cfg_recover.specs.Accepting.{limits_in, Accepts}
-use Rattle.cfg_recover.specs.Assignments.{point, Assignment, known_in, IsBelowAt, Derived, Closed, HasDuty}
+use Rattle.cfg_recover.specs.RulesHoldOrFail.{limits_in, Accepts}
+use Rattle.cfg_recover.specs.Assignments.{point, Assignment, known_in, IsBelowAt, Derived, Closed, HasDuty, AllFaultless}
 use Rattle.depth_cert.specs.Known.{Known, state}
-use Rattle.cfg_recover.specs.Refusals.{Enters, MeetsNeeds, Reaches, here, by_entry, Recurs, IsRefusalWith, fault, recursion, need, IsFault}
-use Rattle.depth_maker.specs.Growth.{IsGround, IsDutyBelow}
+use Rattle.cfg_recover.specs.CertRefusals.{Enters, MeetsNeeds, Reaches, here, by_entry, Recurs, IsRefusalWith, fault, recursion, need, IsFault}
+use Rattle.depth_maker.specs.DutiesGrow.{IsGround, IsDutyBelow}
 use Rattle.depth_maker.proofs.StateGrowth.{same_locals}
-use Rattle.depth_maker.specs.ProperAssignments.{AllProper, AllFaultless}
-use Rattle.depth_maker.specs.Laws.{AreLawful}
+use Rattle.depth_maker.specs.ProperAssignments.{AllProper}
+use Rattle.depth_maker.specs.MakerLaws.{AreLawful}
 use Rattle.depth_maker.proofs.PlaceLaws.{over_state}
 use Rattle.depth_maker.proofs.Below.{derived_below, duty_above, fault_refuted}
 use Rattle.depth_maker.proofs.Lawful.{lawful}

@@ -5,7 +5,7 @@ use Rattle.std.specs.declared.vec.Vec.{Vec}
 use Rattle.std.specs.declared.alloc.Global.{Global}
 use Rattle.depth_cert.specs.declared.keys.Key.{Key}
 use Rattle.cfg_recover.specs.Entries.{start_key}
-use Rattle.cfg_recover.specs.Refusals.{MeetsNeeds}
+use Rattle.cfg_recover.specs.CertRefusals.{MeetsNeeds}
 use Rattle.frame_places.specs.Numbers.{number_in}
 use Rattle.depth_maker.specs.ProperAssignments.{AllProper}
 use Rattle.frame_places.specs.RowNeeds.{IsWithin, LeastNeeds}
@@ -13,7 +13,7 @@ use Rattle.depth_maker.specs.Rows.{IsSource, RowsOn}
 use Rattle.depth_maker.specs.Needs.{NeedsOn}
 use Rattle.depth_maker.specs.Recursing.{IsRecursion}
 use Rattle.depth_maker.specs.Spots.{place_of}
-use Rattle.depth_maker.specs.Table.{seen}
+use Rattle.depth_maker.specs.TableView.{seen}
 use Rattle.depth_maker.proofs.Lawful.{lawful}
 use Rattle.depth_maker.proofs.NeedLaws.{no_recursion}
 use Rattle.depth_maker.proofs.TableLaws.{derived_proper}

@@ -18,10 +18,11 @@ use Rattle.cfg_recover.proofs.Members.{contains_first, contains_flat, contains_m
 use Rattle.frame_places.specs.Marks.{is_queued, mark_for}
 use Rattle.frame_places.specs.declared.refusals.Refusal.{Refusal}
 use Rattle.depth_maker.specs.Covered.{AreCalled, IsCallOf, IsWithinCall}
-use Rattle.depth_maker.specs.Levels.{level}
-use Rattle.depth_maker.specs.Laws.{AreLawful}
+use Rattle.depth_maker.specs.TableLevels.{level}
+use Rattle.depth_maker.specs.MakerLaws.{AreLawful}
 use Rattle.depth_maker.specs.Spots.{spot_of}
-use Rattle.depth_maker.specs.Table.{IsFine, seen}
+use Rattle.depth_maker.specs.TableInvariant.{IsFine}
+use Rattle.depth_maker.specs.TableView.{seen}
 use Rattle.depth_maker.specs.VisitDuties.{DutiesJoined, Owes}
 use Rattle.depth_maker.specs.Visits.{IsVisited}
 use Rattle.depth_maker.specs.declared.last_call.LastCall.{LastCall}

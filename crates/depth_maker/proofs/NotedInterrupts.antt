@@ -10,11 +10,13 @@ use Rattle.depth_cert.specs.Proper.{IsProper}
 use Rattle.cfg_recover.specs.Assignments.{point}
 use Rattle.cfg_recover.specs.Duties.{Owed, interrupts_of}
 use Rattle.frame_places.specs.Marks.{is_queued, mark_for}
-use Rattle.depth_maker.specs.InterruptHandlers.{AreEntered, ContextsEntered, IsAlike, IsContextEntered, IsContextOf, IsWithinContext, a10_of, joined_context}
-use Rattle.depth_maker.specs.Levels.{level}
-use Rattle.depth_maker.specs.Laws.{AreLawful}
+use Rattle.depth_maker.specs.InterruptHandlers.{AreEntered, ContextsEntered, IsAlike, IsContextEntered, IsContextOf, IsWithinContext, joined_context}
+use Rattle.value_domain.specs.State.{a10_of}
+use Rattle.depth_maker.specs.TableLevels.{level}
+use Rattle.depth_maker.specs.MakerLaws.{AreLawful}
 use Rattle.depth_maker.specs.Spots.{spot_of}
-use Rattle.depth_maker.specs.Table.{IsFine, seen}
+use Rattle.depth_maker.specs.TableInvariant.{IsFine}
+use Rattle.depth_maker.specs.TableView.{seen}
 use Rattle.depth_maker.specs.VisitDuties.{Owes, DutiesJoined}
 use Rattle.depth_maker.specs.declared.interrupt_contexts.InterruptContext.{InterruptContext}
 use Rattle.depth_maker.specs.declared.interrupt_contexts.LastInterrupts.{LastInterrupts}

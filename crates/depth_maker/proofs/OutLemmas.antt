@@ -19,12 +19,11 @@ use Rattle.depth_cert.specs.Keys.{IsKey, number_of_key}
 use Rattle.depth_cert.specs.Spelling.{bytes_of, bytes_of_exit, bytes_of_key, bytes_of_node, bytes_of_point, bytes_of_state}
 use Rattle.cfg_recover.proofs.Members.{contains_map}
 use Rattle.cfg_recover.specs.Assignments.{point, exit}
-use Rattle.depth_cert.specs.Known.{Known, state, leaving}
+use Rattle.depth_cert.specs.Known.{Known, state, leaving, IsNoExit, exit_at}
 use Rattle.depth_cert.specs.Proper.{IsProperExit}
-use Rattle.small_states.specs.Incoming.{IsNoExit}
 use Rattle.depth_maker.specs.Needs.{need_by}
 use Rattle.depth_maker.specs.Rows.{IsSource}
-use Rattle.depth_maker.specs.SpelledCert.{AreFrames, ArePointsOf, IsFrameOf, WritesCert, HasBytes, IsOfVersion, IsOrdered, IsSpelledOn, WritesPoint, WritesPoints, WritesExit, WritesNode, WritesNodes, cert_on, exit_at, exit_on, known_on, node_on, point_on, state_at}
+use Rattle.depth_maker.specs.SpelledCert.{AreFrames, ArePointsOf, IsFrameOf, WritesCert, HasBytes, IsOfVersion, IsOrdered, IsSpelledOn, WritesPoint, WritesPoints, WritesExit, WritesNode, WritesNodes, cert_on, exit_on, known_on, node_on, point_on, state_at}
 use Rattle.depth_maker.specs.Spots.{spots_of, spots_on, place_of, spot_of}
 use Rattle.frame_places.specs.Spots.{AreRanged, is_point_of, spot_address}
 use Rattle.frame_places.specs.PointEntries.{is_in_frame, place_at, points_in}
@@ -33,7 +32,7 @@ use Rattle.frame_places.proofs.OrderLemmas.{frame_entries, in_frame_is}
 use Rattle.depth_maker.specs.Counts.{AreCounted}
 use Rattle.depth_maker.specs.declared.table.Table as made
 use Rattle.depth_maker.proofs.PointEntries.{entries_counted, entries_few, rising_spots}
-use Rattle.depth_maker.specs.Table.{seen}
+use Rattle.depth_maker.specs.TableView.{seen}
 use Rattle.frame_places.specs.declared.places.Spot.{Spot}
 use Rattle.frame_places.specs.declared.places.Spot.TheVariants.{Exit}
 use Rattle.depth_maker.specs.declared.rows.Source.{Source}

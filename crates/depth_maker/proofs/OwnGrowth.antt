@@ -7,7 +7,7 @@ use Rattle.tc_isa.specs.declared.shapes.Target.{Target}
 use Rattle.tc_isa.specs.declared.shapes.Target.TheVariants as target
 use Rattle.tc_isa.specs.declared.shapes.Shape.{Shape}
 use Rattle.tc_isa.specs.declared.shapes.Shape.TheVariants.{Load, Store, Jump, Call, Ret, Rfe, Svlcx, Rslcx, Bisr}
-use Rattle.tc_isa.specs.Bounded.{IsShape}
+use Rattle.tc_isa.specs.InBounds.{IsShape}
 use Rattle.value_domain.specs.declared.values.Val.{Val}
 use Rattle.value_domain.specs.declared.values.Val.TheVariants.{Set, Span}
 use Rattle.value_domain.specs.declared.states.State.{State}
@@ -23,11 +23,12 @@ use Rattle.vd_transfer.proofs.HoldLaws.{reg_value}
 use Rattle.vd_transfer.proofs.OpLaws.{span_not_below}
 use Rattle.store_ranges.proofs.Covers.{map_has, among_map}
 use Rattle.depth_cert.specs.declared.keys.Key.{Key}
-use Rattle.cfg_recover.specs.LocalRules.{named_by, targets_of, are_aligned, KnowsTargets, MayReturn, MayReturnFromException, StoresInRange, MayAccess, LocalRule}
+use Rattle.cfg_recover.specs.LocalRules.{named_by, targets_of, KnowsTargets, MayReturn, MayReturnFromException, StoresInRange, MayAccess, LocalRule}
+use Rattle.store_ranges.specs.Accesses.{are_aligned}
 use Rattle.cfg_recover.proofs.CodeLaws.{IsCode-bounded}
 use Rattle.cfg_recover.proofs.Members.{contains_among}
 use Rattle.cfg_recover.proofs.LocalLaws.{are_aligned-is}
-use Rattle.depth_maker.specs.Growth.{IsGround, FaultsFall}
+use Rattle.depth_maker.specs.DutiesGrow.{IsGround, FaultsFall}
 use Rattle.depth_cert.specs.Proper.{IsProper}
 use Rattle.depth_maker.proofs.StateGrowth.{same_locals, reg_grows}
 use Rattle.depth_maker.proofs.EffectGrowth.{address_grows, address_value}

@@ -17,19 +17,18 @@ use Rattle.depth_cert.specs.declared.keys.Key.{Key}
 use Rattle.depth_cert.specs.declared.points.Exit.{Exit}
 use Rattle.cfg_recover.specs.Code.{IsCode}
 use Rattle.depth_cert.specs.Exits.{after_of}
-use Rattle.cfg_recover.specs.LocalFaults.{IsFaultless}
+use Rattle.cfg_recover.specs.LocalFaults.{IsFaultless, StandsFaultless}
 use Rattle.cfg_recover.specs.Duties.{Duty, jump, enter, resume, leave, Owed, owed, entered_and_back, duties_of}
-use Rattle.cfg_recover.specs.declared.local.Located.{Located}
-use Rattle.cfg_recover.specs.Changes.{StandsFaultless}
+use Rattle.cfg_recover.specs.declared.local_rules.Located.{Located}
 use Rattle.cfg_recover.proofs.Members.{contains_map, contains_flat}
 use Rattle.cfg_recover.specs.Assignments.{Assignment, point, exit, HasDuty, Asks, Derived, raised, resumed}
 use Rattle.depth_cert.specs.Known.{Known, state, leaving}
 use Rattle.depth_cert.specs.Proper.{IsProper}
 use Rattle.cfg_recover.proofs.CodeLaws.{IsCode-one}
 use Rattle.depth_maker.specs.ProperAssignments.{IsProperDuty}
-use Rattle.depth_maker.specs.Laws.{AreLawful}
+use Rattle.depth_maker.specs.MakerLaws.{AreLawful}
 use Rattle.depth_maker.specs.Covered.{EntriesCovered}
-use Rattle.depth_maker.specs.TableView.{Settled, IsResumed}
+use Rattle.depth_maker.specs.TableView.{Settled, IsResumed, seen}
 use Rattle.depth_maker.proofs.PlaceLaws.{one_state}
 use Rattle.depth_maker.proofs.TableLaws.{table_marked, settled_again}
 use Rattle.frame_places.specs.declared.places.Spot.{Spot}
@@ -51,7 +50,7 @@ use Rattle.depth_maker.proofs.SpotLemmas.{back}
 use Rattle.depth_maker.proofs.CountedLemmas.{counted_again}
 use Rattle.depth_maker.proofs.CoveredLaws.{covered_again}
 use Rattle.depth_maker.proofs.LevelSteps.{rises_then, same_level}
-use Rattle.depth_maker.specs.Table.{AreExitsRead, seen, IsFine}
+use Rattle.depth_maker.specs.TableInvariant.{AreExitsRead, IsFine}
 use Rattle.depth_maker.specs.VisitDuties.{DutiesJoined, Owes}
 use Rattle.depth_maker.specs.Visits.{PointJoined, AllSettled, IsVisited}
 use Rattle.depth_maker.specs.Joins.{Keeps, Joined, JoinedAlone, JoinsOn}

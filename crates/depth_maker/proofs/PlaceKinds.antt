@@ -12,7 +12,7 @@ use Rattle.depth_cert.specs.Exits.{after_of, joined_exit}
 use Rattle.cfg_recover.specs.Duties.{Duty, jump, enter, resume, leave}
 use Rattle.cfg_recover.specs.Assignments.{Place, point, exit, Assignment, same_place, raised, asked, Asks, Derived, begins, joins, first_place}
 use Rattle.depth_cert.specs.Known.{Known, state, leaving, joined_known}
-use Rattle.cfg_recover.specs.Refusals.{HasFault, locals}
+use Rattle.cfg_recover.specs.CertRefusals.{HasFault, locals}
 use Rattle.depth_maker.proofs.PlaceLaws.{place_tells, from_if, resumed_some}
 
 -- what is known fits the place

@@ -15,9 +15,8 @@ use Rattle.value_domain.specs.declared.states.State.{State}
 use Rattle.depth_cert.specs.declared.keys.Key.{Key}
 use Rattle.depth_cert.specs.Known.{Known, state}
 use Rattle.cfg_recover.specs.Duties.{duties_of, entries_of, interrupts_of, leavings_of, misaligned_of, successors_of}
-use Rattle.cfg_recover.specs.Changes.{StandsFaultless}
-use Rattle.cfg_recover.specs.LocalFaults.{IsFaultless}
-use Rattle.cfg_recover.specs.declared.local.Located.{Located}
+use Rattle.cfg_recover.specs.LocalFaults.{StandsFaultless, IsFaultless}
+use Rattle.cfg_recover.specs.declared.local_rules.Located.{Located}
 use Rattle.frame_places.specs.Marks.{value_for}
 use Rattle.frame_places.specs.Numbers.{number_in}
 use Rattle.frame_places.specs.Spots.{spot_eq}
@@ -25,7 +24,7 @@ use Rattle.frame_places.specs.declared.places.Mark.{Mark}
 use Rattle.frame_places.specs.declared.places.Mark.TheVariants.{Plain}
 use Rattle.frame_places.specs.declared.places.Marked.{Marked}
 use Rattle.frame_places.specs.declared.places.Spot.TheVariants.{Point}
-use Rattle.small_states.specs.Incoming.{IsOutline}
+use Rattle.small_states.specs.CompactForms.{IsOutline}
 use Rattle.small_states.specs.declared.known.Outline.{Outline}
 use Rattle.frame_places.specs.declared.needs.row.NeedRow.{NeedRow}
 use Rattle.depth_maker.specs.EnteredFrames.{EntersNone, IsPlainAt, entered_in}
@@ -33,7 +32,7 @@ use Rattle.depth_maker.specs.InterruptHandlers.{nodes_taken}
 use Rattle.depth_maker.proofs.HandlerLaws.{nodes_taken-is}
 use Rattle.depth_maker.specs.Spots.{place_of}
 use Rattle.depth_maker.specs.Rows.{IsPlainRow, IsPointRow, IsSource}
-use Rattle.depth_maker.specs.Table.{seen}
+use Rattle.depth_maker.specs.TableView.{seen}
 use Rattle.depth_maker.specs.declared.inputs_and_limits.Ground.{Ground}
 use Rattle.depth_maker.specs.declared.rows.Source.{Source}
 use Rattle.depth_maker.proofs.EnteredLemmas.{aligned_owes_none, entered_leavings, entered_parts, entered_successors}

@@ -10,17 +10,17 @@ use Rattle.tc_isa.specs.declared.shapes.Cond.{Cond}
 use Rattle.tc_isa.specs.declared.shapes.Op.TheVariants.{Add, Sh}
 use Rattle.tc_isa.specs.declared.shapes.Shape.{Shape}
 use Rattle.tc_isa.specs.declared.shapes.Shape.TheVariants.{Compute, Scaled, Load, Store, Branch, Svlcx, Rslcx, Bisr, Mfcr}
-use Rattle.tc_isa.specs.Bounded.{IsShape}
+use Rattle.tc_isa.specs.InBounds.{IsShape}
 use Rattle.value_domain.specs.declared.values.Val.{Val}
 use Rattle.value_domain.specs.declared.states.State.{State}
 use Rattle.value_domain.specs.Limits.{Limits}
-use Rattle.value_domain.specs.Values.{IsValue, any_val}
+use Rattle.value_domain.specs.Values.{IsValue, any_val, word_val}
 use Rattle.value_domain.specs.State.{AreValues, is_lower_slot}
 use Rattle.value_domain.proofs.RangeLaws.{any_value}
 use Rattle.vd_transfer.specs.Operations.{value_of}
 use Rattle.vd_transfer.specs.EffectsOnStates.{address_of, transfer_of, with_base, HasRoom}
-use Rattle.vd_transfer.specs.Branches.{set_arg, with_one, with_two, state_on_side, with_lowered_counter, refine_of, is_reg}
-use Rattle.vd_transfer.specs.Registers.{reg_of, arg_of, set_reg, word_val, slot}
+use Rattle.vd_transfer.specs.Branches.{with_one, with_two, state_on_side, with_lowered_counter, refine_of, is_reg}
+use Rattle.vd_transfer.specs.Registers.{set_arg, reg_of, arg_of, set_reg, slot}
 use Rattle.vd_transfer.specs.Soundness.{IsSetting}
 use Rattle.vd_transfer.proofs.HoldLaws.{reg_value, arg_value, same_length, set_values_at}
 use Rattle.vd_transfer.proofs.RegisterLaws.{length-forgotten, forgotten_values}
@@ -34,7 +34,7 @@ use Rattle.cfg_recover.proofs.CodeLaws.{IsCode-bounded}
 use Rattle.cfg_recover.proofs.EntryLaws.{lower_length, entry_length, sys_length}
 use Rattle.depth_cert.proofs.ExitValues.{after-at, with_lower_length}
 use Rattle.cfg_recover.proofs.FlowStates.{entry_values}
-use Rattle.depth_maker.specs.Growth.{IsGround}
+use Rattle.depth_maker.specs.DutiesGrow.{IsGround}
 use Rattle.depth_maker.specs.ProperAssignments.{IsProperDuty, DutiesAreProper, AfterIsProper}
 use Rattle.depth_cert.specs.Proper.{IsProper, IsProperExit}
 use Rattle.depth_maker.proofs.StateGrowth.{covers_same, setting_write, set_locals}

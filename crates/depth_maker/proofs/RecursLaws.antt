@@ -15,14 +15,15 @@ use Rattle.cfg_recover.specs.Duties.{duties_of}
 use Rattle.cfg_recover.specs.Entries.{start_key}
 use Rattle.cfg_recover.specs.Assignments.{Place, point, Assignment, Closed}
 use Rattle.depth_cert.specs.Known.{state}
-use Rattle.cfg_recover.specs.Refusals.{Enters, Reaches, here, by_entry, Recurs, point_number}
+use Rattle.cfg_recover.specs.CertRefusals.{Enters, Reaches, here, by_entry, Recurs, point_number}
 use Rattle.cfg_recover.proofs.CodeLaws.{IsCode-one}
 use Rattle.cfg_recover.proofs.Members.{contains_map}
 use Rattle.depth_maker.specs.Counts.{AreCounted}
 use Rattle.depth_maker.specs.EnteredFrames.{entered_in}
 use Rattle.frame_places.specs.Numbers.{number_in}
 use Rattle.frame_places.specs.NodeGraph as graph
-use Rattle.frame_places.specs.NodeGraph.{edge_to, AreEdges, Leads, along, IsRecurring, IsMarked, AreReaching, AreBetween}
+use Rattle.frame_places.specs.NodeGraph.{edge_to, AreEdges, Leads, along, IsRecurring, AreReaching, AreBetween}
+use Rattle.frame_places.specs.Marks.{IsMarked}
 use Rattle.depth_maker.specs.Rows.{IsRowAt, AreRows}
 use Rattle.frame_places.specs.declared.needs.reach.FrameEdge.{FrameEdge}
 use Rattle.frame_places.specs.declared.needs.row.NeedRow.{NeedRow}

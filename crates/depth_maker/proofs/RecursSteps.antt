@@ -9,11 +9,12 @@ use Rattle.depth_cert.specs.Keys.{number_of_key}
 use Rattle.cfg_recover.specs.Assignments.{point}
 use Rattle.depth_cert.specs.Known.{Known, state}
 use Rattle.frame_places.specs.Numbers.{number_in}
-use Rattle.frame_places.specs.NodeGraph.{IsFirstRecurring, IsMarked, IsRecurring, AreReaching, AreBetween}
+use Rattle.frame_places.specs.NodeGraph.{IsFirstRecurring, IsRecurring, AreReaching, AreBetween}
+use Rattle.frame_places.specs.Marks.{IsMarked}
 use Rattle.depth_maker.specs.Recursing.{EdgesOn, EntersMarked, IsFirstMarked, IsRecursion, RecursBy, RecursFirstBy, orders_in}
 use Rattle.depth_maker.specs.Rows.{IsRowAt, IsSource}
 use Rattle.depth_maker.specs.Spots.{place_of}
-use Rattle.depth_maker.specs.Table.{seen}
+use Rattle.depth_maker.specs.TableView.{seen}
 use Rattle.frame_places.specs.declared.places.Spot.{Spot}
 use Rattle.frame_places.specs.declared.places.Spot.TheVariants.{Point}
 use Rattle.frame_places.specs.declared.needs.reach.FrameEdge.{FrameEdge}

@@ -10,20 +10,20 @@ use Rattle.tc_isa.specs.declared.shapes.Shape.{Shape}
 use Rattle.value_domain.specs.declared.states.State.{State}
 use Rattle.value_domain.specs.Limits.{Limits, AreLimits}
 use Rattle.depth_cert.specs.declared.keys.Key.{Key}
-use Rattle.cfg_recover.specs.declared.local.Located.{Located}
-use Rattle.cfg_recover.specs.Changes.{StandsFaultless}
+use Rattle.cfg_recover.specs.declared.local_rules.Located.{Located}
+use Rattle.cfg_recover.specs.LocalFaults.{StandsFaultless}
 use Rattle.cfg_recover.specs.Duties.{enter, duties_of}
 use Rattle.cfg_recover.specs.Entries.{start_key}
-use Rattle.cfg_recover.specs.Assignments.{Place, point, Assignment, frame_of, Closed, Derived}
+use Rattle.cfg_recover.specs.Assignments.{Place, point, Assignment, frame_of, Closed, Derived, AllFaultless}
 use Rattle.depth_cert.specs.Known.{Known, state}
-use Rattle.cfg_recover.specs.Refusals.{Enters, MeetsNeeds, AreLeastNeeds}
+use Rattle.cfg_recover.specs.CertRefusals.{Enters, MeetsNeeds, AreLeastNeeds}
 use Rattle.cfg_recover.proofs.CodeLaws.{IsCode-one}
 use Rattle.cfg_recover.proofs.Members.{contains_map}
 use Rattle.depth_maker.specs.Counts.{AreCounted}
 use Rattle.depth_maker.specs.EnteredFrames.{entered_in}
 use Rattle.frame_places.specs.Numbers.{number_in}
-use Rattle.depth_maker.specs.ProperAssignments.{AllFaultless, AllProper}
-use Rattle.depth_maker.specs.Laws.{AreLawful}
+use Rattle.depth_maker.specs.ProperAssignments.{AllProper}
+use Rattle.depth_maker.specs.MakerLaws.{AreLawful}
 use Rattle.frame_places.specs.RowNeeds.{Meets, IsLow, IsWithin}
 use Rattle.depth_maker.specs.Rows.{AreRows}
 use Rattle.depth_maker.specs.Needs.{need_by}

@@ -10,7 +10,7 @@ use Rattle.std.proofs.lemmas.List.Elements.{Contains-append_left, Contains-push,
 use Rattle.std.proofs.lemmas.List.Sorted.{Contains-permutation, IsPermutation-sym}
 use Rattle.std.proofs.lemmas.Option.{get_or_from_slice_get, slice_get-get_or, slice_get-map, slice_get_within}
 use Rattle.indexmap.specs.IndexMap.{IndexMap, get, keys}
-use Rattle.small_states.specs.Incoming.{IsStateAt}
+use Rattle.depth_cert.specs.Known.{IsStateAt, Known, state, leaving}
 use Rattle.small_states.specs.declared.known.Outline.{Outline}
 use Rattle.frame_places.specs.Marks.{value_for}
 use Rattle.frame_places.specs.Numbers.{AreNumbers, number_in}
@@ -18,10 +18,10 @@ use Rattle.frame_places.specs.declared.places.Marked.{Marked}
 use Rattle.value_domain.specs.declared.states.State.{State}
 use Rattle.depth_cert.specs.declared.keys.Key.{Key}
 use Rattle.cfg_recover.specs.Assignments.{point, exit}
-use Rattle.depth_cert.specs.Known.{Known, state, leaving}
 use Rattle.depth_cert.specs.Proper.{IsProperKnown}
 use Rattle.depth_maker.specs.Rows.{IsRowAt, AddsPoint, AllKnownBy, HaveRows, IsDraft, IsKnownPoint, IsPlainRow, IsPointRow, IsSource, RowsOn}
-use Rattle.depth_maker.specs.Table.{seen, IsDone}
+use Rattle.depth_maker.specs.TableInvariant.{IsDone}
+use Rattle.depth_maker.specs.TableView.{seen}
 use Rattle.frame_places.specs.Spots.{spot_eq}
 use Rattle.depth_maker.specs.Spots.{place_of}
 use Rattle.depth_maker.proofs.Lawful.{lawful}

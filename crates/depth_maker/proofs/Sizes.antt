@@ -10,15 +10,15 @@ use Rattle.elf_image.specs.Images.{ImageData}
 use Rattle.tcd_plan.specs.PlanData.{PlanData}
 use Rattle.depth_cert.specs.declared.keys.Key.{Key}
 use Rattle.depth_cert.specs.declared.points.Point.{Point}
-use Rattle.depth_cert.specs.Nodes.{NodeData}
-use Rattle.depth_cert.specs.Certs.{CertData, IsCert, count_points}
-use Rattle.cfg_recover.specs.Accepting.{limits_in, Accepts}
+use Rattle.depth_cert.specs.Nodes.{NodeData, count_points}
+use Rattle.depth_cert.specs.Certs.{CertData, IsCert}
+use Rattle.cfg_recover.specs.RulesHoldOrFail.{limits_in, Accepts}
 use Rattle.depth_cert.specs.Keys.{same_key}
 use Rattle.cfg_recover.specs.Assignments.{Place, point, exit, same_place, known_in}
 use Rattle.depth_cert.specs.Known.{Known}
-use Rattle.cfg_recover.specs.Refusals.{HasManyNodes, HasManyPoints, IsTooLarge}
+use Rattle.cfg_recover.specs.CertRefusals.{HasManyNodes, HasManyPoints, IsTooLarge}
 use Rattle.cfg_recover.proofs.Members.{contains_map, contains_flat}
-use Rattle.depth_maker.specs.Growth.{IsGround}
+use Rattle.depth_maker.specs.DutiesGrow.{IsGround}
 use Rattle.frame_places.proofs.KeyLaws.{key_tells, key_same}
 use Rattle.depth_maker.proofs.PlaceLaws.{place_tells, place_same}
 use Rattle.depth_maker.proofs.Accepted.{at_point, at_exit}

@@ -22,22 +22,21 @@ use Rattle.value_domain.proofs.RangeLaws.{span_count, set_value}
 use Rattle.depth_cert.specs.declared.keys.Key.{Key}
 use Rattle.depth_cert.specs.declared.points.Point as located
 use Rattle.depth_cert.specs.Keys.{IsKey, number_of_key, same_key}
-use Rattle.depth_cert.specs.Points.{IsWellOf, IsState, IsPoint, IsExit, find_point}
-use Rattle.depth_cert.specs.Nodes.{NodeData, IsNode}
-use Rattle.depth_cert.specs.Certs.{CertData, IsCert, count_points}
+use Rattle.depth_cert.specs.Points.{IsWellOf, IsState, IsPoint, find_point}
+use Rattle.depth_cert.specs.Exits.{IsExit}
+use Rattle.depth_cert.specs.Nodes.{NodeData, IsNode, need_of, count_points}
+use Rattle.depth_cert.specs.Certs.{CertData, IsCert}
 use Rattle.cfg_recover.specs.Entries.{start_key}
-use Rattle.cfg_recover.specs.Accepting.{need_of}
-use Rattle.cfg_recover.specs.Assignments.{Place, point, exit, Assignment, same_place, frame_of, known_at, known_in, Closed, Derived}
-use Rattle.depth_cert.specs.Known.{Known, state, leaving}
+use Rattle.cfg_recover.specs.Assignments.{Place, point, exit, Assignment, same_place, frame_of, known_at, known_in, Closed, Derived, AllFaultless}
+use Rattle.depth_cert.specs.Known.{Known, state, leaving, exit_at}
 use Rattle.depth_cert.specs.Proper.{IsProper, IsProperExit, IsProperKnown}
-use Rattle.cfg_recover.specs.Refusals.{AreLeastNeeds}
+use Rattle.cfg_recover.specs.CertRefusals.{AreLeastNeeds}
 use Rattle.cfg_recover.proofs.Members.{contains_map}
 use Rattle.depth_maker.specs.Counts.{AreCounted}
-use Rattle.depth_maker.specs.Growth.{IsGround}
-use Rattle.depth_maker.specs.ProperAssignments.{AllFaultless}
-use Rattle.depth_maker.specs.Made.{IsWritten, needs_in}
+use Rattle.depth_maker.specs.DutiesGrow.{IsGround}
+use Rattle.depth_maker.specs.LeastCertMade.{IsWritten, needs_in}
 use Rattle.frame_places.specs.Spots.{AreRanged, is_point_of, spot_address, spot_number}
-use Rattle.depth_maker.specs.SpelledCert.{HasBytes, addresses_in, cert_with, exit_at, node_at, point_at, state_at}
+use Rattle.depth_maker.specs.SpelledCert.{HasBytes, addresses_in, cert_with, node_at, point_at, state_at}
 use Rattle.depth_maker.specs.Spots.{place_of}
 use Rattle.frame_places.specs.declared.places.Spot.{Spot}
 use Rattle.frame_places.specs.declared.places.Spot.TheVariants.{Point, Exit}

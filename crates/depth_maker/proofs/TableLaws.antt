@@ -13,11 +13,11 @@ use Rattle.cfg_recover.specs.Entries.{start_state}
 use Rattle.depth_cert.specs.Exits.{after_of}
 use Rattle.cfg_recover.specs.LocalFaults.{IsFaultless}
 use Rattle.cfg_recover.specs.Duties.{Duty, jump, enter, resume, leave, Owed, duties_of}
-use Rattle.cfg_recover.specs.Assignments.{Place, point, exit, Assignment, same_place, CoversAt, raised, asked, Joins, Derived, begins, joins, Closed, first_place}
+use Rattle.cfg_recover.specs.Assignments.{Place, point, exit, Assignment, same_place, CoversAt, raised, asked, Joins, Derived, begins, joins, Closed, first_place, AllFaultless}
 use Rattle.depth_cert.specs.Known.{Known, state, leaving, CoversKnown}
 use Rattle.depth_cert.specs.Proper.{IsProper, IsProperKnown}
-use Rattle.depth_maker.specs.ProperAssignments.{IsProperDuty, AllProper, AllFaultless}
-use Rattle.depth_maker.specs.Laws.{AreLawful}
+use Rattle.depth_maker.specs.ProperAssignments.{IsProperDuty, AllProper}
+use Rattle.depth_maker.specs.MakerLaws.{AreLawful}
 use Rattle.depth_maker.specs.TableView.{TableView, Settled, IsResumed, IsTable, Marks}
 use Rattle.depth_maker.proofs.PlaceLaws.{place_tells, place_same, from_if, one_state, resumed_some}
 use Rattle.depth_maker.proofs.Below.{asks_proper}

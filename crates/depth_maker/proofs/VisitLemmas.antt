@@ -11,17 +11,16 @@ use Rattle.value_domain.specs.Limits.{Limits}
 use Rattle.depth_cert.specs.declared.keys.Key.{Key}
 use Rattle.cfg_recover.specs.Entries.{start_key, start_state}
 use Rattle.cfg_recover.specs.LocalFaults.{IsFaultless}
-use Rattle.cfg_recover.specs.Assignments.{Assignment, Place, point, exit, same_place, Derived, begins, Closed, first_place}
+use Rattle.cfg_recover.specs.Assignments.{Assignment, Place, point, exit, same_place, Derived, begins, Closed, first_place, AllFaultless}
 use Rattle.depth_cert.specs.Known.{Known, state, leaving}
 use Rattle.depth_maker.specs.Covered.{EntriesCovered}
-use Rattle.depth_maker.specs.ProperAssignments.{AllFaultless}
-use Rattle.depth_maker.specs.Laws.{AreLawful}
+use Rattle.depth_maker.specs.MakerLaws.{AreLawful}
 use Rattle.depth_maker.proofs.TableLaws.{derived_proper, table_closed, table_marked, settled_again}
 use Rattle.depth_maker.proofs.PlaceKinds.{IsOfKind, derived_kinds}
 use Rattle.depth_maker.proofs.CoveredLaws.{covered_again}
 use Rattle.depth_maker.proofs.LevelSteps.{rises_then, same_level}
 use Rattle.depth_maker.proofs.PartLemmas.{keeps_all}
-use Rattle.depth_maker.specs.Levels.{Rises}
+use Rattle.depth_maker.specs.TableLevels.{Rises}
 use Rattle.frame_places.specs.declared.places.Spot.{Spot}
 use Rattle.frame_places.specs.declared.places.Spot.TheVariants.{Point, Exit}
 use Rattle.depth_cert.specs.declared.points.Exit as exits
@@ -39,7 +38,8 @@ use Rattle.depth_maker.specs.Spots.{spot_of, place_of}
 use Rattle.depth_maker.proofs.SpotLemmas.{back, forth, agrees}
 use Rattle.frame_places.proofs.SpotLemmas.{spot_tells, spot_refl}
 use Rattle.frame_places.specs.Marks.{idle_mark, is_idle, is_queued, settled_mark, Reads, mark_for, value_for, AllListed, AreKnown, MarksAs}
-use Rattle.depth_maker.specs.Table.{AreExitsRead, seen, IsFine}
+use Rattle.depth_maker.specs.TableInvariant.{AreExitsRead, IsFine}
+use Rattle.depth_maker.specs.TableView.{seen}
 use Rattle.depth_maker.specs.Visits.{IsVisited, IsOpenAt, NoneOpen, AllSettled, PointJoined}
 use Rattle.depth_maker.specs.Counts.{IsCountedIn}
 use Rattle.frame_places.proofs.MarkLemmas.{sides}

@@ -3,20 +3,23 @@ use Rattle.std.specs.Prelude.{◌≡◌, ℕ, List}
 use Rattle.elf_image.specs.Images.{ImageData}
 use Rattle.tcd_plan.specs.PlanData.{PlanData}
 use Rattle.value_domain.specs.Thresholds.{limits_for}
-use Rattle.depth_cert.specs.Certs.{CertData, IsCert}
-use Rattle.depth_cert.specs.Spelling.{bytes_of}
-use Rattle.cfg_recover.specs.Refusals.{IsRefusal, IsRefusalWith}
-use Rattle.depth_maker.specs.Made.{IsMade, NoneAccepted}
+use Rattle.cfg_recover.specs.CertRefusals.{IsRefusal, IsRefusalWith, IsFault}
+use Rattle.depth_maker.specs.LeastCertMade.{AreMade}
 use Rattle.depth_maker.specs.declared.inputs_and_limits.Ground.{Ground}
 use Rattle.depth_maker.specs.declared.answering.MakeErr.{MakeErr}
 use Rattle.depth_maker.specs.declared.answering.MakeErr.TheVariants.{Refused, NoMemory}
+use Rattle.value_domain.specs.Limits.{Limits}
+use Rattle.depth_cert.specs.declared.keys.Key.{Key}
+use Rattle.cfg_recover.specs.Assignments.{point}
+use Rattle.frame_places.specs.declared.refusals.Refusal.{Refusal}
+use Rattle.frame_places.specs.declared.refusals.Refusal.TheVariants.{Fault, NoMemory}
+use Rattle.depth_maker.specs.Spots.{place_of}
+use Rattle.depth_cert.specs.Certs.{CertData, IsCert}
+use Rattle.cfg_recover.specs.RulesHoldOrFail.{Accepts}
 
--- the bytes spell the certificate that is to be made
-pub record AreMade (image : ImageData) (plan : PlanData) (version : ℕ) (bytes : List ℕ) : Type 0 where
-  pub cert : CertData
-  pub spell : bytes ≡ bytes_of cert
-  pub is_cert : IsCert cert
-  pub made : IsMade image plan version cert
+-- no certificate of this version is accepted
+abbrev pub NoneAccepted : ImageData → PlanData → ℕ → Type 0
+NoneAccepted image plan version = (cert : CertData) → IsCert cert → cert.version ≡ version → Accepts image plan cert → ⊥
 
 -- a refusal names a fault, or that too many areas are needed, and no certificate of the version is
 -- accepted
@@ -41,3 +44,12 @@ AreMadeOn g version bytes = AreMade g.image.now g.plan.now version bytes
 -- the refusal holds, and no certificate of the version is accepted
 abbrev pub IsRefusedOn : Ground → ℕ → MakeErr → Type 0
 IsRefusedOn g version e = IsRefused g.image.now g.plan.now version e
+
+-- the fault holds
+abbrev pub Answered : Limits → ImageData → PlanData → Refusal → Type 0
+Answered b image plan (Fault rule x) = (k : Key) × (p : ℕ) × (place_of x ≡ point k p) × IsFault b image plan rule k p
+Answered b image plan NoMemory = Unit {0}
+
+-- the fault holds
+abbrev pub AnsweredOn : Ground → Refusal → Type 0
+AnsweredOn g e = Answered g.bounds.now g.image.now g.plan.now e

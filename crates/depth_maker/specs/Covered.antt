@@ -2,7 +2,6 @@
 use Rattle.std.specs.Prelude.{◌≡◌, ℕ, List, Option, IfSome, Contains}
 use Rattle.tcd_plan.specs.PlanData.{PlanData}
 use Rattle.value_domain.specs.Limits.{Limits}
-use Rattle.depth_cert.specs.Keys.{call_kind}
 use Rattle.depth_cert.specs.declared.keys.Key.{Key}
 use Rattle.depth_cert.specs.Known.{Known, CoversKnown}
 use Rattle.depth_cert.specs.Proper.{IsProperKnown}
@@ -10,10 +9,7 @@ use Rattle.cfg_recover.specs.Assignments.{Assignment, CoversAt, point}
 use Rattle.depth_maker.specs.InterruptHandlers.{ContextsEntered}
 use Rattle.depth_maker.specs.declared.covered.CoveredEntries.{CoveredEntries}
 use Rattle.depth_maker.specs.declared.last_call.LastCall.{LastCall}
-
--- the frame of a function at this address
-abbrev pub called_key : LastCall → ℕ → Key
-called_key h t = record { kind = call_kind; entry = t; prio = h.prio; is = h.is }
+use Rattle.depth_maker.specs.EnteredFrames.{called_key}
 
 -- the entries of the functions are covered
 pub record AreCalled (b : Limits) (a : Assignment) (h : LastCall) : Type 0 where

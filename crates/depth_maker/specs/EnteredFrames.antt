@@ -1,5 +1,5 @@
 -- The frames that duties enter.
-use Rattle.std.specs.Prelude.{◌≡◌, ℕ, List, ◌∷◌, Some, []}
+use Rattle.std.specs.Prelude.{◌≡◌, ℕ, List, ◌∷◌, []}
 use Rattle.std.specs.List.{flat_map}
 use Rattle.tcd_plan.specs.PlanData.{PlanData}
 use Rattle.tc_isa.specs.declared.shapes.Shape.{Shape}
@@ -9,15 +9,12 @@ use Rattle.depth_cert.specs.declared.keys.Key.{Key}
 use Rattle.cfg_recover.specs.Code.{IsCode}
 use Rattle.cfg_recover.specs.LocalRules.{LocalRule}
 use Rattle.elf_image.specs.Images.{ImageData}
-use Rattle.tc_isa.specs.Bounded.{IsShape}
+use Rattle.tc_isa.specs.InBounds.{IsShape}
 use Rattle.frame_places.specs.declared.places.Spot.{Spot}
 use Rattle.frame_places.specs.declared.places.Spot.TheVariants.{Point, Exit}
 use Rattle.cfg_recover.specs.Duties.{Duty, jump, enter, resume, leave, Owed, entries_of, misaligned_of}
-use Rattle.indexmap.specs.IndexMap.{IndexMap}
-use Rattle.depth_cert.specs.Known.{Known}
-use Rattle.frame_places.specs.declared.places.Marked.{Marked}
-use Rattle.frame_places.specs.declared.places.Mark.TheVariants.{Plain}
-use Rattle.frame_places.specs.Marks.{mark_for}
+use Rattle.depth_cert.specs.Keys.{call_kind}
+use Rattle.depth_maker.specs.declared.last_call.LastCall.{LastCall}
 
 -- the frame that a duty enters, if any
 abbrev pub entered_by : Duty → List Key
@@ -49,6 +46,6 @@ abbrev pub IsPlainIn : ImageData → PlanData → Spot → Type 0
 IsPlainIn image plan (Point k p) = IsPlainAt image plan p
 IsPlainIn image plan (Exit k) = Unit {0}
 
--- the instruction of a place that is marked as plain enters no frame by itself
-abbrev pub ArePlain : {S : Type 0} → ImageData → PlanData → IndexMap Spot (Marked Known) S → Type 0
-ArePlain image plan places = (q : Spot) → mark_for places q ≡ Some Plain → IsPlainIn image plan q
+-- the frame of a function at this address
+abbrev pub called_key : LastCall → ℕ → Key
+called_key h t = record { kind = call_kind; entry = t; prio = h.prio; is = h.is }

@@ -1,13 +1,12 @@
 -- The handlers of interrupts: the contexts in which their entries are covered, and the numbers of
 -- their frames.
-use Rattle.std.specs.Prelude.{◌≡◌, ◌<◌, ◌≤◌, ℕ, Bool, true, false, IsTrue, if◌then◌else◌, Option, IfSome, Contains, slice_index_or, List, map, filter, nat_lt, []}
+use Rattle.std.specs.Prelude.{◌≡◌, ◌<◌, ◌≤◌, ℕ, Bool, true, false, IsTrue, if◌then◌else◌, Option, IfSome, Contains, List, map, filter, nat_lt, []}
 use Rattle.tcd_plan.specs.PlanData.{PlanData}
 use Rattle.value_domain.specs.declared.values.Val.{Val}
 use Rattle.value_domain.specs.declared.states.State.{State}
 use Rattle.value_domain.specs.Limits.{Limits}
-use Rattle.value_domain.specs.State.{join_of}
-use Rattle.value_domain.specs.Values.{IsBelow, IsValue, any_val}
-use Rattle.vd_transfer.specs.Registers.{word_val}
+use Rattle.value_domain.specs.State.{join_of, a10_of}
+use Rattle.value_domain.specs.Values.{IsBelow, IsValue, word_val}
 use Rattle.depth_cert.specs.Known.{state}
 use Rattle.depth_cert.specs.Proper.{IsProper}
 use Rattle.cfg_recover.specs.Assignments.{Assignment, CoversAt, point}
@@ -18,10 +17,6 @@ use Rattle.indexmap.specs.IndexMap.{IndexMap}
 use Rattle.depth_cert.specs.declared.keys.Key.{Key}
 use Rattle.frame_places.specs.Numbers.{AreNumbers, number_in}
 use Rattle.depth_maker.specs.declared.handlers.Handler.{Handler}
-
--- A10 is the value at place 22
-abbrev pub a10_of : State → Val
-a10_of s = slice_index_or s.regs 22 any_val
 
 -- the stack pointer at the handlers' entries
 abbrev pub context_stack : PlanData → InterruptContext → Val

@@ -11,7 +11,7 @@ use Rattle.cfg_recover.specs.Assignments.{point, CoversAt, Asks, raised}
 use Rattle.depth_cert.specs.Known.{Known, CoversKnown}
 use Rattle.depth_cert.specs.Proper.{IsProper}
 use Rattle.depth_maker.specs.ProperAssignments.{IsProperDuty}
-use Rattle.depth_maker.specs.TableView.{Settled}
+use Rattle.depth_maker.specs.TableView.{Settled, seen}
 use Rattle.frame_places.specs.declared.places.Spot.{Spot}
 use Rattle.frame_places.specs.declared.refusals.Refusal.{Refusal}
 use Rattle.frame_places.specs.Spots.{spot_eq}
@@ -21,10 +21,11 @@ use Rattle.frame_places.specs.Marks.{is_queued, mark_for, value_for, AllListed, 
 use Rattle.frame_places.specs.Numbers.{KeepsNumbers}
 use Rattle.frame_places.specs.Work.{all_work}
 use Rattle.depth_maker.specs.Counts.{AreFew}
-use Rattle.depth_maker.specs.Levels.{Rises}
+use Rattle.depth_maker.specs.TableLevels.{Rises}
 use Rattle.depth_maker.specs.declared.inputs_and_limits.Ground.{Ground}
 use Rattle.depth_maker.specs.declared.table.Table as made
-use Rattle.depth_maker.specs.Table.{AnsweredOn, IsFine, seen}
+use Rattle.depth_maker.specs.TableInvariant.{IsFine}
+use Rattle.depth_maker.specs.Answers.{AnsweredOn}
 
 -- v, which wasn't covered, was joined at y alone: y is queued now, and counted
 pub record JoinedAlone (b : Limits) (s t : made.Table) (y : Spot) (v : Known) : Type 0 where

@@ -1,19 +1,19 @@
 -- The maker's laws, and its table.
-pub mod Growth
+pub mod DutiesGrow
 pub mod ProperAssignments
 pub mod Recursing
-pub mod Laws
+pub mod MakerLaws
 pub mod TableView
-pub mod Made
+pub mod LeastCertMade
 pub mod Counts
 pub mod Spots
 pub mod EnteredFrames
 pub mod Rows
 pub mod Needs
-pub mod Levels
+pub mod TableLevels
 pub mod InterruptHandlers
 pub mod Covered
-pub mod Table
+pub mod TableInvariant
 pub mod SpelledCert
 pub mod Answers
 pub mod Joins

@@ -4,9 +4,9 @@ use Rattle.std.specs.declared.vec.Vec.{Vec}
 use Rattle.std.specs.declared.alloc.Global.{Global}
 use Rattle.depth_cert.specs.declared.keys.Key.{Key}
 use Rattle.cfg_recover.specs.Entries.{start_key}
-use Rattle.cfg_recover.specs.Refusals.{AreLeastNeeds, MeetsNeeds}
+use Rattle.cfg_recover.specs.CertRefusals.{AreLeastNeeds, MeetsNeeds}
 use Rattle.depth_maker.specs.Recursing.{IsRecursion}
-use Rattle.depth_maker.specs.Table.{seen}
+use Rattle.depth_maker.specs.TableView.{seen}
 use Rattle.depth_maker.specs.declared.rows.Source.{Source}
 use Rattle.frame_places.specs.Numbers.{number_in}
 

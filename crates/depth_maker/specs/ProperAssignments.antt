@@ -11,10 +11,10 @@ use Rattle.cfg_recover.specs.Code.{IsCode}
 use Rattle.depth_cert.specs.Exits.{after_of}
 use Rattle.cfg_recover.specs.LocalFaults.{IsFaultless}
 use Rattle.cfg_recover.specs.Duties.{Owed, duties_of, Duty, jump, enter, resume, leave}
-use Rattle.cfg_recover.specs.Assignments.{Place, point, Assignment}
-use Rattle.depth_cert.specs.Known.{Known, state}
+use Rattle.cfg_recover.specs.Assignments.{Place, Assignment}
+use Rattle.depth_cert.specs.Known.{Known}
 use Rattle.depth_cert.specs.Proper.{IsProper, IsProperExit, IsProperKnown}
-use Rattle.depth_maker.specs.Growth.{IsGround}
+use Rattle.depth_maker.specs.DutiesGrow.{IsGround}
 use Rattle.indexmap.specs.IndexMap.{IndexMap}
 use Rattle.frame_places.specs.declared.places.Spot.{Spot}
 use Rattle.frame_places.specs.declared.places.Marked.{Marked}
@@ -23,10 +23,6 @@ use Rattle.frame_places.specs.Marks.{value_for}
 -- all that an assignment knows is at the limits
 abbrev pub AllProper : Limits → Assignment → Type 0
 AllProper b a = (y : Place) (v : Known) → a y ≡ Some v → IsProperKnown b v
-
--- no point has a fault of its own
-abbrev pub AllFaultless : Limits → ImageData → PlanData → Assignment → Type 0
-AllFaultless b image plan a = (k : Key) (p : ℕ) (s : State) → a (point k p) ≡ Some (state s) → IsFaultless b image plan k p s
 
 -- a duty asks for a state or an exit at the limits
 abbrev pub IsProperDuty : Limits → Duty → Type 0

@@ -3,11 +3,12 @@ use Rattle.std.specs.Prelude.{◌≤◌, ℕ, Bool, List, [], ◌∷◌, ◌++�
 use Rattle.value_domain.specs.declared.states.State.{State}
 use Rattle.depth_cert.specs.declared.keys.Key.{Key}
 use Rattle.depth_cert.specs.Keys.{number_of_key}
-use Rattle.cfg_recover.specs.Refusals.{Enters, Recurs, RecursFirst}
+use Rattle.cfg_recover.specs.CertRefusals.{Enters, Recurs, RecursFirst}
 use Rattle.frame_places.specs.Numbers.{number_in}
-use Rattle.frame_places.specs.NodeGraph.{AreEdges, IsMarked}
+use Rattle.frame_places.specs.NodeGraph.{AreEdges}
+use Rattle.frame_places.specs.Marks.{IsMarked}
 use Rattle.depth_maker.specs.Rows.{RowsOn}
-use Rattle.depth_maker.specs.Table.{seen}
+use Rattle.depth_maker.specs.TableView.{seen}
 use Rattle.frame_places.specs.declared.places.Spot.{Spot}
 use Rattle.frame_places.specs.declared.places.Spot.TheVariants.{Point}
 use Rattle.frame_places.specs.declared.needs.reach.FrameEdge.{FrameEdge}

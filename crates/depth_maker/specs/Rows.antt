@@ -4,16 +4,17 @@ use Rattle.std.specs.Prelude.{◌≡◌, ◌++◌, ℕ, List, ◌∷◌, take, O
 use Rattle.indexmap.specs.IndexMap.{get, keys}
 use Rattle.value_domain.specs.declared.states.State.{State}
 use Rattle.depth_cert.specs.declared.keys.Key.{Key}
-use Rattle.cfg_recover.specs.declared.local.Located.{Located}
+use Rattle.cfg_recover.specs.declared.local_rules.Located.{Located}
 use Rattle.cfg_recover.specs.Assignments.{point, Assignment}
 use Rattle.depth_cert.specs.Known.{Known, state}
-use Rattle.small_states.specs.Incoming.{IsOutline}
+use Rattle.small_states.specs.CompactForms.{IsOutline}
 use Rattle.small_states.specs.declared.known.Outline.{Outline}
 use Rattle.depth_maker.specs.EnteredFrames.{entered_in}
 use Rattle.depth_maker.specs.InterruptHandlers.{AreHandlers, nodes_taken}
 use Rattle.frame_places.specs.Numbers.{AreNumbers, number_in}
 use Rattle.frame_places.specs.Spots.{spot_eq}
-use Rattle.depth_maker.specs.Table.{seen, IsDone}
+use Rattle.depth_maker.specs.TableInvariant.{IsDone}
+use Rattle.depth_maker.specs.TableView.{seen}
 use Rattle.depth_maker.specs.VisitDuties.{StandsBy, duties_by}
 use Rattle.depth_maker.specs.declared.inputs_and_limits.Ground.{Ground}
 use Rattle.depth_maker.specs.declared.inputs_and_limits.Visit.{Visit}
@@ -28,7 +29,7 @@ use Rattle.depth_maker.specs.declared.table.Table as made
 use Rattle.elf_image.specs.Images.{ImageData}
 use Rattle.tcd_plan.specs.PlanData.{PlanData}
 use Rattle.value_domain.specs.Limits.{Limits}
-use Rattle.cfg_recover.specs.Changes.{StandsFaultless}
+use Rattle.cfg_recover.specs.LocalFaults.{StandsFaultless}
 use Rattle.cfg_recover.specs.Duties.{duties_of}
 
 -- the row of the point p of frame k with the state u; frames go by their numbers

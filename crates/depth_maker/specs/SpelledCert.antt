@@ -15,11 +15,11 @@ use Rattle.depth_cert.specs.Nodes.{NodeData}
 use Rattle.depth_cert.specs.Certs.{CertData}
 use Rattle.depth_cert.specs.Spelling.{bytes_of, bytes_of_exit, bytes_of_node, bytes_of_point}
 use Rattle.cfg_recover.specs.Assignments.{Place, point, exit, Assignment}
-use Rattle.depth_cert.specs.Known.{Known, state, leaving}
-use Rattle.depth_maker.specs.Made.{IsWritten}
+use Rattle.depth_cert.specs.Known.{Known, state, leaving, exit_at}
+use Rattle.depth_maker.specs.LeastCertMade.{IsWritten}
 use Rattle.depth_maker.specs.Needs.{need_by, NeedsAre}
 use Rattle.depth_maker.specs.Rows.{IsSource}
-use Rattle.depth_maker.specs.Table.{seen}
+use Rattle.depth_maker.specs.TableView.{seen}
 use Rattle.frame_places.specs.PointEntries.{AreEntries, place_at, points_in}
 use Rattle.frame_places.specs.Spots.{is_point_of, spot_address, spot_eq}
 use Rattle.frame_places.specs.declared.ordering.PointEntry.{PointEntry}
@@ -45,12 +45,6 @@ abbrev pub state_at : Option Known → State
 state_at None = no_state
 state_at (Some (state s)) = s
 state_at (Some (leaving x)) = no_state
-
--- the known exit, if any
-abbrev pub exit_at : Option Known → Option exits.Exit
-exit_at None = None
-exit_at (Some (state s)) = None
-exit_at (Some (leaving x)) = Some x
 
 -- the point of frame k at an address
 abbrev pub point_at : Assignment → Key → ℕ → points.Point

@@ -12,6 +12,11 @@ use Rattle.cfg_recover.specs.LocalFaults.{IsFaultless}
 use Rattle.cfg_recover.specs.Duties.{Duty, jump, enter, resume, leave, Owed, duties_of}
 use Rattle.cfg_recover.specs.Assignments.{Place, point, exit, Assignment, same_place, CoversAt, Derived}
 use Rattle.depth_cert.specs.Known.{Known, state, leaving}
+use Rattle.indexmap.specs.IndexMap.{get}
+use Rattle.frame_places.specs.Spots.{spot_eq}
+use Rattle.depth_maker.specs.Spots.{spot_of}
+use Rattle.frame_places.specs.Marks.{is_idle, is_queued, mark_for, value_for, Reads}
+use Rattle.depth_maker.specs.declared.table.Table as made
 
 -- what is known; the points whose duties are all covered; the queued places; which points read
 -- which exits
@@ -47,3 +52,12 @@ pub record Marks (a b : TableView) (y : Place) : Type 0 where
       (q : Place) → ((b.queued q ≡ true) × (b.idle q ≡ false))
       ⊎ ((b.idle q ≡ a.idle q) × (b.queued q ≡ a.queued q) × (same_place q y ≡ false) × (a.reads y q → ⊥))
   pub reads : (z x : Place) → a.reads z x → b.reads z x
+
+-- the table as an assignment and marks
+unfoldable pub seen : made.Table → TableView
+seen t = record {
+  cells = λ q. value_for t.places (spot_of q);
+  idle = λ q. is_idle (mark_for t.places (spot_of q));
+  queued = λ q. is_queued (mark_for t.places (spot_of q));
+  reads = λ z x. Reads (get spot_eq t.readers (spot_of z)) (spot_of x);
+}

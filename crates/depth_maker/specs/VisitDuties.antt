@@ -9,21 +9,20 @@ use Rattle.depth_cert.specs.declared.keys.Key.{Key}
 use Rattle.tc_isa.specs.declared.shapes.Shape.{Shape}
 use Rattle.vd_transfer.specs.Branches.{refine_of}
 use Rattle.vd_transfer.specs.EffectsOnStates.{transfer_of}
-use Rattle.cfg_recover.specs.declared.local.Located.{Located}
-use Rattle.cfg_recover.specs.Changes.{StandsFaultless}
+use Rattle.cfg_recover.specs.declared.local_rules.Located.{Located}
+use Rattle.cfg_recover.specs.LocalFaults.{StandsFaultless, IsFaultless}
 use Rattle.cfg_recover.specs.Code.{IsCode}
 use Rattle.cfg_recover.specs.Entries.{call_key, call_entry, sys_key, sys_entry}
-use Rattle.cfg_recover.specs.LocalFaults.{IsFaultless}
 use Rattle.cfg_recover.specs.Duties.{Duty, Owed, duties_of, entered_and_back, entries_of, interrupts_of, loaded_at, misaligned_entry, misaligned_of, next_of, owed, successors_of, enter, resume}
 use Rattle.cfg_recover.specs.Assignments.{point}
-use Rattle.depth_maker.specs.TableView.{Settled}
+use Rattle.depth_maker.specs.TableView.{Settled, seen}
 use Rattle.depth_maker.specs.Spots.{spot_of}
 use Rattle.frame_places.specs.Marks.{is_queued, mark_for}
 use Rattle.depth_maker.specs.EnteredFrames.{IsPlainAt}
 use Rattle.depth_maker.specs.declared.inputs_and_limits.Visit.{Visit}
 use Rattle.depth_maker.specs.Joins.{Keeps}
 use Rattle.depth_maker.specs.declared.table.Table as made
-use Rattle.depth_maker.specs.Table.{IsFine, seen}
+use Rattle.depth_maker.specs.TableInvariant.{IsFine}
 
 -- these duties of the point p of frame k, which has the state u, were joined, unless the point has
 -- new work

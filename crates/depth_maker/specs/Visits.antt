@@ -12,7 +12,7 @@ use Rattle.cfg_recover.specs.Duties.{Owed, duties_of}
 use Rattle.cfg_recover.specs.Assignments.{point}
 use Rattle.depth_cert.specs.Known.{state}
 use Rattle.depth_cert.specs.Proper.{IsProper}
-use Rattle.depth_maker.specs.TableView.{Settled}
+use Rattle.depth_maker.specs.TableView.{Settled, seen}
 use Rattle.frame_places.specs.declared.places.Spot.{Spot}
 use Rattle.frame_places.specs.declared.places.Mark.TheVariants.{Open}
 use Rattle.frame_places.specs.declared.refusals.Refusal.{Refusal}
@@ -20,12 +20,13 @@ use Rattle.depth_maker.specs.Spots.{spot_of, place_of}
 use Rattle.frame_places.specs.Marks.{is_queued, mark_for}
 use Rattle.frame_places.specs.Numbers.{StandsAt}
 use Rattle.frame_places.specs.Work.{all_work}
-use Rattle.depth_maker.specs.Levels.{level, Rises, Steps}
+use Rattle.depth_maker.specs.TableLevels.{level, Rises, Steps}
 use Rattle.depth_maker.specs.declared.inputs_and_limits.Ground.{Ground}
 use Rattle.depth_maker.specs.declared.inputs_and_limits.Visit.{Visit}
 use Rattle.depth_maker.specs.Joins.{Keeps}
 use Rattle.depth_maker.specs.declared.table.Table as made
-use Rattle.depth_maker.specs.Table.{AnsweredOn, FineOn, IsFine, seen}
+use Rattle.depth_maker.specs.TableInvariant.{FineOn, IsFine}
+use Rattle.depth_maker.specs.Answers.{AnsweredOn}
 
 -- x is being visited, and no other place is
 pub record IsOpenAt (t : made.Table) (x : Spot) : Type 0 where

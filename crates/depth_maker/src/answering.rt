@@ -1,26 +1,23 @@
 // The certificate of an image and a plan, or why there is none.
-ghost use Rattle.std.specs.Prelude.{◌≡◌, ◌⊎◌, IfErr, IfOk, None};
-ghost use Rattle.depth_maker.specs.Answers.{AreMade, AreMadeOn, IsGroundOf, IsRefused, IsRefusedOn, Refuses};
+ghost use Rattle.std.specs.Prelude.{◌≡◌, ◌⊎◌, IfErr, IfOk};
+ghost use Rattle.depth_maker.specs.Answers.{AreMadeOn, IsGroundOf, IsRefused, IsRefusedOn, Refuses, AnsweredOn};
+ghost use Rattle.depth_maker.specs.LeastCertMade.{AreMade, IsMade};
 ghost use Rattle.depth_maker.specs.SpelledCert.{AreWritten};
-ghost use Rattle.depth_maker.specs.Made.{IsMade};
-ghost use Rattle.depth_maker.specs.Needs.{NeedsOn};
-ghost use Rattle.depth_maker.specs.Recursing.{IsRecursion};
 ghost use Rattle.depth_maker.specs.Rows.{IsSource};
-ghost use Rattle.depth_maker.specs.Table.{AnsweredOn, IsDone};
+ghost use Rattle.depth_maker.specs.TableInvariant.{IsDone};
 ghost use Rattle.depth_maker.specs.declared.answering.MakeErr.TheVariants.{NoMemory};
 ghost use Rattle.frame_places.specs.declared.refusals.Refusal.TheVariants.{Fault};
 
 use crate::fixpoint::close;
 use crate::handlers::handlers;
 use crate::inputs_and_limits::Ground;
-use crate::needs::frame_needs;
+use crate::needs::{frame_needs, needs_error};
 use crate::rows::Source;
 use crate::spelling::cert_bytes;
 use crate::table::Table;
-use cfg_recover::start_key;
 use depth_cert::{Cert, CertErr, Key};
 use elf_image::Image;
-use frame_places::{NEEDS_RULE, Refusal, Spot, number_frames};
+use frame_places::{Refusal, Spot, number_frames};
 use std::alloc::{AllocError, AllocFailed, Global};
 use tcd_plan::Plan;
 use value_domain::Bounds;
@@ -79,30 +76,6 @@ fn error_of(ground: &Ground, refusal: Refusal) -> MakeErr
     match refusal {
         Refusal::Fault(rule, place) => error_at(ground, rule, place),
         Refusal::NoMemory => MakeErr::NoMemory,
-    }
-}
-
-/// Returns the refusal if no needs are within the areas: at the first recursion, or at the start.
-fn needs_error(source: &Source, place: Option<(Key, u32)>) -> MakeErr
-    requires source { IsSource source.now }
-    requires none { NeedsOn source.now None }
-    requires place { IsRecursion source.now place }
-    ensures { Refuses source.now.ground.now result }
-{
-    match place {
-        Some((key, addr)) => MakeErr::Refused {
-            rule: NEEDS_RULE,
-            key,
-            addr,
-        },
-        None => {
-            let key = start_key(source.ground.image, source.ground.plan);
-            MakeErr::Refused {
-                rule: NEEDS_RULE,
-                key,
-                addr: key.entry,
-            }
-        }
     }
 }
 

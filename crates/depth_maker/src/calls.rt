@@ -1,15 +1,15 @@
 // Joins the entries of the functions that the visited point calls, and the states after them.
 ghost use Rattle.std.specs.Prelude.{◌≡◌, OnOk, IfErr, IsTrue, [], unwrap_or};
-ghost use Rattle.tc_isa.specs.Bounded.{IsTarget};
+ghost use Rattle.tc_isa.specs.InBounds.{IsTarget};
 ghost use Rattle.vd_transfer.specs.Changes.{state_after};
 ghost use Rattle.cfg_recover.specs.Entries as entries;
 ghost use Rattle.cfg_recover.specs.LocalRules.{targets_of};
-ghost use Rattle.depth_maker.specs.Table.{AnsweredOn};
+ghost use Rattle.depth_maker.specs.Answers.{AnsweredOn};
 ghost use Rattle.depth_maker.specs.VisitDuties.{enters_by, resumes_by, OwesAll, JoinedBy, StayJoined, calls_by};
 ghost use Rattle.depth_maker.specs.Visits.{VisitedBy};
 
 use crate::inputs_and_limits::Visit;
-use crate::join_duty::{join_entry, join_entry_and_back, join_resume};
+use crate::join_entries::{join_each_entry, join_entry_and_back, join_resume};
 use crate::last_call::LastCall;
 use crate::table::Table;
 use arrayvec::ArrayVec;
@@ -21,27 +21,6 @@ use std::alloc::Global;
 use tc_isa::Target;
 use value_domain::State;
 use vd_transfer::Change;
-
-/// Joins the entries of the functions at these addresses.
-fn join_each_entry(
-    alloc: Global,
-    table: &mut Table,
-    v: &Visit,
-    entry: &Change,
-    targets: &[u32],
-) -> Result<(), Refusal>
-    requires visited { VisitedBy v.now table.old }
-    requires entry { state_after v.now.state.now entry.now ≡ entries.call_entry v.now.state.now }
-    requires owes { OwesAll v.now (enters_by v.now targets.now) }
-    ensures ok { OnOk result (JoinedBy v.now table.old table.new (enters_by v.now targets.now)) }
-    ensures err { IfErr result (AnsweredOn v.now.ground.now) }
-{
-    for t in targets {
-        let key = entered_key(&v.key, CALL, *t);
-        join_entry(alloc, table, v, key, entry)?;
-    }
-    Ok(())
-}
 
 /// Returns true only if the last call of several functions shows that the entries of these are
 /// covered.

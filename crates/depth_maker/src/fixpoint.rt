@@ -1,21 +1,19 @@
 // The worklist algorithm: visits all points with work.
-ghost use Rattle.std.specs.Prelude.{◌≡◌, IsTrue, OnOk, IfOk, IfErr, None};
+ghost use Rattle.std.specs.Prelude.{◌≡◌, OnOk, IfOk, IfErr, None};
 ghost use Rattle.indexmap.specs.IndexMap.{get};
 ghost use Rattle.frame_places.specs.declared.places.Spot as spots;
-ghost use Rattle.frame_places.specs.Numbers.{StandsAt};
 ghost use Rattle.frame_places.specs.Spots.{spot_eq};
 ghost use Rattle.cfg_recover.specs.SetOperations.{HoldsResults};
-ghost use Rattle.depth_maker.specs.EnteredFrames.{IsPlainIn};
-ghost use Rattle.depth_maker.specs.Table.{AnsweredOn, FineOn, IsDone};
-ghost use Rattle.depth_maker.specs.Visits.{EndsOn, IsOpen, NoneOpen, PointJoinedOn, StepsOn, TurnsOn};
+ghost use Rattle.depth_maker.specs.TableInvariant.{FineOn, IsDone};
+ghost use Rattle.depth_maker.specs.Answers.{AnsweredOn};
+ghost use Rattle.depth_maker.specs.Visits.{EndsOn, IsOpen, NoneOpen, StepsOn, TurnsOn};
 
 use crate::covered::CoveredEntries;
-use crate::inputs_and_limits::{Ground, Visit};
+use crate::inputs_and_limits::Ground;
 use crate::interrupt_contexts::LastInterrupts;
-use crate::table::Table;
-use crate::visit::visit_point;
+use crate::table::{Table, first_room};
+use crate::visit::visit_place;
 use cfg_recover::{KnownCodes, OperationCache, start_key, start_state};
-use elf_image::Image;
 use frame_places::{Refusal, Spot, Work, add, begin_visit, end_visit, has_work};
 use indexmap::IndexMap;
 use small_states::{Incoming, ScratchState, SmallKnown};
@@ -24,18 +22,9 @@ use vd_transfer::{Change, unchanged};
 
 /// Room that visits write over: the state of the point, and the known words of code.
 #[derive(Drop)]
-struct VisitScratch {
-    state: ScratchState,
-    codes: KnownCodes,
-}
-
-/// Returns the number of places to make room for at first: the number of 2-byte instructions in the
-/// first segment, at most 8,192.
-fn first_room(image: &Image) -> usize {
-    match image.segments.first() {
-        Some(segment) => (segment.bytes.len() / 2).min(8192),
-        None => 0,
-    }
+pub(crate) struct VisitScratch {
+    pub(crate) state: ScratchState,
+    pub(crate) codes: KnownCodes,
 }
 
 /// Returns a map without readers.
@@ -79,43 +68,6 @@ fn begin(alloc: Global, ground: &Ground) -> Result<Table, Refusal>
         },
         near: 0,
     })
-}
-
-/// Joins what the visited place owes, and returns true only if its instruction enters no frame by
-/// itself. An exit owes nothing. The state of a point is written over `scratch`, its changes over
-/// `change`, and results of operations on two sets are in `cache`.
-fn visit_place(
-    alloc: Global,
-    ground: &Ground,
-    table: &mut Table,
-    scratch: &mut VisitScratch,
-    change: &mut Change,
-    cache: &mut OperationCache,
-) -> Result<bool, Refusal>
-    requires fine { FineOn ground.now table.old }
-    requires results { HoldsResults ground.now.bounds.now cache.old }
-    ensures ok { (x : spots.Spot) → StandsAt table.old.places table.old.near x
-        → OnOk result (PointJoinedOn ground.now table.old table.new x) }
-    ensures plain { (x : spots.Spot) → StandsAt table.old.places table.old.near x
-        → IfOk result (λ plain. IsTrue plain
-        → IsPlainIn ground.now.image.now ground.now.plan.now x) }
-    ensures err { IfErr result (AnsweredOn ground.now) }
-    ensures results { HoldsResults ground.now.bounds.now cache.new }
-{
-    let Some((at, place)) = table.places.get_index(table.near) else {
-        return Ok(false);
-    };
-    let Spot::Point(key, addr) = *at else {
-        return Ok(false);
-    };
-    place.value.read_state(ground.bounds, &mut scratch.state);
-    let v = Visit {
-        ground,
-        key,
-        addr,
-        state: scratch.state.state(),
-    };
-    visit_point(alloc, table, &v, change, &mut scratch.codes, cache)
 }
 
 /// Visits the place that was taken off the list.

@@ -1,14 +1,19 @@
 // The frames of the handlers of interrupts, by their numbers.
-ghost use Rattle.std.specs.Prelude.{◌≡◌, ◌≤◌, ◌<◌, ◌+◌, ◌++◌, ◌∷◌, [], List, IfOk, OnOk, length, vec_len, vec_capacity};
+ghost use Rattle.std.specs.Prelude.{◌≡◌, ◌≤◌, ◌<◌, ◌+◌, ◌++◌, ◌∷◌, [], List, IfOk, OnOk, length, vec_len, vec_capacity, if◌then◌else◌};
 ghost use Rattle.depth_cert.specs.declared.keys.Key as keys;
 ghost use Rattle.frame_places.specs.Numbers.{AreNumbers};
 ghost use Rattle.depth_maker.specs.InterruptHandlers.{AreHandlers, nodes_above, nodes_taken};
+ghost use Rattle.depth_cert.specs.Proper.{IsProper};
+ghost use Rattle.depth_maker.specs.VisitDuties.{StandsBy, access_by, misaligned_by};
 
-use cfg_recover::irq_key;
+use crate::inputs_and_limits::Visit;
+use crate::join_entries::accesses_misaligned;
+use cfg_recover::{Located, irq_key};
 use depth_cert::Key;
 use frame_places::number_of;
 use indexmap::IndexMap;
 use std::alloc::{AllocError, Global};
+use tc_isa::Shape;
 use tcd_plan::Plan;
 
 /// A handler: the priority of its interrupt, and the number of its frame.
@@ -90,4 +95,22 @@ pub(crate) fn add_taken(
     into.reserve(handlers.len())?;
     add_all_above(into, ccpn, handlers);
     Ok(())
+}
+
+/// Returns whether an access of the instruction may be misaligned and the plan has traps of
+/// misaligned accesses.
+pub(crate) fn is_misaligned(v: &Visit, found: &Located) -> bool
+    requires proper { IsProper v.now.ground.now.bounds.now v.now.state.now }
+    requires stands { StandsBy v.now found.now }
+    ensures { access_by v.now found.now ≡ (if result then misaligned_by v.now ∷ [] else []) }
+{
+    let plan = v.ground.plan;
+    if !plan.aln {
+        return false;
+    }
+    match found.shape {
+        Shape::Load { size, .. } => accesses_misaligned(v, found.shape, size),
+        Shape::Store { size, .. } => accesses_misaligned(v, found.shape, size),
+        _ => false,
+    }
 }

@@ -1,5 +1,5 @@
 // What a certificate is made for.
-ghost use Rattle.depth_maker.specs.Growth.{IsGround};
+ghost use Rattle.depth_maker.specs.DutiesGrow.{IsGround};
 
 use depth_cert::Key;
 use elf_image::Image;

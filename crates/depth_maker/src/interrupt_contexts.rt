@@ -1,8 +1,21 @@
 // The last contexts in which interrupts were taken: their handlers' entries are covered.
 ghost use Rattle.std.specs.Prelude.{◌≡◌, IsTrue};
 ghost use Rattle.value_domain.specs.Values.{IsBelow, IsValue, IsWell};
-ghost use Rattle.depth_maker.specs.InterruptHandlers.{IsAlike, IsContextOf, IsWithinContext, a10_of, joined_context};
+ghost use Rattle.depth_maker.specs.InterruptHandlers.{IsAlike, IsContextOf, IsWithinContext, joined_context};
+ghost use Rattle.value_domain.specs.State.{a10_of};
+ghost use Rattle.depth_cert.specs.Proper.{IsProper};
+ghost use Rattle.frame_places.specs.declared.places.Spot.TheVariants.{Point};
+ghost use Rattle.frame_places.specs.Numbers.{StandsAt};
+ghost use Rattle.depth_maker.specs.TableInvariant.{FineOn};
+ghost use Rattle.depth_maker.specs.VisitDuties.{OwesAll, JoinedBy, StayJoined, interrupts_by};
+ghost use Rattle.depth_maker.specs.Visits.{VisitedBy};
+ghost use Rattle.cfg_recover.specs.Assignments.{point};
+ghost use Rattle.depth_cert.specs.Known.{state};
 
+use crate::inputs_and_limits::Visit;
+use crate::table::Table;
+use cfg_recover::interrupts;
+use frame_places::has_work;
 use value_domain::{A10_SLOT, Bounds, State, Val, join, leq};
 
 /// What the handlers' entries depend on at a point.
@@ -10,7 +23,7 @@ use value_domain::{A10_SLOT, Bounds, State, Val, join, leq};
 pub(crate) struct InterruptContext {
     /// The frame runs on the interrupt stack (PSW.IS), so its handlers do too.
     is: bool,
-    /// A10 at the point. If entries are covered for two values, they are for their join.
+    /// Covers A10 at the point. If entries are covered for two values, they are for their join.
     sp: Val,
     /// Interrupts above this priority may be taken.
     ccpn: u8,
@@ -70,4 +83,50 @@ impl InterruptContext {
     {
         self.sp = join(b, &self.sp, &s.regs[A10_SLOT]);
     }
+}
+
+/// Returns true only if the last contexts of interrupts show that the entries of all interrupts
+/// that may be taken are covered.
+pub(crate) fn are_noted(table: &Table, v: &Visit) -> bool
+    requires { VisitedBy v.now table.now }
+    ensures { IsTrue result → JoinedBy v.now table.now table.now (interrupts_by v.now) }
+{
+    if let Some(last) = &table.covered.interrupts.last {
+        if last.covers(v.key.is, v.state) {
+            return true;
+        }
+    }
+    match &table.covered.interrupts.before {
+        Some(before) => before.covers(v.key.is, v.state),
+        None => false,
+    }
+}
+
+/// Notes the context of these interrupts, unless the point has new work: then some entries may have
+/// been skipped. If it differs from the last one at most in A10, both are joined. It is a call of
+/// its own, since it has room for a value.
+#[inline(never)]
+pub(crate) fn note_interrupts(table: &mut Table, v: &Visit)
+    requires fine { FineOn v.now.ground.now table.old }
+    requires near { StandsAt table.old.places table.old.near (Point v.now.key v.now.addr) }
+    requires proper { IsProper v.now.ground.now.bounds.now v.now.state.now }
+    requires on { IsTrue v.now.state.now.ie }
+    requires owes { OwesAll v.now (interrupts_by v.now) }
+    ensures { StayJoined v.now table.old table.new (interrupts_by v.now) }
+{
+    if has_work(&table.places, table.near) {
+        return;
+    }
+    if let Some(last) = &mut table.covered.interrupts.last {
+        if last.is_alike(v.key.is, v.state) {
+            last.join_stack(v.ground.bounds, v.state);
+            return;
+        }
+    }
+    let context = InterruptContext::at(v.key.is, v.state);
+    let before = table.covered.interrupts.last.take();
+    table.covered.interrupts = LastInterrupts {
+        last: Some(context),
+        before,
+    };
 }

@@ -1,30 +1,38 @@
 // Joins the entries of frames that the visited point enters.
-ghost use Rattle.std.specs.Prelude.{◌≡◌, OnOk, IfErr, IsTrue, [], ◌∷◌};
-ghost use Rattle.tc_isa.specs.Bounded.{IsShape};
+ghost use Rattle.std.specs.Prelude.{◌≡◌, OnOk, IfErr, [], ◌∷◌, not, ℕ};
+ghost use Rattle.tc_isa.specs.InBounds.{IsShape, IsSize};
 ghost use Rattle.vd_transfer.specs.Changes.{state_after};
 ghost use Rattle.depth_cert.specs.Proper.{IsProper};
 ghost use Rattle.cfg_recover.specs.Entries.{irqs_of};
-ghost use Rattle.cfg_recover.specs.Flows.{told_irqs};
-ghost use Rattle.frame_places.specs.declared.places.Spot.TheVariants.{Point};
-ghost use Rattle.frame_places.specs.Numbers.{StandsAt};
-ghost use Rattle.depth_maker.specs.Table.{AnsweredOn, FineOn};
-ghost use Rattle.depth_maker.specs.VisitDuties.{OwesAll, JoinedBy, StandsBy, StayJoined, access_by, entries_by, interrupts_by, misaligned_by, system_by};
+ghost use Rattle.cfg_recover.specs.FlowDuties.{told_irqs};
+ghost use Rattle.frame_places.specs.declared.places.Spot.TheVariants.{Point, Exit};
+ghost use Rattle.depth_maker.specs.Answers.{AnsweredOn};
+ghost use Rattle.depth_maker.specs.VisitDuties.{OwesAll, JoinedBy, StandsBy, access_by, entries_by, interrupts_by, misaligned_by, system_by, enters_by, OwesDuty};
 ghost use Rattle.depth_maker.specs.Visits.{VisitedBy};
+ghost use Rattle.cfg_recover.specs.Entries as entries;
+ghost use Rattle.vd_transfer.specs.EffectsOnStates.{address_of};
+ghost use Rattle.store_ranges.specs.Accesses.{are_aligned};
+ghost use Rattle.cfg_recover.specs.Duties.{owed, enter, resume, entered_and_back};
+ghost use Rattle.cfg_recover.specs.Assignments.{point};
+ghost use Rattle.depth_cert.specs.Known.{state};
 
 use crate::calls::join_call;
-use crate::entered_frames::is_misaligned;
+use crate::handlers::is_misaligned;
 use crate::inputs_and_limits::Visit;
-use crate::interrupt_contexts::{InterruptContext, LastInterrupts};
-use crate::join_duty::{join_entry, join_entry_and_back};
+use crate::interrupt_contexts::{are_noted, note_interrupts};
+use crate::join_place::join_at;
+use crate::join_successors::join_return;
 use crate::table::Table;
 use cfg_recover::{
-    Located, aln_key, handler_change, interrupts, irq_key, misaligned_change, sys_key,
-    system_change,
+    Located, aln_key, entered_key, handler_change, interrupts, irq_key, is_aligned,
+    misaligned_change, sys_key, system_change, targets,
 };
-use frame_places::{Refusal, has_work};
+use depth_cert::{CALL, Key};
+use frame_places::{Refusal, Spot, has_work, register};
+use small_states::Incoming;
 use std::alloc::Global;
 use tc_isa::Shape;
-use vd_transfer::Change;
+use vd_transfer::{Change, address_by};
 
 /// Joins the system call `tin`. It is a call of its own, since it has room for a change.
 #[inline(never)]
@@ -141,52 +149,6 @@ fn join_handlers(alloc: Global, table: &mut Table, v: &Visit, irqs: &[u8]) -> Re
     join_irqs(alloc, table, v, irqs, entry)
 }
 
-/// Returns true only if the last contexts of interrupts show that the entries of all interrupts
-/// that may be taken are covered.
-fn are_noted(table: &Table, v: &Visit) -> bool
-    requires { VisitedBy v.now table.now }
-    ensures { IsTrue result → JoinedBy v.now table.now table.now (interrupts_by v.now) }
-{
-    if let Some(last) = &table.covered.interrupts.last {
-        if last.covers(v.key.is, v.state) {
-            return true;
-        }
-    }
-    match &table.covered.interrupts.before {
-        Some(before) => before.covers(v.key.is, v.state),
-        None => false,
-    }
-}
-
-/// Notes the context of these interrupts, unless the point has new work: then some entries may have
-/// been skipped. If it differs from the last one at most in A10, both are joined. It is a call of
-/// its own, since it has room for a value.
-#[inline(never)]
-fn note_interrupts(table: &mut Table, v: &Visit)
-    requires fine { FineOn v.now.ground.now table.old }
-    requires near { StandsAt table.old.places table.old.near (Point v.now.key v.now.addr) }
-    requires proper { IsProper v.now.ground.now.bounds.now v.now.state.now }
-    requires on { IsTrue v.now.state.now.ie }
-    requires owes { OwesAll v.now (interrupts_by v.now) }
-    ensures { StayJoined v.now table.old table.new (interrupts_by v.now) }
-{
-    if has_work(&table.places, table.near) {
-        return;
-    }
-    if let Some(last) = &mut table.covered.interrupts.last {
-        if last.is_alike(v.key.is, v.state) {
-            last.join_stack(v.ground.bounds, v.state);
-            return;
-        }
-    }
-    let context = InterruptContext::at(v.key.is, v.state);
-    let before = table.covered.interrupts.last.take();
-    table.covered.interrupts = LastInterrupts {
-        last: Some(context),
-        before,
-    };
-}
-
 /// Joins the entries of the handlers of the interrupts that may be taken. There are none if IE is
 /// off.
 pub(crate) fn join_interrupts(alloc: Global, table: &mut Table, v: &Visit) -> Result<(), Refusal>
@@ -208,4 +170,108 @@ pub(crate) fn join_interrupts(alloc: Global, table: &mut Table, v: &Visit) -> Re
     join_handlers(alloc, table, v, irqs.as_slice())?;
     note_interrupts(table, v);
     Ok(())
+}
+
+/// Joins the entries of the functions at these addresses.
+pub(crate) fn join_each_entry(
+    alloc: Global,
+    table: &mut Table,
+    v: &Visit,
+    entry: &Change,
+    targets: &[u32],
+) -> Result<(), Refusal>
+    requires visited { VisitedBy v.now table.old }
+    requires entry { state_after v.now.state.now entry.now ≡ entries.call_entry v.now.state.now }
+    requires owes { OwesAll v.now (enters_by v.now targets.now) }
+    ensures ok { OnOk result (JoinedBy v.now table.old table.new (enters_by v.now targets.now)) }
+    ensures err { IfErr result (AnsweredOn v.now.ground.now) }
+{
+    for t in targets {
+        let key = entered_key(&v.key, CALL, *t);
+        join_entry(alloc, table, v, key, entry)?;
+    }
+    Ok(())
+}
+
+/// Returns whether an address of an access of this shape and size may be misaligned. It is a call
+/// of its own, since it has room for a value.
+#[inline(never)]
+pub(crate) fn accesses_misaligned(v: &Visit, shape: Shape, size: u8) -> bool
+    requires proper { IsProper v.now.ground.now.bounds.now v.now.state.now }
+    requires shape { IsShape shape }
+    requires size { IsSize size }
+    ensures { result ≡ not (are_aligned (address_of v.now.ground.now.bounds.now
+        v.now.ground.now.plan.now shape v.now.state.now) size) }
+{
+    let g = v.ground;
+    let at = address_by(g.bounds, g.plan, shape, v.state);
+    !is_aligned(g.bounds, &at, size)
+}
+
+/// Joins a changed state at the entry of a frame.
+pub(crate) fn join_entry(
+    alloc: Global,
+    table: &mut Table,
+    v: &Visit,
+    key: Key,
+    c: &Change,
+) -> Result<(), Refusal>
+    requires visited { VisitedBy v.now table.old }
+    requires owes { OwesDuty v.now (enter key (state_after v.now.state.now c.now)) }
+    ensures ok { (rule : ℕ)
+        → OnOk result
+        (JoinedBy v.now table.old table.new
+        (owed rule (enter key (state_after v.now.state.now c.now)) ∷ [])) }
+    ensures err { IfErr result (AnsweredOn v.now.ground.now) }
+{
+    if has_work(&table.places, table.near) {
+        return Ok(());
+    }
+    let incoming = Incoming::Changed(v.state, c);
+    join_at(alloc, table, v, &Spot::Point(key, key.entry), &incoming)
+}
+
+/// Makes the point a reader of the exit of the frame that it enters, and joins the state after the
+/// return at `back`.
+pub(crate) fn join_resume(
+    alloc: Global,
+    table: &mut Table,
+    v: &Visit,
+    key: Key,
+    back: u32,
+) -> Result<(), Refusal>
+    requires visited { VisitedBy v.now table.old }
+    requires owes { OwesDuty v.now (resume key back) }
+    ensures ok { OnOk result (JoinedBy v.now table.old table.new (owed 4 (resume key back) ∷ [])) }
+    ensures err { IfErr result (AnsweredOn v.now.ground.now) }
+{
+    register(
+        alloc,
+        &mut table.readers,
+        Spot::Exit(key),
+        Spot::Point(v.key, v.addr),
+    )?;
+    join_return(alloc, table, v, key, back)
+}
+
+/// Joins a changed state at the entry of a frame, and the state after its return at `back`.
+pub(crate) fn join_entry_and_back(
+    alloc: Global,
+    table: &mut Table,
+    v: &Visit,
+    key: Key,
+    c: &Change,
+    back: u32,
+) -> Result<(), Refusal>
+    requires visited { VisitedBy v.now table.old }
+    requires enters { OwesDuty v.now (enter key (state_after v.now.state.now c.now)) }
+    requires resumes { OwesDuty v.now (resume key back) }
+    ensures ok { (rule : ℕ)
+        → OnOk result
+        (JoinedBy v.now table.old table.new
+        (entered_and_back rule key (state_after v.now.state.now c.now) back)) }
+    ensures err { IfErr result (AnsweredOn v.now.ground.now) }
+{
+    join_entry(alloc, table, v, key, c)?;
+    join_resume(alloc, table, v, key, back)
 }

@@ -9,7 +9,9 @@ ghost use Rattle.frame_places.specs.Marks.{AllListed, AreKnown, Reads, Requeues}
 ghost use Rattle.frame_places.specs.Work.{all_work};
 ghost use Rattle.frame_places.specs.Numbers.{StandsAt};
 ghost use Rattle.frame_places.specs.Spots.{spot_eq};
-ghost use Rattle.depth_maker.specs.Table.{seen, AnsweredOn, AreExitsRead, FineOn};
+ghost use Rattle.depth_maker.specs.TableInvariant.{AreExitsRead, FineOn};
+ghost use Rattle.depth_maker.specs.TableView.{seen};
+ghost use Rattle.depth_maker.specs.Answers.{AnsweredOn};
 ghost use Rattle.depth_maker.specs.Joins.{AsksOn, JoinedOn, JoinsOn};
 
 use crate::inputs_and_limits::Visit;

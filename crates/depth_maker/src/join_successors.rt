@@ -1,23 +1,30 @@
 // Joins the successors of the visited point in its frame.
-ghost use Rattle.std.specs.Prelude.{◌≡◌, OnOk, IfErr, Some, [], ◌++◌, unwrap_or, false, true};
-ghost use Rattle.tc_isa.specs.Bounded.{IsShape, IsTarget};
-ghost use Rattle.value_domain.specs.State.{AreValues};
+ghost use Rattle.std.specs.Prelude.{◌≡◌, OnOk, IfErr, Some, [], ◌++◌, unwrap_or, false, true, ℕ, ◌∷◌};
+ghost use Rattle.tc_isa.specs.InBounds.{IsShape, IsTarget};
 ghost use Rattle.vd_transfer.specs.Changes.{state_after};
-ghost use Rattle.vd_transfer.specs.EffectsOnStates.{HasRoom};
 ghost use Rattle.cfg_recover.specs.Assignments.{point};
 ghost use Rattle.cfg_recover.specs.LocalRules.{targets_of};
 ghost use Rattle.cfg_recover.specs.SetOperations.{HoldsResults};
-ghost use Rattle.cfg_recover.specs.Duties.{jumps_to, jump_on};
+ghost use Rattle.cfg_recover.specs.Duties.{jumps_to, jump_on, owed, jump, resume, leave, leavings_of};
 ghost use Rattle.depth_cert.specs.Known.{state};
-ghost use Rattle.depth_maker.specs.Table.{AnsweredOn, seen};
-ghost use Rattle.depth_maker.specs.VisitDuties.{OwesAll, JoinedBy, StandsBy, next_by, side_by, step_by, successors_by};
+ghost use Rattle.depth_maker.specs.TableView.{seen};
+ghost use Rattle.depth_maker.specs.Answers.{AnsweredOn};
+ghost use Rattle.depth_maker.specs.VisitDuties.{OwesAll, JoinedBy, StandsBy, next_by, side_by, successors_by, OwesDuty};
 ghost use Rattle.depth_maker.specs.Visits.{VisitedBy};
+ghost use Rattle.indexmap.specs.IndexMap.{get};
+ghost use Rattle.depth_cert.specs.Exits.{exit_of};
+ghost use Rattle.frame_places.specs.declared.places.Spot.TheVariants.{Exit, Point};
+ghost use Rattle.frame_places.specs.Spots.{spot_eq};
+ghost use Rattle.frame_places.specs.Marks.{Reads};
 
 use crate::inputs_and_limits::Visit;
-use crate::join_duty::{join_first_jump, join_jump};
+use crate::join_place::join_at;
 use crate::table::Table;
-use cfg_recover::{Located, OperationCache, direct_target, step_change, targets};
-use frame_places::Refusal;
+use crate::visit::change_at;
+use cfg_recover::{Located, OperationCache, direct_target, targets};
+use depth_cert::{Key, SYS};
+use frame_places::{Refusal, Spot, has_work};
+use small_states::Incoming;
 use std::alloc::Global;
 use tc_isa::{Shape, Target};
 use vd_transfer::{Change, change_on};
@@ -152,24 +159,6 @@ fn join_targets(
     }
 }
 
-/// Writes what the instruction makes of the state into `c`. The result of an operation on two sets
-/// may be in `cache`.
-#[inline(always)]
-fn change_at(v: &Visit, shape: Shape, c: &mut Change, cache: &mut OperationCache)
-    requires shape { IsShape shape }
-    requires values { AreValues v.now.ground.now.bounds.now v.now.state.now.regs }
-    requires room { HasRoom v.now.ground.now.bounds.now shape v.now.state.now }
-    requires results { HoldsResults v.now.ground.now.bounds.now cache.old }
-    ensures change { state_after v.now.state.now c.new ≡ step_by v.now shape }
-    ensures results { HoldsResults v.now.ground.now.bounds.now cache.new }
-{
-    let g = v.ground;
-    if cache.change(g.bounds, g.plan, shape, v.state, c) {
-        return;
-    }
-    step_change(g.bounds, g.image, g.plan, shape, v.state, c);
-}
-
 /// Joins the state after the instruction at the next one, before anything else is joined.
 fn join_step(
     alloc: Global,
@@ -233,5 +222,118 @@ pub(crate) fn join_successors(
         Shape::Call { .. } | Shape::Ret | Shape::Rfe | Shape::Syscall { .. } | Shape::Mtcr { .. } =>
             Ok(()),
         _ => join_step(alloc, table, v, found, c, cache),
+    }
+}
+
+/// Joins a changed state at a point of the same frame.
+pub(crate) fn join_jump(
+    alloc: Global,
+    table: &mut Table,
+    v: &Visit,
+    to: u32,
+    c: &Change,
+) -> Result<(), Refusal>
+    requires visited { VisitedBy v.now table.old }
+    requires owes { OwesDuty v.now (jump to (state_after v.now.state.now c.now)) }
+    ensures ok { OnOk result
+        (JoinedBy v.now table.old table.new
+        (owed 4 (jump to (state_after v.now.state.now c.now)) ∷ [])) }
+    ensures err { IfErr result (AnsweredOn v.now.ground.now) }
+{
+    if has_work(&table.places, table.near) {
+        return Ok(());
+    }
+    join_first_jump(alloc, table, v, to, c)
+}
+
+/// Joins a changed state at a point of the same frame, before anything else is joined: the visited
+/// point still has its state.
+pub(crate) fn join_first_jump(
+    alloc: Global,
+    table: &mut Table,
+    v: &Visit,
+    to: u32,
+    c: &Change,
+) -> Result<(), Refusal>
+    requires visited { VisitedBy v.now table.old }
+    requires at { (seen table.old).cells (point v.now.key v.now.addr)
+        ≡ Some (state v.now.state.now) }
+    requires owes { OwesDuty v.now (jump to (state_after v.now.state.now c.now)) }
+    ensures ok { OnOk result
+        (JoinedBy v.now table.old table.new
+        (owed 4 (jump to (state_after v.now.state.now c.now)) ∷ [])) }
+    ensures err { IfErr result (AnsweredOn v.now.ground.now) }
+{
+    let incoming = Incoming::Changed(v.state, c);
+    join_at(alloc, table, v, &Spot::Point(v.key, to), &incoming)
+}
+
+/// Joins the state at the exit of the point's frame, which it leaves.
+pub(crate) fn join_exit(alloc: Global, table: &mut Table, v: &Visit) -> Result<(), Refusal>
+    requires visited { VisitedBy v.now table.old }
+    requires owes { OwesDuty v.now (leave (exit_of v.now.state.now)) }
+    ensures ok { (rule : ℕ)
+        → OnOk result
+        (JoinedBy v.now table.old table.new (owed rule (leave (exit_of v.now.state.now)) ∷ [])) }
+    ensures err { IfErr result (AnsweredOn v.now.ground.now) }
+{
+    if has_work(&table.places, table.near) {
+        return Ok(());
+    }
+    let incoming = Incoming::Leaving(v.state);
+    join_at(alloc, table, v, &Spot::Exit(v.key), &incoming)
+}
+
+/// Joins the state after a frame returned at `back`, if the exit of that frame is known.
+pub(crate) fn join_return(
+    alloc: Global,
+    table: &mut Table,
+    v: &Visit,
+    key: Key,
+    back: u32,
+) -> Result<(), Refusal>
+    requires visited { VisitedBy v.now table.old }
+    requires registered { Reads (get spot_eq table.old.readers (Exit key))
+        (Point v.now.key v.now.addr) }
+    requires owes { OwesDuty v.now (resume key back) }
+    ensures ok { OnOk result (JoinedBy v.now table.old table.new (owed 4 (resume key back) ∷ [])) }
+    ensures err { IfErr result (AnsweredOn v.now.ground.now) }
+{
+    if has_work(&table.places, table.near) {
+        return Ok(());
+    }
+    let Some(place) = table.places.get(&Spot::Exit(key)) else {
+        return Ok(());
+    };
+    let Some(exit) = place.value.exit() else {
+        unreachable!();
+    };
+    let copy = exit.copy()?;
+    let incoming = Incoming::After(v.state, &copy, key.kind);
+    join_at(alloc, table, v, &Spot::Point(v.key, back), &incoming)
+}
+
+/// Joins the exit if the instruction leaves the frame: RET, or RFE in a system call's handler.
+pub(crate) fn join_leavings(
+    alloc: Global,
+    table: &mut Table,
+    v: &Visit,
+    shape: Shape,
+) -> Result<(), Refusal>
+    requires visited { VisitedBy v.now table.old }
+    requires owes { OwesAll v.now (leavings_of v.now.key v.now.state.now shape) }
+    ensures ok { OnOk result
+        (JoinedBy v.now table.old table.new (leavings_of v.now.key v.now.state.now shape)) }
+    ensures err { IfErr result (AnsweredOn v.now.ground.now) }
+{
+    match shape {
+        Shape::Ret => join_exit(alloc, table, v),
+        Shape::Rfe => {
+            if v.key.kind == SYS {
+                return join_exit(alloc, table, v);
+            }
+            Ok(())
+        }
+        _ => Ok(()),
     }
 }

@@ -1,8 +1,7 @@
 // Laws: what grows with a state, and what holds of derived assignments and accepted certificates.
-ghost use Rattle.depth_maker.specs.Growth.{AddressesGrow, AfterGrows, DutiesGrow, FaultsFall, SidesGrow, TransfersGrow};
+ghost use Rattle.depth_maker.specs.DutiesGrow.{AddressesGrow, AfterGrows, DutiesGrow, FaultsFall, SidesGrow, TransfersGrow};
 ghost use Rattle.depth_maker.specs.ProperAssignments.{AfterIsProper, DutiesAreProper};
-ghost use Rattle.depth_maker.specs.Laws.{RefusalsHold, AcceptedIsClosed, DerivedIsBelow, FaultsRefute, RefusalsRefute, SolutionIsAccepted, RefusedIsNone, WrittenIsMade};
-ghost use Rattle.depth_maker.specs.Made.{MadeIsLeast};
+ghost use Rattle.depth_maker.specs.MakerLaws.{RefusalsHold, AcceptedIsClosed, DerivedIsBelow, FaultsRefute, RefusalsRefute, SolutionIsAccepted, RefusedIsNone, WrittenIsMade, MadeIsLeast};
 
 /// A point without a fault of its own has none with a smaller state, and then owes less.
 pub fn growth_laws()

@@ -1,12 +1,16 @@
 // The least needs of the frames of a closed table.
-ghost use Rattle.std.specs.Prelude.{◌≡◌, ◌≤◌, ◌-◌, IfOk};
+ghost use Rattle.std.specs.Prelude.{◌≡◌, ◌≤◌, ◌-◌, IfOk, None};
 ghost use Rattle.depth_maker.specs.Rows.{IsSource, RowsOn};
-ghost use Rattle.depth_maker.specs.Needs.{NeedsOrPlace};
+ghost use Rattle.depth_maker.specs.Needs.{NeedsOrPlace, NeedsOn};
+ghost use Rattle.depth_maker.specs.Answers.{Refuses};
+ghost use Rattle.depth_maker.specs.Recursing.{IsRecursion};
 
+use crate::answering::MakeErr;
 use crate::recursion::recursion;
 use crate::rows::{Source, rows};
+use cfg_recover::start_key;
 use depth_cert::Key;
-use frame_places::{NeedRow, least_needs, soon_needs};
+use frame_places::{NEEDS_RULE, NeedRow, least_needs, soon_needs};
 use std::alloc::{AllocError, Global};
 use tcd_plan::Plan;
 
@@ -65,4 +69,28 @@ pub(crate) fn frame_needs(
         None => 0,
     })?;
     needs_by(alloc, source, rows.as_slice(), frames)
+}
+
+/// Returns the refusal if no needs are within the areas: at the first recursion, or at the start.
+pub(crate) fn needs_error(source: &Source, place: Option<(Key, u32)>) -> MakeErr
+    requires source { IsSource source.now }
+    requires none { NeedsOn source.now None }
+    requires place { IsRecursion source.now place }
+    ensures { Refuses source.now.ground.now result }
+{
+    match place {
+        Some((key, addr)) => MakeErr::Refused {
+            rule: NEEDS_RULE,
+            key,
+            addr,
+        },
+        None => {
+            let key = start_key(source.ground.image, source.ground.plan);
+            MakeErr::Refused {
+                rule: NEEDS_RULE,
+                key,
+                addr: key.entry,
+            }
+        }
+    }
 }

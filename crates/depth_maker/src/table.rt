@@ -1,6 +1,9 @@
 // The table of the worklist algorithm.
+ghost use Rattle.std.specs.Prelude.{None};
+
 use crate::covered::CoveredEntries;
 use depth_cert::Key;
+use elf_image::Image;
 use frame_places::{Marked, Spot, Work};
 use indexmap::IndexMap;
 use small_states::SmallKnown;
@@ -22,4 +25,13 @@ pub(crate) struct Table {
     pub(crate) covered: CoveredEntries,
     /// The number of the visited place.
     pub(crate) near: usize,
+}
+
+/// Returns the number of places to make room for at first: the number of 2-byte instructions in the
+/// first segment, at most 8,192.
+pub(crate) fn first_room(image: &Image) -> usize {
+    match image.segments.first() {
+        Some(segment) => (segment.bytes.len() / 2).min(8192),
+        None => 0,
+    }
 }

@@ -2,46 +2,32 @@
 ghost use Rattle.std.specs.Prelude.{◌≡◌, IsTrue, OnOk, IfErr, IfOk, Some};
 ghost use Rattle.cfg_recover.specs.Assignments.{point};
 ghost use Rattle.depth_cert.specs.Known.{state};
-ghost use Rattle.cfg_recover.specs.Duties.{leavings_of};
 ghost use Rattle.frame_places.specs.declared.places.Spot.TheVariants.{Point};
 ghost use Rattle.cfg_recover.specs.SetOperations.{HoldsResults};
-ghost use Rattle.depth_maker.specs.EnteredFrames.{EntersNone};
-ghost use Rattle.depth_maker.specs.Table.{seen, AnsweredOn};
-ghost use Rattle.depth_maker.specs.VisitDuties.{IsPlainBy, OwesAll, JoinedBy, StandsBy, duties_by};
+ghost use Rattle.depth_maker.specs.EnteredFrames.{EntersNone, IsPlainIn};
+ghost use Rattle.depth_maker.specs.TableView.{seen};
+ghost use Rattle.depth_maker.specs.Answers.{AnsweredOn};
+ghost use Rattle.depth_maker.specs.VisitDuties.{IsPlainBy, JoinedBy, StandsBy, duties_by, step_by};
 ghost use Rattle.depth_maker.specs.Visits.{PointJoinedOn, VisitedBy};
+ghost use Rattle.frame_places.specs.declared.places.Spot as spots;
+ghost use Rattle.frame_places.specs.Numbers.{StandsAt};
+ghost use Rattle.depth_maker.specs.TableInvariant.{FineOn};
+ghost use Rattle.tc_isa.specs.InBounds.{IsShape};
+ghost use Rattle.value_domain.specs.State.{AreValues};
+ghost use Rattle.vd_transfer.specs.Changes.{state_after};
+ghost use Rattle.vd_transfer.specs.EffectsOnStates.{HasRoom};
 
-use crate::inputs_and_limits::Visit;
-use crate::join_duty::join_exit;
+use crate::fixpoint::VisitScratch;
+use crate::inputs_and_limits::{Ground, Visit};
 use crate::join_entries::{join_access, join_entries, join_interrupts};
-use crate::join_successors::join_successors;
+use crate::join_successors::{join_leavings, join_successors};
 use crate::table::Table;
-use cfg_recover::{KnownCodes, Located, OperationCache, check_located};
-use depth_cert::SYS;
+use cfg_recover::{KnownCodes, Located, OperationCache, check_located, step_change};
 use frame_places::{Refusal, Spot};
 use std::alloc::Global;
 use tc_isa::Shape;
 use tcd_plan::Plan;
 use vd_transfer::Change;
-
-/// Joins the exit if the instruction leaves the frame: RET, or RFE in a system call's handler.
-fn join_leavings(alloc: Global, table: &mut Table, v: &Visit, shape: Shape) -> Result<(), Refusal>
-    requires visited { VisitedBy v.now table.old }
-    requires owes { OwesAll v.now (leavings_of v.now.key v.now.state.now shape) }
-    ensures ok { OnOk result
-        (JoinedBy v.now table.old table.new (leavings_of v.now.key v.now.state.now shape)) }
-    ensures err { IfErr result (AnsweredOn v.now.ground.now) }
-{
-    match shape {
-        Shape::Ret => join_exit(alloc, table, v),
-        Shape::Rfe => {
-            if v.key.kind == SYS {
-                return join_exit(alloc, table, v);
-            }
-            Ok(())
-        }
-        _ => Ok(()),
-    }
-}
 
 /// Joins all that the point owes. The change by its instruction is written over `c`.
 fn join_duties(
@@ -113,4 +99,59 @@ pub(crate) fn visit_point(
         }
         Err(rule) => Err(Refusal::Fault(rule, Spot::Point(v.key, v.addr))),
     }
+}
+
+/// Joins what the visited place owes, and returns true only if its instruction enters no frame by
+/// itself. An exit owes nothing. The state of a point is written over `scratch`, its changes over
+/// `change`, and results of operations on two sets are in `cache`.
+pub(crate) fn visit_place(
+    alloc: Global,
+    ground: &Ground,
+    table: &mut Table,
+    scratch: &mut VisitScratch,
+    change: &mut Change,
+    cache: &mut OperationCache,
+) -> Result<bool, Refusal>
+    requires fine { FineOn ground.now table.old }
+    requires results { HoldsResults ground.now.bounds.now cache.old }
+    ensures ok { (x : spots.Spot) → StandsAt table.old.places table.old.near x
+        → OnOk result (PointJoinedOn ground.now table.old table.new x) }
+    ensures plain { (x : spots.Spot) → StandsAt table.old.places table.old.near x
+        → IfOk result (λ plain. IsTrue plain
+        → IsPlainIn ground.now.image.now ground.now.plan.now x) }
+    ensures err { IfErr result (AnsweredOn ground.now) }
+    ensures results { HoldsResults ground.now.bounds.now cache.new }
+{
+    let Some((at, place)) = table.places.get_index(table.near) else {
+        return Ok(false);
+    };
+    let Spot::Point(key, addr) = *at else {
+        return Ok(false);
+    };
+    place.value.read_state(ground.bounds, &mut scratch.state);
+    let v = Visit {
+        ground,
+        key,
+        addr,
+        state: scratch.state.state(),
+    };
+    visit_point(alloc, table, &v, change, &mut scratch.codes, cache)
+}
+
+/// Writes what the instruction makes of the state into `c`. The result of an operation on two sets
+/// may be in `cache`.
+#[inline(always)]
+pub(crate) fn change_at(v: &Visit, shape: Shape, c: &mut Change, cache: &mut OperationCache)
+    requires shape { IsShape shape }
+    requires values { AreValues v.now.ground.now.bounds.now v.now.state.now.regs }
+    requires room { HasRoom v.now.ground.now.bounds.now shape v.now.state.now }
+    requires results { HoldsResults v.now.ground.now.bounds.now cache.old }
+    ensures change { state_after v.now.state.now c.new ≡ step_by v.now shape }
+    ensures results { HoldsResults v.now.ground.now.bounds.now cache.new }
+{
+    let g = v.ground;
+    if cache.change(g.bounds, g.plan, shape, v.state, c) {
+        return;
+    }
+    step_change(g.bounds, g.image, g.plan, shape, v.state, c);
 }

@@ -9,8 +9,8 @@ use Rattle.std.proofs.lemmas.Bool.Decides.{nat_tests}
 use Rattle.elf_image.specs.declared.headers.Header.{Header}
 use Rattle.elf_image.specs.declared.errors.ImageErr.TheVariants.{BadSegment}
 use Rattle.elf_image.specs.Images.{ImageData, SegmentData, IsImage, is_segment, are_apart, all_apart}
-use Rattle.elf_image.specs.Elf.{e_phoff, e_phnum, e_phentsize, header_at, headers_of, is_bad, has_bytes, meets, loads_of, segment_refusal, is_large, overlap_refusal, segment_of, image_of}
-use Rattle.elf_image.specs.Written.{elf_header, program_header, program_headers, contents_place, contents, file_of}
+use Rattle.elf_image.specs.ReadElf.{e_phoff, e_phnum, e_phentsize, header_at, headers_of, is_bad, has_bytes, meets, loads_of, segment_refusal, is_large, overlap_refusal, segment_of, image_of}
+use Rattle.elf_image.specs.WrittenElf.{elf_header, program_header, program_headers, contents_place, contents, file_of}
 use Rattle.elf_image.proofs.Fields.{written_header, header_at-written, start-elf_header, entry-elf_header, phoff-elf_header, phentsize-elf_header, phnum-elf_header, length-elf_header, length-program_header}
 use Rattle.elf_image.proofs.Refusals.{image_of-loaded}
 

@@ -3,8 +3,8 @@ use Rattle.std.proofs.Common.{◌≡◌, ℕ, ◌+◌, ◌*◌, ◌^◌, ◌<◌
 use Rattle.std.proofs.lemmas.List.{get_or-append-add}
 use Rattle.std.proofs.lemmas.Bool.{le-ltb}
 use Rattle.elf_image.specs.declared.headers.Header.{Header}
-use Rattle.elf_image.specs.Elf.{half_at, word_at, e_entry, e_phoff, e_phentsize, e_phnum, header_at, start_refusal}
-use Rattle.elf_image.specs.Written.{elf_header, program_header}
+use Rattle.elf_image.specs.ReadElf.{half_at, word_at, e_entry, e_phoff, e_phentsize, e_phnum, header_at, start_refusal}
+use Rattle.elf_image.specs.WrittenElf.{elf_header, program_header}
 
 get_or-behind : (front back : List ℕ) (k at : ℕ) → length front + k ≡ at → get_or (front ++ back) at 0 ≡ get_or back k 0
 get_or-behind front back k at e = rw (← e) (get_or-append-add front back k 0)

@@ -7,7 +7,7 @@ use Rattle.std.specs.Option.{option_map}
 use Rattle.elf_image.specs.declared.headers.Header.{Header}
 use Rattle.elf_image.specs.declared.errors.ImageErr.{ImageErr}
 use Rattle.elf_image.specs.declared.errors.ImageErr.TheVariants.{BadSegment}
-use Rattle.elf_image.specs.Elf.{e_phnum, place_of, header_at, headers_of, is_bad, has_bytes, loads_of, segment_refusal}
+use Rattle.elf_image.specs.ReadElf.{e_phnum, place_of, header_at, headers_of, is_bad, has_bytes, loads_of, segment_refusal}
 use Rattle.elf_image.proofs.Rest.{number-header_at}
 
 -- the bytes that a header loads are in the file and below 2^32, and there is at least one

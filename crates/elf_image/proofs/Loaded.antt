@@ -10,7 +10,7 @@ use Rattle.elf_image.specs.declared.headers.Header.{Header}
 use Rattle.elf_image.specs.declared.errors.ImageErr.{ImageErr}
 use Rattle.elf_image.specs.declared.errors.ImageErr.TheVariants.{Overlap}
 use Rattle.elf_image.specs.Images.{SegmentData, AreBytes, IsImage, is_segment, are_apart, all_apart}
-use Rattle.elf_image.specs.Elf.{meets, loads_of, segment_refusal, is_large, overlap_refusal, segment_of}
+use Rattle.elf_image.specs.ReadElf.{meets, loads_of, segment_refusal, is_large, overlap_refusal, segment_of}
 use Rattle.elf_image.proofs.Good.{Good, loads_good, unfound_head, unfound_tail}
 
 both : {a b : Bool} → a ≡ true → b ≡ true → (a && b) ≡ true

@@ -4,7 +4,7 @@ use Rattle.std.proofs.lemmas.List.{append-nil, length-append}
 use Rattle.std.proofs.lemmas.List.Sums.{sum_by-append}
 use Rattle.std.proofs.lemmas.Bool.Decides.{nat_tests}
 use Rattle.elf_image.specs.declared.headers.Header.{Header}
-use Rattle.elf_image.specs.Elf.{e_phnum, header_at, has_bytes, loads_of, is_large}
+use Rattle.elf_image.specs.ReadElf.{e_phnum, header_at, has_bytes, loads_of, is_large}
 use Rattle.elf_image.proofs.Rest.{rest_of, rest_of-start, rest_of-more, rest_of-end}
 
 -- the headers so far and those that follow are all; those so far are within the limits of an image

@@ -6,7 +6,7 @@ use Rattle.elf_image.specs.declared.errors.ImageErr.{ImageErr}
 use Rattle.elf_image.specs.declared.errors.ImageErr.TheVariants.{TooLarge, NoMemory}
 use Rattle.elf_image.specs.declared.headers.Header.{Header}
 use Rattle.elf_image.specs.Images.{SegmentData}
-use Rattle.elf_image.specs.Elf.{e_entry, loads_of, start_refusal, segment_refusal, is_large, overlap_refusal, refusal_of, segment_of, image_of_loads, unless, image_of, Gives}
+use Rattle.elf_image.specs.ReadElf.{e_entry, loads_of, start_refusal, segment_refusal, is_large, overlap_refusal, refusal_of, segment_of, image_of_loads, unless, image_of, Gives}
 
 -- the answer if there is a refusal
 pub refused : (bytes : List ℕ) (e : ImageErr) → refusal_of bytes ≡ Some e → Gives (Err e) (image_of bytes)

@@ -2,7 +2,7 @@
 use Rattle.std.proofs.Common.{◌≡◌, ℕ, suc, ◌+◌, ◌-◌, ◌<◌, ◌≤◌, List, [], ◌∷◌, map, find, cond, true, false, Some, refl, ap, ◌∙◌, arith}
 use Rattle.std.specs.List.{range_with_len}
 use Rattle.elf_image.specs.declared.headers.Header.{Header}
-use Rattle.elf_image.specs.Elf.{header_at, headers_of, e_phnum, is_bad}
+use Rattle.elf_image.specs.ReadElf.{header_at, headers_of, e_phnum, is_bad}
 
 -- the headers from a number up to the end
 unfoldable pub rest_of : List ℕ → ℕ → ℕ → List Header

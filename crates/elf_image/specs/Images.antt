@@ -1,5 +1,5 @@
 -- Images as plain data.
-use Rattle.std.specs.Prelude.{◌≤◌, ◌<◌, ◌+◌, ◌-◌, ◌^◌, ℕ, List, [], ◌∷◌, length, map, sum_by, All, Option, None, Bool, true, IsTrue, nat_le, nat_lt, ◌&&◌, ◌||◌, if◌then◌else◌, slice_get}
+use Rattle.std.specs.Prelude.{◌≤◌, ◌<◌, ◌+◌, ◌-◌, ◌^◌, ℕ, List, ◌∷◌, length, map, sum_by, All, Option, None, Bool, true, IsTrue, nat_le, nat_lt, ◌&&◌, ◌||◌, if◌then◌else◌, slice_get, ◌≡◌, Some, []}
 use Rattle.std.specs.List.{list_all}
 use Rattle.elf_image.specs.declared.images.Image.TheInside.{Inside}
 use Rattle.elf_image.specs.declared.segments.Segment.{Segment}
@@ -60,3 +60,7 @@ byte_in (s ∷ ss) x = if holds s x then slice_get s.bytes (x - s.at) else byte_
 -- the byte of the image at x, None if no segment holds x
 abbrev pub image_byte : ImageData → ℕ → Option ℕ
 image_byte i x = byte_in i.segments x
+
+-- the image has these bytes from an address on
+abbrev pub HoldsFrom : ImageData → ℕ → List ℕ → Type 0
+HoldsFrom image at bytes = (k b : ℕ) → slice_get bytes k ≡ Some b → image_byte image (at + k) ≡ Some b

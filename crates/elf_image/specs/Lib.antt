@@ -1,4 +1,4 @@
 -- Definitions of images, and of the ELF files that they are read from and written to.
-pub mod Elf
+pub mod ReadElf
 pub mod Images
-pub mod Written
+pub mod WrittenElf

@@ -1,8 +1,8 @@
 // The checks of an ELF file, in their order.
-ghost use Rattle.std.specs.Prelude.{◌≡◌, ◌+◌, ◌≤◌, ◌<◌, length, find, Option, Some, None, OnOk};
+ghost use Rattle.std.specs.Prelude.{◌≡◌, ◌+◌, ◌≤◌, ◌<◌, length, find, Option, Some, None, OnOk, ◌^◌};
 ghost use Rattle.std.specs.Result.{result_err};
 ghost use Rattle.std.specs.Option.{option_map};
-ghost use Rattle.elf_image.specs.Elf.{headers_of, is_bad, start_refusal, segment_refusal, meets, overlap_refusal};
+ghost use Rattle.elf_image.specs.ReadElf.{headers_of, is_bad, start_refusal, segment_refusal, meets, overlap_refusal, passes_bounds};
 
 use crate::ImageErr;
 use crate::headers::{
@@ -10,7 +10,7 @@ use crate::headers::{
 };
 
 // Checks that the file begins with the header of an executable for this machine.
-#[tactic(auto, unfolding(crate::specs::Elf::start_refusal))]
+#[tactic(auto, unfolding(crate::specs::ReadElf::start_refusal))]
 pub(crate) fn check_start(bytes: &[u8]) -> Result<(), ImageErr>
     ensures refusal { result_err result ≡ start_refusal bytes.now }
     ensures long { OnOk result (52 ≤ length bytes.now) }
@@ -45,7 +45,7 @@ fn first_bad(bytes: &[u8]) -> Option<u32>
 }
 
 // Checks that no program header is bad.
-#[tactic(auto, unfolding(crate::specs::Elf::segment_refusal))]
+#[tactic(auto, unfolding(crate::specs::ReadElf::segment_refusal))]
 pub(crate) fn check_segments(bytes: &[u8]) -> Result<(), ImageErr>
     requires { 52 ≤ length bytes.now }
     ensures { result_err result ≡ segment_refusal bytes.now }
@@ -72,7 +72,7 @@ fn first_meeting(header: &Header, others: &[Header]) -> Option<u32>
 }
 
 // Checks that no two of the headers that load bytes share an address.
-#[tactic(auto, unfolding(crate::specs::Elf::overlap_refusal))]
+#[tactic(auto, unfolding(crate::specs::ReadElf::overlap_refusal))]
 pub(crate) fn check_apart(loads: &[Header]) -> Result<(), ImageErr>
     ensures { result_err result ≡ overlap_refusal loads.now }
 {
@@ -82,4 +82,15 @@ pub(crate) fn check_apart(loads: &[Header]) -> Result<(), ImageErr>
         }
     }
     Ok(())
+}
+
+// Returns true if the header's bytes pass the end of a file of this length, address 2^32 or the
+// header's own memory size.
+pub(crate) fn passes_bounds(len: usize, header: &Header) -> bool
+    ensures { result ≡ passes_bounds len header.now }
+{
+    let size = u64::from(header.file_size);
+    u64::from(header.offset) + size > len as u64
+        || u64::from(header.address) + size > 1 << 32
+        || header.memory_size < header.file_size
 }

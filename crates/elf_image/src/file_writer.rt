@@ -1,13 +1,13 @@
 // Writes the ELF file of an image, part by part.
 ghost use Rattle.std.specs.Prelude.{◌≡◌, ◌++◌, ◌≤◌, ◌^◌, length, map, sum_by, OnOk, IfOk, IfErr};
 ghost use Rattle.elf_image.specs.Images.{segment_data};
-ghost use Rattle.elf_image.specs.Written.{elf_header, program_header, program_headers, contents, contents_place, file_of};
+ghost use Rattle.elf_image.specs.WrittenElf.{elf_header, program_header, program_headers, contents, contents_place, file_of};
 
 use crate::{ImageErr, Segment};
 use std::alloc::Global;
 
 // Returns the ELF header of an executable with this entry and `count` program headers.
-#[tactic(auto, unfolding(crate::specs::Written::elf_header))]
+#[tactic(auto, unfolding(crate::specs::WrittenElf::elf_header))]
 fn elf_header(entry: u32, count: u16) -> [u8; 52]
     ensures { result ≡ elf_header entry count }
 {
@@ -22,7 +22,7 @@ fn elf_header(entry: u32, count: u16) -> [u8; 52]
 
 // Returns the program header of `len` bytes at `offset` of the file, which are loaded at the
 // address `at`.
-#[tactic(auto, unfolding(crate::specs::Written::program_header))]
+#[tactic(auto, unfolding(crate::specs::WrittenElf::program_header))]
 fn program_header(offset: u32, at: u32, len: u32) -> [u8; 32]
     ensures { result ≡ program_header offset at len }
 {
@@ -36,7 +36,7 @@ fn program_header(offset: u32, at: u32, len: u32) -> [u8; 32]
 }
 
 // Appends the program headers.
-#[tactic(auto, unfolding(crate::specs::Written::program_headers))]
+#[tactic(auto, unfolding(crate::specs::WrittenElf::program_headers))]
 fn put_headers(out: &mut Vec<u8>, segments: &[Segment]) -> Result<(), ImageErr>
     requires few { length segments.now ≤ 64 }
     requires small { sum_by (λ s. length s.bytes) (map segment_data segments.now) ≤ 2 ^ 24 }
@@ -54,7 +54,7 @@ fn put_headers(out: &mut Vec<u8>, segments: &[Segment]) -> Result<(), ImageErr>
 }
 
 // Appends the segments' bytes.
-#[tactic(auto, unfolding(crate::specs::Written::contents))]
+#[tactic(auto, unfolding(crate::specs::WrittenElf::contents))]
 fn put_contents(out: &mut Vec<u8>, segments: &[Segment]) -> Result<(), ImageErr>
     ensures ok { OnOk result
         (out.new.items ≡ out.old.items ++ contents (map segment_data segments.now)) }
@@ -67,7 +67,7 @@ fn put_contents(out: &mut Vec<u8>, segments: &[Segment]) -> Result<(), ImageErr>
 }
 
 // Returns the ELF file of these segments, with the address at which the program begins.
-#[tactic(auto, unfolding(crate::specs::Written::file_of))]
+#[tactic(auto, unfolding(crate::specs::WrittenElf::file_of))]
 pub(crate) fn file_of(alloc: Global, entry: u32, segments: &[Segment]) -> Result<Vec<u8>, ImageErr>
     requires few { length segments.now ≤ 64 }
     requires small { sum_by (λ s. length s.bytes) (map segment_data segments.now) ≤ 2 ^ 24 }

@@ -1,6 +1,10 @@
 // Reads the fields of an ELF file by their offsets.
-ghost use Rattle.std.specs.Prelude.{◌≡◌, ◌+◌, ◌*◌, ◌≤◌, ◌<◌, ◌^◌, length};
-ghost use Rattle.elf_image.specs.Elf.{half_at, word_at, place_of, header_at, passes_bounds, is_bad, has_bytes, meets};
+ghost use Rattle.std.specs.Prelude.{◌≡◌, ◌+◌, ◌*◌, ◌≤◌, ◌<◌, ◌^◌, length, ◌-◌, ◌⊎◌, None, IfOk, IfErr, true, false};
+ghost use Rattle.elf_image.specs.ReadElf.{half_at, word_at, place_of, header_at, passes_bounds, is_bad, has_bytes, meets, segment_refusal, loads_of, is_large};
+
+use crate::ImageErr;
+use crate::file_checks::passes_bounds;
+use std::alloc::Global;
 
 /// The offset of the kind of file in the ELF header.
 pub(crate) const E_TYPE: usize = 16;
@@ -40,7 +44,7 @@ pub(crate) struct Header {
     pub(crate) memory_size: u32,
 }
 
-#[tactic(auto, unfolding(crate::specs::Elf::half_at))]
+#[tactic(auto, unfolding(crate::specs::ReadElf::half_at))]
 pub(crate) fn half_at(bytes: &[u8], at: usize) -> u16
     requires { at + 2 ≤ length bytes.now }
     ensures { result ≡ half_at bytes.now at }
@@ -48,7 +52,7 @@ pub(crate) fn half_at(bytes: &[u8], at: usize) -> u16
     u16::from_le_bytes([bytes[at], bytes[at + 1]])
 }
 
-#[tactic(auto, unfolding(crate::specs::Elf::word_at))]
+#[tactic(auto, unfolding(crate::specs::ReadElf::word_at))]
 pub(crate) fn word_at(bytes: &[u8], at: usize) -> u32
     requires { at + 4 ≤ length bytes.now }
     ensures { result ≡ word_at bytes.now at }
@@ -66,7 +70,7 @@ pub(crate) fn place_of(bytes: &[u8], number: u16) -> usize
 }
 
 // Reads the program header with this number, which is wholly in the file.
-#[tactic(auto, unfolding(crate::specs::Elf::header_at))]
+#[tactic(auto, unfolding(crate::specs::ReadElf::header_at))]
 pub(crate) fn header_at(bytes: &[u8], number: u16) -> Header
     requires long { 52 ≤ length bytes.now }
     requires whole { place_of bytes.now number + 32 ≤ length bytes.now }
@@ -83,20 +87,9 @@ pub(crate) fn header_at(bytes: &[u8], number: u16) -> Header
     }
 }
 
-// Returns true if the header's bytes pass the end of a file of this length, address 2^32 or the
-// header's own memory size.
-pub(crate) fn passes_bounds(len: usize, header: &Header) -> bool
-    ensures { result ≡ passes_bounds len header.now }
-{
-    let size = u64::from(header.file_size);
-    u64::from(header.offset) + size > len as u64
-        || u64::from(header.address) + size > 1 << 32
-        || header.memory_size < header.file_size
-}
-
 // Returns true if the program header with this number can't be used: it isn't wholly in the file,
 // or its bytes pass a bound.
-#[tactic(auto, unfolding(crate::specs::Elf::is_bad, crate::specs::Elf::header_at))]
+#[tactic(auto, unfolding(crate::specs::ReadElf::is_bad, crate::specs::ReadElf::header_at))]
 pub(crate) fn is_bad(bytes: &[u8], number: u16) -> bool
     requires { 52 ≤ length bytes.now }
     ensures { result ≡ is_bad bytes.now (header_at bytes.now number) }
@@ -109,7 +102,7 @@ pub(crate) fn is_bad(bytes: &[u8], number: u16) -> bool
 }
 
 // Returns true if the program header loads bytes of the file (type PT_LOAD).
-#[tactic(auto, unfolding(crate::specs::Elf::has_bytes))]
+#[tactic(auto, unfolding(crate::specs::ReadElf::has_bytes))]
 pub(crate) fn has_bytes(header: &Header) -> bool
     ensures { result ≡ has_bytes header.now }
 {
@@ -117,10 +110,36 @@ pub(crate) fn has_bytes(header: &Header) -> bool
 }
 
 // Returns true if two program headers that load bytes share an address.
-#[tactic(auto, unfolding(crate::specs::Elf::meets))]
+#[tactic(auto, unfolding(crate::specs::ReadElf::meets))]
 pub(crate) fn meets(header: &Header, other: &Header) -> bool
     ensures { result ≡ meets header.now other.now }
 {
     let (at, other_at) = (u64::from(header.address), u64::from(other.address));
     at < other_at + u64::from(other.file_size) && other_at < at + u64::from(header.file_size)
+}
+
+// Collects the headers that load bytes, in order: at most 64, with at most 2^24 bytes together.
+pub(crate) fn loads_of(alloc: Global, bytes: &[u8]) -> Result<Vec<Header>, ImageErr>
+    requires long { 52 ≤ length bytes.now }
+    requires good { segment_refusal bytes.now ≡ None }
+    ensures ok { IfOk result (λ v.
+        (v.items ≡ loads_of bytes.now) × (is_large (loads_of bytes.now) ≡ false)) }
+    ensures err { IfErr result (λ e.
+        (e ≡ ImageErr.NoMemory)
+        ⊎ ((e ≡ ImageErr.TooLarge) × (is_large (loads_of bytes.now) ≡ true))) }
+{
+    let mut loads = Vec::new(alloc);
+    let mut total = 0u32;
+    let count = half_at(bytes, E_PHNUM);
+    for number in 0..count {
+        let header = header_at(bytes, number);
+        if has_bytes(&header) {
+            if loads.len() == 64 || header.file_size > 16_777_216 - total {
+                return Err(ImageErr::TooLarge);
+            }
+            total += header.file_size;
+            loads.push(header)?;
+        }
+    }
+    Ok(loads)
 }

@@ -2,8 +2,8 @@
 use crate::ImageErr;
 use crate::file_checks::{check_apart, check_segments, check_start};
 use crate::file_writer::file_of;
-use crate::headers::{E_ENTRY, word_at};
-use crate::segments::{Segment, byte_of, is_held, loads_of, segments_of};
+use crate::headers::{E_ENTRY, loads_of, word_at};
+use crate::segments::{Segment, byte_of, is_held, segments_of};
 use std::alloc::Global;
 use std::marker::Model;
 
@@ -29,8 +29,8 @@ impl Model for Image {
 impl Image {
     ghost use Rattle.std.specs.Prelude.{◌≡◌, ◌≤◌, ◌^◌, ◌↔◌, IsTrue, length, Some, Ok, IfOk, IfErr};
     ghost use Rattle.elf_image.specs.Images.{image_byte};
-    ghost use Rattle.elf_image.specs.Elf.{Gives, image_of};
-    ghost use Rattle.elf_image.specs.Written.{file_of};
+    ghost use Rattle.elf_image.specs.ReadElf.{Gives, image_of};
+    ghost use Rattle.elf_image.specs.WrittenElf.{file_of};
 
     /// Reads an executable ELF file of 32 bits for this machine. The image has the segments of type
     /// PT_LOAD with bytes in the file, in the order of their headers, at their physical addresses.

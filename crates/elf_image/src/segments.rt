@@ -1,10 +1,10 @@
 // Segments: bytes from an address on, and those that an ELF file loads.
-ghost use Rattle.std.specs.Prelude.{◌≡◌, ◌≤◌, ◌<◌, ◌-◌, ◌^◌, All, map, slice_get, ◌+◌, ◌⊎◌, length, None, IfOk, IfErr, true, false};
+ghost use Rattle.std.specs.Prelude.{◌≡◌, ◌≤◌, ◌<◌, ◌-◌, ◌^◌, All, map, slice_get, ◌+◌, length, IfOk, IfErr};
 ghost use Rattle.elf_image.specs.Images.{segment_data, holds, AreBytes};
-ghost use Rattle.elf_image.specs.Elf.{header_at, segment_refusal, loads_of, is_large, segment_of};
+ghost use Rattle.elf_image.specs.ReadElf.{segment_of};
 
 use crate::ImageErr;
-use crate::headers::{E_PHNUM, Header, half_at, has_bytes, header_at};
+use crate::headers::Header;
 use std::alloc::Global;
 
 /// The bytes from the address `at` on.
@@ -44,32 +44,6 @@ pub fn read_segments(segments: &[Segment])
     for segment in segments {
         read_bytes(&segment.bytes);
     }
-}
-
-// Collects the headers that load bytes, in order: at most 64, with at most 2^24 bytes together.
-pub(crate) fn loads_of(alloc: Global, bytes: &[u8]) -> Result<Vec<Header>, ImageErr>
-    requires long { 52 ≤ length bytes.now }
-    requires good { segment_refusal bytes.now ≡ None }
-    ensures ok { IfOk result (λ v.
-        (v.items ≡ loads_of bytes.now) × (is_large (loads_of bytes.now) ≡ false)) }
-    ensures err { IfErr result (λ e.
-        (e ≡ ImageErr.NoMemory)
-        ⊎ ((e ≡ ImageErr.TooLarge) × (is_large (loads_of bytes.now) ≡ true))) }
-{
-    let mut loads = Vec::new(alloc);
-    let mut total = 0u32;
-    let count = half_at(bytes, E_PHNUM);
-    for number in 0..count {
-        let header = header_at(bytes, number);
-        if has_bytes(&header) {
-            if loads.len() == 64 || header.file_size > 16_777_216 - total {
-                return Err(ImageErr::TooLarge);
-            }
-            total += header.file_size;
-            loads.push(header)?;
-        }
-    }
-    Ok(loads)
 }
 
 // Copies the bytes that a header loads.

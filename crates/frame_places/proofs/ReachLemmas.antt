@@ -10,7 +10,9 @@ use Rattle.std.specs.declared.alloc.Global.{Global}
 use Rattle.indexmap.specs.IndexMap.{IndexMap, get}
 use Rattle.frame_places.specs.declared.needs.reach.FrameEdge.{FrameEdge}
 use Rattle.frame_places.specs.declared.needs.row.NeedRow.{NeedRow}
-use Rattle.frame_places.specs.NodeGraph.{edge_eq, edge_to, AreEdges, AddsEdges, AreBetween, Leads, here, along, IsRecurring, IsMarked, unmarked, HasSource, AreSources, AreBelow, AddsSource, MarksNodes, IsMarking, AreReaching, IsFirstBefore, IsFirstRecurring}
+use Rattle.frame_places.specs.NodeGraph.{edge_to, AreEdges, AddsEdges, AreBetween, Leads, here, along, IsRecurring, unmarked, HasSource, AreSources, AreBelow, AddsSource, MarksNodes, IsMarking, AreReaching, IsFirstBefore, IsFirstRecurring}
+use Rattle.frame_places.specs.Hashed.{edge_eq}
+use Rattle.frame_places.specs.Marks.{IsMarked}
 
 -- ---- one more mark
 marked_set : (marks : List Bool) (i k : ℕ) → IsMarked (set marks i true) k → IsMarked marks k ⊎ (k ≡ i)

@@ -1,15 +1,11 @@
 -- The points and frames that are counted, and the limits of certificates.
-use Rattle.std.specs.Prelude.{◌≡◌, ◌⊎◌, ◌==◌, ◌^◌, Bool, false, List, [], ◌∷◌, ◌++◌, length, if◌then◌else◌}
+use Rattle.std.specs.Prelude.{◌≡◌, ◌⊎◌, ◌==◌, ◌^◌, Bool, false, List, ◌∷◌, ◌++◌, length, if◌then◌else◌, []}
 use Rattle.depth_cert.specs.declared.keys.Key.{Key}
 use Rattle.frame_places.specs.declared.places.Spot.{Spot}
 use Rattle.frame_places.specs.declared.places.Spot.TheVariants.{Point, Exit}
 use Rattle.frame_places.specs.declared.refusals.Refusal.{Refusal}
 use Rattle.frame_places.specs.declared.refusals.Refusal.TheVariants.{Fault, NoMemory}
-
--- the points with one more place, if it is one
-abbrev pub with_point : List Spot → Spot → List Spot
-with_point ps (Point k p) = ps ++ Point k p ∷ []
-with_point ps (Exit k) = ps
+use Rattle.frame_places.specs.Spots.{with_point}
 
 -- the frames with that of one more place, if it is an entry point
 abbrev pub with_entered : List Key → Spot → List Key

@@ -9,6 +9,8 @@ use Rattle.frame_places.specs.declared.places.Spot.{Spot}
 use Rattle.frame_places.specs.declared.places.Spot.TheVariants.{Point, Exit}
 use Rattle.depth_cert.specs.Keys.{number_of_key}
 use Rattle.frame_places.specs.Spots.{spot_eq}
+use Rattle.frame_places.specs.declared.needs.reach.FrameEdge.{FrameEdge}
+use Rattle.frame_places.specs.contracts.needs.reach.FrameEdgePartialEq.TheImpl as block
 
 numbers : (a b : ℕ) → nat_eq a b ≡ true → a ≡ b
 numbers a b e = eqb-true a b e
@@ -44,3 +46,7 @@ word_of (Exit k) = number_of_key k % 2 ^ 32 * 2 ^ 32
 -- equal places have the same hash input
 pub hashed_alike : (x y : Spot) → spot_eq x y ≡ true → fed.u64 (word_of x) ≡ fed.u64 (word_of y)
 hashed_alike x y e = ap (λ (z : Spot). fed.u64 (word_of z)) (spot_tells x y e)
+
+-- edge equality, as sets compare edges
+abbrev pub edge_eq : FrameEdge → FrameEdge → Bool
+edge_eq = (block.ghosts).eq

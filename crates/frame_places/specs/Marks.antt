@@ -1,5 +1,5 @@
 -- Which places have work, and which read which exits.
-use Rattle.std.specs.Prelude.{◌≡◌, ◌⊎◌, ℕ, Option, Some, None, IsSome, List, Contains, Bool, true, false, if◌then◌else◌}
+use Rattle.std.specs.Prelude.{◌≡◌, ◌⊎◌, ℕ, Option, Some, None, IsSome, List, Contains, Bool, true, false, if◌then◌else◌, slice_index_or}
 use Rattle.std.specs.declared.vec.Vec.{Vec}
 use Rattle.std.specs.declared.alloc.Global.{Global}
 use Rattle.std.specs.Option.{option_map}
@@ -88,3 +88,7 @@ pub record Registered {R : Type 0} (old new : IndexMap Spot (Vec Spot Global) R)
   pub kept : (p q : Spot) → Reads (get spot_eq old p) q → Reads (get spot_eq new p) q
   pub there : Reads (get spot_eq new z) x
   pub alone : (p q : Spot) → Reads (get spot_eq new p) q → Reads (get spot_eq old p) q ⊎ ((spot_eq z p ≡ true) × (q ≡ x))
+
+-- a node is marked
+abbrev pub IsMarked : List Bool → ℕ → Type 0
+IsMarked marks k = slice_index_or marks k false ≡ true

@@ -1,23 +1,16 @@
 -- The graph of entries, by the numbers of its nodes: which nodes are reached from which.
-use Rattle.std.specs.Prelude.{◌≡◌, ◌<◌, ◌≤◌, ◌+◌, ◌*◌, ◌⊎◌, nat_eq, ℕ, Bool, true, false, List, [], ◌∷◌, length, Contains, slice_index, slice_index_or, Option, Some, None}
+use Rattle.std.specs.Prelude.{◌≡◌, ◌<◌, ◌≤◌, ◌+◌, ◌*◌, ◌⊎◌, nat_eq, ℕ, Bool, true, false, List, ◌∷◌, length, Contains, slice_index, Option, Some, None, []}
 use Rattle.std.specs.declared.vec.Vec.{Vec}
 use Rattle.std.specs.declared.alloc.Global.{Global}
 use Rattle.indexmap.specs.IndexMap.{IndexMap, get}
-use Rattle.frame_places.specs.contracts.needs.reach.FrameEdgePartialEq.TheImpl as block
 use Rattle.frame_places.specs.declared.needs.reach.FrameEdge.{FrameEdge}
 use Rattle.frame_places.specs.declared.needs.row.NeedRow.{NeedRow}
+use Rattle.frame_places.specs.Marks.{IsMarked}
+use Rattle.frame_places.specs.RowNeeds.{HasEntry}
 
 -- the edge from one node to another
 abbrev pub edge_to : ℕ → ℕ → FrameEdge
 edge_to k t = record { node = k; into = t }
-
--- edge equality, as sets compare edges
-abbrev pub edge_eq : FrameEdge → FrameEdge → Bool
-edge_eq = (block.ghosts).eq
-
--- some row of the node k enters the node t
-abbrev pub HasEntry : List NeedRow → ℕ → ℕ → Type 0
-HasEntry rows k t = (row : NeedRow) × Contains rows row × (row.node ≡ k) × Contains row.into.items t
 
 -- the edges are the entries of the rows
 pub record AreEdges (rows : List NeedRow) (edges : List FrameEdge) : Type 0 where
@@ -47,9 +40,6 @@ pub record IsRecurring (edges : List FrameEdge) (k : ℕ) : Type 0 where
   pub back : Leads edges k next
 
 -- ---- marks
--- a node is marked
-abbrev pub IsMarked : List Bool → ℕ → Type 0
-IsMarked marks k = slice_index_or marks k false ≡ true
 
 -- the number of nodes without a mark
 abbrev pub unmarked : List Bool → ℕ

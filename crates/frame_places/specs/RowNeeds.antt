@@ -1,6 +1,5 @@
 -- Needs that meet the rows.
-use Rattle.std.specs.Prelude.{◌≡◌, ℕ, ◌+◌, ◌<◌, ◌≤◌, List, length, Contains, min, slice_index, ◌^◌, Bool, true, false, sum}
-use Rattle.std.specs.Prelude.{Option, Some, None, Result, Ok, Err}
+use Rattle.std.specs.Prelude.{◌≡◌, ℕ, ◌+◌, ◌<◌, ◌≤◌, List, length, Contains, min, slice_index, ◌^◌, Bool, true, false, sum, Option, Some, None, Result, Ok, Err}
 use Rattle.std.specs.declared.vec.Vec.{Vec}
 use Rattle.std.specs.declared.alloc.Global.{Global}
 use Rattle.std.specs.declared.alloc.AllocError.{AllocError}
@@ -56,3 +55,7 @@ abbrev pub LeastNeeds : ℕ → List NeedRow → ℕ → Result (Option (Vec ℕ
 LeastNeeds nodes rows cap (Ok (Some needs)) = (length needs.items ≡ nodes) × Meets (λ k. slice_index needs.items k) rows × IsLow needs.items rows × ((k : ℕ) → slice_index needs.items k ≤ cap)
 LeastNeeds nodes rows cap (Ok None) = (other : ℕ → ℕ) → Meets other rows → (k : ℕ) × (k < nodes) × (cap < other k)
 LeastNeeds nodes rows cap (Err e) = Unit {0}
+
+-- some row of the node k enters the node t
+abbrev pub HasEntry : List NeedRow → ℕ → ℕ → Type 0
+HasEntry rows k t = (row : NeedRow) × Contains rows row × (row.node ≡ k) × Contains row.into.items t

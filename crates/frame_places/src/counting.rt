@@ -1,7 +1,8 @@
 // Counts the known points and frames, within the limits of certificates.
 ghost use Rattle.std.specs.Prelude.{◌≡◌, ◌≤◌, ◌^◌, OnOk, IfErr, false, length};
 ghost use Rattle.frame_places.specs.declared.places.Spot.TheVariants.{Point};
-ghost use Rattle.frame_places.specs.Counting.{Passing, frames_after, points_after, with_entered, with_point};
+ghost use Rattle.frame_places.specs.Counting.{Passing, frames_after, points_after, with_entered};
+ghost use Rattle.frame_places.specs.Spots.{with_point};
 
 use crate::places::Spot;
 use crate::refusals::{LIMITS_RULE, Refusal};

@@ -11,18 +11,16 @@ mod ordering;
 mod places;
 mod readers;
 mod refusals;
-mod work;
+mod work_list;
 
 pub use counting::count;
-pub use marks::{
-    add, add_or_find, begin_visit, end_visit, has_work, is_plain, put, requeue_readers_of,
-};
+pub use marks::{begin_visit, end_visit, has_work, is_plain};
 pub use needs::least::{least_needs, soon_needs};
 pub use needs::reach::{FrameEdge, edges_of, first_recurring, has_marked, nodes_reaching};
 pub use needs::row::NeedRow;
 pub use numbers::{number_frames, number_near, number_of, numbers_of};
 pub use ordering::{PointEntry, frames_in_order, orders_of, points_in_order, points_of};
-pub use places::{Mark, Marked, Spot, address_at, address_in};
-pub use readers::register;
+pub use places::{Mark, Marked, Spot, add, add_or_find, address_at, address_in, put};
+pub use readers::{register, requeue_readers_of};
 pub use refusals::{LIMITS_RULE, LOCALS_RULE, NEEDS_RULE, Refusal};
-pub use work::Work;
+pub use work_list::Work;

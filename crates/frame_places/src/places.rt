@@ -1,10 +1,20 @@
 // Places of frames, and their marks for the work list.
-ghost use Rattle.std.specs.Prelude.{◌≡◌};
+ghost use Rattle.std.specs.Prelude.{◌≡◌, IfOk, IsSome, None, OnOk, Some};
 ghost use Rattle.std.specs.Hash as fed;
 ghost use Rattle.frame_places.specs.Spots.{is_entry_point, spot_number, IsAddressIn, spot_address};
 ghost use Rattle.frame_places.specs.Hashed.{word_of};
+ghost use Rattle.frame_places.specs.declared.places.Spot.{Spot};
+ghost use Rattle.frame_places.specs.declared.places.Mark.TheVariants.{Queued};
+ghost use Rattle.frame_places.specs.Numbers.{StandsAt};
+ghost use Rattle.frame_places.specs.Work.{all_work};
+ghost use Rattle.frame_places.specs.Marks.{AddsOrFinds, AllListed, MarksAs, Puts, value_for};
 
+use crate::marks::{enqueue_new, has_work, is_front, mark_at, must_wait};
+use crate::work_list::{Work, enqueue};
 use depth_cert::{Key, number_of};
+use indexmap::IndexMap;
+use indexmap::map::Entry;
+use std::alloc::AllocError;
 use std::hash::{Hash, Hasher};
 
 /// One more than the greatest address.
@@ -107,4 +117,111 @@ pub fn address_in(key: Key, place: Spot) -> Option<u32>
         return None;
     };
     if other == key { Some(addr) } else { None }
+}
+
+/// Adds the unknown place `y`, with work.
+#[inline(always)]
+pub fn add<V: Drop>(
+    places: &mut IndexMap<Spot, Marked<V>>,
+    work: &mut Work,
+    y: Spot,
+    value: V,
+) -> Result<(), AllocError>
+    requires listed { AllListed places.old (all_work work.old) }
+    requires new { value_for places.old y ≡ None }
+    ensures puts { OnOk result (Puts places.old places.new y value) }
+    ensures work { OnOk result (AllListed places.new (all_work work.new)) }
+{
+    let number = places.len();
+    let entry = y.is_entry();
+    let place = Marked {
+        value,
+        mark: Mark::Queued,
+        visits: 0,
+    };
+    places.insert(y, place)?;
+    enqueue_new(work, number, entry)?;
+    Ok(())
+}
+
+/// Adds `y` with this value and work if it is unknown. Otherwise returns its number.
+#[inline(always)]
+pub fn add_or_find<V: Drop>(
+    places: &mut IndexMap<Spot, Marked<V>>,
+    work: &mut Work,
+    y: Spot,
+    value: V,
+) -> Result<Option<usize>, AllocError>
+    requires listed { AllListed places.old (all_work work.old) }
+    ensures { IfOk result (AddsOrFinds places.old places.new work.old work.new y value) }
+{
+    let number = places.len();
+    let entry = y.is_entry();
+    match places.entry(y)? {
+        Entry::Occupied(known) => Ok(Some(known.index())),
+        Entry::Vacant(place) => {
+            place.insert(Marked {
+                value,
+                mark: Mark::Queued,
+                visits: 0,
+            });
+            enqueue_new(work, number, entry)?;
+            Ok(None)
+        }
+    }
+}
+
+/// Sets the value of the place with this number, and queues it unless it is queued. An entry point
+/// waits for the next round, any other place is next. An entry point that is queued and wasn't
+/// visited yet is queued again, before the places found earlier.
+#[inline(always)]
+pub fn put<V: Drop>(
+    places: &mut IndexMap<Spot, Marked<V>>,
+    work: &mut Work,
+    number: usize,
+    value: V,
+    entry: bool,
+) -> Result<(), AllocError>
+    requires listed { AllListed places.old (all_work work.old) }
+    ensures puts { (y : Spot) → StandsAt places.old number y
+        → OnOk result (Puts places.old places.new y value) }
+    ensures work { (y : Spot) → StandsAt places.old number y
+        → OnOk result (AllListed places.new (all_work work.new)) }
+{
+    let Some(place) = places.get_index_mut(number) else {
+        return Ok(());
+    };
+    place.value = value;
+    if let Mark::Queued = place.mark {
+        if is_front(entry, place.visits) {
+            work.push_entry(number)?;
+        }
+        return Ok(());
+    }
+    place.mark = Mark::Queued;
+    enqueue(work, number, entry)?;
+    Ok(())
+}
+
+/// Queues the known place `x` unless it is queued. It waits for the next round, or is next.
+pub(crate) fn requeue<V>(
+    places: &mut IndexMap<Spot, Marked<V>>,
+    work: &mut Work,
+    x: Spot,
+    waits: bool,
+) -> Result<(), AllocError>
+    requires listed { AllListed places.old (all_work work.old) }
+    requires known { IsSome (value_for places.old x) }
+    ensures marks { OnOk result (MarksAs places.old places.new x Queued) }
+    ensures work { OnOk result (AllListed places.new (all_work work.new)) }
+{
+    let Some(number) = places.get_index_of(&x) else {
+        return Ok(());
+    };
+    if !has_work(&*places, number) {
+        let later = must_wait(&*places, number, waits);
+        mark_at(places, number, Mark::Queued);
+        enqueue(work, number, later)?;
+    }
+    Ok(())
 }

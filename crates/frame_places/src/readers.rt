@@ -1,9 +1,16 @@
 // Which points read which exits.
-ghost use Rattle.std.specs.Prelude.{◌↔◌, ◌⊎◌, ◌≡◌, Contains, IfOk, OnOk};
+ghost use Rattle.std.specs.Prelude.{◌↔◌, ◌⊎◌, ◌≡◌, Contains, OnOk, None, Some};
 ghost use Rattle.frame_places.specs.declared.places.Spot as spots;
-ghost use Rattle.frame_places.specs.Marks.{Registered};
+ghost use Rattle.frame_places.specs.Marks.{Registered, AllListed, AreKnown, Reads, Requeues};
+ghost use Rattle.indexmap.specs.IndexMap.{get};
+ghost use Rattle.frame_places.specs.declared.places.Spot.{Spot};
+ghost use Rattle.frame_places.specs.Spots.{spot_eq};
+ghost use Rattle.frame_places.specs.Work.{all_work};
 
-use crate::places::Spot;
+use crate::marks::requeue_all;
+use crate::ordering::without_doubles;
+use crate::places::{Marked, Spot};
+use crate::work_list::Work;
 use indexmap::IndexMap;
 use std::alloc::{AllocError, Global};
 
@@ -11,7 +18,7 @@ use std::alloc::{AllocError, Global};
 const MANY: usize = 1024;
 
 /// Appends `x`, unless it is the last one.
-fn push_other(out: &mut Vec<Spot>, x: Spot) -> Result<(), AllocError>
+pub(crate) fn push_other(out: &mut Vec<Spot>, x: Spot) -> Result<(), AllocError>
     ensures { OnOk result ((q : spots.Spot)
         → Contains out.new.items q ↔ (Contains out.old.items q ⊎ (q ≡ x))) }
 {
@@ -22,18 +29,6 @@ fn push_other(out: &mut Vec<Spot>, x: Spot) -> Result<(), AllocError>
     }
     out.push(x)?;
     Ok(())
-}
-
-/// Returns a list without the places that equal the one before them.
-fn without_doubles(alloc: Global, list: &[Spot]) -> Result<Vec<Spot>, AllocError>
-    ensures { IfOk result (λ out. (q : spots.Spot)
-        → Contains out.items q ↔ Contains list.now q) }
-{
-    let mut out = Vec::new(alloc);
-    for x in list {
-        push_other(&mut out, *x)?;
-    }
-    Ok(out)
 }
 
 /// Sorts the list, and drops its duplicates if they are at least half of it.
@@ -82,4 +77,24 @@ pub fn register(
     list.push(x)?;
     readers.insert(z, list)?;
     Ok(())
+}
+
+/// Queues all places that read `y`. They are known.
+pub fn requeue_readers_of<V>(
+    places: &mut IndexMap<Spot, Marked<V>>,
+    work: &mut Work,
+    readers: &IndexMap<Spot, Vec<Spot>>,
+    y: Spot,
+    waits: bool,
+) -> Result<(), AllocError>
+    requires listed { AllListed places.old (all_work work.old) }
+    requires known { AreKnown places.old (Reads (get spot_eq readers.now y)) }
+    ensures marks { OnOk result
+        (Requeues places.old places.new (Reads (get spot_eq readers.now y))) }
+    ensures work { OnOk result (AllListed places.new (all_work work.new)) }
+{
+    match readers.get(&y) {
+        None => Ok(()),
+        Some(readers) => requeue_all(places, work, readers.as_slice(), waits),
+    }
 }

@@ -9,7 +9,7 @@ use Rattle.depth_cert.specs.Keys.{number_of_key}
 use Rattle.depth_cert.specs.Certs.{find_node}
 use Rattle.depth_cert.proofs.FindLaws.{found, missing, missing_end}
 use Rattle.packed_cert.specs.declared.places.NodePlaces.{NodePlaces}
-use Rattle.packed_cert.specs.Nodes.{node_of, nodes_of, HasPlaces}
+use Rattle.packed_cert.specs.NodesInBytes.{node_of, nodes_of, HasPlaces}
 
 -- finding in the nodes is finding by the numbers that are kept
 find_in : (version : ℕ) (bytes : List ℕ) (k : Key) (ns : List NodePlaces) → All (HasPlaces version bytes) ns → find_node k (nodes_of version bytes ns) ≡ option_map (node_of version bytes) (find (λ n. eqb n.number (number_of_key k)) ns)

@@ -8,7 +8,7 @@ use Rattle.value_domain.proofs.RangeLaws.{below_any}
 use Rattle.value_domain.specs.State.{AreWell, is_lower_slot}
 use Rattle.depth_cert.specs.Exits.{lower_values, with_lower_from}
 use Rattle.depth_cert.proofs.ExitValues.{restored_at, after-at, lower_low, lower_high}
-use Rattle.packed_cert.specs.Standing.{behind}
+use Rattle.packed_cert.specs.ValuesAtPlaces.{behind}
 use Rattle.packed_cert.specs.ValuesInBytes.{value_in, values_in, HasValue, HaveValues}
 use Rattle.packed_cert.proofs.SameBytes.{Small}
 use Rattle.packed_cert.proofs.ValueShapes.{left_first, length-values_in, stands_at, well_of}

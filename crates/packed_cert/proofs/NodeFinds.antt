@@ -13,7 +13,7 @@ use Rattle.depth_cert.specs.declared.points.Point.{Point}
 use Rattle.depth_cert.specs.Points.{find_point}
 use Rattle.depth_cert.proofs.FindLaws.{non_decreasing, found, missing, missing_end}
 use Rattle.packed_cert.specs.declared.places.PackedPoint.{PackedPoint}
-use Rattle.packed_cert.specs.Points.{point_in, points_in, state_in}
+use Rattle.packed_cert.specs.PointsInBytes.{point_in, points_in, state_in}
 
 -- finding in the points is finding in what is kept of them
 pub find_in : (version : ℕ) (bytes : List ℕ) (addr : ℕ) (ps : List PackedPoint) → find_point addr (points_in version bytes ps) ≡ option_map (point_in version bytes) (find (λ p. eqb p.addr addr) ps)

@@ -12,13 +12,14 @@ use Rattle.depth_cert.specs.declared.points.Exit.{Exit}
 use Rattle.depth_cert.specs.declared.points.Point.{Point}
 use Rattle.depth_cert.specs.Keys.{number_of_key}
 use Rattle.depth_cert.specs.Answers.{IsFaultOf}
-use Rattle.depth_cert.specs.Nodes.{NodeData}
-use Rattle.depth_cert.specs.Certs.{key_numbers, count_points}
+use Rattle.depth_cert.specs.Nodes.{NodeData, count_points}
+use Rattle.depth_cert.specs.Certs.{key_numbers}
 use Rattle.depth_cert.specs.Grammar.{exit_at, exits_at, key_after, need_at, points_at, node_after}
 use Rattle.packed_cert.specs.declared.places.NodePlaces.{NodePlaces}
-use Rattle.packed_cert.specs.Standing.{at}
-use Rattle.packed_cert.specs.Points.{read_or, point_in}
-use Rattle.packed_cert.specs.Nodes.{no_exit, exit_in, HasExit, HasPlaces, node_of, nodes_of}
+use Rattle.packed_cert.specs.ValuesAtPlaces.{at}
+use Rattle.packed_cert.specs.PointsInBytes.{read_or, point_in}
+use Rattle.packed_cert.specs.NodesInBytes.{exit_in, HasExit, HasPlaces, node_of, nodes_of}
+use Rattle.depth_cert.specs.Exits.{no_exit}
 
 -- the exit that was read stands where it was read
 pub exit_read : (version : ℕ) (bytes : List ℕ) (c : Place) (x : ℕ) (e : Exit) (q : Place) → c.bytes ≡ bytes → x ≡ c.place → exit_at version c ≡ Ok (e, q) → (exit_in version bytes x ≡ e) × HasExit version bytes x

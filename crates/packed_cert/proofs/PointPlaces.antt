@@ -13,8 +13,8 @@ use Rattle.tcd_base.specs.FieldReaders.{u8_at}
 use Rattle.tcd_base.proofs.FieldReads.{bind_ok, u8_at_ok}
 use Rattle.depth_cert.proofs.PointReads.{point_reads}
 use Rattle.packed_cert.specs.declared.places.PackedPoint.{PackedPoint}
-use Rattle.packed_cert.specs.Standing.{at, Stand}
-use Rattle.packed_cert.specs.Points.{state_in, HasState, point_in, points_in}
+use Rattle.packed_cert.specs.ValuesAtPlaces.{at, Stand}
+use Rattle.packed_cert.specs.PointsInBytes.{state_in, HasState, point_in, points_in}
 use Rattle.packed_cert.proofs.SameBytes.{Small, values_stand}
 
 -- the values that were read stand where they were read

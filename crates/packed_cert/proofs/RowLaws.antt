@@ -8,10 +8,11 @@ use Rattle.value_domain.specs.declared.values.Val.{Val}
 use Rattle.value_domain.specs.declared.states.State.{State}
 use Rattle.value_domain.specs.Values.{any_val}
 use Rattle.packed_cert.specs.declared.places.PackedPoint.{PackedPoint}
-use Rattle.packed_cert.specs.Standing.{at, behind, Stand}
-use Rattle.packed_cert.specs.ChangedRows.{place_after, IsFrom, IsWhole, ChangesRow}
-use Rattle.packed_cert.specs.Points.{read_or, no_state, state_in, HasState}
-use Rattle.packed_cert.specs.ValuesInBytes.{value_in, values_in, HaveValues}
+use Rattle.packed_cert.specs.ValuesAtPlaces.{at, behind, Stand}
+use Rattle.packed_cert.specs.ChangedRows.{IsFrom, IsWhole, ChangesRow}
+use Rattle.packed_cert.specs.ValuesInBytes.{place_after, value_in, values_in, HaveValues}
+use Rattle.packed_cert.specs.PointsInBytes.{read_or, state_in, HasState}
+use Rattle.value_domain.specs.State.{no_state}
 use Rattle.packed_cert.specs.Moves.{IsMoved, StandsBefore, AreMoves}
 use Rattle.packed_cert.proofs.SameBytes.{Small, value_stands}
 use Rattle.packed_cert.proofs.ValueShapes.{length-values_in}

@@ -7,19 +7,18 @@ use Rattle.std.specs.List.{flat_map}
 use Rattle.tcd_base.specs.declared.errors.FormErr.{FormErr}
 use Rattle.tcd_base.specs.Bytes.{bytes_of_word}
 use Rattle.tcd_base.specs.Place.{Place, place_between}
-use Rattle.tcd_base.specs.FieldReaders.{◌>>=◌}
+use Rattle.tcd_base.specs.FieldReaders.{◌>>=◌, many_at}
 use Rattle.tcd_base.proofs.FieldReads.{bind_ok}
 use Rattle.value_domain.specs.declared.values.Val.{Val}
 use Rattle.value_domain.specs.declared.values.Val.TheVariants.{Set, Span}
-use Rattle.value_domain.specs.Values.{any_val}
+use Rattle.value_domain.specs.Values.{any_val, is_any}
 use Rattle.depth_cert.specs.Points.{IsWellOf}
-use Rattle.tcd_base.specs.FieldReaders.{many_at}
-use Rattle.depth_cert.specs.Grammar.{value_at, is_any}
+use Rattle.depth_cert.specs.Grammar.{value_at}
 use Rattle.depth_cert.specs.Spelling.{bytes_of_value}
 use Rattle.tcd_base.proofs.PassedLaws.{AreBytes, bytes_from, Passed, ok_pair}
 use Rattle.depth_cert.proofs.GrammarLaws.{value_passed}
 use Rattle.depth_cert.proofs.WrittenLaws.{IsRead, value_cases}
-use Rattle.packed_cert.specs.Standing.{at, length_by, behind, Stand, StandAlike}
+use Rattle.packed_cert.specs.ValuesAtPlaces.{at, length_by, behind, Stand, StandAlike}
 
 -- all bytes are below 256
 abbrev pub Small : List ℕ → Type 0

@@ -7,7 +7,7 @@ use Rattle.tcd_base.specs.Place.{Place, place_between}
 use Rattle.tcd_base.specs.FieldReaders.{u8_at}
 use Rattle.depth_cert.specs.declared.points.Exit.{Exit}
 use Rattle.depth_cert.specs.Keys.{byte_of}
-use Rattle.depth_cert.specs.Points.{IsExit}
+use Rattle.depth_cert.specs.Exits.{IsExit}
 use Rattle.depth_cert.specs.Grammar.{flag_at, values_at, exit_at}
 use Rattle.depth_cert.specs.Spelling.{bytes_of_value}
 use Rattle.tcd_base.proofs.FieldReads.{bind_ok}
@@ -15,8 +15,9 @@ use Rattle.tcd_base.proofs.PassedLaws.{AreBytes, bytes_from, Passed, passed_byte
 use Rattle.depth_cert.proofs.GrammarLaws.{next, flag_passed, values_passed}
 use Rattle.depth_cert.proofs.WrittenLaws.{IsRead, done, seq, byte, flag, values_read}
 use Rattle.packed_cert.specs.declared.places.ExitPlaces.{ExitPlaces}
-use Rattle.packed_cert.specs.Standing.{at, MovedOver}
-use Rattle.packed_cert.specs.Nodes.{ReadsExit, ExitStands}
+use Rattle.packed_cert.specs.ValuesAtPlaces.{at}
+use Rattle.packed_cert.specs.Moves.{MovedOver}
+use Rattle.packed_cert.specs.NodesInBytes.{ReadsExit, ExitStands}
 use Rattle.packed_cert.proofs.SameBytes.{Small, split, moved}
 
 -- the bytes that spell an exit

@@ -8,7 +8,7 @@ use Rattle.tcd_base.specs.declared.errors.FormErr.{FormErr}
 use Rattle.tcd_base.specs.Place.{Place}
 use Rattle.tcd_base.specs.FieldReaders.{u8_at, many_at}
 use Rattle.value_domain.specs.declared.states.State.{State}
-use Rattle.value_domain.specs.Versions.{most_locals_of}
+use Rattle.value_domain.specs.VersionLimits.{most_locals_of}
 use Rattle.depth_cert.specs.Keys.{byte_of}
 use Rattle.depth_cert.specs.Points.{IsState}
 use Rattle.depth_cert.specs.Grammar.{checked, flag_at, values_at, locals_at, state_at}
@@ -17,8 +17,9 @@ use Rattle.tcd_base.proofs.PassedLaws.{bytes_from}
 use Rattle.depth_cert.proofs.CertLaws.{state_passed}
 use Rattle.depth_cert.proofs.WrittenLaws.{IsRead, done, seq, test, byte, many_read, flag, values_read}
 use Rattle.packed_cert.specs.declared.places.StatePlaces.{StatePlaces}
-use Rattle.packed_cert.specs.Standing.{at, MovedOver, StandFrom}
-use Rattle.packed_cert.specs.Points.{StandsAt}
+use Rattle.packed_cert.specs.ValuesAtPlaces.{at, StandFrom}
+use Rattle.packed_cert.specs.Moves.{MovedOver}
+use Rattle.packed_cert.specs.PointsInBytes.{StandsAt}
 use Rattle.packed_cert.proofs.SameBytes.{Small, split, moved}
 
 -- ---- the spelling of a state is read wherever it stands

@@ -3,19 +3,20 @@ use Rattle.std.proofs.Common.{◌≡◌, ℕ, zero, suc, ◌+◌, ◌≤◌, Lis
 use Rattle.std.proofs.lemmas.Bool.{leb-true}
 use Rattle.std.proofs.lemmas.List.{append-nil}
 use Rattle.tcd_base.specs.Place.{Place}
-use Rattle.tcd_base.specs.FieldReaders.{u8_at, fault_at, many_at}
+use Rattle.tcd_base.specs.FieldReaders.{u8_at, many_at}
+use Rattle.tcd_base.specs.Refusing.{fault_at}
 use Rattle.tcd_base.proofs.FieldReads.{bind_ok, u8_at_ok}
 use Rattle.value_domain.specs.declared.values.Val.{Val}
 use Rattle.value_domain.specs.declared.states.State.{State}
 use Rattle.value_domain.specs.Values.{any_val}
-use Rattle.value_domain.specs.Versions.{most_locals_of}
+use Rattle.value_domain.specs.VersionLimits.{most_locals_of}
 use Rattle.depth_cert.specs.declared.points.Exit.{Exit}
 use Rattle.depth_cert.specs.Grammar.{checked, flag_at, values_at, value_at, locals_at, state_at, exit_at}
 use Rattle.tcd_base.proofs.PassedLaws.{ok_pair}
 use Rattle.depth_cert.proofs.GrammarLaws.{checked_passed, most_le}
-use Rattle.packed_cert.specs.Standing.{at, behind, flags_in, Stand}
-use Rattle.packed_cert.specs.Points.{read_or}
-use Rattle.packed_cert.specs.ValuesInBytes.{value_in, values_in, HaveValues}
+use Rattle.packed_cert.specs.ValuesAtPlaces.{at, behind, Stand}
+use Rattle.packed_cert.specs.ValuesInBytes.{flags_in, value_in, values_in, HaveValues}
+use Rattle.packed_cert.specs.PointsInBytes.{read_or}
 use Rattle.packed_cert.proofs.SameBytes.{Small, value_stands, values_stand}
 
 -- a flag takes one byte

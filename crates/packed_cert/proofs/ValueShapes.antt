@@ -12,13 +12,13 @@ use Rattle.value_domain.specs.declared.values.Val.TheVariants.{Set, Span}
 use Rattle.value_domain.specs.Sets.{Rising, AreWords}
 use Rattle.value_domain.specs.Values.{any_val, members, IsWell, IsBelow, IsExtent}
 use Rattle.value_domain.proofs.RangeLaws.{below_span}
-use Rattle.value_domain.specs.Versions.{most_words_of}
+use Rattle.value_domain.specs.VersionLimits.{most_words_of}
 use Rattle.depth_cert.specs.Points.{IsWellOf}
 use Rattle.depth_cert.specs.Grammar.{checked, word_after, set_at, span_at, value_at, is_above, is_span}
 use Rattle.tcd_base.proofs.PassedLaws.{ok_pair, passed_test}
 use Rattle.depth_cert.proofs.GrammarLaws.{checked_passed, width_le}
-use Rattle.packed_cert.specs.Standing.{at, length_by, behind}
-use Rattle.packed_cert.specs.Points.{read_or}
+use Rattle.packed_cert.specs.ValuesAtPlaces.{at, length_by, behind}
+use Rattle.packed_cert.specs.PointsInBytes.{read_or}
 use Rattle.packed_cert.specs.ValuesInBytes.{words_at, value_in, HasValue, values_in, HaveValues}
 use Rattle.packed_cert.proofs.SameBytes.{Small, value_stands}
 

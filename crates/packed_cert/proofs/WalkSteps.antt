@@ -10,7 +10,7 @@ use Rattle.depth_cert.specs.declared.points.Point.{Point}
 use Rattle.packed_cert.specs.declared.places.PackedPoint.{PackedPoint}
 use Rattle.packed_cert.specs.declared.places.ValueRow.{ValueRow}
 use Rattle.packed_cert.specs.ChangedRows.{ChangesRow}
-use Rattle.packed_cert.specs.Points.{state_in, points_in}
+use Rattle.packed_cert.specs.PointsInBytes.{state_in, points_in}
 use Rattle.packed_cert.specs.Walks.{KeepsOthers}
 
 -- the first of the points that are left

@@ -1,9 +1,10 @@
 -- The row of changed values in the state of a point: where it is, and what is outside it.
-use Rattle.std.specs.Prelude.{◌≡◌, ◌≤◌, ◌<◌, ◌⊎◌, slice_index_or, ◌+◌, ℕ, zero, suc, List, length}
+use Rattle.std.specs.Prelude.{◌≡◌, ◌≤◌, ◌<◌, ◌⊎◌, slice_index_or, ◌+◌, ℕ, List, length}
 use Rattle.value_domain.specs.declared.values.Val.{Val}
 use Rattle.value_domain.specs.Values.{any_val}
 use Rattle.packed_cert.specs.declared.places.ValueRow.{ValueRow}
-use Rattle.packed_cert.specs.Standing.{behind}
+use Rattle.packed_cert.specs.ValuesAtPlaces.{behind}
+use Rattle.packed_cert.specs.ValuesInBytes.{place_after}
 
 -- a number is before a row or after it
 abbrev pub IsOutside : ValueRow → ℕ → Type 0
@@ -15,11 +16,6 @@ pub record ChangesRow (before after : List Val) (row : ValueRow) : Type 0 where
   pub order : row.first ≤ row.behind
   pub within : row.behind ≤ length before
   pub kept : (k : ℕ) → k < length before → IsOutside row k → slice_index_or after k any_val ≡ slice_index_or before k any_val
-
--- the place after n values that are one after another from a place on
-abbrev pub place_after : List ℕ → ℕ → ℕ → ℕ
-place_after bytes place zero = place
-place_after bytes place (suc n) = place_after bytes (behind bytes place) n
 
 -- the first value of the row, if it has one, is where it says, in values from x on
 abbrev pub IsFrom : List ℕ → ℕ → ValueRow → Type 0

@@ -2,8 +2,8 @@
 pub mod ToCover
 pub mod ValuesInBytes
 pub mod Moves
-pub mod Nodes
-pub mod Points
-pub mod Standing
+pub mod NodesInBytes
+pub mod PointsInBytes
+pub mod ValuesAtPlaces
 pub mod Walks
 pub mod ChangedRows

@@ -1,17 +1,11 @@
 -- What the states of points share with those of the points before them.
-use Rattle.std.specs.Prelude.{◌≡◌, ◌≤◌, ◌<◌, ◌+◌, ◌-◌, ℕ, IsTrue, slice_index_or, List, length, drop}
+use Rattle.std.specs.Prelude.{◌≡◌, ◌≤◌, ◌<◌, ◌+◌, ◌-◌, ℕ, IsTrue, slice_index_or, List, length, drop, take}
 use Rattle.value_domain.specs.declared.states.State.{State}
-use Rattle.value_domain.specs.Values.{any_val, IsBelow}
-use Rattle.vd_transfer.specs.declared.change.Change.{Change}
-use Rattle.vd_transfer.specs.Changes.{state_after}
 use Rattle.packed_cert.specs.declared.places.PackedPoint.{PackedPoint}
 use Rattle.packed_cert.specs.ChangedRows.{ChangesRow}
-use Rattle.packed_cert.specs.Points.{state_in}
+use Rattle.packed_cert.specs.PointsInBytes.{state_in}
 use Rattle.packed_cert.specs.ValuesInBytes.{values_in, HaveValues}
-
--- the changed value at a place is below the state's own there
-abbrev pub IsBelowOwn : State → Change → ℕ → Type 0
-IsBelowOwn s c i = IsBelow (slice_index_or (state_after s c).regs i any_val) (slice_index_or s.regs i any_val)
+use Rattle.tcd_base.specs.Place.{Place}
 
 -- The state of a point beside the one before it: outside its row the values are the same, the row's
 -- values and those after it are where the point says, and the whole state is the same if the point
@@ -31,3 +25,8 @@ pub record StandsBefore (version : ℕ) (bytes : List ℕ) (ps : List PackedPoin
 -- each point says what it shares with the state before it
 abbrev pub AreMoves : ℕ → List ℕ → List PackedPoint → Type 0
 AreMoves version bytes ps = (k : ℕ) (d : PackedPoint) (s : State) → k < length ps → StandsBefore version bytes ps k s → IsMoved version bytes s (slice_index_or ps k d)
+
+-- a cursor moved over n bytes, and the same are from x on
+abbrev pub MovedOver : List ℕ → ℕ → ℕ → Place → Place → Type 0
+MovedOver bytes x n before after =
+    (after ≡ record before { place = before.place + n }) × (before.place + n ≤ length bytes) × (take n (drop x bytes) ≡ take n (drop before.place bytes))

@@ -10,7 +10,7 @@ use Rattle.depth_cert.specs.declared.points.Point.{Point}
 use Rattle.depth_cert.specs.Points.{find_point}
 use Rattle.packed_cert.specs.declared.places.PackedPoint.{PackedPoint}
 use Rattle.packed_cert.specs.declared.places.ValueRow.{ValueRow}
-use Rattle.packed_cert.specs.Points.{HasState}
+use Rattle.packed_cert.specs.PointsInBytes.{HasState}
 use Rattle.packed_cert.specs.Moves.{StandsBefore, AreMoves}
 
 -- the points that are walked over, the state of the point at hand, values of it that hold all that

@@ -4,7 +4,7 @@ ghost use Rattle.std.specs.List.{All};
 ghost use Rattle.depth_cert.specs.Answers.{IsFaultOf};
 ghost use Rattle.tcd_base.specs.FieldReaders.{many_at};
 ghost use Rattle.depth_cert.specs.Grammar.{node_after, certificate_of};
-ghost use Rattle.packed_cert.specs.Nodes.{nodes_of, cert_of, HasPlaces};
+ghost use Rattle.packed_cert.specs.NodesInBytes.{nodes_of, cert_of, HasPlaces};
 
 use crate::node_reader::read_node;
 use crate::places::NodePlaces;

@@ -25,7 +25,7 @@ impl Model for PackedCert {
 
     ghost Value = { CertData };
 
-    ghost use Rattle.packed_cert.specs.Nodes.{cert_of, IsPackedCert};
+    ghost use Rattle.packed_cert.specs.NodesInBytes.{cert_of, IsPackedCert};
 
     ghost view = { λ c. cert_of c.version c.bytes.items c.nodes.items };
 
@@ -33,7 +33,8 @@ impl Model for PackedCert {
 }
 
 impl PackedCert {
-    ghost use Rattle.depth_cert.specs.Certs.{IsCert, count_points, find_node};
+    ghost use Rattle.depth_cert.specs.Certs.{IsCert, find_node};
+    ghost use Rattle.depth_cert.specs.Nodes.{count_points};
     ghost use Rattle.depth_cert.specs.Grammar.{certificate_of};
     ghost use Rattle.depth_cert.specs.Spelling.{bytes_of};
 

@@ -1,14 +1,20 @@
 // Are the values of a state, of a changed one, or of an exit below those in the bytes?
-ghost use Rattle.std.specs.Prelude.{◌≡◌, ◌≤◌, ◌<◌, ◌^◌, ◌↔◌, IsTrue, length, slice_index_or};
-ghost use Rattle.value_domain.specs.Values.{any_val};
+ghost use Rattle.std.specs.Prelude.{◌≡◌, ◌≤◌, ◌<◌, ◌^◌, ◌↔◌, IsTrue, length, slice_index_or, ◌+◌, ◌*◌, ℕ, slice_index};
+ghost use Rattle.value_domain.specs.Values.{any_val, IsBelow, IsWell};
 ghost use Rattle.value_domain.specs.State.{AreBelow, AreWell};
 ghost use Rattle.packed_cert.specs.ToCover.{values_to_cover};
-ghost use Rattle.packed_cert.specs.ValuesInBytes.{values_in, HaveValues};
+ghost use Rattle.packed_cert.specs.ValuesInBytes.{values_in, HaveValues, value_in, HasValue, words_at};
+ghost use Rattle.tcd_base.specs.Bytes.{word_at};
+ghost use Rattle.value_domain.specs.declared.values.Val.{Val};
+ghost use Rattle.value_domain.specs.Sets.{Rising, Within};
+ghost use Rattle.packed_cert.specs.ValuesAtPlaces.{at};
 
-use crate::value_reader::length_by;
-use crate::values_at_places::is_below_at;
-use depth_cert::lower_value;
-use value_domain::{State, Val};
+use crate::certs::are_bytes;
+use crate::restored_values::ValuesAt;
+use crate::value_reader::{length_by, word};
+use crate::values_at_places::{is_below_at, value};
+use depth_cert::{SPAN, lower_value};
+use value_domain::{State, Val, extent_of, leq};
 use vd_transfer::{Change, changed_value};
 
 /// The values that are to be covered.
@@ -82,4 +88,88 @@ fn own_value<'a>(s: &'a State, i: usize) -> &'a Val
 {
     let _regs = &s.regs[..];
     &s.regs[i]
+}
+
+/// Returns true if the value at a place is below the value at another. The first is read.
+#[inline(never)]
+pub(crate) fn is_read_below(low: ValuesAt<'_>, high: ValuesAt<'_>) -> bool
+    requires low_short { length low.bytes.now ≤ 2 ^ 30 }
+    requires high_short { length high.bytes.now ≤ 2 ^ 30 }
+    requires low { HasValue low.version low.bytes.now low.place }
+    requires high { HasValue high.version high.bytes.now high.place }
+    ensures { IsTrue result
+        ↔ IsBelow (value_in low.entry.version low.entry.bytes.now low.entry.place)
+        (value_in high.entry.version high.entry.bytes.now high.entry.place) }
+{
+    are_bytes(low.bytes);
+    let v = value(low.bytes, low.version, low.place);
+    is_below_at(&v, high.bytes, high.version, high.place)
+}
+
+/// Returns true if a value is below the span at a place.
+pub(crate) fn is_below_span_at(v: &Val, bytes: &[u8], version: u8, place: usize) -> bool
+    requires short { length bytes.now ≤ 2 ^ 30 }
+    requires well { IsWell v.now }
+    requires stands { HasValue version bytes.now place }
+    requires span { 128 < slice_index bytes.now place }
+    ensures { IsTrue result ↔ IsBelow v.now (value_in version bytes.now place) }
+{
+    let lo = word(bytes, place + 1);
+    let last = word(bytes, place + 5);
+    let step = bytes[place] - SPAN;
+    let e = extent_of(v);
+    if e.least < lo || last < e.greatest {
+        return false;
+    }
+    step <= e.step
+}
+
+/// Returns true if each of the ascending words is one of the `n` ascending ones at a place. Both
+/// are walked once.
+pub(crate) fn are_among(own: &[u32], bytes: &[u8], place: usize, n: usize) -> bool
+    requires within { place + 4 * n ≤ length bytes.now }
+    requires own { Rising own.now }
+    requires words { Rising (words_at bytes.now place n) }
+    ensures { IsTrue result ↔ Within own.now (words_at bytes.now place n) }
+{
+    let mut k = 0;
+    for x in own {
+        k = first_from(bytes, place, n, k, *x);
+        if k == n || word(bytes, place + 4 * k) != *x {
+            return false;
+        }
+        k += 1;
+    }
+    true
+}
+
+/// Returns the number of the first word from number `k` on that isn't below `x`, or `n` if all are.
+fn first_from(bytes: &[u8], place: usize, n: usize, k: usize, x: u32) -> usize
+    requires within { place + 4 * n ≤ length bytes.now }
+    requires start { k ≤ n }
+    ensures start { k ≤ result }
+    ensures end { result ≤ n }
+    ensures below { (j : ℕ) → k ≤ j → j < result → word_at bytes.now (place + 4 * j) < x }
+    ensures reached { result < n → x ≤ word_at bytes.now (place + 4 * result) }
+{
+    if k < n && word(bytes, place + 4 * k) == x {
+        return k;
+    }
+    let mut at = k;
+    while at < n && word(bytes, place + 4 * at) < x {
+        at += 1;
+    }
+    at
+}
+
+/// Returns true if a value is below the one at a place, which is read.
+// A function of its own, so that the others have no room of a value to fill.
+#[inline(never)]
+pub(crate) fn is_below_read(v: &Val, bytes: &[u8], version: u8, place: usize) -> bool
+    requires short { length bytes.now ≤ 2 ^ 30 }
+    requires well { IsWell v.now }
+    requires stands { HasValue version bytes.now place }
+    ensures { IsTrue result ↔ IsBelow v.now (value_in version bytes.now place) }
+{
+    leq(v, &value(bytes, version, place))
 }

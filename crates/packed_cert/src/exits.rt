@@ -1,15 +1,20 @@
 // The type `ExitAt`: an exit that stays in the bytes of its certificate.
-ghost use Rattle.std.specs.Prelude.{◌≡◌, ◌≤◌, ◌^◌, ◌↔◌, IsTrue, length};
-ghost use Rattle.packed_cert.specs.Nodes.{exit_in, HasExit};
+ghost use Rattle.std.specs.Prelude.{◌≡◌, ◌≤◌, ◌^◌, ◌↔◌, IsTrue, length, Ok, Err, OnOk, IfOk, IfErr, IfSome};
+ghost use Rattle.packed_cert.specs.NodesInBytes.{exit_in, HasExit, ExitStands};
+ghost use Rattle.std.specs.Option.{option_map};
+ghost use Rattle.tcd_base.specs.FieldReaders.{Reads};
+ghost use Rattle.depth_cert.specs.Grammar.{exits_at};
 
 use crate::certs::are_bytes;
 use crate::covered_values::{ToCover, are_covered_at};
+use crate::node_reader::read_exit_like;
 use crate::places::LOWER_VALUES;
+use crate::point_reader::ExitRoom;
 use crate::restored_values::ValuesAt;
 use crate::values_at_places::are_values_at;
-use depth_cert::{Exit, no_exit, read_exit};
+use depth_cert::{Exit, no_exit, read_exit, read_has_exit};
 use std::marker::Model;
-use tcd_base::Cursor;
+use tcd_base::{Cursor, FormErr};
 use value_domain::{Bounds, State};
 
 /// An exit that stays in the bytes of its certificate.
@@ -22,7 +27,7 @@ pub struct ExitAt<'a> {
 
 impl<'a> Model for ExitAt<'a> {
     ghost use Rattle.depth_cert.specs.declared.points.Exit.{Exit};
-    ghost use Rattle.packed_cert.specs.Nodes.{exit_in, IsExitAt};
+    ghost use Rattle.packed_cert.specs.NodesInBytes.{exit_in, IsExitAt};
 
     ghost Value = { Exit };
 
@@ -118,4 +123,31 @@ impl<'a> ExitAt<'a> {
         let _read = read_exit(&mut c, self.version, &mut exit);
         exit
     }
+}
+
+/// Reads a node's exit into its room and returns its place, or `None` if the node has no exit.
+#[tactic(auto, unfolding(depth_cert::specs::Grammar::exits_at))]
+pub(crate) fn read_exits(
+    c: &mut Cursor<'_>,
+    bytes: &[u8],
+    version: u8,
+    kind: u8,
+    room: &mut ExitRoom,
+) -> Result<Option<u32>, FormErr>
+    requires short { length c.old.bytes ≤ 2 ^ 30 }
+    requires same { c.old.bytes ≡ bytes.now }
+    requires last { IfSome room.old.last (ExitStands version bytes.now) }
+    ensures ok { IfOk result (λ e.
+        exits_at version kind c.old ≡ Ok (option_map (exit_in version bytes.now) e, c.new)) }
+    ensures err { IfErr result (λ e. exits_at version kind c.old ≡ Err e) }
+    ensures exit { IfOk result (λ e. IfSome e (HasExit version bytes.now)) }
+    ensures last { OnOk result (IfSome room.new.last (ExitStands version bytes.now)) }
+    ensures bytes { c.new.bytes ≡ c.old.bytes }
+{
+    if !read_has_exit(c, kind)? {
+        return Ok(None);
+    }
+    let place = c.place() as u32;
+    read_exit_like(c, bytes, version, room)?;
+    Ok(Some(place))
 }

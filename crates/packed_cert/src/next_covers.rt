@@ -1,20 +1,23 @@
 // Fast path: does the state of the next point cover the one at hand, changed?
 // A point keeps the row of values outside which its state is that of the point before. So only what
 // is put, and the values of that row, are compared, and not all 27.
-ghost use Rattle.std.specs.Prelude.{◌≡◌, ◌≤◌, ◌<◌, ◌-◌, ◌^◌, ◌↔◌, ℕ, IsTrue, Some, length, slice_index_or};
+ghost use Rattle.std.specs.Prelude.{◌≡◌, ◌≤◌, ◌<◌, ◌-◌, ◌^◌, ◌↔◌, ℕ, IsTrue, Some, length, slice_index_or, false};
 ghost use Rattle.value_domain.specs.Values.{IsBelow, any_val};
-ghost use Rattle.value_domain.specs.State.{AreBelow, AreWell};
+ghost use Rattle.value_domain.specs.State.{AreBelow, AreWell, Covers};
 ghost use Rattle.vd_transfer.specs.Changes.{state_after};
 ghost use Rattle.vd_transfer.specs.declared.change.Base.TheVariants.{Same};
 ghost use Rattle.packed_cert.specs.ValuesInBytes.{values_in, HaveValues};
-ghost use Rattle.packed_cert.specs.Points.{state_in};
-ghost use Rattle.packed_cert.specs.Moves.{IsMoved, IsBelowOwn};
+ghost use Rattle.packed_cert.specs.PointsInBytes.{state_in, HasState};
+ghost use Rattle.packed_cert.specs.Moves.{IsMoved};
+ghost use Rattle.packed_cert.specs.ToCover.{IsBelowOwn};
 ghost use Rattle.packed_cert.specs.ChangedRows.{IsOutside};
 
 use crate::places::{PackedPoint, VALUES, ValueRow};
+use crate::states::StateAt;
 use crate::value_reader::length_by;
 use crate::values_at_places::is_below_at;
-use value_domain::{State, Val, leq};
+use std::marker::Model;
+use value_domain::{State, Val, are_implied, leq};
 use vd_transfer::{Change, changed_value};
 
 /// Returns true if each value that is put outside a row is below the state's own there.
@@ -90,4 +93,33 @@ pub(crate) fn is_row_below(
         at += length_by(tag);
     }
     true
+}
+
+/// Returns true if the state of a point covers the one before it, changed by what is put alone.
+/// Only the values that are put and those of the point's row are compared.
+pub(crate) fn covers_moved(
+    s: &State,
+    c: &Change,
+    bytes: &[u8],
+    version: u8,
+    point: PackedPoint,
+) -> bool
+    requires short { length bytes.now ≤ 2 ^ 30 }
+    requires base { c.now.base ≡ Same }
+    requires hand { AreWell s.now.regs }
+    requires well { AreWell (state_after s.now c.now).regs }
+    requires state { HasState version bytes.now point.place }
+    requires moved { IsMoved version bytes.now s.now point }
+    ensures { IsTrue result
+        → Covers (state_in version bytes.now point.place) (state_after s.now c.now) }
+{
+    let _regs = &s.regs[..];
+    let upper = StateAt::at(bytes, version, point.place as usize);
+    if !upper.covers_context(c.ie, c.ccpn, c.lower) {
+        return false;
+    }
+    if !are_implied(upper.locals().as_slice(), c.locals.as_slice()) {
+        return false;
+    }
+    are_puts_below(s, c, point.row) && is_row_below(s, c, bytes, version, point)
 }

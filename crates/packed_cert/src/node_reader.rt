@@ -1,19 +1,19 @@
 // Reads nodes: their keys, needs, and the places of their exits and points.
 ghost use Rattle.std.specs.Prelude.{◌≡◌, ◌≤◌, ◌+◌, ◌^◌, length, map, Ok, Err, OnOk, IfOk, IfErr, IfSome};
-ghost use Rattle.std.specs.Option.{option_map};
 ghost use Rattle.std.specs.List.{All};
 ghost use Rattle.tcd_base.specs.FieldReaders.{Reads};
 ghost use Rattle.depth_cert.specs.Answers.{IsFaultOf};
-ghost use Rattle.depth_cert.specs.Grammar.{key_after, exit_at, exits_at, node_after, is_above};
+ghost use Rattle.depth_cert.specs.Grammar.{key_after, exit_at, node_after, is_above};
 ghost use Rattle.depth_cert.specs.Keys.{key_number};
-ghost use Rattle.depth_cert.specs.Certs.{count_points};
-ghost use Rattle.packed_cert.specs.Nodes.{exit_in, HasExit, node_of, nodes_of, HasPlaces, ExitStands, ReadsExit};
-ghost use Rattle.packed_cert.specs.Points.{StandsAt};
+ghost use Rattle.depth_cert.specs.Nodes.{count_points};
+ghost use Rattle.packed_cert.specs.NodesInBytes.{node_of, nodes_of, HasPlaces, ExitStands, ReadsExit};
+ghost use Rattle.packed_cert.specs.PointsInBytes.{StandsAt};
 
+use crate::exits::read_exits;
 use crate::places::{ExitPlaces, NodePlaces};
 use crate::point_reader::{ExitRoom, ReadingRoom, read_points};
-use crate::value_reader::passes;
-use depth_cert::{ALN, CertErr, Key, number_of, read_exit, read_has_exit, read_need};
+use crate::repeated_bytes::passes;
+use depth_cert::{ALN, CertErr, Key, number_of, read_exit, read_need};
 use std::alloc::Global;
 use tcd_base::{BAD_ORDER, BAD_VALUE, Cursor, FormErr, fault, read_u8, read_u32};
 
@@ -106,35 +106,8 @@ fn number(kind: u8, entry: u32, prio: u8, is: u8) -> u64
         + u64::from(is)
 }
 
-/// Reads a node's exit into its room and returns its place, or `None` if the node has no exit.
-#[tactic(auto, unfolding(depth_cert::specs::Grammar::exits_at))]
-fn read_exits(
-    c: &mut Cursor<'_>,
-    bytes: &[u8],
-    version: u8,
-    kind: u8,
-    room: &mut ExitRoom,
-) -> Result<Option<u32>, FormErr>
-    requires short { length c.old.bytes ≤ 2 ^ 30 }
-    requires same { c.old.bytes ≡ bytes.now }
-    requires last { IfSome room.old.last (ExitStands version bytes.now) }
-    ensures ok { IfOk result (λ e.
-        exits_at version kind c.old ≡ Ok (option_map (exit_in version bytes.now) e, c.new)) }
-    ensures err { IfErr result (λ e. exits_at version kind c.old ≡ Err e) }
-    ensures exit { IfOk result (λ e. IfSome e (HasExit version bytes.now)) }
-    ensures last { OnOk result (IfSome room.new.last (ExitStands version bytes.now)) }
-    ensures bytes { c.new.bytes ≡ c.old.bytes }
-{
-    if !read_has_exit(c, kind)? {
-        return Ok(None);
-    }
-    let place = c.place() as u32;
-    read_exit_like(c, bytes, version, room)?;
-    Ok(Some(place))
-}
-
 /// Reads an exit into its room. If the bytes of the last one come again, they are passed over.
-fn read_exit_like(
+pub(crate) fn read_exit_like(
     c: &mut Cursor<'_>,
     bytes: &[u8],
     version: u8,

@@ -2,7 +2,7 @@
 ghost use Rattle.std.specs.Prelude.{◌≡◌, ◌<◌, nat_lt, ◌==◌, true, false, map, find, length};
 ghost use Rattle.std.specs.Option.{option_map};
 ghost use Rattle.std.specs.List.Sorted.{IsStrictlyIncreasing, IsPartitionPoint};
-ghost use Rattle.packed_cert.specs.Nodes.{node_of, HasPlaces};
+ghost use Rattle.packed_cert.specs.NodesInBytes.{node_of, HasPlaces};
 
 use crate::exits::ExitAt;
 use crate::places::{NodePlaces, PackedPoint};
@@ -24,7 +24,7 @@ pub struct PackedNode<'a> {
 
 impl<'a> Model for PackedNode<'a> {
     ghost use Rattle.depth_cert.specs.Nodes.{NodeData};
-    ghost use Rattle.packed_cert.specs.Nodes.{node_in, IsPackedNode};
+    ghost use Rattle.packed_cert.specs.NodesInBytes.{node_in, IsPackedNode};
 
     ghost Value = { NodeData };
 

@@ -6,21 +6,22 @@
 ghost use Rattle.std.specs.Prelude.{◌≡◌, ◌≤◌, ◌<◌, ◌+◌, ◌-◌, ◌^◌, ℕ, List, length, map, vec_len, true, false, Ok, Err, OnOk, IfOk, IfErr, IfSome, IsTrue, IsFalse};
 ghost use Rattle.std.specs.List.{All};
 ghost use Rattle.tcd_base.specs.FieldReaders.{Reads};
-ghost use Rattle.depth_cert.specs.Grammar.{values_at, state_at, address_after, points_at, is_above};
+ghost use Rattle.depth_cert.specs.Grammar.{state_at, address_after, points_at, is_above};
 ghost use Rattle.depth_cert.specs.Answers.{IsFaultOf};
 ghost use Rattle.std.specs.List.Sorted.{IsStrictlyIncreasing};
-ghost use Rattle.packed_cert.specs.Standing.{StandFrom, StandAlike};
+ghost use Rattle.packed_cert.specs.ValuesAtPlaces.{StandFrom, StandAlike};
 ghost use Rattle.packed_cert.specs.ChangedRows.{ChangesRow, IsFrom, IsWhole};
-ghost use Rattle.packed_cert.specs.Points.{HasState, StandsAt, IsRepeated, ComesAgain, points_in};
+ghost use Rattle.packed_cert.specs.PointsInBytes.{HasState, StandsAt, IsRepeated, ComesAgain, points_in};
 ghost use Rattle.packed_cert.specs.Moves.{AreMoves};
 
 use crate::places::{
     ExitPlaces, PackedPoint, ReadState, RepeatedState, StatePlaces, VALUES, ValueRow,
 };
 use crate::repeated_bytes::count_same_before;
-use crate::value_reader::{move_to, no_row, read_values_after};
+use crate::states::read_state_after;
+use crate::value_reader::{move_to, no_row, read_values_like};
 use arrayvec::ArrayVec;
-use depth_cert::{CertErr, Exit, read_flag, read_locals, read_point_count, read_values};
+use depth_cert::{CertErr, Exit, read_flag, read_locals, read_point_count};
 use std::alloc::Global;
 use tcd_base::{BAD_ORDER, Cursor, FormErr, fault, read_u8, read_u32};
 use value_domain::{State, Val};
@@ -181,45 +182,10 @@ pub(crate) fn read_state_like(
     read_state_after(c, bytes, version, Some(repeated), out)
 }
 
-/// Reads a state over the one before, whose bytes don't all come again.
-#[inline(never)]
-pub(crate) fn read_state_after(
-    c: &mut Cursor<'_>,
-    bytes: &[u8],
-    version: u8,
-    before: Option<RepeatedState>,
-    out: &mut State,
-) -> Result<ReadState, FormErr>
-    requires short { length c.old.bytes ≤ 2 ^ 30 }
-    requires same { c.old.bytes ≡ bytes.now }
-    requires held { IfSome before (ComesAgain version bytes.now out.old.regs c.old.place) }
-    ensures ok { OnOk result (state_at version c.old ≡ Ok (out.new, c.new)) }
-    ensures err { IfErr result (λ e. state_at version c.old ≡ Err e) }
-    ensures held { IfOk result (λ r. StandsAt version bytes.now out.new r.at) }
-    ensures row { IfOk result (λ r. ChangesRow out.old.regs out.new.regs r.row) }
-    ensures from { IfOk result (λ r. IsFrom bytes.now r.at.values r.row) }
-    ensures other { IfOk result (λ r. r.same ≡ false) }
-    ensures bytes { c.new.bytes ≡ c.old.bytes }
-{
-    let start = c.place();
-    let fields = read_state_fields(c, bytes, version, before, out)?;
-    let end = c.place();
-    let at = StatePlaces {
-        start,
-        values: fields.0,
-        end,
-    };
-    Ok(ReadState {
-        at,
-        row: fields.1,
-        same: false,
-    })
-}
-
 /// Reads the fields of a state over the one before. Returns the place of the values, and the row of
 /// those that were read.
 #[tactic(auto, unfolding(depth_cert::specs::Grammar::state_at))]
-fn read_state_fields(
+pub(crate) fn read_state_fields(
     c: &mut Cursor<'_>,
     bytes: &[u8],
     version: u8,
@@ -247,46 +213,10 @@ fn read_state_fields(
     Ok((at, row))
 }
 
-/// Reads values of a state that begins at `start`, and returns the row of those that were read. If
-/// there is a state before, `out` holds its values already.
-fn read_values_like(
-    c: &mut Cursor<'_>,
-    bytes: &[u8],
-    version: u8,
-    before: Option<RepeatedState>,
-    start: usize,
-    out: &mut [Val],
-) -> Result<ValueRow, FormErr>
-    requires short { length c.old.bytes ≤ 2 ^ 30 }
-    requires same { c.old.bytes ≡ bytes.now }
-    requires few { length out.old ≤ 27 }
-    requires held { IfSome before (ComesAgain version bytes.now out.old start) }
-    ensures ok { OnOk result (values_at version (length out.old) c.old ≡ Ok (out.new, c.new)) }
-    ensures err { IfErr result (λ e. values_at version (length out.old) c.old ≡ Err e) }
-    ensures row { IfOk result (ChangesRow out.old out.new) }
-    ensures from { IfOk result (IsFrom bytes.now c.old.place) }
-    ensures bytes { c.new.bytes ≡ c.old.bytes }
-{
-    if let Some(state) = before {
-        let stop = end_of_same(bytes, state, start, c.place());
-        return read_values_after(c, bytes, version, state.at, stop, out);
-    }
-    let count = out.len() as u8;
-    let from = c.place() as u32;
-    match read_values(c, version, out) {
-        Ok(_) => Ok(ValueRow {
-            first: 0,
-            behind: count,
-            from,
-        }),
-        Err(e) => Err(e),
-    }
-}
-
 /// Returns the place up to which the bytes of a state's values come again at `at`, where its own
-/// bytes come again at `start`. They are compared again only if more bytes are before the values
-/// there than here, or fewer.
-fn end_of_same(bytes: &[u8], state: RepeatedState, start: usize, at: usize) -> usize
+/// bytes come again at `start`. They are compared again only if the bytes before the values differ,
+/// or are more or fewer.
+pub(crate) fn end_of_same(bytes: &[u8], state: RepeatedState, start: usize, at: usize) -> usize
     requires short { length bytes.now ≤ 2 ^ 30 }
     requires inside { at ≤ length bytes.now }
     requires values { state.at.values ≤ length bytes.now }

@@ -1,9 +1,13 @@
 // Fast path: how many bytes are equal at two places?
-// They are compared eight at a time: 64 in a turn, then 16. A turn of 64 takes some 28
-// instructions.
-ghost use Rattle.std.specs.Prelude.{◌≡◌, ◌≤◌, ◌<◌, ◌+◌, ◌*◌, IsTrue, length, slice_index, take, drop};
+// From 1,024 bytes on they are compared as slices first. Where those differ, and below, they are
+// compared eight at a time: 64 in a turn, then 16. A turn of 64 takes some 28 instructions.
+ghost use Rattle.std.specs.Prelude.{◌≡◌, ◌≤◌, ◌<◌, ◌+◌, ◌*◌, IsTrue, length, slice_index, take, drop, ◌-◌, IsFalse};
 ghost use Rattle.tcd_base.specs.Bytes.{word_at};
-ghost use Rattle.packed_cert.specs.Standing.{eight_at, StandAlike};
+ghost use Rattle.packed_cert.specs.ValuesAtPlaces.{eight_at, StandAlike};
+ghost use Rattle.packed_cert.specs.Moves.{MovedOver};
+
+use crate::value_reader::FEW_BYTES;
+use tcd_base::Cursor;
 
 /// Counts the bytes that are equal at two places, up to `end` at the first.
 pub(crate) fn count_same_before(bytes: &[u8], x: usize, y: usize, end: usize) -> usize
@@ -17,7 +21,8 @@ pub(crate) fn count_same_before(bytes: &[u8], x: usize, y: usize, end: usize) ->
     count_same(bytes, x, y, n)
 }
 
-/// Counts the bytes that are equal at two places: eight at a time, then byte by byte.
+/// Counts the bytes that are equal at two places: many as slices, else eight at a time, then byte by
+/// byte. The contract says that so many are equal, not that the next ones differ.
 pub(crate) fn count_same(bytes: &[u8], x: usize, y: usize, n: usize) -> usize
     requires first { x + n ≤ length bytes.now }
     requires second { y + n ≤ length bytes.now }
@@ -35,8 +40,8 @@ pub(crate) fn count_same(bytes: &[u8], x: usize, y: usize, n: usize) -> usize
     same_from(bytes, x, y, from, n)
 }
 
-/// From so many bytes on they are compared as slices first. That takes 17 instructions for 64 bytes,
-/// but doesn't tell where they differ.
+/// From so many bytes on they are compared as slices first. That takes 17 instructions for 64
+/// bytes, but doesn't tell where they differ.
 const MANY_BYTES: usize = 1024;
 
 /// Returns true only if these bytes are equal at two places.
@@ -190,4 +195,24 @@ fn eight(bytes: &[u8], place: usize) -> u64
         bytes[place + 6],
         bytes[place + 7],
     ])
+}
+
+/// Returns true if the bytes from `x` on come again at the cursor, which then moves past them.
+#[inline(always)]
+pub(crate) fn passes(c: &mut Cursor<'_>, bytes: &[u8], x: usize, n: usize) -> bool
+    requires same { c.old.bytes ≡ bytes.now }
+    requires within { x + n ≤ length bytes.now }
+    ensures moved { IsTrue result → MovedOver bytes.now x n c.old c.new }
+    ensures kept { IsFalse result → c.new ≡ c.old }
+{
+    let y = c.place();
+    if n > bytes.len() - y {
+        return false;
+    }
+    if n < FEW_BYTES {
+        return count_same(bytes, x, y, n) == n && c.take(n).is_some();
+    }
+    let before = &bytes[x..x + n];
+    let here = &bytes[y..y + n];
+    before == here && c.take(n).is_some()
 }

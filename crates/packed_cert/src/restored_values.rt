@@ -4,16 +4,16 @@ ghost use Rattle.std.specs.Prelude.{◌≡◌, ◌≤◌, ◌<◌, ◌^◌, ◌�
 ghost use Rattle.value_domain.specs.Values.{any_val, IsBelow};
 ghost use Rattle.value_domain.specs.State.{AreWell, AreBelow};
 ghost use Rattle.value_domain.specs.State as states;
-ghost use Rattle.depth_cert.specs.Exits.{lower_values, with_lower_from};
-ghost use Rattle.packed_cert.specs.Standing.{behind};
+ghost use Rattle.depth_cert.specs.Exits.{with_lower_from};
+ghost use Rattle.packed_cert.specs.ValuesAtPlaces.{behind};
 ghost use Rattle.packed_cert.specs.ValuesInBytes.{value_in, HasValue, values_in, HaveValues};
 
 use crate::certs::are_bytes;
+use crate::covered_values::is_read_below;
 use crate::places::VALUES;
 use crate::value_reader::length_by;
 use crate::values_at_places::{is_below_at, value};
-use depth_cert::lower_value;
-use value_domain::{State, Val};
+use value_domain::Val;
 use vd_transfer::is_lower_slot;
 
 /// Values in the bytes, by the place of the first.
@@ -87,22 +87,6 @@ fn is_restored_below(regs: &[Val; 27], i: usize, low: ValuesAt<'_>, high: Values
         return is_read_below(low, high);
     }
     is_below_at(&regs[i], high.bytes, high.version, high.place)
-}
-
-/// Returns true if the value at a place is below the value at another. The first is read.
-#[inline(never)]
-fn is_read_below(low: ValuesAt<'_>, high: ValuesAt<'_>) -> bool
-    requires low_short { length low.bytes.now ≤ 2 ^ 30 }
-    requires high_short { length high.bytes.now ≤ 2 ^ 30 }
-    requires low { HasValue low.version low.bytes.now low.place }
-    requires high { HasValue high.version high.bytes.now high.place }
-    ensures { IsTrue result
-        ↔ IsBelow (value_in low.entry.version low.entry.bytes.now low.entry.place)
-        (value_in high.entry.version high.entry.bytes.now high.entry.place) }
-{
-    are_bytes(low.bytes);
-    let v = value(low.bytes, low.version, low.place);
-    is_below_at(&v, high.bytes, high.version, high.place)
 }
 
 /// Returns the place of the next lower register's value: after the one at `low` if value number `i`

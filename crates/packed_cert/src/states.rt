@@ -1,22 +1,23 @@
 // The type `StateAt`: a state that stays in the bytes of its certificate.
-ghost use Rattle.std.specs.Prelude.{◌≡◌, ◌≤◌, ◌+◌, ◌^◌, ◌↔◌, ◌==◌, if◌then◌else◌, IsTrue, length};
+ghost use Rattle.std.specs.Prelude.{◌≡◌, ◌≤◌, ◌+◌, ◌^◌, ◌↔◌, ◌==◌, if◌then◌else◌, IsTrue, length, ◌<◌, ◌-◌, false, Ok, Err, OnOk, IfOk, IfErr, IfSome};
 ghost use Rattle.value_domain.specs.State.{AreWell, Covers};
-ghost use Rattle.vd_transfer.specs.declared.change.Base.TheVariants.{Same};
 ghost use Rattle.vd_transfer.specs.Changes.{state_after};
-ghost use Rattle.packed_cert.specs.Moves.{IsMoved};
-ghost use Rattle.packed_cert.specs.Standing.{flags_in};
-ghost use Rattle.packed_cert.specs.Points.{state_in, HasState};
-ghost use Rattle.packed_cert.specs.ValuesInBytes.{values_in, HaveValues};
+ghost use Rattle.packed_cert.specs.ValuesInBytes.{flags_in, values_in, HaveValues};
+ghost use Rattle.packed_cert.specs.PointsInBytes.{state_in, HasState, StandsAt, ComesAgain};
+ghost use Rattle.tcd_base.specs.FieldReaders.{Reads};
+ghost use Rattle.depth_cert.specs.Grammar.{state_at};
+ghost use Rattle.packed_cert.specs.ChangedRows.{ChangesRow, IsFrom};
 
 use crate::covered_values::{ToCover, are_covered_at};
 use crate::exits::ExitAt;
-use crate::next_covers::{are_puts_below, is_row_below};
-use crate::places::{PackedPoint, VALUES};
+use crate::places::{ReadState, RepeatedState, StatePlaces, VALUES};
+use crate::point_reader::read_state_fields;
 use crate::restored_values::{ValuesAt, are_restored_below};
 use arrayvec::ArrayVec;
 use depth_cert::CALL;
 use std::marker::Model;
-use value_domain::{State, Val, are_implied};
+use tcd_base::{Cursor, FormErr};
+use value_domain::{State, are_implied};
 use vd_transfer::Change;
 
 /// A state that stays in the bytes of its certificate.
@@ -29,7 +30,8 @@ pub struct StateAt<'a> {
 
 impl<'a> Model for StateAt<'a> {
     ghost use Rattle.value_domain.specs.declared.states.State.{State};
-    ghost use Rattle.packed_cert.specs.Points.{state_in, IsStateAt};
+    ghost use Rattle.packed_cert.specs.PointsInBytes.{state_in};
+    ghost use Rattle.packed_cert.specs.ValuesInBytes.{IsStateAt};
 
     ghost Value = { State };
 
@@ -158,35 +160,6 @@ impl<'a> StateAt<'a> {
     }
 }
 
-/// Returns true if the state of a point covers the one before it, changed by what is put alone.
-/// Only the values that are put and those of the point's row are compared.
-pub(crate) fn covers_moved(
-    s: &State,
-    c: &Change,
-    bytes: &[u8],
-    version: u8,
-    point: PackedPoint,
-) -> bool
-    requires short { length bytes.now ≤ 2 ^ 30 }
-    requires base { c.now.base ≡ Same }
-    requires hand { AreWell s.now.regs }
-    requires well { AreWell (state_after s.now c.now).regs }
-    requires state { HasState version bytes.now point.place }
-    requires moved { IsMoved version bytes.now s.now point }
-    ensures { IsTrue result
-        → Covers (state_in version bytes.now point.place) (state_after s.now c.now) }
-{
-    let _regs = &s.regs[..];
-    let upper = StateAt::at(bytes, version, point.place as usize);
-    if !upper.covers_context(c.ie, c.ccpn, c.lower) {
-        return false;
-    }
-    if !are_implied(upper.locals().as_slice(), c.locals.as_slice()) {
-        return false;
-    }
-    are_puts_below(s, c, point.row) && is_row_below(s, c, bytes, version, point)
-}
-
 /// Returns IE and CCPN after a call, which are its exit's, or after a system call, which are its
 /// caller's.
 fn status_after(s: &State, exit: &ExitAt<'_>, kind: u8) -> (bool, u8)
@@ -223,4 +196,39 @@ fn place_of_values(bytes: &[u8], version: u8, place: usize) -> usize
         ≡ values_in version bytes.now result 27 }
 {
     place + 4 + bytes[place + 3] as usize
+}
+
+/// Reads a state over the one before, whose bytes don't all come again.
+#[inline(never)]
+pub(crate) fn read_state_after(
+    c: &mut Cursor<'_>,
+    bytes: &[u8],
+    version: u8,
+    before: Option<RepeatedState>,
+    out: &mut State,
+) -> Result<ReadState, FormErr>
+    requires short { length c.old.bytes ≤ 2 ^ 30 }
+    requires same { c.old.bytes ≡ bytes.now }
+    requires held { IfSome before (ComesAgain version bytes.now out.old.regs c.old.place) }
+    ensures ok { OnOk result (state_at version c.old ≡ Ok (out.new, c.new)) }
+    ensures err { IfErr result (λ e. state_at version c.old ≡ Err e) }
+    ensures held { IfOk result (λ r. StandsAt version bytes.now out.new r.at) }
+    ensures row { IfOk result (λ r. ChangesRow out.old.regs out.new.regs r.row) }
+    ensures from { IfOk result (λ r. IsFrom bytes.now r.at.values r.row) }
+    ensures other { IfOk result (λ r. r.same ≡ false) }
+    ensures bytes { c.new.bytes ≡ c.old.bytes }
+{
+    let start = c.place();
+    let fields = read_state_fields(c, bytes, version, before, out)?;
+    let end = c.place();
+    let at = StatePlaces {
+        start,
+        values: fields.0,
+        end,
+    };
+    Ok(ReadState {
+        at,
+        row: fields.1,
+        same: false,
+    })
 }

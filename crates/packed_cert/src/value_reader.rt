@@ -1,14 +1,19 @@
 // Reads values over those of the state before.
 // Fast path: a value whose bytes come again isn't read. Bytes are compared for many values at once.
-ghost use Rattle.std.specs.Prelude.{◌≡◌, ◌≤◌, ◌<◌, ◌+◌, ◌-◌, ◌^◌, ℕ, List, IsTrue, IsFalse, length, Ok, Err, OnOk, IfOk, IfErr};
-ghost use Rattle.packed_cert.specs.Standing.{StandFrom, StandAlike, MovedOver};
-ghost use Rattle.packed_cert.specs.ChangedRows.{ChangesRow, IsFrom, IsWithRead, place_after};
-ghost use Rattle.packed_cert.specs.Standing as standing;
+ghost use Rattle.std.specs.Prelude.{◌≡◌, ◌≤◌, ◌<◌, ◌+◌, ◌-◌, ◌^◌, ℕ, List, length, Ok, Err, OnOk, IfOk, IfErr, IfSome};
+ghost use Rattle.packed_cert.specs.ValuesAtPlaces.{StandFrom, StandAlike, at};
+ghost use Rattle.packed_cert.specs.ChangedRows.{ChangesRow, IsFrom, IsWithRead};
+ghost use Rattle.packed_cert.specs.ValuesInBytes.{place_after};
+ghost use Rattle.packed_cert.specs.ValuesAtPlaces as standing;
 ghost use Rattle.depth_cert.specs.Grammar.{values_at};
+ghost use Rattle.tcd_base.specs.FieldReaders.{Reads};
+ghost use Rattle.packed_cert.specs.PointsInBytes.{ComesAgain};
+ghost use Rattle.tcd_base.specs.Bytes.{word_at};
 
-use crate::places::{StatePlaces, ValueRow};
-use crate::repeated_bytes::{count_same, count_same_before};
-use depth_cert::read_value;
+use crate::places::{RepeatedState, StatePlaces, ValueRow};
+use crate::point_reader::end_of_same;
+use crate::repeated_bytes::count_same_before;
+use depth_cert::{read_value, read_values};
 use tcd_base::{Cursor, FormErr};
 use value_domain::Val;
 
@@ -16,7 +21,7 @@ use value_domain::Val;
 pub(crate) const MOST_WORDS: u8 = 128;
 
 /// Fewer bytes than these are compared here, as the comparison of std takes longer to begin.
-const FEW_BYTES: usize = 64;
+pub(crate) const FEW_BYTES: usize = 64;
 
 /// Reads a value into each place of `out`, over the values of the state whose places are `before`,
 /// and returns the row of those that were read. The bytes of these values up to `stop` come again.
@@ -68,26 +73,6 @@ pub(crate) fn read_values_after(
     }
     move_to(c, place);
     Ok(row)
-}
-
-/// Returns true if the bytes from `x` on come again at the cursor, which then moves past them.
-#[inline(always)]
-pub(crate) fn passes(c: &mut Cursor<'_>, bytes: &[u8], x: usize, n: usize) -> bool
-    requires same { c.old.bytes ≡ bytes.now }
-    requires within { x + n ≤ length bytes.now }
-    ensures moved { IsTrue result → MovedOver bytes.now x n c.old c.new }
-    ensures kept { IsFalse result → c.new ≡ c.old }
-{
-    let y = c.place();
-    if n > bytes.len() - y {
-        return false;
-    }
-    if n < FEW_BYTES {
-        return count_same(bytes, x, y, n) == n && c.take(n).is_some();
-    }
-    let before = &bytes[x..x + n];
-    let here = &bytes[y..y + n];
-    before == here && c.take(n).is_some()
 }
 
 /// Returns the number of bytes of a value that begins with this one.
@@ -145,4 +130,53 @@ pub(crate) fn move_to(c: &mut Cursor<'_>, place: usize)
 {
     let n = place - c.place();
     let _passed = c.take(n);
+}
+
+/// Reads values of a state that begins at `start`, and returns the row of those that were read. If
+/// there is a state before, `out` holds its values already.
+pub(crate) fn read_values_like(
+    c: &mut Cursor<'_>,
+    bytes: &[u8],
+    version: u8,
+    before: Option<RepeatedState>,
+    start: usize,
+    out: &mut [Val],
+) -> Result<ValueRow, FormErr>
+    requires short { length c.old.bytes ≤ 2 ^ 30 }
+    requires same { c.old.bytes ≡ bytes.now }
+    requires few { length out.old ≤ 27 }
+    requires held { IfSome before (ComesAgain version bytes.now out.old start) }
+    ensures ok { OnOk result (values_at version (length out.old) c.old ≡ Ok (out.new, c.new)) }
+    ensures err { IfErr result (λ e. values_at version (length out.old) c.old ≡ Err e) }
+    ensures row { IfOk result (ChangesRow out.old out.new) }
+    ensures from { IfOk result (IsFrom bytes.now c.old.place) }
+    ensures bytes { c.new.bytes ≡ c.old.bytes }
+{
+    if let Some(state) = before {
+        let stop = end_of_same(bytes, state, start, c.place());
+        return read_values_after(c, bytes, version, state.at, stop, out);
+    }
+    let count = out.len() as u8;
+    let from = c.place() as u32;
+    match read_values(c, version, out) {
+        Ok(_) => Ok(ValueRow {
+            first: 0,
+            behind: count,
+            from,
+        }),
+        Err(e) => Err(e),
+    }
+}
+
+/// Returns the word at a place.
+pub(crate) fn word(bytes: &[u8], place: usize) -> u32
+    requires { place + 4 ≤ length bytes.now }
+    ensures { result ≡ word_at bytes.now place }
+{
+    u32::from_le_bytes([
+        bytes[place],
+        bytes[place + 1],
+        bytes[place + 2],
+        bytes[place + 3],
+    ])
 }

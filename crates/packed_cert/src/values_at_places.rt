@@ -1,19 +1,17 @@
 // Values at places in the bytes: tests and readers of them.
-ghost use Rattle.std.specs.Prelude.{◌≡◌, ◌≤◌, ◌<◌, ◌+◌, ◌*◌, ◌^◌, ◌↔◌, ℕ, IsTrue, length, slice_index, Ok};
-ghost use Rattle.tcd_base.specs.Bytes.{word_at};
-ghost use Rattle.tcd_base.specs.Place.{Place};
+ghost use Rattle.std.specs.Prelude.{◌≡◌, ◌≤◌, ◌<◌, ◌+◌, ◌*◌, ◌^◌, ◌↔◌, IsTrue, length};
 ghost use Rattle.value_domain.specs.declared.values.Val.{Val};
 ghost use Rattle.value_domain.specs.declared.values.Val.TheVariants.{Set};
-ghost use Rattle.value_domain.specs.Sets.{Rising, Within, AreWords};
+ghost use Rattle.value_domain.specs.Sets.{AreWords};
 ghost use Rattle.value_domain.specs.Values.{IsWell, IsBelow, IsValue};
 ghost use Rattle.packed_cert.specs.ValuesInBytes.{words_at, value_in, HasValue, values_in, HaveValues};
-ghost use Rattle.value_domain.specs.State.{AreWell, AreBelow, AreValues};
-ghost use Rattle.packed_cert.specs.Standing.{at};
-ghost use Rattle.depth_cert.specs.Grammar.{value_at};
+ghost use Rattle.value_domain.specs.State.{AreValues};
+ghost use Rattle.packed_cert.specs.ValuesAtPlaces.{at};
 
-use crate::value_reader::{MOST_WORDS, length_by};
+use crate::covered_values::{are_among, is_below_read, is_below_span_at};
+use crate::value_reader::{MOST_WORDS, length_by, word};
 use depth_cert::SPAN;
-use value_domain::{Bounds, Val, extent_of, is_value, leq, set_span, set_words, write_any};
+use value_domain::{Bounds, Val, is_value, set_span, set_words, write_any};
 
 /// Returns true if a value is below the one at a place.
 pub(crate) fn is_below_at(v: &Val, bytes: &[u8], version: u8, place: usize) -> bool
@@ -38,24 +36,6 @@ pub(crate) fn is_below_at(v: &Val, bytes: &[u8], version: u8, place: usize) -> b
     }
 }
 
-/// Returns true if a value is below the span at a place.
-fn is_below_span_at(v: &Val, bytes: &[u8], version: u8, place: usize) -> bool
-    requires short { length bytes.now ≤ 2 ^ 30 }
-    requires well { IsWell v.now }
-    requires stands { HasValue version bytes.now place }
-    requires span { 128 < slice_index bytes.now place }
-    ensures { IsTrue result ↔ IsBelow v.now (value_in version bytes.now place) }
-{
-    let lo = word(bytes, place + 1);
-    let last = word(bytes, place + 5);
-    let step = bytes[place] - SPAN;
-    let e = extent_of(v);
-    if e.least < lo || last < e.greatest {
-        return false;
-    }
-    step <= e.step
-}
-
 /// Returns true if a value has just the `n` words at a place.
 fn has_words_at(v: &Val, bytes: &[u8], place: usize, n: usize) -> bool
     requires within { place + 4 * n ≤ length bytes.now }
@@ -74,56 +54,6 @@ fn has_words_at(v: &Val, bytes: &[u8], place: usize, n: usize) -> bool
         }
     }
     true
-}
-
-/// Returns true if each of the ascending words is one of the `n` ascending ones at a place. Both
-/// are walked once.
-fn are_among(own: &[u32], bytes: &[u8], place: usize, n: usize) -> bool
-    requires within { place + 4 * n ≤ length bytes.now }
-    requires own { Rising own.now }
-    requires words { Rising (words_at bytes.now place n) }
-    ensures { IsTrue result ↔ Within own.now (words_at bytes.now place n) }
-{
-    let mut k = 0;
-    for x in own {
-        k = first_from(bytes, place, n, k, *x);
-        if k == n || word(bytes, place + 4 * k) != *x {
-            return false;
-        }
-        k += 1;
-    }
-    true
-}
-
-/// Returns the number of the first word from number `k` on that isn't below `x`, or `n` if all are.
-fn first_from(bytes: &[u8], place: usize, n: usize, k: usize, x: u32) -> usize
-    requires within { place + 4 * n ≤ length bytes.now }
-    requires start { k ≤ n }
-    ensures start { k ≤ result }
-    ensures end { result ≤ n }
-    ensures below { (j : ℕ) → k ≤ j → j < result → word_at bytes.now (place + 4 * j) < x }
-    ensures reached { result < n → x ≤ word_at bytes.now (place + 4 * result) }
-{
-    if k < n && word(bytes, place + 4 * k) == x {
-        return k;
-    }
-    let mut at = k;
-    while at < n && word(bytes, place + 4 * at) < x {
-        at += 1;
-    }
-    at
-}
-
-/// Returns true if a value is below the one at a place, which is read.
-// A function of its own, so that the others have no room of a value to fill.
-#[inline(never)]
-fn is_below_read(v: &Val, bytes: &[u8], version: u8, place: usize) -> bool
-    requires short { length bytes.now ≤ 2 ^ 30 }
-    requires well { IsWell v.now }
-    requires stands { HasValue version bytes.now place }
-    ensures { IsTrue result ↔ IsBelow v.now (value_in version bytes.now place) }
-{
-    leq(v, &value(bytes, version, place))
 }
 
 /// Returns true if each of the `n` values from a place on is one of the plan and the version.
@@ -211,17 +141,4 @@ fn set_at<const N: usize>(out: &mut Val, bytes: &[u8], place: usize, n: usize)
         words[i] = word(bytes, place + 4 * i);
     }
     set_words(out, &words[..n]);
-}
-
-/// Returns the word at a place.
-pub(crate) fn word(bytes: &[u8], place: usize) -> u32
-    requires { place + 4 ≤ length bytes.now }
-    ensures { result ≡ word_at bytes.now place }
-{
-    u32::from_le_bytes([
-        bytes[place],
-        bytes[place + 1],
-        bytes[place + 2],
-        bytes[place + 3],
-    ])
 }

@@ -1,15 +1,16 @@
 // The type `PointWalk`: the points of a node one after another, with room for one state.
 ghost use Rattle.std.specs.Prelude.{◌≡◌, ◌≤◌, ◌<◌, ◌-◌, ◌^◌, ◌↔◌, [], length, drop, map, IfSome, IsTrue};
 ghost use Rattle.std.specs.List.Sorted.{IsStrictlyIncreasing};
-ghost use Rattle.packed_cert.specs.Points.{state_in, HasState};
+ghost use Rattle.packed_cert.specs.PointsInBytes.{state_in, HasState};
 ghost use Rattle.packed_cert.specs.ChangedRows.{ChangesRow};
 ghost use Rattle.packed_cert.specs.ValuesInBytes.{values_in, HaveValues};
 ghost use Rattle.packed_cert.specs.Moves.{IsMoved};
 
+use crate::next_covers::covers_moved;
 use crate::nodes::place_of;
 use crate::places::{PackedPoint, ValueRow};
 use crate::point_reader::blank;
-use crate::states::{StateAt, covers_moved};
+use crate::states::StateAt;
 use crate::value_reader::{length_by, no_row};
 use crate::values_at_places::read_at;
 use std::marker::Model;
@@ -30,7 +31,7 @@ pub struct PointWalk<'a> {
 
 impl<'a> Model for PointWalk<'a> {
     ghost use Rattle.std.specs.Prelude.{◌-◌, take, drop};
-    ghost use Rattle.packed_cert.specs.Points.{points_in};
+    ghost use Rattle.packed_cert.specs.PointsInBytes.{points_in};
     ghost use Rattle.packed_cert.specs.Walks.{WalkData, IsWalk};
 
     ghost Value = { WalkData };
@@ -48,7 +49,7 @@ impl<'a> Model for PointWalk<'a> {
 
 impl<'a> PointWalk<'a> {
     ghost use Rattle.std.specs.List.{All};
-    ghost use Rattle.packed_cert.specs.Points.{points_in, HasState};
+    ghost use Rattle.packed_cert.specs.PointsInBytes.{points_in, HasState};
     ghost use Rattle.value_domain.specs.State.{AreWell};
     ghost use Rattle.vd_transfer.specs.Changes.{state_after};
     ghost use Rattle.packed_cert.specs.Moves.{AreMoves};

@@ -9,6 +9,7 @@ use Rattle.value_domain.specs.Limits.{Limits}
 use Rattle.value_domain.specs.State.{AreWell, AreValues}
 use Rattle.value_domain.specs.Values.{any_val}
 use Rattle.depth_cert.specs.Exits.{lower_values, with_lower_from}
+use Rattle.small_states.specs.Incoming.{exit_with, incoming_known, is_exit, known_by, state_with, incoming_values}
 use Rattle.depth_cert.proofs.ExitValues.{after-at, lower_high, lower_low, with_lower_length}
 use Rattle.depth_cert.specs.Known.{Known, state, leaving}
 use Rattle.small_states.specs.CompactForms.{values_from}
@@ -16,7 +17,6 @@ use Rattle.small_states.proofs.SparseLemmas.{part_joins, take_anys}
 use Rattle.vd_transfer.specs.EffectsOnStates.{forgotten_from}
 use Rattle.vd_transfer.proofs.ChangeLaws.{forgotten-lower, forgotten-other}
 use Rattle.vd_transfer.proofs.RegisterLaws.{length-forgotten}
-use Rattle.small_states.specs.Incoming.{incoming_known, exit_with, is_exit, known_by, state_with, incoming_values}
 use Rattle.small_states.specs.declared.incoming.Incoming.{Incoming}
 use Rattle.small_states.specs.declared.incoming.Context.{Context}
 

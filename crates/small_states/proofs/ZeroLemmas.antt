@@ -6,7 +6,7 @@ use Rattle.std.proofs.lemmas.List.{append-nil, append_assoc, length-append, leng
 use Rattle.std.proofs.Math.Seq.{take-append_seam}
 use Rattle.tcd_base.specs.Bytes.{bytes_of_word}
 use Rattle.value_domain.specs.declared.values.Val.TheVariants.{Set, Span}
-use Rattle.depth_cert.specs.Grammar.{is_any}
+use Rattle.value_domain.specs.Values.{is_any}
 use Rattle.depth_cert.specs.Spelling.{bytes_of_value}
 use Rattle.small_states.specs.Zeros.{AreZerosBehind}
 

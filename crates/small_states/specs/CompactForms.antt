@@ -1,5 +1,5 @@
 -- The values, states and exits that compact ones stand for.
-use Rattle.std.specs.Prelude.{◌≡◌, ◌+◌, ◌<◌, ◌≤◌, ℕ, zero, suc, List, ◌∷◌, ◌++◌, length, replicate, slice_index_or, take, []}
+use Rattle.std.specs.Prelude.{◌≡◌, ◌+◌, ℕ, zero, suc, List, ◌∷◌, ◌++◌, length, replicate, slice_index_or, ◌<◌, ◌≤◌, take, []}
 use Rattle.std.specs.List.{flat_map}
 use Rattle.value_domain.specs.declared.values.Val.{Val}
 use Rattle.value_domain.specs.declared.states.State.{State}
@@ -12,6 +12,9 @@ use Rattle.small_states.specs.declared.states.SmallExit.{SmallExit}
 use Rattle.depth_cert.specs.Known.{Known, state, leaving}
 use Rattle.small_states.specs.declared.known.KnownForm.{KnownForm}
 use Rattle.small_states.specs.declared.known.KnownForm.TheVariants.{Point, Leaves}
+use Rattle.small_states.specs.declared.known.Outline.{Outline}
+use Rattle.small_states.specs.declared.incoming.Given.{Given}
+use Rattle.small_states.specs.declared.incoming.Given.TheVariants.{Whole, Packed}
 
 -- a known value after unknown ones
 abbrev pub spaced_values : SpacedValue → List Val
@@ -24,12 +27,6 @@ front known = flat_map spaced_values known
 -- all values in their order
 abbrev pub all_values : Values → List Val
 all_values v = front v.known.items ++ replicate v.rest any_val
-
--- the place i is after n known values and `others` unknown ones, before the next known value
-pub record IsFoundIn (v : Values) (i n others : ℕ) : Type 0 where
-  pub within : n ≤ length v.known.items
-  pub at : i ≡ length (front (take n v.known.items)) + others
-  pub before : n < length v.known.items → (d : SpacedValue) → others ≤ (slice_index_or v.known.items n d).anys
 
 -- `count` values from a place on; any_val past the end
 unfoldable pub values_from : List Val → ℕ → ℕ → List Val
@@ -48,3 +45,19 @@ exit_in x = record { ie = x.ie; ccpn = x.ccpn; lower = all_values x.lower.value 
 abbrev pub known_of : KnownForm → Known
 known_of (Point s) = state (state_in s)
 known_of (Leaves x) = leaving (exit_in x)
+
+-- a value, whole or compact
+abbrev pub given_of : Given → Val
+given_of (Whole v) = v.now
+given_of (Packed v) = v.now
+
+-- the outline is the one of the known state
+abbrev pub IsOutline : Known → Outline → Type 0
+IsOutline (state s) o = (s.ie ≡ o.ie) × (s.ccpn ≡ o.ccpn) × (length s.locals.items ≡ o.held)
+IsOutline (leaving x) o = ⊥
+
+-- the place i is after n known values and `others` unknown ones, before the next known value
+pub record IsFoundIn (v : Values) (i n others : ℕ) : Type 0 where
+  pub within : n ≤ length v.known.items
+  pub at : i ≡ length (front (take n v.known.items)) + others
+  pub before : n < length v.known.items → (d : SpacedValue) → others ≤ (slice_index_or v.known.items n d).anys

@@ -1,19 +1,16 @@
 -- What is known at a place, and what flows into it.
-use Rattle.std.specs.Prelude.{◌≡◌, ◌<◌, ◌^◌, ◌++◌, ℕ, Bool, true, false, List, length, if◌then◌else◌}
+use Rattle.std.specs.Prelude.{◌≡◌, ◌<◌, ◌^◌, ◌++◌, ℕ, Bool, true, false, List, if◌then◌else◌}
 use Rattle.value_domain.specs.declared.values.Val.{Val}
 use Rattle.value_domain.specs.declared.states.State.{State}
 use Rattle.vd_transfer.specs.Changes.{state_after}
-use Rattle.depth_cert.specs.declared.points.Exit.{Exit}
 use Rattle.depth_cert.specs.Exits.{after_of, exit_of, lower_values}
 use Rattle.depth_cert.specs.Spelling.{bytes_of_state}
 use Rattle.depth_cert.specs.Known.{Known, state, leaving}
-use Rattle.small_states.specs.declared.known.Outline.{Outline}
 use Rattle.small_states.specs.CompactForms.{exit_in}
 use Rattle.small_states.specs.declared.incoming.Incoming.{Incoming}
 use Rattle.small_states.specs.declared.incoming.Context.{Context}
 use Rattle.small_states.specs.declared.incoming.Incoming.TheVariants.{Changed, After, Leaving}
-use Rattle.small_states.specs.declared.incoming.Given.{Given}
-use Rattle.small_states.specs.declared.incoming.Given.TheVariants.{Whole, Packed}
+use Rattle.depth_cert.specs.declared.points.Exit.{Exit}
 
 -- what flows in
 abbrev pub incoming_known : Incoming → Known
@@ -27,21 +24,11 @@ sender_state (Changed s c) = s.now
 sender_state (After s x kind) = s.now
 sender_state (Leaving s) = s.now
 
--- u is the known state; nothing is said of an exit
-abbrev pub IsStateAt : Known → State → Type 0
-IsStateAt (state s) u = u ≡ s
-IsStateAt (leaving x) u = Unit {0}
-
 -- the incoming values: 27 of a state, or 14 of an exit
 abbrev pub incoming_values : Incoming → List Val
 incoming_values (Changed s c) = (state_after s.now c.now).regs
 incoming_values (After s x kind) = (after_of s.now (exit_in x.now) kind).regs
 incoming_values (Leaving s) = lower_values (s.now).regs
-
--- a value, whole or compact
-abbrev pub given_of : Given → Val
-given_of (Whole v) = v.now
-given_of (Packed v) = v.now
 
 -- an exit flows in
 abbrev pub is_exit : Incoming → Bool
@@ -60,16 +47,6 @@ exit_with values k = record { ie = k.ie; ccpn = k.ccpn; lower = values }
 -- what flows in, by its values and its context
 abbrev pub known_by : Incoming → Context → Known
 known_by incoming k = if is_exit incoming then leaving (exit_with (incoming_values incoming) k) else state (state_with (incoming_values incoming) k)
-
--- the outline is the one of the known state
-abbrev pub IsOutline : Known → Outline → Type 0
-IsOutline (state s) o = (s.ie ≡ o.ie) × (s.ccpn ≡ o.ccpn) × (length s.locals.items ≡ o.held)
-IsOutline (leaving x) o = ⊥
-
--- no exit is known
-abbrev pub IsNoExit : Known → Type 0
-IsNoExit (state s) = Unit {0}
-IsNoExit (leaving x) = ⊥
 
 -- The bytes of the known state are appended, and its CCPN is a byte. Nothing is said of an exit.
 abbrev pub AddsState : Known → List ℕ → List ℕ → Type 0

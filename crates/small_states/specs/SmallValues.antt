@@ -3,8 +3,8 @@ use Rattle.std.specs.Prelude.{◌∷◌, []}
 use Rattle.value_domain.specs.declared.values.Val.{Val}
 use Rattle.value_domain.specs.Values.{any_val}
 use Rattle.value_domain.specs.declared.values.Val.TheVariants.{Set, Span}
-use Rattle.small_states.specs.declared.small.Form.{Form}
-use Rattle.small_states.specs.declared.small.Form.TheVariants.{Any, One, Many, Range}
+use Rattle.small_states.specs.declared.small_value.Form.{Form}
+use Rattle.small_states.specs.declared.small_value.Form.TheVariants.{Any, One, Many, Range}
 
 -- the value of this form
 abbrev pub val_of : Form → Val

@@ -3,7 +3,7 @@ ghost use Rattle.std.specs.Prelude.{◌≡◌, ◌≤◌, ◌<◌, ◌+◌, ◌*
 ghost use Rattle.std.specs.List.{flat_map};
 ghost use Rattle.value_domain.specs.declared.values.Val.TheVariants.{Set, Span};
 ghost use Rattle.tcd_base.specs.Bytes.{bytes_of_word};
-ghost use Rattle.depth_cert.specs.Grammar.{is_any};
+ghost use Rattle.value_domain.specs.Values.{is_any};
 ghost use Rattle.depth_cert.specs.Spelling.{bytes_of_value};
 
 use crate::values::SpacedValue;

@@ -1,18 +1,22 @@
 // What flows into a place from the duty of a point.
-ghost use Rattle.std.specs.Prelude.{◌≡◌, ◌≤◌, ◌<◌, ◌-◌, ◌==◌, length, nat_lt, slice_index_or, if◌then◌else◌};
-ghost use Rattle.value_domain.specs.Values.{any_val};
-ghost use Rattle.value_domain.specs.State as states;
-ghost use Rattle.depth_cert.specs.Exits.{with_lower_from};
-ghost use Rattle.vd_transfer.specs.Changes.{base_of, state_after};
-ghost use Rattle.small_states.specs.Incoming.{incoming_known, given_of, is_exit, known_by, incoming_values};
-ghost use Rattle.small_states.specs.CompactForms.{all_values};
-ghost use Rattle.depth_cert.specs.Known.{priority_of};
+ghost use Rattle.std.specs.Prelude.{◌≡◌, ◌≤◌, ◌<◌, ◌-◌, ◌==◌, length, ◌↔◌, IsTrue, IfOk, Some};
+ghost use Rattle.small_states.specs.Incoming.{incoming_known, is_exit, known_by, incoming_values, state_with};
+ghost use Rattle.depth_cert.specs.Known.{priority_of, state};
+ghost use Rattle.std.specs.Option.{option_map};
+ghost use Rattle.value_domain.specs.State.{AreValues, AreWell, Covers, joined_states};
+ghost use Rattle.small_states.specs.CompactForms.{all_values, state_in, known_of};
 
-use crate::{Small, SmallExit};
+use crate::incoming_values::{are_covered, join_values};
+use crate::known::{KnownForm, SmallKnown};
+use crate::small_value::Form;
+use crate::{Small, SmallExit, SmallState, Values, copy_of, join_locals};
 use arrayvec::ArrayVec;
-use depth_cert::{CALL, lower_value};
-use value_domain::{State, Val};
-use vd_transfer::{Base, Change, is_lower_slot};
+use depth_cert::CALL;
+use std::alloc::{AllocError, Global};
+use std::marker::Model;
+use std::rc::Rc;
+use value_domain::{Bounds, State, Val, are_implied};
+use vd_transfer::Change;
 
 /// What flows into a place, described by the state of the point that it comes from. No state is
 /// built as long as the place covers it.
@@ -119,99 +123,73 @@ pub(crate) fn count_incoming(incoming: &Incoming) -> usize
     }
 }
 
-/// Returns the value at a place before a change puts others over it.
-#[inline(always)]
-fn base_given<'a>(s: &'a State, base: Base, any: &'a Small, i: usize) -> Given<'a>
-    requires place { i < 27 }
-    requires any { any.now ≡ any_val }
-    ensures { given_of result ≡ slice_index_or (base_of base s.now.regs) i any_val }
+/// Returns the incoming state or exit with these values.
+pub(crate) fn form_with(values: Rc<Values>, incoming: &Incoming) -> KnownForm
+    requires { all_values values.value ≡ incoming_values incoming.now }
+    ensures { known_of result ≡ incoming_known incoming.now }
 {
-    let _regs = &s.regs[..];
-    match base {
-        Base::Same => Given::Whole(&s.regs[i]),
-        Base::Forgotten => {
-            if is_lower_slot(i) {
-                Given::Packed(any)
-            } else {
-                Given::Whole(&s.regs[i])
-            }
-        }
-        Base::Any => Given::Packed(any),
+    let k = context_of(incoming);
+    if is_leaving(incoming) {
+        return KnownForm::Leaves(SmallExit {
+            ie: k.ie,
+            ccpn: k.ccpn,
+            lower: values,
+        });
     }
+    KnownForm::Point(SmallState {
+        regs: values,
+        ie: k.ie,
+        ccpn: k.ccpn,
+        lower: k.lower,
+        locals: copy_of(k.locals),
+    })
 }
 
-/// Returns the value at a place of a changed state.
-#[inline(always)]
-fn changed_given<'a>(s: &'a State, c: &'a Change, any: &'a Small, i: usize) -> Given<'a>
-    requires place { i < 27 }
-    requires any { any.now ≡ any_val }
-    ensures { given_of result ≡ slice_index_or (state_after s.now c.now).regs i any_val }
+/// Returns whether a state covers the incoming one.
+pub(crate) fn covers_state(upper: &SmallState, incoming: &Incoming, k: &Context) -> bool
+    requires upper { AreWell (all_values upper.now.regs.value) }
+    requires incoming { AreWell (incoming_values incoming.now) }
+    requires long { length (all_values upper.now.regs.value)
+        ≡ length (incoming_values incoming.now) }
+    ensures { IsTrue result
+        ↔ Covers (state_in upper.now) (state_with (incoming_values incoming.now) k.now) }
 {
-    let _regs = &s.regs[..];
-    if c.third.at == Some(i) {
-        return Given::Whole(&c.third.value);
+    if !upper.covers_context(k.ie, k.ccpn, k.lower) {
+        return false;
     }
-    if c.second.at == Some(i) {
-        return Given::Whole(&c.second.value);
+    if !are_implied(upper.locals.as_slice(), k.locals.as_slice()) {
+        return false;
     }
-    if c.first.at == Some(i) {
-        return Given::Whole(&c.first.value);
-    }
-    base_given(s, c.base, any, i)
+    are_covered(upper.regs.as_ref(), incoming)
 }
 
-/// Returns the value at a place after a frame returned: the exit's for a lower register, else the
-/// caller's, `v`.
-#[inline(always)]
-fn restored_value<'a>(i: usize, exit: &'a SmallExit, any: &'a Small, v: &'a Val) -> Given<'a>
-    requires { any.now ≡ any_val }
-    ensures { given_of result
-        ≡ (if states.is_lower_slot i
-        then slice_index_or (all_values exit.now.lower.value)
-        (if nat_lt i 8 then i else i - 8) any_val
-        else v.now) }
+/// Returns the least state that covers both, or `None` if their numbers of locals differ.
+pub(crate) fn join_state(
+    alloc: Global,
+    b: &Bounds,
+    left: &SmallState,
+    incoming: &Incoming,
+    k: &Context,
+) -> Result<Option<SmallKnown>, AllocError>
+    requires left { AreValues b.now (all_values left.now.regs.value) }
+    requires incoming { AreValues b.now (incoming_values incoming.now) }
+    requires long { length (all_values left.now.regs.value)
+        ≡ length (incoming_values incoming.now) }
+    ensures { IfOk result
+        (λ r. r ≡ option_map state
+        (joined_states b.now (state_in left.now)
+        (state_with (incoming_values incoming.now) k.now))) }
 {
-    if i < 8 {
-        exit.lower.as_ref().given_at(any, i)
-    } else if 16 <= i && i < 22 {
-        exit.lower.as_ref().given_at(any, i - 8)
-    } else {
-        Given::Whole(v)
+    if left.locals.len() != k.locals.len() {
+        return Ok(None);
     }
-}
-
-/// Returns the value at a place after a frame returned with an exit.
-#[inline(always)]
-fn value_after<'a>(s: &'a State, exit: &'a SmallExit, any: &'a Small, i: usize) -> Given<'a>
-    requires place { i < 27 }
-    requires any { any.now ≡ any_val }
-    ensures { given_of result
-        ≡ slice_index_or (with_lower_from 0 (all_values exit.now.lower.value) s.now.regs) i
-        any_val }
-{
-    let _regs = &s.regs[..];
-    restored_value(i, exit, any, &s.regs[i])
-}
-
-/// Returns the incoming value at a place. `any` is returned for an unknown value.
-#[inline(always)]
-pub(crate) fn incoming_value<'a>(incoming: &'a Incoming, any: &'a Small, i: usize) -> Given<'a>
-    requires place { i < length (incoming_values incoming.now) }
-    requires any { any.now ≡ any_val }
-    ensures { given_of result ≡ slice_index_or (incoming_values incoming.now) i any_val }
-{
-    match incoming {
-        Incoming::Changed(s, c) => {
-            let _regs = &s.regs[..];
-            changed_given(s, c, any, i)
-        }
-        Incoming::After(s, exit, _) => {
-            let _regs = &s.regs[..];
-            value_after(s, exit, any, i)
-        }
-        Incoming::Leaving(s) => {
-            let _regs = &s.regs[..];
-            Given::Whole(lower_value(&s.regs, i))
-        }
-    }
+    let regs = Rc::new(alloc, join_values(alloc, b, left.regs.as_ref(), incoming)?)?;
+    let form = KnownForm::Point(SmallState {
+        regs,
+        ie: left.ie || k.ie,
+        ccpn: left.ccpn.min(k.ccpn),
+        lower: left.lower && k.lower,
+        locals: join_locals(left.locals.as_slice(), k.locals.as_slice()),
+    });
+    Ok(Some(SmallKnown { form }))
 }

@@ -1,18 +1,23 @@
 // Lists of compact values: made from what flows in, compared with it, joined with it.
-ghost use Rattle.std.specs.Prelude.{◌≡◌, ◌↔◌, IsTrue, IfOk, OnOk, length};
+ghost use Rattle.std.specs.Prelude.{◌≡◌, ◌↔◌, IsTrue, IfOk, OnOk, length, ◌<◌, ◌-◌, ◌==◌, nat_lt, slice_index_or, if◌then◌else◌};
 ghost use Rattle.value_domain.specs.State.{AreBelow, AreValues, AreWell, joined_regs};
 ghost use Rattle.vd_transfer.specs.Changes.{base_of, put_in, state_after};
 ghost use Rattle.vd_transfer.specs.EffectsOnStates.{forgotten_from};
 ghost use Rattle.small_states.specs.Incoming.{sender_state, incoming_values};
-ghost use Rattle.small_states.specs.CompactForms.{all_values};
+ghost use Rattle.small_states.specs.CompactForms.{all_values, given_of};
+ghost use Rattle.value_domain.specs.Values.{any_val};
+ghost use Rattle.value_domain.specs.State as states;
+ghost use Rattle.depth_cert.specs.Exits.{with_lower_from};
 
-use crate::incoming::{Incoming, count_incoming, incoming_value};
-use crate::small::{Form, Small};
+use crate::SmallExit;
+use crate::incoming::{Given, Incoming, count_incoming};
+use crate::small_value::{Form, Small};
 use crate::values::Values;
+use depth_cert::lower_value;
 use std::alloc::{AllocError, Global};
 use std::rc::Rc;
-use value_domain::{Bounds, State};
-use vd_transfer::{Base, Change, Put};
+use value_domain::{Bounds, State, Val};
+use vd_transfer::{Base, Change, Put, is_lower_slot};
 
 /// Returns the incoming values, place by place. It is a call of its own, since it has room for a
 /// whole value.
@@ -107,7 +112,7 @@ fn upper_values(alloc: Global, own: &Values) -> Result<Values, AllocError>
     Ok(values)
 }
 
-/// Returns a state's values after a change. If nothing is put over them, the list is shared.
+/// Returns a state's values after a change. If no part of them changes, the list is shared.
 #[inline(always)]
 fn put_all_over(alloc: Global, own: &Rc<Values>, c: &Change) -> Result<Rc<Values>, AllocError>
     requires { length (all_values own.now.value) ≡ 27 }
@@ -247,4 +252,101 @@ pub(crate) fn join_values(
     }
     values.add_anys(left.rest);
     Ok(values)
+}
+
+/// Returns the value at a place before a change puts others over it.
+#[inline(always)]
+fn base_given<'a>(s: &'a State, base: Base, any: &'a Small, i: usize) -> Given<'a>
+    requires place { i < 27 }
+    requires any { any.now ≡ any_val }
+    ensures { given_of result ≡ slice_index_or (base_of base s.now.regs) i any_val }
+{
+    let _regs = &s.regs[..];
+    match base {
+        Base::Same => Given::Whole(&s.regs[i]),
+        Base::Forgotten => {
+            if is_lower_slot(i) {
+                Given::Packed(any)
+            } else {
+                Given::Whole(&s.regs[i])
+            }
+        }
+        Base::Any => Given::Packed(any),
+    }
+}
+
+/// Returns the value at a place of a changed state.
+#[inline(always)]
+fn changed_given<'a>(s: &'a State, c: &'a Change, any: &'a Small, i: usize) -> Given<'a>
+    requires place { i < 27 }
+    requires any { any.now ≡ any_val }
+    ensures { given_of result ≡ slice_index_or (state_after s.now c.now).regs i any_val }
+{
+    let _regs = &s.regs[..];
+    if c.third.at == Some(i) {
+        return Given::Whole(&c.third.value);
+    }
+    if c.second.at == Some(i) {
+        return Given::Whole(&c.second.value);
+    }
+    if c.first.at == Some(i) {
+        return Given::Whole(&c.first.value);
+    }
+    base_given(s, c.base, any, i)
+}
+
+/// Returns the value at a place after a frame returned: the exit's for a lower register, else the
+/// caller's, `v`.
+#[inline(always)]
+fn restored_value<'a>(i: usize, exit: &'a SmallExit, any: &'a Small, v: &'a Val) -> Given<'a>
+    requires { any.now ≡ any_val }
+    ensures { given_of result
+        ≡ (if states.is_lower_slot i
+        then slice_index_or (all_values exit.now.lower.value)
+        (if nat_lt i 8 then i else i - 8) any_val
+        else v.now) }
+{
+    if i < 8 {
+        exit.lower.as_ref().given_at(any, i)
+    } else if 16 <= i && i < 22 {
+        exit.lower.as_ref().given_at(any, i - 8)
+    } else {
+        Given::Whole(v)
+    }
+}
+
+/// Returns the value at a place after a frame returned with an exit.
+#[inline(always)]
+fn value_after<'a>(s: &'a State, exit: &'a SmallExit, any: &'a Small, i: usize) -> Given<'a>
+    requires place { i < 27 }
+    requires any { any.now ≡ any_val }
+    ensures { given_of result
+        ≡ slice_index_or (with_lower_from 0 (all_values exit.now.lower.value) s.now.regs) i
+        any_val }
+{
+    let _regs = &s.regs[..];
+    restored_value(i, exit, any, &s.regs[i])
+}
+
+/// Returns the incoming value at a place. `any` is returned for an unknown value.
+#[inline(always)]
+pub(crate) fn incoming_value<'a>(incoming: &'a Incoming, any: &'a Small, i: usize) -> Given<'a>
+    requires place { i < length (incoming_values incoming.now) }
+    requires any { any.now ≡ any_val }
+    ensures { given_of result ≡ slice_index_or (incoming_values incoming.now) i any_val }
+{
+    match incoming {
+        Incoming::Changed(s, c) => {
+            let _regs = &s.regs[..];
+            changed_given(s, c, any, i)
+        }
+        Incoming::After(s, exit, _) => {
+            let _regs = &s.regs[..];
+            value_after(s, exit, any, i)
+        }
+        Incoming::Leaving(s) => {
+            let _regs = &s.regs[..];
+            Given::Whole(lower_value(&s.regs, i))
+        }
+    }
 }

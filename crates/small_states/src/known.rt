@@ -1,17 +1,18 @@
 // What is known at a place.
 ghost use Rattle.std.specs.Prelude.{◌≡◌, ◌↔◌, IsTrue, IfNone, IfOk, IfSome, OnOk, Some, length};
-ghost use Rattle.std.specs.Option.{option_map};
-ghost use Rattle.value_domain.specs.State.{AreValues, AreWell, Covers, joined_states};
-ghost use Rattle.small_states.specs.CompactForms.{all_values, exit_in, state_in, known_of};
+ghost use Rattle.value_domain.specs.State.{AreValues, AreWell};
+ghost use Rattle.small_states.specs.CompactForms.{all_values, exit_in, known_of, IsOutline};
 ghost use Rattle.depth_cert.specs.Exits.{ExitCovers, joined_exit};
-ghost use Rattle.depth_cert.specs.Known.{CoversKnown, joined_known, state, leaving};
+ghost use Rattle.small_states.specs.Incoming.{exit_with, AddsState, incoming_known, sender_state, incoming_values};
+ghost use Rattle.depth_cert.specs.Known.{CoversKnown, joined_known, state, leaving, IsNoExit, IsStateAt};
 ghost use Rattle.depth_cert.specs.Proper.{IsProperKnown};
-ghost use Rattle.small_states.specs.Incoming.{AddsState, IsNoExit, IsOutline, IsStateAt, incoming_known, sender_state, exit_with, state_with, incoming_values};
 
-use crate::incoming::{Context, Given, Incoming, context_of, is_leaving};
+use crate::incoming::{
+    Context, Given, Incoming, context_of, covers_state, form_with, is_leaving, join_state,
+};
 use crate::incoming_values::{are_all_below, are_covered, join_values, pack_for, pack_values};
-use crate::small::{Form, Small};
-use crate::{ScratchState, SmallExit, SmallState, Values, copy_of, join_locals};
+use crate::small_value::{Form, Small};
+use crate::{ScratchState, SmallExit, SmallState};
 use std::alloc::{AllocError, Global};
 use std::marker::Model;
 use std::rc::Rc;
@@ -40,7 +41,7 @@ pub struct Outline {
 /// What is known at a place. Contracts see it as a state or an exit, whatever its form.
 #[derive(Drop)]
 pub struct SmallKnown {
-    form: KnownForm,
+    pub(crate) form: KnownForm,
 }
 
 impl Model for SmallKnown {
@@ -50,46 +51,6 @@ impl Model for SmallKnown {
     ghost Value = { Known };
 
     ghost view = { λ c. known_of c.form };
-}
-
-/// Returns the incoming state or exit with these values.
-fn form_with(values: Rc<Values>, incoming: &Incoming) -> KnownForm
-    requires { all_values values.value ≡ incoming_values incoming.now }
-    ensures { known_of result ≡ incoming_known incoming.now }
-{
-    let k = context_of(incoming);
-    if is_leaving(incoming) {
-        return KnownForm::Leaves(SmallExit {
-            ie: k.ie,
-            ccpn: k.ccpn,
-            lower: values,
-        });
-    }
-    KnownForm::Point(SmallState {
-        regs: values,
-        ie: k.ie,
-        ccpn: k.ccpn,
-        lower: k.lower,
-        locals: copy_of(k.locals),
-    })
-}
-
-/// Returns whether a state covers the incoming one.
-fn covers_state(upper: &SmallState, incoming: &Incoming, k: &Context) -> bool
-    requires upper { AreWell (all_values upper.now.regs.value) }
-    requires incoming { AreWell (incoming_values incoming.now) }
-    requires long { length (all_values upper.now.regs.value)
-        ≡ length (incoming_values incoming.now) }
-    ensures { IsTrue result
-        ↔ Covers (state_in upper.now) (state_with (incoming_values incoming.now) k.now) }
-{
-    if !upper.covers_context(k.ie, k.ccpn, k.lower) {
-        return false;
-    }
-    if !are_implied(upper.locals.as_slice(), k.locals.as_slice()) {
-        return false;
-    }
-    are_covered(upper.regs.as_ref(), incoming)
 }
 
 /// Returns whether an exit covers the incoming one.
@@ -105,37 +66,6 @@ fn covers_exit(upper: &SmallExit, incoming: &Incoming, k: &Context) -> bool
         return false;
     }
     are_covered(upper.lower.as_ref(), incoming)
-}
-
-/// Returns the least state that covers both, or `None` if their numbers of locals differ.
-fn join_state(
-    alloc: Global,
-    b: &Bounds,
-    left: &SmallState,
-    incoming: &Incoming,
-    k: &Context,
-) -> Result<Option<SmallKnown>, AllocError>
-    requires left { AreValues b.now (all_values left.now.regs.value) }
-    requires incoming { AreValues b.now (incoming_values incoming.now) }
-    requires long { length (all_values left.now.regs.value)
-        ≡ length (incoming_values incoming.now) }
-    ensures { IfOk result
-        (λ r. r ≡ option_map state
-        (joined_states b.now (state_in left.now)
-        (state_with (incoming_values incoming.now) k.now))) }
-{
-    if left.locals.len() != k.locals.len() {
-        return Ok(None);
-    }
-    let regs = Rc::new(alloc, join_values(alloc, b, left.regs.as_ref(), incoming)?)?;
-    let form = KnownForm::Point(SmallState {
-        regs,
-        ie: left.ie || k.ie,
-        ccpn: left.ccpn.min(k.ccpn),
-        lower: left.lower && k.lower,
-        locals: join_locals(left.locals.as_slice(), k.locals.as_slice()),
-    });
-    Ok(Some(SmallKnown { form }))
 }
 
 /// Returns the least exit that covers both.

@@ -7,7 +7,7 @@ ghost use Rattle.depth_cert.specs.Spelling.{bytes_of_exit, bytes_of_state, bytes
 ghost use Rattle.small_states.specs.CompactForms.{all_values, exit_in, state_in};
 
 use crate::gathered::Gathered;
-use crate::small::{Form, Small};
+use crate::small_value::{Form, Small};
 use crate::states::{SmallExit, SmallState};
 use crate::values::Values;
 use tcd_base::NoMemory;

@@ -1,12 +1,11 @@
 // Sparse lists of values: only known values take room. A value is unknown if it holds all words.
 ghost use Rattle.std.specs.Prelude.{◌≡◌, ◌+◌, ◌-◌, ◌^◌, ◌<◌, ◌≤◌, ◌++◌, ◌∷◌, [], IfOk, OnOk, length, replicate, take, slice_index_or, slice_set};
 ghost use Rattle.value_domain.specs.Values.{any_val};
-ghost use Rattle.small_states.specs.Incoming.{given_of};
+ghost use Rattle.small_states.specs.CompactForms.{given_of, all_values, front, values_from, IsFoundIn};
 ghost use Rattle.small_states.specs.declared.values.SpacedValue as spaced;
-ghost use Rattle.small_states.specs.CompactForms.{IsFoundIn, all_values, front, values_from};
 
 use crate::incoming::Given;
-use crate::small::{Form, Small};
+use crate::small_value::{Form, Small};
 use std::alloc::{AllocError, Global};
 use value_domain::{Val, write_any};
 

@@ -3,7 +3,7 @@ use Rattle.std.proofs.Common.{◌≡◌, ℕ, ◌-◌, ◌*◌, ◌/◌, ◌^◌
 use Rattle.std.proofs.lemmas.Bool.{lt-ltb}
 use Rattle.std.proofs.lemmas.Bool.Decides.{nat_tests}
 use Rattle.tcd_base.specs.BitFields.{sext_of}
-use Rattle.csa_chain.specs.Memory.{extend}
+use Rattle.csa_chain.specs.MemoryBytes.{extend}
 use Rattle.value_domain.specs.Sets.{Among, Within, distinct, alignment_log2}
 use Rattle.value_domain.specs.Limits.{Limits, AreLimits}
 use Rattle.value_domain.specs.declared.values.Val.{Val}

@@ -1,10 +1,11 @@
 -- Accesses to memory, and those from the members of a value: are they in range, are they aligned?
-use Rattle.std.specs.Prelude.{◌≡◌, ◌⊎◌, ℕ, ◌<◌, ◌≤◌, ◌+◌, ◌%◌, ◌^◌}
+use Rattle.std.specs.Prelude.{◌≡◌, ◌⊎◌, ℕ, ◌<◌, ◌≤◌, ◌+◌, ◌%◌, ◌^◌, ◌==◌, Bool}
 use Rattle.tcd_plan.specs.PlanData.{PlanData}
 use Rattle.tcd_plan.specs.Regions.{IsStoreInRange}
 use Rattle.value_domain.specs.declared.values.Val.{Val}
 use Rattle.value_domain.specs.Sets.{alignment_log2}
-use Rattle.value_domain.specs.Values.{IsMember}
+use Rattle.value_domain.specs.Values.{IsMember, members}
+use Rattle.std.specs.List.{list_all}
 
 -- an access is to 1, 2 or 4 bytes
 abbrev pub IsSize : ℕ → Type 0
@@ -29,3 +30,7 @@ pub record IsNextMultiple (step x next : ℕ) : Type 0 where
   pub above : x < next
   pub fits : step ≤ alignment_log2 next
   pub least : (y : ℕ) → x < y → step ≤ alignment_log2 y → next ≤ y
+
+-- each address is a multiple of the size
+abbrev pub are_aligned : Val → ℕ → Bool
+are_aligned v size = list_all (λ x. x % size == 0) (members v)

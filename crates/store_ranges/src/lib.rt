@@ -9,5 +9,6 @@ mod stores;
 
 pub use laws::load_laws;
 pub use loads::{LoadKind, load_of, write_load};
+pub use ranges::is_in_range;
 pub use rom::loaded_rom;
-pub use stores::{aligned, is_in_range, store_ok};
+pub use stores::{aligned, store_ok};

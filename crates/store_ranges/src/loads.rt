@@ -1,7 +1,7 @@
 // The value that a load from the members of a value gives.
 ghost use Rattle.std.specs.Prelude.{◌≡◌, ◌≤◌, ◌<◌, ◌+◌, ◌-◌, ◌*◌, ◌^◌, ◌++◌, ◌&&◌, ◌==◌, if◌then◌else◌, find, length, List, ℕ, IfSome, false};
 ghost use Rattle.std.specs.List.{flat_map};
-ghost use Rattle.csa_chain.specs.Memory as memory;
+ghost use Rattle.csa_chain.specs.MemoryBytes as memory;
 ghost use Rattle.tcd_base.specs.Ranges.{is_within};
 ghost use Rattle.value_domain.specs.Values.{IsValue, cover, members, range};
 ghost use Rattle.value_domain.specs.declared.values.Val.TheVariants.{Set, Span};

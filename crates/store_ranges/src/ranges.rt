@@ -1,9 +1,15 @@
 // The ranges that hold an access.
-ghost use Rattle.std.specs.Prelude.{◌≡◌, ◌&&◌, find};
+ghost use Rattle.std.specs.Prelude.{◌≡◌, ◌&&◌, find, ◌≤◌, ◌<◌, ◌-◌, ◌*◌, ◌/◌, ◌↔◌, All, IsTrue, MatchOption};
 ghost use Rattle.tcd_base.specs.Ranges.{is_within};
+ghost use Rattle.tcd_plan.specs.Regions.{IsStoreInRange};
+ghost use Rattle.value_domain.specs.Sets as sets;
+ghost use Rattle.value_domain.specs.declared.values.Val.TheVariants.{Span};
+ghost use Rattle.store_ranges.specs.Accesses.{AreStoresInRange, StaysInRange};
 
+use crate::stores::next_multiple;
 use tcd_base::Range;
-use tcd_plan::Device;
+use tcd_plan::{Device, Plan};
+use value_domain::alignment_log2;
 
 /// Returns the first range that has the `n` addresses from `x` on.
 pub(crate) fn range_at(ranges: &[Range], x: u32, n: u8) -> Option<Range>
@@ -21,4 +27,54 @@ pub(crate) fn device_at(devices: &[Device], low: u32, high: u32, n: u8) -> Optio
         .iter()
         .find(|d| d.range.holds(low, n) && d.range.holds(high, n))
         .copied()
+}
+
+pub(crate) fn are_in_range(plan: &Plan, words: &[u32], size: u8) -> bool
+    ensures { IsTrue result ↔ All (λ x. IsStoreInRange plan.now (x, size)) words.now }
+{
+    for x in words {
+        if !is_in_range(plan, *x, size) {
+            return false;
+        }
+    }
+    true
+}
+
+/// Returns true if a store of so many bytes at an address is wholly in one ram range or one device
+/// range.
+pub fn is_in_range(plan: &Plan, x: u32, size: u8) -> bool
+    ensures { IsTrue result ↔ IsStoreInRange plan.now (x, size) }
+{
+    range_end(plan, x, size).is_some()
+}
+
+/// Returns the end of a ram range or device range that holds the access.
+fn range_end(plan: &Plan, x: u32, size: u8) -> Option<u64>
+    ensures { MatchOption result (¬ IsStoreInRange plan.now (x, size))
+        (λ end. StaysInRange plan.now size x end) }
+{
+    match range_at(plan.ram.as_slice(), x, size) {
+        Some(range) => Some(range.end()),
+        None => {
+            let device = device_at(plan.devices.as_slice(), x, x, size)?;
+            Some(device.range.end())
+        }
+    }
+}
+
+/// Walks from range to range: the first member whose access isn't in the last range is looked for
+/// in the others.
+pub(crate) fn is_span_in_range(plan: &Plan, least: u32, last: u32, step: u8, size: u8) -> bool
+    requires step { step ≤ 2 }
+    requires least { step ≤ sets.alignment_log2 least }
+    ensures { IsTrue result ↔ AreStoresInRange plan.now (Span least last step) size }
+{
+    let mut x = u64::from(least);
+    while x <= u64::from(last) {
+        let Some(end) = range_end(plan, x as u32, size) else {
+            return false;
+        };
+        x = next_multiple(end - u64::from(size), step);
+    }
+    true
 }

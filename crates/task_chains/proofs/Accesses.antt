@@ -2,7 +2,7 @@
 use Rattle.std.proofs.Common.{◌≡◌, ℕ, zero, suc, ◌+◌, ◌*◌, ◌/◌, ◌%◌, ◌^◌, ◌<◌, ◌⊎◌, inl, inr, false, Option, Some, None, refl, sym, ap, ◌∙◌, subst, arith}
 use Rattle.std.specs.Prelude.{unwrap_or}
 use Rattle.std.specs.FinMap as map
-use Rattle.csa_chain.specs.Memory.{Memory, is_mapped, load_number, with_bytes, HasBytes}
+use Rattle.csa_chain.specs.MemoryBytes.{Memory, is_mapped, load_number, with_bytes, HasBytes}
 use Rattle.csa_chain.proofs.MemoryLaws.{with_byte_gone}
 
 -- a byte that the view lacks, or has as the machine has it

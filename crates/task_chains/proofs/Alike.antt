@@ -2,7 +2,7 @@
 use Rattle.std.proofs.Common.{◌≡◌, ◌≢◌, ℕ, zero, suc, ◌+◌, ◌-◌, ◌*◌, ◌^◌, ◌<◌, ◌≤◌, ◌⊎◌, inl, inr, Bool, true, false, cond, List, ◌∷◌, ◌++◌, length, get_or, set, Ok, refl, sym, ap, ◌∙◌, subst, arith, bit_or}
 use Rattle.std.proofs.lemmas.Bool.{cases_lt, cases_eq}
 use Rattle.std.specs.FinMap as map
-use Rattle.csa_chain.specs.Memory.{Memory, is_mapped, with_words}
+use Rattle.csa_chain.specs.MemoryBytes.{Memory, is_mapped, with_words}
 use Rattle.csa_chain.specs.Chain.{link_in, link_address}
 use Rattle.csa_chain.specs.MemoryChanges.{HasWords}
 use Rattle.csa_chain.proofs.MemoryLaws.{get-with_words_other, is_mapped-with_words}
@@ -16,10 +16,10 @@ use Rattle.tc_machine.specs.declared.events.Event.{Event}
 use Rattle.tc_machine.specs.declared.events.End.TheVariants.{Running}
 use Rattle.tc_machine.specs.declared.state.Machine.{Machine}
 use Rattle.tc_machine.specs.Machine.{moved, then_}
-use Rattle.tc_machine.specs.Contexts.{context_of, saved, save}
+use Rattle.tc_machine.specs.SavesAndRestores.{context_of, saved, save}
 use Rattle.tc_machine.specs.Fetching.{fetched}
-use Rattle.tc_machine.specs.Instructions.{at_handler, interrupt, target_of, does}
-use Rattle.tc_machine.specs.Stepping.{is_taken, executed, done, step}
+use Rattle.tc_machine.specs.Instructions.{at_handler, target_of, does}
+use Rattle.tc_machine.specs.Stepping.{interrupt, is_taken, executed, done, step}
 use Rattle.tcd_plan.specs.Regions.{IsInAreas}
 use Rattle.tc_machine.specs.PlanAreas.{links_up, first_link, plan_areas}
 use Rattle.tc_machine.specs.Safe.{IsMachine}

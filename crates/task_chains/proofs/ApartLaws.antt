@@ -3,8 +3,8 @@ use Rattle.std.proofs.Common.{◌≡◌, ℕ, ◌-◌, ◌/◌, ◌%◌, ◌<◌
 use Rattle.std.proofs.lemmas.Bool.{cases_lt, eqb-true, eq-eqb, leb-true, le-leb}
 use Rattle.depth_cert.specs.declared.keys.Key.{Key}
 use Rattle.task_chains.specs.Tasks.{TasksData}
-use Rattle.task_chains.specs.Routine.{switch_key, IsRoutineStep}
-use Rattle.task_chains.specs.Apart.{IsPlaceApart}
+use Rattle.task_chains.specs.SwitchRoutine.{switch_key, IsRoutineStep}
+use Rattle.task_chains.specs.Rule17.{IsPlaceApart}
 
 -- ---- where a point lies
 module _ (tasks : TasksData) (p : ℕ) where

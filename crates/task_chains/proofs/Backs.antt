@@ -3,9 +3,9 @@
 use Rattle.std.proofs.Common.{◌≡◌, ◌≢◌, ℕ, suc, ◌*◌, ◌/◌, ◌%◌, ◌^◌, ◌<◌, inl, inr, Bool, true, false, not, cond, List, [], ◌∷◌, length, get_or, Ok, refl, sym, ap, ◌∙◌, subst, arith, ◌==◌}
 use Rattle.std.proofs.lemmas.Bool.{cases_Bool, eqb-false}
 use Rattle.std.specs.FinMap as map
-use Rattle.csa_chain.specs.Memory.{Memory, is_mapped}
+use Rattle.csa_chain.specs.MemoryBytes.{Memory, is_mapped}
 use Rattle.csa_chain.specs.Chain.{link_in, link_address, is_area, area_word}
-use Rattle.csa_chain.specs.Contexts.{ul_of, pie_of, pcpn_of, d_after_upper, a_after_upper, d_after_lower, a_after_lower}
+use Rattle.csa_chain.specs.ContextWords.{ul_of, pie_of, pcpn_of, d_after_upper, a_after_upper, d_after_lower, a_after_lower}
 use Rattle.csa_chain.proofs.MemoryLaws.{is_mapped-with_words}
 use Rattle.csa_chain.proofs.ChainLaws.{SameAreas, SameAreas-written}
 use Rattle.csa_chain.proofs.ContextLaws.{below_16}
@@ -19,10 +19,10 @@ use Rattle.tc_machine.specs.declared.events.Cause.{Cause}
 use Rattle.tc_machine.specs.declared.events.Cause.TheVariants.{Csu, Ctyp, NoArea}
 use Rattle.tc_machine.specs.declared.events.End.TheVariants.{Running, Dead}
 use Rattle.tc_machine.specs.declared.state.Machine.{Machine}
-use Rattle.tc_machine.specs.Machine.{a11, advanced, died, then_}
-use Rattle.tc_machine.specs.Contexts.{has_kind, area_words, last_context, released, restored, restore}
+use Rattle.tc_machine.specs.Machine.{a11, died, then_}
+use Rattle.tc_machine.specs.Instructions.{advanced, does}
+use Rattle.tc_machine.specs.SavesAndRestores.{has_kind, area_words, last_context, released, restored, restore}
 use Rattle.tc_machine.specs.Fetching.{fetched}
-use Rattle.tc_machine.specs.Instructions.{does}
 use Rattle.tc_machine.specs.Stepping.{is_taken, step}
 use Rattle.tcd_plan.specs.Regions.{IsInAreas}
 use Rattle.tc_machine.specs.PlanAreas.{first_link, plan_areas}

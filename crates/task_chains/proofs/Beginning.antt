@@ -2,9 +2,9 @@
 use Rattle.std.proofs.Common.{◌≡◌, ◌≢◌, ℕ, zero, suc, ◌+◌, ◌-◌, ◌*◌, ◌/◌, ◌%◌, ◌^◌, ◌<◌, ◌≤◌, inl, inr, Bool, true, false, not, List, [], ◌∷◌, length, get_or, Some, Ok, refl, sym, ap, ◌∙◌, subst, arith, ◌==◌}
 use Rattle.std.proofs.lemmas.Bool.{cases_lt}
 use Rattle.std.specs.FinMap as finite
-use Rattle.csa_chain.specs.Memory.{Memory, is_mapped, with_words, HasBytes}
+use Rattle.csa_chain.specs.MemoryBytes.{Memory, is_mapped, with_words, HasBytes}
 use Rattle.csa_chain.specs.Chain.{link_in, link_address, is_area, area_word}
-use Rattle.csa_chain.specs.Contexts.{pcxi_word_of, ul_of, with_link}
+use Rattle.csa_chain.specs.ContextWords.{pcxi_word_of, ul_of, with_link}
 use Rattle.csa_chain.specs.SeveralChains.{times, with_chain, with_first}
 use Rattle.csa_chain.proofs.ChainLaws.{Links, SameAreas, area_word_same, SameArea-written, SameAreas-written}
 use Rattle.csa_chain.proofs.ContextLaws.{ul_of-pcxi_word, link_in-with_link, with_link-lt, link_in-lt}
@@ -15,7 +15,7 @@ use Rattle.elf_image.specs.Images.{ImageData, image_byte}
 use Rattle.tcd_base.specs.Ranges.{IsInOne}
 use Rattle.tcd_plan.specs.PlanData.{PlanData, IsPlan}
 use Rattle.tcd_plan.specs.Regions.{IsInAreas}
-use Rattle.tc_isa.specs.ValidRows.{is_long}
+use Rattle.tc_isa.specs.Rows.{is_long}
 use Rattle.tc_isa.specs.Spelling.{spelling_of, word_of}
 use Rattle.tc_isa.specs.Insts.{fields_in}
 use Rattle.tc_isa.proofs.TableFacts.{row_at}
@@ -25,10 +25,10 @@ use Rattle.tc_isa.specs.declared.shapes.Shape.TheVariants.{Ret, Rslcx, Nothing}
 use Rattle.tc_machine.specs.declared.events.Event.{Event}
 use Rattle.tc_machine.specs.declared.events.End.TheVariants.{Running}
 use Rattle.tc_machine.specs.declared.state.Machine.{Machine}
-use Rattle.tc_machine.specs.Machine.{a11, is_of, with_status, moved, advanced, then_}
-use Rattle.tc_machine.specs.Contexts.{has_kind, released, restored, restore}
+use Rattle.tc_machine.specs.Machine.{a11, is_of, moved, then_}
+use Rattle.tc_machine.specs.Instructions.{with_status, advanced, does}
+use Rattle.tc_machine.specs.SavesAndRestores.{has_kind, released, restored, restore}
 use Rattle.tc_machine.specs.Fetching.{fetched}
-use Rattle.tc_machine.specs.Instructions.{does}
 use Rattle.tc_machine.specs.Stepping.{is_taken, step}
 use Rattle.tc_machine.specs.PlanAreas.{first_link, plan_areas}
 use Rattle.tc_machine.specs.Safe.{IsMachine, HasGlobals, Fits, Starts}
@@ -43,9 +43,9 @@ use Rattle.cfg_recover.proofs.Points.{does-rslcx}
 use Rattle.cfg_recover.specs.Code.{IsCode}
 use Rattle.depth_cert.specs.Certs.{CertData}
 use Rattle.task_chains.specs.Tasks.{TasksData, AreTasks, count, task_at}
-use Rattle.task_chains.specs.Routine.{HasRoutine}
+use Rattle.task_chains.specs.SwitchRoutine.{HasRoutine}
 use Rattle.task_chains.specs.Views.{view_image_of, view_plan_of}
-use Rattle.task_chains.specs.Starting.{current, upper_area, lower_area, IsReady}
+use Rattle.task_chains.specs.TaskStarts.{current, upper_area, lower_area, IsReady}
 use Rattle.task_chains.proofs.Alike.{seen_as, area_at, outside_area}
 use Rattle.task_chains.proofs.Backs.{restored_end}
 use Rattle.task_chains.proofs.Coming.{areas_same}

@@ -2,7 +2,7 @@
 use Rattle.std.proofs.Common.{◌≡◌, ◌≢◌, ℕ, suc, ◌+◌, ◌*◌, ◌/◌, ◌<◌, inl, inr, Bool, true, false, cond, List, [], ◌∷◌, length, get_or, Ok, Result, refl, sym, ap, ◌∙◌, subst, arith}
 use Rattle.std.proofs.lemmas.Bool.{cases_eq}
 use Rattle.std.specs.FinMap as finite
-use Rattle.csa_chain.specs.Memory.{Memory, is_mapped}
+use Rattle.csa_chain.specs.MemoryBytes.{Memory, is_mapped}
 use Rattle.csa_chain.specs.Chain.{link_in}
 use Rattle.csa_chain.proofs.ChainLaws.{Links, SameAreas}
 use Rattle.elf_image.specs.Images.{ImageData}
@@ -14,10 +14,10 @@ use Rattle.tc_machine.specs.declared.events.Cause.{Cause}
 use Rattle.tc_machine.specs.declared.events.Event.{Event}
 use Rattle.tc_machine.specs.declared.events.End.TheVariants.{Running}
 use Rattle.tc_machine.specs.declared.state.Machine.{Machine}
-use Rattle.tc_machine.specs.Machine.{reg, a11, moved, advanced, then_}
-use Rattle.tc_machine.specs.Contexts.{has_kind, released, restored, restore}
-use Rattle.tc_machine.specs.Fetching.{fetched}
-use Rattle.tc_machine.specs.Instructions.{does}
+use Rattle.tc_machine.specs.Machine.{reg, a11, moved, then_}
+use Rattle.tc_machine.specs.Instructions.{advanced, does}
+use Rattle.tc_machine.specs.SavesAndRestores.{has_kind, released, restored, restore}
+use Rattle.tc_machine.specs.Fetching.{fetched, size_in}
 use Rattle.tc_machine.specs.Stepping.{is_taken, load_in, step}
 use Rattle.tc_machine.specs.Safe.{IsMachine, HasGlobals, Fits}
 use Rattle.tc_machine.proofs.Areas.{Areas}
@@ -27,14 +27,14 @@ use Rattle.tc_machine.proofs.Stays.{stays_step, irq_lt}
 use Rattle.tc_machine.proofs.Steps.{with_event, done-is, step_does, does-nothing, does-ret}
 use Rattle.depth_cert.specs.Certs.{CertData}
 use Rattle.cfg_recover.specs.Code.{IsCode}
-use Rattle.cfg_recover.specs.Frames.{Standing, frames_left, frames_by, frames_after, size_in}
-use Rattle.cfg_recover.specs.Edges.{to, ret, irq, way_by, way_in}
+use Rattle.cfg_recover.specs.Frames.{Standing, frames_left, frames_by, frames_after}
+use Rattle.cfg_recover.specs.StepEdges.{to, ret, irq, way_by, way_in}
 use Rattle.cfg_recover.proofs.EntryLaws.{reg_lt}
 use Rattle.cfg_recover.proofs.Points.{does-rslcx}
 use Rattle.task_chains.specs.Tasks.{TasksData, count}
 use Rattle.task_chains.specs.Views.{view_image_of, view_plan_of}
-use Rattle.task_chains.specs.Starting.{block_word, current}
-use Rattle.task_chains.specs.Safe.{IsInRoutine}
+use Rattle.task_chains.specs.TaskStarts.{block_word, current}
+use Rattle.task_chains.specs.SafeTasks.{IsInRoutine}
 use Rattle.task_chains.proofs.Alike.{seen_as, Alike}
 use Rattle.task_chains.proofs.Backs.{restores_from, restored_end, Alike-restored}
 use Rattle.task_chains.proofs.Fitting.{fitting}

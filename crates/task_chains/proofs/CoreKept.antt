@@ -2,8 +2,8 @@
 use Rattle.std.proofs.Common.{◌≡◌, ℕ, ◌*◌, ◌/◌, ◌^◌, Bool, true, false, cond, inl, inr, Ok, set, refl, sym, subst, bit_or, ◌==◌}
 use Rattle.std.proofs.lemmas.Bool.{cond_both, cases_Bool}
 use Rattle.csa_chain.specs.Chain.{link_in, is_area}
-use Rattle.csa_chain.specs.Contexts.{pie_of, pcpn_of}
-use Rattle.csa_chain.specs.Memory.{Memory}
+use Rattle.csa_chain.specs.ContextWords.{pie_of, pcpn_of}
+use Rattle.csa_chain.specs.MemoryBytes.{Memory}
 use Rattle.tc_isa.specs.declared.shapes.Shape.{Shape}
 use Rattle.tc_isa.specs.declared.shapes.Shape.TheVariants.{Compute, Scaled, Load, Store, Branch, Jump, Call, Ret, Rfe, Svlcx, Rslcx, Bisr, Enable, Disable, Syscall, Mfcr, Mtcr, Nothing}
 use Rattle.tc_machine.specs.declared.events.Cause.TheVariants.{Fcd, Fcu, Csu, Ctyp, NoArea}
@@ -11,11 +11,11 @@ use Rattle.tc_machine.specs.declared.events.End.{End}
 use Rattle.tc_machine.specs.declared.events.End.TheVariants.{Running, Dead}
 use Rattle.tc_machine.specs.declared.events.Event.{Event}
 use Rattle.tc_machine.specs.declared.state.Machine.{Machine}
-use Rattle.tc_machine.specs.Machine.{a11, moved, advanced, died, goes_on, then_, with_status}
-use Rattle.tc_machine.specs.Contexts.{has_kind, saved, save, restored, restore}
+use Rattle.tc_machine.specs.Machine.{a11, moved, died, goes_on, then_}
+use Rattle.tc_machine.specs.Instructions.{advanced, with_status, access_address, traps_at, at_handler, trap, target_of, does}
+use Rattle.tc_machine.specs.Stepping.{interrupt, is_taken, executed, done, step}
+use Rattle.tc_machine.specs.SavesAndRestores.{has_kind, saved, save, restored, restore}
 use Rattle.tc_machine.specs.Fetching.{fetched}
-use Rattle.tc_machine.specs.Instructions.{access_address, traps_at, at_handler, interrupt, trap, target_of, does}
-use Rattle.tc_machine.specs.Stepping.{is_taken, executed, done, step}
 use Rattle.tc_machine.proofs.Steps.{done-is, does-call, does-ret}
 use Rattle.vd_transfer.specs.Holding.{WritesNoFixedRegister}
 use Rattle.cfg_recover.proofs.Points.{does-rfe, does-svlcx, does-rslcx, does-bisr, does-syscall, does-trapped}

@@ -5,13 +5,13 @@ use Rattle.std.specs.Option.{option_or}
 use Rattle.std.proofs.lemmas.Bool.{cases_lt}
 use Rattle.std.proofs.lemmas.List.{length-append, length-take, map-append, take_all, take-append-le, append-nil}
 use Rattle.std.proofs.lemmas.List.Elements.{filter-append}
-use Rattle.tcd_text.specs.Lines.{lines_of}
+use Rattle.tcd_text.specs.Lines.{lines_of, is_written}
 use Rattle.task_chains.specs.declared.lines.Places.{Places}
 use Rattle.task_chains.specs.declared.drafts.Draft.{Draft}
 use Rattle.task_chains.specs.declared.task_lists.Task.{Task}
 use Rattle.task_chains.specs.declared.task_lists.TasksErr.TheVariants.{BadLine}
 use Rattle.task_chains.specs.Tasks.{TasksData}
-use Rattle.task_chains.specs.Reading.{places_of, task_of, is_written, written, AreSaid, BreaksForm, IsEighth, tasks_with, TellsEighth, IsDraftBy, IsDraft, TakesLine, IsLineBad}
+use Rattle.task_chains.specs.TaskListText.{places_of, task_of, written, AreSaid, BreaksForm, IsEighth, tasks_with, TellsEighth, IsDraftBy, IsDraft, TakesLine, IsLineBad}
 
 abbrev some_task : Task → Option Task
 some_task t = Some t

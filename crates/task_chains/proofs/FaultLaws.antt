@@ -13,11 +13,11 @@ use Rattle.depth_cert.specs.Points.{ArePoints}
 use Rattle.depth_cert.specs.Nodes.{NodeData}
 use Rattle.depth_cert.specs.Certs.{CertData, IsCert}
 use Rattle.cfg_recover.specs.Code.{IsCode, HasCode}
-use Rattle.cfg_recover.specs.Accepting.{limits_in}
+use Rattle.cfg_recover.specs.RulesHoldOrFail.{limits_in}
 use Rattle.cfg_recover.proofs.CodeLaws.{IsCode-one}
 use Rattle.cfg_recover.proofs.FirstFault.{all_done, least_point, in_cert, least_place, address_small}
 use Rattle.task_chains.specs.Tasks.{TasksData}
-use Rattle.task_chains.specs.Apart.{StaysApart, HoldsApart, KeepsApart, FailsApart, at_point, IsTaskFault, HoldsApartIn, IsNodeFault}
+use Rattle.task_chains.specs.Rule17.{StaysApart, HoldsApart, KeepsApart, FailsApart, at_point, IsTaskFault, HoldsApartIn, IsNodeFault}
 use Rattle.packed_cert.proofs.WalkedPoints.{met}
 
 -- ---- a point

@@ -13,7 +13,7 @@ use Rattle.tc_machine.specs.declared.events.Cause.TheVariants.{Fcd, Fcu, NoArea}
 use Rattle.tc_machine.specs.declared.events.End.TheVariants.{Running, Dead}
 use Rattle.tc_machine.specs.declared.state.Machine.{Machine}
 use Rattle.tc_machine.specs.Machine.{died}
-use Rattle.tc_machine.specs.Contexts.{saved, save}
+use Rattle.tc_machine.specs.SavesAndRestores.{saved, save}
 use Rattle.tc_machine.specs.Stepping.{load_at_pc}
 use Rattle.tcd_base.specs.Ranges.{IsWithin, IsInOne}
 use Rattle.tc_machine.specs.PlanAreas.{first_link}

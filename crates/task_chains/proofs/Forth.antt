@@ -1,23 +1,22 @@
 -- A step of the machine, compared with the same step of its view: lower contexts that are saved,
 -- and traps.
 use Rattle.std.proofs.Common.{◌≡◌, ℕ, ◌-◌, ◌*◌, ◌^◌, ◌<◌, Bool, true, false, List, length, set, Ok, refl, sym, ap, ◌∙◌, subst, bit_or}
-use Rattle.csa_chain.specs.Memory.{Memory}
+use Rattle.csa_chain.specs.MemoryBytes.{Memory}
 use Rattle.tcd_plan.specs.PlanData.{PlanData, IsPlan}
 use Rattle.tc_isa.specs.declared.shapes.Shape.{Shape}
 use Rattle.tc_isa.specs.declared.shapes.Shape.TheVariants.{Svlcx, Bisr, Syscall}
 use Rattle.tc_machine.specs.declared.events.Event.{Event}
 use Rattle.tc_machine.specs.declared.events.End.TheVariants.{Running}
 use Rattle.tc_machine.specs.declared.state.Machine.{Machine}
-use Rattle.tc_machine.specs.Machine.{moved, advanced, then_}
-use Rattle.tc_machine.specs.Contexts.{saved, save}
+use Rattle.tc_machine.specs.Machine.{moved, then_}
+use Rattle.tc_machine.specs.Instructions.{advanced, at_handler, does, traps}
+use Rattle.tc_machine.specs.SavesAndRestores.{saved, save}
 use Rattle.tc_machine.specs.Fetching.{fetched}
-use Rattle.tc_machine.specs.Instructions.{at_handler, does}
 use Rattle.tc_machine.specs.Stepping.{is_taken, step}
 use Rattle.tcd_plan.specs.Regions.{IsInAreas}
 use Rattle.tc_machine.specs.Safe.{IsMachine}
 use Rattle.tc_machine.proofs.Saves.{then_-running}
 use Rattle.tc_machine.proofs.Steps.{with_event, step_does}
-use Rattle.cfg_recover.specs.OwedMoves.{traps}
 use Rattle.cfg_recover.proofs.Points.{does-svlcx, does-bisr, does-syscall, does-trapped}
 use Rattle.csa_chain.specs.SeveralChains.{sum_below}
 use Rattle.task_chains.proofs.Twins.{Twins}

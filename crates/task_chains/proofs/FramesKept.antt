@@ -8,15 +8,15 @@ use Rattle.tc_machine.specs.declared.events.Cause.{Cause}
 use Rattle.tc_machine.specs.declared.events.Event.{Event}
 use Rattle.tc_machine.specs.declared.state.Machine.{Machine}
 use Rattle.tc_machine.specs.Machine.{moved}
-use Rattle.tc_machine.specs.Fetching.{fetched}
+use Rattle.tc_machine.specs.Fetching.{fetched, size_in}
 use Rattle.tc_machine.specs.Stepping.{is_taken, step}
 use Rattle.depth_cert.specs.declared.keys.Key.{Key}
 use Rattle.depth_cert.specs.Keys.{IsKey}
-use Rattle.cfg_recover.specs.Frames.{Standing, frames_left, frames_by, frames_after, size_in}
-use Rattle.cfg_recover.specs.Edges.{Way, to, call, irq, sys, aln, ret, rfe, way_of_shape, way_in}
-use Rattle.cfg_recover.specs.OwedMoves.{traps}
+use Rattle.cfg_recover.specs.Frames.{Standing, frames_left, frames_by, frames_after}
+use Rattle.cfg_recover.specs.StepEdges.{Way, to, call, irq, sys, aln, ret, rfe, way_of_shape, way_in}
+use Rattle.tc_machine.specs.Instructions.{traps}
 use Rattle.task_chains.specs.Tasks.{TasksData}
-use Rattle.task_chains.specs.Routine.{switch_key}
+use Rattle.task_chains.specs.SwitchRoutine.{switch_key}
 
 -- ---- frames
 -- the numbers of each key are in range

@@ -2,7 +2,7 @@
 -- instructions.
 use Rattle.std.proofs.Common.{◌≡◌, ◌≢◌, ℕ, ◌+◌, ◌-◌, ◌*◌, ◌%◌, ◌^◌, ◌<◌, ◌≤◌, inl, inr, true, false, cond, List, ◌∷◌, Some, None, Ok, Result, refl, sym, ap, ◌∙◌, subst, arith}
 use Rattle.std.proofs.lemmas.Bool.{cases_lt, cases_Bool}
-use Rattle.csa_chain.specs.Memory.{Memory}
+use Rattle.csa_chain.specs.MemoryBytes.{Memory}
 use Rattle.elf_image.specs.Images.{ImageData, image_byte}
 use Rattle.tcd_plan.specs.PlanData.{PlanData}
 use Rattle.tcd_plan.specs.Regions.{IsInAreas, IsStoreInRange}
@@ -13,10 +13,10 @@ use Rattle.tc_machine.specs.declared.events.Cause.{Cause}
 use Rattle.tc_machine.specs.declared.events.Event.{Event}
 use Rattle.tc_machine.specs.declared.events.End.TheVariants.{Running, Dead}
 use Rattle.tc_machine.specs.declared.state.Machine.{Machine}
-use Rattle.tc_machine.specs.Machine.{reg, moved, advanced}
-use Rattle.tc_machine.specs.Contexts.{save}
-use Rattle.tc_machine.specs.Fetching.{fetched}
-use Rattle.tc_machine.specs.Instructions.{access_address, traps_at, does}
+use Rattle.tc_machine.specs.Machine.{reg, moved}
+use Rattle.tc_machine.specs.Instructions.{advanced, access_address, traps_at, does}
+use Rattle.tc_machine.specs.SavesAndRestores.{save}
+use Rattle.tc_machine.specs.Fetching.{fetched, size_in}
 use Rattle.std.specs.Prelude.{IfSome}
 use Rattle.tc_machine.specs.declared.events.End.{End}
 use Rattle.tc_machine.specs.Stepping.{is_taken, where_running, store_in, stored, step}
@@ -28,15 +28,15 @@ use Rattle.cfg_recover.proofs.Points.{does-svlcx}
 use Rattle.task_chains.proofs.CoreKept.{save_place}
 use Rattle.value_domain.specs.Limits.{Limits}
 use Rattle.depth_cert.specs.Certs.{CertData}
-use Rattle.cfg_recover.specs.Accepting.{limits_in}
+use Rattle.cfg_recover.specs.RulesHoldOrFail.{limits_in}
 use Rattle.cfg_recover.specs.Code.{IsCode}
-use Rattle.cfg_recover.specs.Frames.{Standing, frames_left, frames_by, frames_after, size_in}
-use Rattle.cfg_recover.specs.Edges.{to, irq, way_by, way_in}
+use Rattle.cfg_recover.specs.Frames.{Standing, frames_left, frames_by, frames_after}
+use Rattle.cfg_recover.specs.StepEdges.{to, irq, way_by, way_in}
 use Rattle.cfg_recover.proofs.CodeLaws.{IsCode-bounded, IsCode-one, IsCode-sized}
 use Rattle.task_chains.specs.Tasks.{TasksData, count, routine_size}
 use Rattle.task_chains.specs.Views.{view_image_of, view_plan_of}
-use Rattle.task_chains.specs.Starting.{block_word, current}
-use Rattle.task_chains.specs.Safe.{IsInRoutine, IsTaskStore}
+use Rattle.task_chains.specs.TaskStarts.{block_word, current}
+use Rattle.task_chains.specs.SafeTasks.{IsInRoutine, IsTaskStore}
 use Rattle.task_chains.proofs.Alike.{seen_as, Alike}
 use Rattle.task_chains.proofs.FramesKept.{AreFirst, AreFirst-left, first_next, first_interrupt}
 use Rattle.task_chains.proofs.Invariant.{ViewOf, Turn, runs, switches, AllKept}

@@ -6,7 +6,7 @@ use Rattle.elf_image.specs.Images.{ImageData}
 use Rattle.tcd_plan.specs.PlanData.{PlanData, IsPlan}
 use Rattle.tc_isa.specs.declared.shapes.Shape.{Shape}
 use Rattle.tc_isa.specs.declared.shapes.Shape.TheVariants.{Compute, Scaled, Load, Store, Branch, Jump, Call, Ret, Rfe, Svlcx, Rslcx, Bisr, Enable, Disable, Syscall, Mfcr, Mtcr, Nothing}
-use Rattle.tc_isa.specs.Bounded.{IsShape}
+use Rattle.tc_isa.specs.InBounds.{IsShape}
 use Rattle.value_domain.specs.declared.states.State.{State}
 use Rattle.value_domain.specs.Limits.{Limits}
 use Rattle.value_domain.specs.State.{Covers}
@@ -17,13 +17,13 @@ use Rattle.depth_cert.specs.declared.points.Point.{Point}
 use Rattle.depth_cert.specs.Nodes.{NodeData}
 use Rattle.depth_cert.specs.Certs.{CertData, IsCert}
 use Rattle.cfg_recover.specs.Code.{IsCode}
-use Rattle.cfg_recover.specs.Accepting.{limits_in, Accepts}
+use Rattle.cfg_recover.specs.RulesHoldOrFail.{limits_in, Accepts}
 use Rattle.cfg_recover.specs.Assignments.{known_in, IsBelowAt}
 use Rattle.depth_cert.specs.Known.{state}
 use Rattle.cfg_recover.proofs.CodeLaws.{IsCode-bounded}
 use Rattle.task_chains.specs.Tasks.{TasksData}
-use Rattle.task_chains.specs.Apart.{LoadsElsewhere, StaysApart, HoldsApart, FailsApart, at_point}
-use Rattle.task_chains.specs.Growing.{TaskFaultsGrow, TaskFaultsRefute}
+use Rattle.task_chains.specs.Rule17.{LoadsElsewhere, StaysApart, HoldsApart, FailsApart, at_point}
+use Rattle.task_chains.specs.Rule17Growth.{TaskFaultsGrow, TaskFaultsRefute}
 use Rattle.cfg_recover.proofs.AccessGrowth.{access_grows}
 use Rattle.cfg_recover.proofs.KnownPlaces.{above, limits_same, setting}
 

@@ -4,9 +4,9 @@ use Rattle.std.specs.List.{list_all, slice_index_or}
 use Rattle.std.proofs.lemmas.Bool.{cases_lt, and_from, and_parts, lt-ltb, le-ltb, leb-true, eq-eqb, eqb-true}
 use Rattle.std.proofs.lemmas.List.{length-append}
 use Rattle.std.proofs.lemmas.List.Folds.{list_all-append}
-use Rattle.csa_chain.specs.Memory.{word_at}
+use Rattle.csa_chain.specs.MemoryBytes.{word_at}
 use Rattle.csa_chain.specs.Chain.{link_in, area_word}
-use Rattle.csa_chain.specs.Contexts.{pcxi_word_of, ul_of}
+use Rattle.csa_chain.specs.ContextWords.{pcxi_word_of, ul_of}
 use Rattle.tcd_base.specs.declared.range.Range.{Range}
 use Rattle.tcd_base.specs.declared.core_version.Core.{Core}
 use Rattle.tcd_base.specs.declared.core_version.Core.TheVariants.{V13, V16}
@@ -14,14 +14,14 @@ use Rattle.tcd_base.specs.Ranges.{IsInOne}
 use Rattle.tcd_plan.specs.declared.plans.Device.{Device}
 use Rattle.tcd_plan.specs.PlanData.{ranges_apart, all_apart, areas_range}
 use Rattle.tcd_plan.proofs.ApartLaws.{all_apart-behind}
-use Rattle.tc_machine.specs.PlanAreas.{first_link}
+use Rattle.tc_machine.specs.PlanAreas.{first_link, link_or_end}
 use Rattle.tc_machine.specs.Machine.{is_of}
 use Rattle.tc_machine.proofs.PlanLaws.{link_lt}
 use Rattle.task_chains.specs.declared.task_lists.Task.{Task}
 use Rattle.tcd_plan.specs.Cutting.{without, ranges_without}
 use Rattle.tcd_plan.proofs.CutLaws.{two_left, one_left}
-use Rattle.task_chains.specs.Starting.{upper_area, lower_area, held_at_start, link_or_end, IsReady}
-use Rattle.task_chains.specs.Guards.{EveryTaskIsReady, EveryPlanFits, EveryTasksStart}
+use Rattle.task_chains.specs.TaskStarts.{upper_area, lower_area, held_at_start, IsReady}
+use Rattle.task_chains.specs.TaskGuardLaws.{EveryTaskIsReady, EveryPlanFits, EveryTasksStart}
 use Rattle.task_chains.proofs.DeviceLaws.{length-devices}
 
 -- ---- a task before its first turn

@@ -1,9 +1,9 @@
 -- The invariant of a run of all tasks: what the tasks share, the first contexts or the view of each
 -- task that waits, and the place of the running task.
 use Rattle.std.proofs.Common.{◌≡◌, ◌≢◌, ℕ, suc, ◌+◌, ◌-◌, ◌*◌, ◌/◌, ◌%◌, ◌^◌, ◌<◌, ◌≤◌, true, false, cond, List, [], ◌∷◌, length, ◌==◌}
-use Rattle.csa_chain.specs.Memory.{Memory}
+use Rattle.csa_chain.specs.MemoryBytes.{Memory}
 use Rattle.csa_chain.specs.Chain.{area_word}
-use Rattle.csa_chain.specs.Contexts.{pcxi_word_of, ul_of}
+use Rattle.csa_chain.specs.ContextWords.{pcxi_word_of, ul_of}
 use Rattle.elf_image.specs.Images.{ImageData}
 use Rattle.tcd_plan.specs.PlanData.{PlanData}
 use Rattle.tc_machine.specs.declared.events.End.TheVariants.{Running}
@@ -13,10 +13,10 @@ use Rattle.tc_machine.specs.Safe.{IsMachine, HasGlobals}
 use Rattle.tc_mem.specs.PlanMemory.{HoldsRom, IsPlanMemory}
 use Rattle.tc_machine.specs.PlanAreas.{first_link}
 use Rattle.task_chains.specs.Tasks.{TasksData, count, task_at}
-use Rattle.task_chains.specs.Routine.{hi}
+use Rattle.task_chains.specs.SwitchRoutine.{hi}
 use Rattle.task_chains.specs.Views.{view_image_of, view_plan_of}
-use Rattle.task_chains.specs.Starting.{block_word, current, upper_area, lower_area, IsReady}
-use Rattle.task_chains.specs.Safe.{IsInRoutine}
+use Rattle.task_chains.specs.TaskStarts.{block_word, current, upper_area, lower_area, IsReady}
+use Rattle.task_chains.specs.SafeTasks.{IsInRoutine}
 use Rattle.task_chains.proofs.Alike.{seen_as}
 use Rattle.task_chains.proofs.Switch.{Paused, Shared, Beside, SameLower}
 use Rattle.task_chains.proofs.ViewStart.{SameRom}

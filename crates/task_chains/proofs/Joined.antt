@@ -3,7 +3,7 @@
 use Rattle.std.proofs.Common.{◌≡◌, ◌≢◌, ℕ, ◌+◌, ◌-◌, ◌*◌, ◌<◌, ◌≤◌, ◌⊎◌, inl, inr, Bool, List, [], ◌∷◌, ◌++◌, length, map, sym, ap, ◌∙◌, subst, arith}
 use Rattle.std.proofs.lemmas.Bool.{cases_eq, cases_lt}
 use Rattle.std.specs.FinMap as finite
-use Rattle.csa_chain.specs.Memory.{Memory, is_mapped}
+use Rattle.csa_chain.specs.MemoryBytes.{Memory, is_mapped}
 use Rattle.csa_chain.proofs.ChainLaws.{SameAreas}
 use Rattle.csa_chain.proofs.MemoryLaws.{word_at_agrees}
 use Rattle.csa_chain.specs.SeveralChains.{sum_below}
@@ -17,17 +17,17 @@ use Rattle.tcd_plan.proofs.ApartLaws.{all_apart-before, rom_apart}
 use Rattle.tc_machine.specs.declared.events.Event.{Event}
 use Rattle.tc_machine.specs.declared.events.End.TheVariants.{Running}
 use Rattle.tc_machine.specs.declared.state.Machine.{Machine}
-use Rattle.tc_machine.specs.Contexts.{save, saved}
+use Rattle.tc_machine.specs.SavesAndRestores.{save, saved}
 use Rattle.tc_machine.specs.Stepping.{step}
 use Rattle.tc_machine.specs.Safe.{IsMachine, HasGlobals, Fits}
 use Rattle.tc_machine.proofs.Stays.{stays_step, irq_lt}
 use Rattle.depth_cert.specs.Certs.{CertData}
-use Rattle.cfg_recover.specs.Accepting.{certified_need}
+use Rattle.cfg_recover.specs.RulesHoldOrFail.{certified_need}
 use Rattle.task_chains.specs.Tasks.{TasksData, AreTasks, count, block_size, routine_size}
-use Rattle.task_chains.specs.Routine.{HasRoutine}
+use Rattle.task_chains.specs.SwitchRoutine.{HasRoutine}
 use Rattle.task_chains.specs.Views.{view_image_of, view_plan_of, FitPlan}
-use Rattle.task_chains.specs.Starting.{block_word}
-use Rattle.task_chains.specs.Safe.{IsInRoutine, IsJudged}
+use Rattle.task_chains.specs.TaskStarts.{block_word}
+use Rattle.task_chains.specs.SafeTasks.{IsInRoutine, IsJudged}
 use Rattle.task_chains.proofs.Alike.{seen_as, Alike}
 use Rattle.task_chains.proofs.Fitting.{fitting}
 use Rattle.task_chains.proofs.Invariant.{ViewOf, Waits, Turn, AllKept}

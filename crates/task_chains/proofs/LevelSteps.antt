@@ -1,9 +1,9 @@
 -- One step of a view keeps its levels: if its newest frame has priority 0 and isn't on the
 -- interrupt stack, CCPN is the start's.
 use Rattle.std.proofs.Common.{◌≡◌, ◌≢◌, ℕ, ◌-◌, ◌<◌, ◌⊎◌, Bool, true, false, List, [], ◌∷◌, length, get_or, refl, sym, ap, ◌∙◌, subst, arith}
-use Rattle.csa_chain.specs.Memory.{Memory, with_words}
+use Rattle.csa_chain.specs.MemoryBytes.{Memory, with_words}
 use Rattle.csa_chain.specs.Chain.{link_in, link_address, area_word}
-use Rattle.csa_chain.specs.Contexts.{ul_of, pcpn_of}
+use Rattle.csa_chain.specs.ContextWords.{ul_of, pcpn_of}
 use Rattle.csa_chain.proofs.ChainLaws.{Links, SameAreas, Avoids, Links-same, used_after_save, used_after_restore}
 use Rattle.csa_chain.proofs.ContextLaws.{link_in-pcxi_word, link_in-lt}
 use Rattle.tcd_base.specs.declared.core_version.Core.{Core}
@@ -11,7 +11,7 @@ use Rattle.tcd_plan.specs.PlanData.{PlanData, IsPlan}
 use Rattle.tc_machine.specs.declared.events.Event.{Event}
 use Rattle.tc_machine.specs.declared.events.End.TheVariants.{Running}
 use Rattle.tc_machine.specs.declared.state.Machine.{Machine}
-use Rattle.tc_machine.specs.Contexts.{context_of, saved, save, released}
+use Rattle.tc_machine.specs.SavesAndRestores.{context_of, saved, save, released}
 use Rattle.tc_machine.specs.Safe.{IsMachine}
 use Rattle.tc_machine.proofs.Saves.{save-is, length-context_of}
 use Rattle.tc_machine.proofs.Areas.{Areas, HasFree, has_free, is_freed}

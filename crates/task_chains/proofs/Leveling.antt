@@ -1,9 +1,9 @@
 -- One event of a view keeps its levels, by the instruction.
 use Rattle.std.proofs.Common.{◌≡◌, ◌≢◌, ℕ, ◌-◌, ◌*◌, ◌/◌, ◌^◌, ◌<◌, inl, inr, Bool, true, false, cond, List, [], ◌∷◌, length, set, Ok, Result, refl, sym, ap, ◌∙◌, subst, arith, bit_or}
 use Rattle.std.proofs.lemmas.Bool.{cases_Bool, false≢true, not-true}
-use Rattle.csa_chain.specs.Memory.{Memory, with_bytes}
+use Rattle.csa_chain.specs.MemoryBytes.{Memory, with_bytes}
 use Rattle.csa_chain.specs.Chain.{link_in}
-use Rattle.csa_chain.specs.Contexts.{ul_of, pie_of, pcpn_of}
+use Rattle.csa_chain.specs.ContextWords.{ul_of, pie_of, pcpn_of}
 use Rattle.csa_chain.proofs.ChainLaws.{Links, SameAreas}
 use Rattle.tcd_plan.specs.PlanData.{PlanData, IsPlan}
 use Rattle.tc_isa.specs.declared.shapes.Shape.{Shape}
@@ -12,11 +12,11 @@ use Rattle.tc_machine.specs.declared.events.Event.{Event}
 use Rattle.tc_machine.specs.declared.events.Cause.{Cause}
 use Rattle.tc_machine.specs.declared.events.End.TheVariants.{Running}
 use Rattle.tc_machine.specs.declared.state.Machine.{Machine}
-use Rattle.tc_machine.specs.Machine.{reg, a11, moved, advanced, then_}
-use Rattle.tc_machine.specs.Contexts.{saved, save, has_kind, restored, restore}
-use Rattle.tc_machine.specs.Fetching.{fetched}
-use Rattle.tc_machine.specs.Instructions.{access_address, traps_at, at_handler, interrupt, target_of, does}
-use Rattle.tc_machine.specs.Stepping.{is_taken, executed, done, step}
+use Rattle.tc_machine.specs.Machine.{reg, a11, moved, then_}
+use Rattle.tc_machine.specs.Instructions.{advanced, access_address, traps_at, at_handler, target_of, does, traps}
+use Rattle.tc_machine.specs.Stepping.{interrupt, is_taken, executed, done, step}
+use Rattle.tc_machine.specs.SavesAndRestores.{saved, save, has_kind, restored, restore}
+use Rattle.tc_machine.specs.Fetching.{fetched, size_in}
 use Rattle.tc_machine.specs.Safe.{IsMachine}
 use Rattle.tc_machine.proofs.Saves.{then_-running, restore-is}
 use Rattle.tc_machine.proofs.Steps.{with_event, step-is, step_does, done-is, does-call, does-ret}
@@ -24,12 +24,11 @@ use Rattle.tc_machine.proofs.Areas.{Areas}
 use Rattle.vd_transfer.specs.Holding.{WritesNoFixedRegister}
 use Rattle.depth_cert.specs.declared.keys.Key.{Key}
 use Rattle.cfg_recover.specs.Entries.{call_key, handler_key}
-use Rattle.cfg_recover.specs.Frames.{Standing, frames_by, frames_after, size_in}
-use Rattle.cfg_recover.specs.Edges.{Way, irq, aln, way_of_shape, way_by, way_in}
-use Rattle.cfg_recover.specs.OwedMoves.{traps}
+use Rattle.cfg_recover.specs.Frames.{Standing, frames_by, frames_after}
+use Rattle.cfg_recover.specs.StepEdges.{Way, irq, aln, way_of_shape, way_by, way_in}
 use Rattle.cfg_recover.proofs.Points.{does-rfe, does-svlcx, does-rslcx, does-bisr, does-syscall, does-trapped}
 use Rattle.cfg_recover.proofs.Went.{changed}
-use Rattle.task_chains.specs.Apart.{IsNoBisr}
+use Rattle.task_chains.specs.Rule17.{IsNoBisr}
 use Rattle.task_chains.proofs.Levels.{IsBase}
 use Rattle.task_chains.proofs.LevelSteps.{keys_of, Leveled, stands, leveled_lower, leveled_upper, leveled_lower_back, leveled_upper_back, leveled_plain}
 use Rattle.task_chains.proofs.Backs.{restores_from, restored_end}

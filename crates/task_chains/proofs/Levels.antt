@@ -1,9 +1,9 @@
 -- If the certificate of a view has no BISR at priority 0, each state of a run that has priority 0
 -- and isn't on the interrupt stack has the start's CCPN.
 use Rattle.std.proofs.Common.{◌≡◌, ◌≢◌, ℕ, ◌^◌, ◌<◌, ◌⊎◌, inl, inr, Bool, true, false, List, [], ◌∷◌, length, get_or, sym, ◌∙◌, subst, arith}
-use Rattle.csa_chain.specs.Memory.{Memory, with_words}
+use Rattle.csa_chain.specs.MemoryBytes.{Memory, with_words}
 use Rattle.csa_chain.specs.Chain.{link_address, is_area, area_word}
-use Rattle.csa_chain.specs.Contexts.{ul_of, pcpn_of, pcxi_word_of}
+use Rattle.csa_chain.specs.ContextWords.{ul_of, pcpn_of, pcxi_word_of}
 use Rattle.csa_chain.proofs.ChainLaws.{SameAreas, Avoids, area_word_same, SameAreas-written, area_word-written}
 use Rattle.csa_chain.proofs.ContextLaws.{ul_of-pcxi_word, pcpn_of-pcxi_word}
 use Rattle.tcd_base.specs.declared.core_version.Core.{Core}

@@ -1,7 +1,7 @@
 -- Lines of more words than four.
 use Rattle.std.proofs.Common.{◌≡◌, ◌<◌, ℕ, List, length, None, refl}
 use Rattle.tcd_text.proofs.LineLaws.{more_words}
-use Rattle.task_chains.specs.Reading.{pair_of_words}
+use Rattle.task_chains.specs.TaskListText.{pair_of_words}
 
 pub more : (name : List ℕ) (words : List (List ℕ)) → 4 < length words → pair_of_words name words ≡ None
 unfolding pair_of_words

@@ -8,7 +8,7 @@ use Rattle.value_domain.specs.Sets.{Among}
 use Rattle.value_domain.specs.Values.{IsMember, IsWell}
 use Rattle.value_domain.proofs.CoverLaws.{step_cases, in_units, from_units}
 use Rattle.store_ranges.specs.Accesses.{IsSize}
-use Rattle.task_chains.specs.Apart.{AllMiss, HasBetween}
+use Rattle.task_chains.specs.Rule17.{AllMiss, HasBetween}
 
 -- ---- words of a list
 abbrev pub HasWord : List ℕ → ℕ → ℕ → Type 0

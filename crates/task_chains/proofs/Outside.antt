@@ -3,15 +3,15 @@ use Rattle.std.proofs.Common.{◌≡◌, ◌≢◌, ℕ, suc, ◌+◌, ◌-◌, 
 use Rattle.std.proofs.lemmas.Bool.{cases_Bool, false≢true, ne_eqb}
 use Rattle.std.specs.Prelude.{is_some}
 use Rattle.std.specs.FinMap as finite
-use Rattle.csa_chain.specs.Memory.{Memory, is_mapped, load_number, with_bytes}
+use Rattle.csa_chain.specs.MemoryBytes.{Memory, is_mapped, load_number, with_bytes}
 use Rattle.csa_chain.specs.Chain.{link_in}
 use Rattle.csa_chain.proofs.ChainLaws.{Links}
-use Rattle.csa_chain.specs.Contexts.{pie_of, pcpn_of}
+use Rattle.csa_chain.specs.ContextWords.{pie_of, pcpn_of}
 use Rattle.elf_image.specs.Images.{ImageData, image_byte}
 use Rattle.tcd_plan.specs.PlanData.{PlanData, IsPlan}
 use Rattle.tc_isa.specs.declared.shapes.Arg.{Arg}
 use Rattle.tc_isa.specs.declared.shapes.Arg.TheVariants.{Reg, Word}
-use Rattle.tc_isa.specs.Bounded.{IsArg}
+use Rattle.tc_isa.specs.InBounds.{IsArg}
 use Rattle.cfg_recover.proofs.EntryLaws.{reg_lt}
 use Rattle.cfg_recover.proofs.CodeLaws.{IsCode-bounded}
 use Rattle.tc_isa.specs.declared.shapes.Shape.{Shape}
@@ -20,11 +20,11 @@ use Rattle.tc_machine.specs.declared.events.Event.{Event}
 use Rattle.tc_machine.specs.declared.events.End.{End}
 use Rattle.tc_machine.specs.declared.events.End.TheVariants.{Running, Dead}
 use Rattle.tc_machine.specs.declared.state.Machine.{Machine}
-use Rattle.tc_machine.specs.Machine.{reg, a11, moved, advanced, then_, goes_on}
-use Rattle.tc_machine.specs.Contexts.{has_kind, restore, saved, save}
+use Rattle.tc_machine.specs.Machine.{reg, a11, moved, then_, goes_on}
+use Rattle.tc_machine.specs.Instructions.{advanced, access_address, traps_at, core_register, at_handler, target_of, does, traps}
+use Rattle.tc_machine.specs.Stepping.{interrupt, is_taken, executed, done, step}
+use Rattle.tc_machine.specs.SavesAndRestores.{has_kind, restore, saved, save}
 use Rattle.tc_machine.specs.Fetching.{fetched}
-use Rattle.tc_machine.specs.Instructions.{access_address, traps_at, core_register, interrupt, at_handler, target_of, does}
-use Rattle.tc_machine.specs.Stepping.{is_taken, executed, done, step}
 use Rattle.tcd_plan.specs.Regions.{IsInAreas, IsStoreInRange}
 use Rattle.tc_machine.specs.Safe.{IsMachine}
 use Rattle.tc_mem.specs.PlanMemory.{HoldsRom, IsPlanMemory}
@@ -36,14 +36,13 @@ use Rattle.value_domain.specs.declared.states.State.{State}
 use Rattle.value_domain.specs.Limits.{Limits}
 use Rattle.vd_transfer.specs.Holding.{WritesNoFixedRegister}
 use Rattle.cfg_recover.specs.Code.{IsCode}
-use Rattle.cfg_recover.specs.OwedMoves.{traps}
 use Rattle.cfg_recover.proofs.Points.{does-rfe, does-svlcx, does-rslcx, does-bisr, does-syscall, does-trapped}
 use Rattle.cfg_recover.proofs.Writes.{store_keeps_areas}
 use Rattle.csa_chain.proofs.MemoryLaws.{is_mapped-with_bytes}
 use Rattle.csa_chain.specs.SeveralChains.{sum_below}
 use Rattle.task_chains.specs.Tasks.{TasksData, routine_size}
 use Rattle.task_chains.specs.Views.{view_plan_of}
-use Rattle.task_chains.specs.Apart.{Misses, LoadsElsewhere, ReadsNoLink}
+use Rattle.task_chains.specs.Rule17.{Misses, LoadsElsewhere, ReadsNoLink}
 use Rattle.task_chains.proofs.Twins.{Twins, SameContexts-length}
 use Rattle.task_chains.proofs.Alike.{seen_as, Alike, Alike-interrupt, Alike-call}
 use Rattle.task_chains.proofs.Backs.{restores_from, Alike-ret, Alike-rfe, Alike-rslcx}

@@ -7,7 +7,7 @@ use Rattle.csa_chain.proofs.SeveralLaws.{sum_below-at, times-there, times-other}
 use Rattle.tcd_plan.specs.PlanData.{PlanData}
 use Rattle.tc_machine.specs.PlanAreas.{first_link, plan_areas}
 use Rattle.tc_machine.proofs.PlanLaws.{length-links_up, get_or-links_up}
-use Rattle.task_chains.specs.SafeWords.{StandsAt}
+use Rattle.task_chains.specs.SafeTasksInWords.{StandsAt}
 use Rattle.task_chains.proofs.Alike.{area_at}
 use Rattle.task_chains.proofs.Twins.{areas_once}
 

@@ -2,7 +2,7 @@
 -- context.
 use Rattle.std.proofs.Common.{◌≡◌, ℕ, ◌+◌, ◌-◌, ◌*◌, ◌^◌, ◌<◌, ◌≤◌, Bool, true, false, cond, List, [], ◌∷◌, set, Ok, refl, sym, ap, ◌∙◌, subst, arith, ltb}
 use Rattle.std.specs.FinMap as map
-use Rattle.csa_chain.specs.Memory.{Memory, is_mapped, load_number, extend, with_bytes}
+use Rattle.csa_chain.specs.MemoryBytes.{Memory, is_mapped, load_number, extend, with_bytes}
 use Rattle.csa_chain.specs.Chain.{link_address}
 use Rattle.csa_chain.proofs.ChainLaws.{SameAreas, Links-same}
 use Rattle.tcd_plan.specs.PlanData.{PlanData, IsPlan}
@@ -18,9 +18,9 @@ use Rattle.tc_isa.specs.Arithmetic.{alu_of, taken_of}
 use Rattle.tc_machine.specs.declared.events.Event.{Event}
 use Rattle.tc_machine.specs.declared.events.End.TheVariants.{Running}
 use Rattle.tc_machine.specs.declared.state.Machine.{Machine}
-use Rattle.tc_machine.specs.Machine.{reg, with_reg, arg, moved, advanced}
+use Rattle.tc_machine.specs.Machine.{reg, with_reg, moved}
+use Rattle.tc_machine.specs.Instructions.{arg, advanced, access_address, with_base, traps_at, misaligned, core_register, target_of, does}
 use Rattle.tc_machine.specs.Fetching.{fetched}
-use Rattle.tc_machine.specs.Instructions.{access_address, with_base, traps_at, misaligned, core_register, target_of, does}
 use Rattle.tc_machine.specs.Stepping.{is_taken, step}
 use Rattle.tcd_plan.specs.Regions.{IsInAreas}
 use Rattle.tc_machine.specs.PlanAreas.{first_link, plan_areas}

@@ -32,15 +32,16 @@ use Rattle.cfg_recover.specs.Code.{IsCode, HasCode}
 use Rattle.cfg_recover.specs.Entries.{start_key}
 use Rattle.cfg_recover.specs.LocalRules.{LocalRule}
 use Rattle.cfg_recover.specs.LocalFaults.{IsFaultless}
-use Rattle.cfg_recover.specs.Accepting.{limits_in, RuleHolds, HoldsAtNode, Accepts}
-use Rattle.cfg_recover.specs.OwedMoves.{InState}
-use Rattle.cfg_recover.specs.Frames.{Standing, frames_after, frames_from, frames, HoldFrames, FramesHeld}
+use Rattle.cfg_recover.specs.RulesHoldOrFail.{limits_in, RuleHolds, HoldsAtNode, Accepts}
+use Rattle.cfg_recover.specs.MovesAreOwed.{InState}
+use Rattle.cfg_recover.specs.Frames.{Standing, frames_after, frames_from, frames, HoldFrames}
+use Rattle.cfg_recover.specs.FrameLaws.{FramesHeld}
 use Rattle.depth_cert.proofs.KeyLaws.{found_in}
 use Rattle.cfg_recover.proofs.CodeLaws.{IsCode-bounded}
 use Rattle.cfg_recover.proofs.PointLaws.{limits_are}
 use Rattle.cfg_recover.proofs.Went.{address-is}
 use Rattle.task_chains.specs.Tasks.{TasksData}
-use Rattle.task_chains.specs.Apart.{StaysApart, HoldsApart, KeepsApart}
+use Rattle.task_chains.specs.Rule17.{StaysApart, HoldsApart, KeepsApart}
 
 -- ---- runs, one event longer
 run-snoc : (m : Machine) (es : List Event) (e : Event) → run m (es ++ e ∷ []) ≡ step (run m es) e

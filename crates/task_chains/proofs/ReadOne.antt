@@ -9,7 +9,8 @@ use Rattle.task_chains.specs.declared.task_lists.Task.{Task}
 use Rattle.task_chains.specs.declared.task_lists.TasksErr.{TasksErr}
 use Rattle.task_chains.specs.declared.task_lists.TasksErr.TheVariants.{BadLine, TooMany, TooFew, NotRam, NoRoom, OnIsp, Count}
 use Rattle.task_chains.specs.Tasks.{TasksData, count}
-use Rattle.task_chains.specs.Reading.{places_of, task_of, is_written, written, AreSaid, BreaksForm, IsFirstBad, IsBadLine, IsEighth, IsAgainst, IsRefused, Reads, ReadsOne}
+use Rattle.task_chains.specs.TaskListText.{places_of, task_of, written, AreSaid, BreaksForm, IsFirstBad, IsBadLine, IsEighth, IsAgainst, IsRefused, Reads, ReadsOne}
+use Rattle.tcd_text.specs.Lines.{is_written}
 
 abbrev some_task : Task → Option Task
 some_task t = Some t

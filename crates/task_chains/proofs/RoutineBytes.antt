@@ -1,9 +1,9 @@
 -- The bytes of the routine, by its words.
 use Rattle.std.proofs.Common.{◌≡◌, ℕ, ◌+◌, ◌*◌, ◌/◌, ◌%◌, ◌^◌, List, [], ◌∷◌, refl, sym, ap, ◌∙◌, arith}
 use Rattle.std.specs.List.{flat_map}
-use Rattle.tc_isa.specs.Forms.{word}
-use Rattle.tc_isa.specs.Spelling.{four_bytes}
-use Rattle.task_chains.specs.Routine.{hi, lo, routine_of, view_routine_of, bytes_of}
+use Rattle.tc_isa.specs.Spelling.{word}
+use Rattle.tcd_base.specs.Bytes.{four_bytes}
+use Rattle.task_chains.specs.SwitchRoutine.{hi, lo, routine_of, view_routine_of, bytes_of}
 
 -- the bits of a 16-bit offset
 abbrev pub offset : ℕ → ℕ

@@ -7,10 +7,10 @@ use Rattle.std.specs.Option.{option_map}
 use Rattle.elf_image.specs.Images.{ImageData, image_byte}
 use Rattle.tcd_base.specs.declared.range.Range.{Range}
 use Rattle.tcd_plan.specs.PlanData.{PlanData}
-use Rattle.tc_isa.specs.Rows.{RowData, row, listed}
+use Rattle.tc_isa.specs.Rows.{RowData, row, listed, is_long}
 use Rattle.tc_isa.specs.declared.table.Form.TheVariants.{Rlc, Rr, Bol, Brc, Sys}
 use Rattle.tc_isa.specs.Forms.{bounds}
-use Rattle.tc_isa.specs.ValidRows.{Fits, is_long}
+use Rattle.tc_isa.specs.ValidRows.{Fits}
 use Rattle.tc_isa.specs.Spelling.{word_of, spelling_of, spelling}
 use Rattle.tc_isa.specs.Insts.{InstData, fields_in}
 use Rattle.tc_isa.specs.Meanings.{shape_of}
@@ -23,7 +23,7 @@ use Rattle.tc_isa.specs.declared.shapes.Shape.TheVariants.{Compute, Scaled, Load
 use Rattle.tcd_base.specs.Ranges.{IsInOne}
 use Rattle.cfg_recover.specs.Code.{IsCode}
 use Rattle.task_chains.specs.Tasks.{TasksData, AreTasks, count, routine_size}
-use Rattle.task_chains.specs.Routine.{plain, movh_a, lea_l, ld_w_l, st_w_l, addsc_a, mfcr, mtcr, addi, mov, jne_over, hi, lo, routine_bytes, view_routine_bytes, HasRoutine}
+use Rattle.task_chains.specs.SwitchRoutine.{plain, movh_a, lea_l, ld_w_l, st_w_l, addsc_a, mfcr, mtcr, addi, mov, jne_over, hi, lo, routine_bytes, view_routine_bytes, HasRoutine}
 use Rattle.task_chains.specs.Views.{is_in_routine, view_image_of}
 use Rattle.task_chains.proofs.ViewImage.{seen_byte, view_byte}
 

@@ -1,7 +1,7 @@
 -- The routine's instructions 2 to 13, one after another: what registers and the block hold.
 use Rattle.std.proofs.Common.{◌≡◌, ◌≢◌, ℕ, suc, ◌+◌, ◌-◌, ◌*◌, ◌%◌, ◌^◌, ◌<◌, ◌≤◌, inl, inr, Bool, true, false, not, ◌&&◌, cond, length, set, get_or-set_same, get_or-set_other, Ok, refl, sym, ap, ◌∙◌, subst, arith, nat_lt}
 use Rattle.std.proofs.lemmas.Bool.{cases_eq, eq-eqb, ne_eqb, lt-ltb, ltb-true, ltb-false}
-use Rattle.csa_chain.specs.Memory.{Memory, is_mapped, load_number, with_bytes}
+use Rattle.csa_chain.specs.MemoryBytes.{Memory, is_mapped, load_number, with_bytes}
 use Rattle.csa_chain.proofs.SeveralLaws.{cond_same, cond_other}
 use Rattle.tc_isa.specs.Arithmetic.{sign_extended, alu_of, taken_of}
 use Rattle.tc_isa.specs.declared.shapes.Arg.TheVariants.{Reg, Word}
@@ -12,14 +12,14 @@ use Rattle.tc_isa.specs.declared.shapes.Cond.TheVariants as cond
 use Rattle.tc_machine.specs.declared.events.Event.{Event}
 use Rattle.tc_machine.specs.declared.events.End.TheVariants.{Running}
 use Rattle.tc_machine.specs.declared.state.Machine.{Machine}
-use Rattle.tc_machine.specs.Machine.{reg, moved, advanced}
+use Rattle.tc_machine.specs.Machine.{reg, moved}
+use Rattle.tc_machine.specs.Instructions.{advanced, traps_at, misaligned, does}
 use Rattle.tc_machine.specs.Fetching.{fetched}
-use Rattle.tc_machine.specs.Instructions.{traps_at, misaligned, does}
 use Rattle.tc_machine.specs.Stepping.{is_taken, step}
 use Rattle.tc_machine.proofs.Steps.{with_event, step_does}
 use Rattle.task_chains.specs.Tasks.{TasksData, AreTasks, count, block_size}
-use Rattle.task_chains.specs.Routine.{hi, lo}
-use Rattle.task_chains.specs.Starting.{block_word}
+use Rattle.task_chains.specs.SwitchRoutine.{hi, lo}
+use Rattle.task_chains.specs.TaskStarts.{block_word}
 use Rattle.task_chains.proofs.RoutineSteps.{block_read, block_written, block_kept}
 use Rattle.task_chains.proofs.Invariant.{after, InRoutine}
 

@@ -3,7 +3,7 @@ use Rattle.std.proofs.Common.{◌≡◌, ◌≢◌, ℕ, ◌+◌, ◌*◌, ◌/�
 use Rattle.std.proofs.lemmas.Bool.{false≢true, cases_order}
 use Rattle.std.specs.Prelude.{is_some, unwrap_or}
 use Rattle.std.specs.FinMap as map
-use Rattle.csa_chain.specs.Memory.{Memory, is_mapped, word_at, with_byte, with_word, load_number, with_bytes}
+use Rattle.csa_chain.specs.MemoryBytes.{Memory, is_mapped, word_at, with_byte, with_word, load_number, with_bytes}
 use Rattle.csa_chain.proofs.MemoryLaws.{word_at-with_word_same, word_at-with_word_other}
 use Rattle.tcd_plan.specs.PlanData.{PlanData}
 use Rattle.tc_isa.specs.declared.shapes.Arg.TheVariants.{Reg}
@@ -11,13 +11,13 @@ use Rattle.tc_isa.specs.declared.shapes.Shape.TheVariants.{Load, Store, Mfcr, Mt
 use Rattle.tc_machine.specs.declared.events.Event.{Event}
 use Rattle.tc_machine.specs.declared.events.End.TheVariants.{Running}
 use Rattle.tc_machine.specs.declared.state.Machine.{Machine}
-use Rattle.tc_machine.specs.Machine.{reg, with_reg, moved, advanced}
+use Rattle.tc_machine.specs.Machine.{reg, with_reg, moved}
+use Rattle.tc_machine.specs.Instructions.{advanced, traps_at, misaligned, core_register, does}
 use Rattle.tc_machine.specs.Fetching.{fetched}
-use Rattle.tc_machine.specs.Instructions.{traps_at, misaligned, core_register, does}
 use Rattle.tc_machine.specs.Stepping.{is_taken, step}
 use Rattle.tc_machine.proofs.Steps.{with_event, step_does}
 use Rattle.task_chains.specs.Tasks.{TasksData, count, block_size}
-use Rattle.task_chains.specs.Starting.{block_word}
+use Rattle.task_chains.specs.TaskStarts.{block_word}
 use Rattle.task_chains.proofs.Twins.{Twins}
 use Rattle.task_chains.proofs.Alike.{seen_as}
 use Rattle.task_chains.proofs.Plain.{Plainly, set_one}

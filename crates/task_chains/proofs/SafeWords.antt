@@ -4,7 +4,7 @@ use Rattle.std.specs.Prelude.{IfSome}
 use Rattle.std.specs.List.{list_all}
 use Rattle.std.proofs.lemmas.Bool.{cases_eq, cases_lt, or_cases, and_parts, leb-true}
 use Rattle.std.proofs.lemmas.List.Folds.{list_all-append}
-use Rattle.csa_chain.specs.Memory.{Memory}
+use Rattle.csa_chain.specs.MemoryBytes.{Memory}
 use Rattle.csa_chain.specs.Chain.{link_address, area_word}
 use Rattle.csa_chain.proofs.ChainLaws.{Links, are_mapped_each, are_mapped_from, chain_within-Links, Links-chain_within}
 use Rattle.csa_chain.proofs.SeveralLaws.{sum_below-at, cond_same, cond_other}
@@ -24,9 +24,9 @@ use Rattle.tc_machine.proofs.Guards.{every_run}
 use Rattle.tc_machine.proofs.PlanLaws.{length-links_up}
 use Rattle.task_chains.specs.declared.task_lists.Task.{Task}
 use Rattle.task_chains.specs.Tasks.{TasksData}
-use Rattle.task_chains.specs.Starting.{block_word, current}
-use Rattle.task_chains.specs.Safe.{before, owner, chain_word, IsTaskStore, AreSafeAt}
-use Rattle.task_chains.specs.SafeWords.{OwnsChain, IsStoreApart, HasTaskParts, SafeTasksSay, PartsAreSafe}
+use Rattle.task_chains.specs.TaskStarts.{block_word, current}
+use Rattle.task_chains.specs.SafeTasks.{before, owner, chain_word, IsTaskStore, AreSafeAt}
+use Rattle.task_chains.specs.SafeTasksInWords.{OwnsChain, IsStoreApart, HasTaskParts, SafeTasksSay, PartsAreSafe}
 use Rattle.task_chains.proofs.Places.{sum_below-less, place_of, among, one_place, area_times, area_of, each_of}
 use Rattle.task_chains.proofs.Together.{owner_now, place_here}
 use Rattle.task_chains.proofs.Twins.{areas_once}

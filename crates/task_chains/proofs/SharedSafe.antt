@@ -8,7 +8,7 @@ use Rattle.tc_machine.specs.PlanAreas.{links_up, first_link, plan_areas}
 use Rattle.tc_machine.proofs.PlanLaws.{length-links_up}
 use Rattle.csa_chain.specs.SeveralChains.{sum_below, Share}
 use Rattle.task_chains.specs.Tasks.{TasksData, count}
-use Rattle.task_chains.specs.Safe.{chain_word, AreAreasShared}
+use Rattle.task_chains.specs.SafeTasks.{chain_word, AreAreasShared}
 use Rattle.csa_chain.proofs.SeveralLaws.{sum_below-at, first_avoids_rest}
 use Rattle.task_chains.proofs.Twins.{areas_once, reserve_of}
 use Rattle.task_chains.proofs.Switch.{Shared}

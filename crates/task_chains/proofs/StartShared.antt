@@ -7,11 +7,11 @@ use Rattle.csa_chain.proofs.ContextLaws.{link_in-pcxi_word}
 use Rattle.elf_image.specs.Images.{ImageData}
 use Rattle.tcd_plan.specs.PlanData.{PlanData, IsPlan}
 use Rattle.tc_machine.specs.declared.state.Machine.{Machine}
-use Rattle.tc_machine.specs.PlanAreas.{links_up, first_link, plan_areas}
+use Rattle.tc_machine.specs.PlanAreas.{links_up, first_link, plan_areas, link_or_end}
 use Rattle.tc_machine.proofs.PlanLaws.{length-links_up, link_address-area, some_link, link_lt}
 use Rattle.csa_chain.specs.SeveralChains.{times, sum_below, Share}
 use Rattle.task_chains.specs.Tasks.{TasksData, AreTasks, count}
-use Rattle.task_chains.specs.Starting.{block_word, upper_area, lower_area, held_at_start, link_or_end, TasksStart}
+use Rattle.task_chains.specs.TaskStarts.{block_word, upper_area, lower_area, held_at_start, TasksStart}
 use Rattle.csa_chain.proofs.SeveralLaws.{cond_same, cond_other, AllLinks}
 use Rattle.task_chains.proofs.Switch.{Shared}
 

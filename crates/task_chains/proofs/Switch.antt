@@ -1,19 +1,19 @@
 -- The switch: the chain of PCXI becomes the next task's, and its contexts are restored, so that the
 -- machine and that task's view are alike again.
 use Rattle.std.proofs.Common.{◌≡◌, ℕ, zero, suc, ◌+◌, ◌-◌, ◌*◌, ◌/◌, ◌^◌, ◌<◌, Bool, true, false, not, List, [], ◌∷◌, ◌++◌, get_or, Ok, refl, sym, ap, ◌∙◌, subst, arith}
-use Rattle.csa_chain.specs.Memory.{Memory}
+use Rattle.csa_chain.specs.MemoryBytes.{Memory}
 use Rattle.csa_chain.specs.Chain.{link_in, is_area, area_word}
-use Rattle.csa_chain.specs.Contexts.{ul_of}
+use Rattle.csa_chain.specs.ContextWords.{ul_of}
 use Rattle.csa_chain.proofs.ChainLaws.{Links}
 use Rattle.tcd_plan.specs.PlanData.{PlanData, IsPlan}
 use Rattle.tc_isa.specs.declared.shapes.Shape.TheVariants.{Mtcr, Ret}
 use Rattle.tc_machine.specs.declared.events.Event.{Event}
 use Rattle.tc_machine.specs.declared.events.End.TheVariants.{Running}
 use Rattle.tc_machine.specs.declared.state.Machine.{Machine}
-use Rattle.tc_machine.specs.Machine.{reg, a11, advanced, then_}
-use Rattle.tc_machine.specs.Contexts.{has_kind, last_context, released, restored, restore}
+use Rattle.tc_machine.specs.Machine.{reg, a11, then_}
+use Rattle.tc_machine.specs.Instructions.{advanced, does}
+use Rattle.tc_machine.specs.SavesAndRestores.{has_kind, last_context, released, restored, restore}
 use Rattle.tc_machine.specs.Fetching.{fetched}
-use Rattle.tc_machine.specs.Instructions.{does}
 use Rattle.tc_machine.specs.Stepping.{is_taken, step}
 use Rattle.tc_machine.specs.Safe.{IsMachine}
 use Rattle.tc_machine.proofs.Saves.{restore-is, then_-running}

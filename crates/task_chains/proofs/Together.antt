@@ -13,11 +13,11 @@ use Rattle.tc_machine.specs.Stepping.{step, run, stored}
 use Rattle.tc_machine.specs.Safe.{Starts, Fits, AllFit}
 use Rattle.tc_machine.proofs.PlanLaws.{link_lt}
 use Rattle.depth_cert.specs.Certs.{CertData}
-use Rattle.cfg_recover.specs.Accepting.{certified_need}
+use Rattle.cfg_recover.specs.RulesHoldOrFail.{certified_need}
 use Rattle.task_chains.specs.Tasks.{TasksData, count}
 use Rattle.task_chains.specs.Views.{view_image_of, view_plan_of}
-use Rattle.task_chains.specs.Starting.{block_word, current, upper_area, lower_area, held_at_start, IsReady, TasksStart}
-use Rattle.task_chains.specs.Safe.{before, owner, IsTaskStore, AreSafeAt, need_of_task, TasksAreSafe}
+use Rattle.task_chains.specs.TaskStarts.{block_word, current, upper_area, lower_area, held_at_start, IsReady, TasksStart}
+use Rattle.task_chains.specs.SafeTasks.{before, owner, IsTaskStore, AreSafeAt, need_of_task, TasksAreSafe}
 use Rattle.task_chains.proofs.Alike.{seen_as}
 use Rattle.task_chains.proofs.Beginning.{start_memory, start_is, start_turn, begins_on, begins_lower, begins_home}
 use Rattle.task_chains.proofs.Coming.{goes_switch, comes_on, comes_lower, comes_home}

@@ -3,7 +3,7 @@
 use Rattle.std.proofs.Common.{◌≡◌, ◌≢◌, ℕ, zero, suc, ◌+◌, ◌*◌, ◌%◌, ◌^◌, ◌<◌, ◌≤◌, inl, inr, true, false, cond, List, [], ◌∷◌, ◌++◌, length, map, Some, None, Ok, Result, refl, sym, ap, ◌∙◌, subst, arith}
 use Rattle.std.proofs.lemmas.Bool.{cases_lt, cases_eq}
 use Rattle.std.specs.FinMap as finite
-use Rattle.csa_chain.specs.Memory.{Memory, is_mapped, load_number, with_bytes}
+use Rattle.csa_chain.specs.MemoryBytes.{Memory, is_mapped, load_number, with_bytes}
 use Rattle.csa_chain.proofs.MemoryLaws.{get-with_bytes_other, is_mapped-with_bytes}
 use Rattle.csa_chain.proofs.SeveralLaws.{cond_same, cond_other}
 use Rattle.elf_image.specs.Images.{ImageData}
@@ -30,16 +30,16 @@ use Rattle.tc_machine.specs.Stepping.{is_taken, load_in, store_in, stored, step}
 use Rattle.tc_machine.specs.Safe.{Fits}
 use Rattle.tc_machine.proofs.Kept.{none_when_off}
 use Rattle.tc_machine.proofs.Steps.{step_does, stored-is}
-use Rattle.task_chains.specs.Safe.{IsInRoutine, IsTaskStore}
+use Rattle.task_chains.specs.SafeTasks.{IsInRoutine, IsTaskStore}
 use Rattle.tc_machine.proofs.Words.{load_lt}
 use Rattle.depth_cert.specs.Certs.{CertData}
 use Rattle.cfg_recover.specs.Code.{IsCode}
-use Rattle.cfg_recover.specs.Edges.{to, way_by}
+use Rattle.cfg_recover.specs.StepEdges.{to, way_by}
 use Rattle.cfg_recover.proofs.Writes.{store_keeps_areas}
 use Rattle.task_chains.specs.Tasks.{TasksData, count, block_size}
-use Rattle.task_chains.specs.Routine.{hi, lo}
+use Rattle.task_chains.specs.SwitchRoutine.{hi, lo}
 use Rattle.task_chains.specs.Views.{view_image_of, view_plan_of}
-use Rattle.task_chains.specs.Starting.{block_word}
+use Rattle.task_chains.specs.TaskStarts.{block_word}
 use Rattle.task_chains.proofs.Alike.{seen_as, Alike}
 use Rattle.task_chains.proofs.Going.{Goes, code_to, first_stays}
 use Rattle.task_chains.proofs.Invariant.{after, ViewOf, switches, InRoutine, AllKept}

@@ -1,6 +1,6 @@
 -- A task's first turn ends the switch: its view starts.
 use Rattle.std.proofs.Common.{◌≡◌, ℕ, ◌+◌, ◌-◌, ◌/◌, ◌%◌, ◌^◌, ◌<◌, false, get_or, refl, sym, ◌∙◌, arith}
-use Rattle.csa_chain.specs.Memory.{Memory}
+use Rattle.csa_chain.specs.MemoryBytes.{Memory}
 use Rattle.elf_image.specs.Images.{ImageData}
 use Rattle.tcd_plan.specs.PlanData.{PlanData, IsPlan}
 use Rattle.tc_machine.specs.declared.events.End.TheVariants.{Running}

@@ -7,7 +7,7 @@ use Rattle.std.proofs.lemmas.List.{length-map}
 use Rattle.std.proofs.lemmas.List.Sums.{sum_by-cons}
 use Rattle.elf_image.specs.Images.{ImageData, SegmentData, IsImage, AreBytes, is_segment, are_apart, all_apart}
 use Rattle.task_chains.specs.Tasks.{TasksData, AreTasks, count}
-use Rattle.task_chains.specs.Routine.{view_routine_bytes}
+use Rattle.task_chains.specs.SwitchRoutine.{view_routine_bytes}
 use Rattle.task_chains.specs.Views.{with_routine_from, view_segment, view_image_of}
 
 -- ---- one byte after another

@@ -16,7 +16,7 @@ use Rattle.tcd_plan.proofs.ApartLaws.{device_ranges, HaveBytes, HaveBytes-ranges
 use Rattle.tcd_plan.proofs.CutLaws.{IsInOne-parts, in_ranges_without, ranges_without_ranges, ranges_without_apart}
 use Rattle.task_chains.specs.Tasks.{TasksData, AreTasks, count, block_size}
 use Rattle.task_chains.specs.Views.{any_device, view_devices, view_plan_of, FitPlan}
-use Rattle.task_chains.specs.Safe.{MissesBlock}
+use Rattle.task_chains.specs.SafeTasks.{MissesBlock}
 
 -- ---- devices
 pub in_devices : (ds : List Device) (rs : List Range) (x n : ℕ) → IsInDevice x n (ds ++ map any_device rs) → IsInDevice x n ds ⊎ IsInOne x n rs

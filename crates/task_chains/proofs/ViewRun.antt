@@ -7,14 +7,14 @@ use Rattle.csa_chain.specs.SeveralChains.{sum_below}
 use Rattle.elf_image.specs.Images.{ImageData}
 use Rattle.tcd_plan.specs.PlanData.{PlanData, IsPlan}
 use Rattle.tcd_plan.specs.Regions.{IsStoreInRange}
-use Rattle.tc_isa.specs.Bounded.{IsShape}
+use Rattle.tc_isa.specs.InBounds.{IsShape}
 use Rattle.tc_isa.specs.declared.shapes.Shape.{Shape}
 use Rattle.tc_isa.specs.declared.shapes.Shape.TheVariants.{Compute, Scaled, Load, Store, Branch, Jump, Call, Ret, Rfe, Svlcx, Rslcx, Bisr, Enable, Disable, Syscall, Mfcr, Mtcr, Nothing}
 use Rattle.tc_machine.specs.declared.events.Event.{Event}
 use Rattle.tc_machine.specs.declared.events.End.TheVariants.{Running}
 use Rattle.tc_machine.specs.declared.state.Machine.{Machine}
 use Rattle.tc_machine.specs.Machine.{reg}
-use Rattle.tc_machine.specs.Contexts.{saved, save}
+use Rattle.tc_machine.specs.SavesAndRestores.{saved, save}
 use Rattle.tc_machine.specs.Fetching.{fetched}
 use Rattle.tc_machine.specs.Instructions.{access_address}
 use Rattle.tc_machine.specs.Stepping.{is_taken, store_in, step}
@@ -29,16 +29,16 @@ use Rattle.vd_transfer.specs.Registers.{slot}
 use Rattle.vd_transfer.specs.Holding.{WritesNoFixedRegister}
 use Rattle.depth_cert.specs.declared.keys.Key.{Key}
 use Rattle.depth_cert.specs.Certs.{CertData}
-use Rattle.cfg_recover.specs.Accepting.{limits_in, certified_need}
+use Rattle.cfg_recover.specs.RulesHoldOrFail.{limits_in, certified_need}
 use Rattle.cfg_recover.specs.Entries.{start_key}
 use Rattle.cfg_recover.specs.Frames.{Standing, frames_left, frames_after}
 use Rattle.cfg_recover.specs.LocalRules.{LocalRule}
 use Rattle.cfg_recover.proofs.CodeLaws.{IsCode-bounded}
 use Rattle.task_chains.specs.Tasks.{TasksData, AreTasks, count}
 use Rattle.task_chains.specs.Views.{view_image_of, view_plan_of, FitPlan}
-use Rattle.task_chains.specs.Apart.{StaysApart}
-use Rattle.task_chains.specs.Routine.{switch_key}
-use Rattle.task_chains.specs.Safe.{IsInRoutine, IsJudged}
+use Rattle.task_chains.specs.Rule17.{StaysApart}
+use Rattle.task_chains.specs.SwitchRoutine.{switch_key}
+use Rattle.task_chains.specs.SafeTasks.{IsInRoutine, IsJudged}
 use Rattle.depth_cert.proofs.KeyLaws.{one_number}
 use Rattle.task_chains.proofs.FramesKept.{AreKeys, AreFirst, keys_next}
 use Rattle.task_chains.proofs.Fitting.{quiet}

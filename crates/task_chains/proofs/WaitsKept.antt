@@ -1,9 +1,9 @@
 -- A task that waits still waits after a step of another one.
 use Rattle.std.proofs.Common.{◌≡◌, ℕ, ◌/◌, ◌%◌, ◌^◌, List, [], ◌∷◌, refl, sym, ap, ◌∙◌, subst, arith}
 use Rattle.std.specs.FinMap as finite
-use Rattle.csa_chain.specs.Memory.{Memory}
+use Rattle.csa_chain.specs.MemoryBytes.{Memory}
 use Rattle.csa_chain.specs.Chain.{link_in}
-use Rattle.csa_chain.specs.Contexts.{ul_of}
+use Rattle.csa_chain.specs.ContextWords.{ul_of}
 use Rattle.csa_chain.proofs.ChainLaws.{SameArea, SameAreas, area_word_same}
 use Rattle.elf_image.specs.Images.{ImageData}
 use Rattle.tcd_base.specs.declared.core_version.Core.{Core}
@@ -13,7 +13,7 @@ use Rattle.tc_machine.specs.Machine.{is_of}
 use Rattle.tcd_base.specs.Ranges.{IsInOne}
 use Rattle.tc_machine.proofs.Areas.{Areas}
 use Rattle.task_chains.specs.Tasks.{TasksData}
-use Rattle.task_chains.specs.Starting.{block_word, upper_area, lower_area, IsReady}
+use Rattle.task_chains.specs.TaskStarts.{block_word, upper_area, lower_area, IsReady}
 use Rattle.task_chains.proofs.Twins.{SameContexts-kept}
 use Rattle.task_chains.proofs.Invariant.{Waits, ready, paused}
 

@@ -5,7 +5,7 @@ use Rattle.tcd_plan.specs.PlanData.{PlanData, IsPlan}
 use Rattle.tcd_plan.specs.Regions.{IsStoreInRange}
 use Rattle.task_chains.specs.Tasks.{TasksData, AreTasks, count, routine_size}
 use Rattle.task_chains.specs.Views.{view_image_of, view_plan_of, FitPlan}
-use Rattle.task_chains.specs.Safe.{MissesBlock}
+use Rattle.task_chains.specs.SafeTasks.{MissesBlock}
 
 -- the plan of a view is a plan
 abbrev pub ViewsArePlans : Type 0

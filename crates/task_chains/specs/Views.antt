@@ -7,7 +7,7 @@ use Rattle.tcd_plan.specs.PlanData.{PlanData}
 use Rattle.tcd_plan.specs.Cutting.{ranges_without}
 use Rattle.tcd_base.specs.Ranges.{IsInOne}
 use Rattle.task_chains.specs.Tasks.{TasksData, task_at, block_size, routine_size}
-use Rattle.task_chains.specs.Routine.{view_routine_bytes}
+use Rattle.task_chains.specs.SwitchRoutine.{view_routine_bytes}
 
 -- ---- the image
 -- the address is in the routine

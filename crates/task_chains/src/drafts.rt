@@ -3,7 +3,7 @@ ghost use Rattle.std.specs.Prelude.{◌≡◌, ◌≤◌, ◌<◌, ◌+◌, ◌^
 ghost use Rattle.std.specs.Option.{option_or};
 ghost use Rattle.tcd_text.specs.Lines.{lines_of};
 ghost use Rattle.task_chains.specs.declared.task_lists.TasksErr.TheVariants.{BadLine};
-ghost use Rattle.task_chains.specs.Reading.{IsFirstBad, IsDraft, TakesLine, IsLineBad};
+ghost use Rattle.task_chains.specs.TaskListText.{IsFirstBad, IsDraft, TakesLine, IsLineBad};
 
 use crate::lines::{Places, places_in, task_in};
 use crate::{Task, TasksErr};

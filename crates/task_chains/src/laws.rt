@@ -1,9 +1,9 @@
 // Laws of the views of tasks, and of all tasks together.
-ghost use Rattle.task_chains.specs.Growing.{TaskFaultsGrow, TaskFaultsRefute};
-ghost use Rattle.task_chains.specs.Guards.{EveryTaskIsReady, EveryPlanFits, EveryTasksStart};
-ghost use Rattle.task_chains.specs.Reading.{ReadsOne};
-ghost use Rattle.task_chains.specs.Safe.{TasksAreSafe};
-ghost use Rattle.task_chains.specs.SafeWords.{SafeTasksSay, PartsAreSafe};
+ghost use Rattle.task_chains.specs.Rule17Growth.{TaskFaultsGrow, TaskFaultsRefute};
+ghost use Rattle.task_chains.specs.TaskGuardLaws.{EveryTaskIsReady, EveryPlanFits, EveryTasksStart};
+ghost use Rattle.task_chains.specs.TaskListText.{ReadsOne};
+ghost use Rattle.task_chains.specs.SafeTasks.{TasksAreSafe};
+ghost use Rattle.task_chains.specs.SafeTasksInWords.{SafeTasksSay, PartsAreSafe};
 ghost use Rattle.task_chains.specs.ViewLaws.{ViewStoresMiss, ViewsArePlans, ViewsKeepBytes};
 
 /// The plan of a view is a plan. Its stores are in range of the tasks' plan, and miss the block.

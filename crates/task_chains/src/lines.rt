@@ -1,7 +1,7 @@
 // Lines of a text of tasks.
 ghost use Rattle.std.specs.Prelude.{◌≡◌, ◌%◌, [], ◌∷◌, IfSome};
 ghost use Rattle.tcd_text.specs.Lines.{words_of};
-ghost use Rattle.task_chains.specs.Reading.{pair_of_words, places_of, task_of};
+ghost use Rattle.task_chains.specs.TaskListText.{pair_of_words, places_of, task_of};
 
 use crate::Task;
 use tcd_text::{Words, hex_number, words_in};
@@ -14,7 +14,7 @@ pub struct Places {
 }
 
 // Returns the two numbers of a line's three words, if the first is the line's name.
-#[tactic(auto, unfolding(crate::specs::Reading::pair_of_words))]
+#[tactic(auto, unfolding(crate::specs::TaskListText::pair_of_words))]
 fn pair_of_words(name: &[u8], word: &[u8], x: &[u8], y: &[u8]) -> Option<(u32, u32)>
     ensures { result ≡ pair_of_words name.now (word.now ∷ x.now ∷ y.now ∷ []) }
 {
@@ -27,7 +27,7 @@ fn pair_of_words(name: &[u8], word: &[u8], x: &[u8], y: &[u8]) -> Option<(u32, u
 }
 
 // Returns the two numbers of a line that begins with this name.
-#[tactic(auto, using(crate::proofs::LineForms::more), unfolding(crate::specs::Reading::pair_of_words))]
+#[tactic(auto, using(crate::proofs::LineForms::more), unfolding(crate::specs::TaskListText::pair_of_words))]
 fn pair_in(name: &[u8], line: &[u8]) -> Option<(u32, u32)>
     ensures { result ≡ pair_of_words name.now (words_of line.now) }
 {

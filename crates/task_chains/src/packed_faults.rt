@@ -1,8 +1,8 @@
 // Rule 17 at each point of a view's certificate on the bytes of its file.
 ghost use Rattle.std.specs.Prelude.{All, IfNone, IfSome};
 ghost use Rattle.value_domain.specs.State.{AreValues};
-ghost use Rattle.cfg_recover.specs.Accepting.{Accepts};
-ghost use Rattle.task_chains.specs.Apart.{KeepsApart, IsTaskFault, HoldsApartIn, IsNodeFault};
+ghost use Rattle.cfg_recover.specs.RulesHoldOrFail.{Accepts};
+ghost use Rattle.task_chains.specs.Rule17.{KeepsApart, IsTaskFault, HoldsApartIn, IsNodeFault};
 
 use crate::Tasks;
 use crate::rule_17::{Rule, holds_apart};

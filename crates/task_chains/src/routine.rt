@@ -1,8 +1,8 @@
 // The bytes of the switch routine and of a view's, and the test that an image has the routine.
-ghost use Rattle.std.specs.Prelude.{◌≡◌, ◌≤◌, ◌<◌, ◌+◌, ◌*◌, ◌/◌, ◌%◌, ◌^◌, length, ◌↔◌, IsTrue, IfNone, IfSome, slice_index};
+ghost use Rattle.std.specs.Prelude.{◌≡◌, ◌≤◌, ◌<◌, ◌+◌, ◌*◌, ◌/◌, ◌%◌, ◌^◌, ◌↔◌, IsTrue, IfNone, IfSome, slice_index, ◌-◌, ℕ};
 ghost use Rattle.std.specs.List.{flat_map};
-ghost use Rattle.tc_isa.specs.Spelling.{four_bytes};
-ghost use Rattle.task_chains.specs.Routine.{hi, lo, routine_of, view_routine_of, bytes_of, routine_bytes, view_routine_bytes, HasRoutineByte, HasRoutine, IsRoutineFault};
+ghost use Rattle.tcd_base.specs.Bytes.{four_bytes};
+ghost use Rattle.task_chains.specs.SwitchRoutine.{hi, lo, routine_of, bytes_of, routine_bytes, HasRoutineByte, HasRoutine, IsRoutineFault};
 ghost use Rattle.tcd_base.specs.Ranges.{IsInOne};
 
 use crate::Tasks;
@@ -15,7 +15,7 @@ use tcd_plan::Plan;
 pub(crate) const ROUTINE_BYTES: u32 = 72;
 
 /// Returns the upper half of an address, plus one if the lower half is negative as a signed number.
-fn upper_half(x: u32) -> u32
+pub(crate) fn upper_half(x: u32) -> u32
     ensures is { result ≡ hi x }
     ensures small { result < 2 ^ 16 }
 {
@@ -23,7 +23,7 @@ fn upper_half(x: u32) -> u32
 }
 
 /// Returns the bits of a 16-bit offset in the word of an instruction `lea.l`, `ld.w.l` or `st.w.l`.
-fn offset_bits(k: u32) -> u32
+pub(crate) fn offset_bits(k: u32) -> u32
     requires { k < 2 ^ 16 }
     ensures { result ≡ k / 64 % 16 * 2 ^ 28 + k / 1024 * 2 ^ 22 + k % 64 * 2 ^ 16 }
 {
@@ -60,35 +60,6 @@ fn routine_words(n: u32, b: u32) -> [u32; 18]
     ]
 }
 
-/// Returns the words that a view has instead.
-fn view_words(n: u32, b: u32) -> [u32; 18]
-    requires { n ≤ 7 }
-    ensures { flat_map four_bytes result ≡ bytes_of (view_routine_of n b) }
-{
-    let upper = upper_half(b);
-    let lower = offset_bits(b % 0x1_0000);
-    [
-        0x0340_000D, // disable
-        0x0200_000D, // svlcx
-        0x2000_0091 + upper * 0x1000, // movh.a a2, hi(b)
-        0x0000_22D9 + lower, // lea.l a2, [a2]lo(b)
-        0x0000_004D, // mfcr d0, 0
-        0x3602_2001, // addsc.a a3, a2, d0, 2
-        0x1000_004D, // mfcr d1, 0
-        0x0000_000D, // nop
-        0x0000_101B, // addi d0, d0, 1
-        0x8004_00DF + n * 0x1000, // jne d0, n, .+8
-        0x0000_003B, // mov d0, 0
-        0x0000_000D, // nop
-        0x3602_2001, // addsc.a a3, a2, d0, 2
-        0x1000_004D, // mfcr d1, 0
-        0x0000_000D, // nop
-        0x04C0_000D, // isync
-        0x0240_000D, // rslcx
-        0x0180_000D, // ret
-    ]
-}
-
 /// Returns the bytes of a word, the lowest first.
 fn bytes_of_word(w: u32) -> [u8; 4]
     ensures { result ≡ four_bytes w }
@@ -102,7 +73,7 @@ fn bytes_of_word(w: u32) -> [u8; 4]
 }
 
 /// Returns the bytes of the words, one word after another.
-fn bytes_of_words(words: &[u32; 18]) -> [u8; 72]
+pub(crate) fn bytes_of_words(words: &[u32; 18]) -> [u8; 72]
     ensures { result ≡ flat_map four_bytes words.now }
 {
     let mut bytes = ArrayVec::new();
@@ -120,13 +91,6 @@ pub(crate) fn routine(tasks: &Tasks) -> [u8; 72]
     ensures { result ≡ routine_bytes tasks.now }
 {
     bytes_of_words(&routine_words(tasks.list.len() as u32, tasks.block))
-}
-
-/// Returns the bytes that their views have instead of the routine.
-pub(crate) fn view_routine(tasks: &Tasks) -> [u8; 72]
-    ensures { result ≡ view_routine_bytes tasks.now }
-{
-    bytes_of_words(&view_words(tasks.list.len() as u32, tasks.block))
 }
 
 /// Returns whether the `n` addresses from `x` on are inside one rom range.
@@ -165,4 +129,15 @@ pub fn routine_fault(image: &Image, plan: &Plan, tasks: &Tasks) -> Option<u32>
         i += 1;
     }
     None
+}
+
+/// Returns whether an address is that of one of the routine's instructions.
+pub(crate) fn is_routine_step(tasks: &Tasks, addr: u32) -> bool
+    ensures { IsTrue result ↔ ((i : ℕ) × (i < 18) × (addr ≡ tasks.now.switch + 4 * i)) }
+{
+    if addr < tasks.switch {
+        return false;
+    }
+    let offset = addr - tasks.switch;
+    offset < ROUTINE_BYTES && offset % 4 == 0
 }

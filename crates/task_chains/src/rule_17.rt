@@ -1,15 +1,15 @@
 // Rule 17: the test at a point of a view's certificate.
 ghost use Rattle.std.specs.Prelude.{◌↔◌, IsTrue, ◌≡◌, ◌≤◌, ◌<◌, ◌+◌, ◌-◌, ◌*◌, ◌/◌, ◌^◌, ℕ};
 ghost use Rattle.value_domain.specs.State.{AreValues};
-ghost use Rattle.task_chains.specs.Apart.{HoldsApartIn, AllMiss, LoadsElsewhere, ReadsNoLink, IsNoBisr, StaysApart, HasBetween, IsPlaceApart};
-ghost use Rattle.tc_isa.specs.Bounded.{IsShape};
+ghost use Rattle.task_chains.specs.Rule17.{HoldsApartIn, AllMiss, LoadsElsewhere, ReadsNoLink, IsNoBisr, StaysApart, HasBetween, IsPlaceApart};
+ghost use Rattle.tc_isa.specs.InBounds.{IsShape};
 ghost use Rattle.value_domain.specs.Sets.{Among};
 ghost use Rattle.value_domain.specs.Values.{IsWell};
 ghost use Rattle.store_ranges.specs.Accesses.{IsSize};
-ghost use Rattle.task_chains.specs.Routine.{switch_key};
+ghost use Rattle.task_chains.specs.SwitchRoutine.{switch_key};
 
 use crate::Tasks;
-use crate::routine::ROUTINE_BYTES;
+use crate::routine::{ROUTINE_BYTES, is_routine_step};
 use cfg_recover::KnownCodes;
 use depth_cert::{CALL, Key};
 use elf_image::Image;
@@ -153,17 +153,6 @@ fn key_of_switch(tasks: &Tasks) -> Key
         prio: 0,
         is: false,
     }
-}
-
-/// Returns whether an address is that of one of the routine's instructions.
-fn is_routine_step(tasks: &Tasks, addr: u32) -> bool
-    ensures { IsTrue result ↔ ((i : ℕ) × (i < 18) × (addr ≡ tasks.now.switch + 4 * i)) }
-{
-    if addr < tasks.switch {
-        return false;
-    }
-    let offset = addr - tasks.switch;
-    offset < ROUTINE_BYTES && offset % 4 == 0
 }
 
 /// Returns whether a frame can have a point at an address: the routine's frame only at the

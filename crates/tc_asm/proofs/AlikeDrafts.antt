@@ -6,21 +6,19 @@ use Rattle.std.specs.Str.{bytes_eq}
 use Rattle.std.proofs.lemmas.List.{length-map, length-replicate, map-append, get_or-map, take_all}
 use Rattle.std.proofs.lemmas.List.Sums.{fold_more}
 use Rattle.tc_isa.specs.declared.fields.Fields.{Fields}
-use Rattle.tc_isa.specs.Rows.{RowData, listed}
-use Rattle.tc_isa.specs.ValidRows.{is_long}
+use Rattle.tc_isa.specs.Rows.{RowData, listed, is_long}
 use Rattle.tc_isa.specs.Relocations.{is_reloc}
 use Rattle.tc_stmt.specs.Names.{is_name}
-use Rattle.tc_stmt.specs.RowFields.{ReferenceData}
+use Rattle.tc_stmt.specs.Items.{ReferenceData, ItemData, item_of, label, section, global, code, bytes, zeros}
 use Rattle.tc_lex.proofs.Mapped.{position-map}
 use Rattle.tc_asm.specs.declared.symbols.Place.{Place}
 use Rattle.tc_stmt.specs.declared.item.Item.{Item}
-use Rattle.tc_stmt.specs.Items.{ItemData, item_of, label, section, global, code, bytes, zeros}
 use Rattle.tc_stmt.specs.Lines.{lines_in, items_in}
 use Rattle.tc_asm.specs.Symbols.{SymbolData, seen, labelled, made_global}
 use Rattle.tc_asm.specs.Drafts.{PartData, DraftData, part, start, place_of, has_section, has_room, here, with_label, number_of_part, entered, with_global, extended, with_bytes, used, with_use, with_reference, with_content, code_bytes, stepped}
-use Rattle.tc_asm.specs.Sources.{symbols_of, symbols_in}
-use Rattle.tc_asm.specs.Added.{IsCode, IsItem}
-use Rattle.tc_asm.specs.Alike.{SizeData, size_of, Alike, code_size}
+use Rattle.tc_asm.specs.DraftedSources.{symbols_of, symbols_in}
+use Rattle.tc_asm.specs.AddedItems.{IsCode, IsItem}
+use Rattle.tc_asm.specs.AlikeDrafts.{SizeData, size_of, Alike, code_size}
 use Rattle.tc_asm.specs.DraftInvariants.{Each, size_at}
 use Rattle.tc_stmt.proofs.Cases.{by_test}
 use Rattle.tc_asm.proofs.ListLaws.{changed, changed-set, size_at-get}

@@ -10,7 +10,7 @@ use Rattle.tc_isa.specs.Rows.{RowData, row_of, listed}
 use Rattle.tc_isa.specs.ValidRows.{Fits}
 use Rattle.tc_isa.specs.Spelling.{spelling, Spells}
 use Rattle.tc_isa.specs.Insts.{InstData, IsInst}
-use Rattle.tc_stmt.specs.RowFields.{ReferenceData}
+use Rattle.tc_stmt.specs.Items.{ReferenceData}
 use Rattle.tc_asm.specs.Symbols.{SymbolData}
 use Rattle.tc_encode.specs.Decoding.{do_fit}
 use Rattle.tc_encode.proofs.Spelled.{fits_from, fits_true}

@@ -4,22 +4,22 @@ use Rattle.std.specs.Prelude.{slice_get}
 use Rattle.std.specs.Option.{option_map_or}
 use Rattle.std.proofs.lemmas.Bool.Decides.{Decides-eqb}
 use Rattle.tc_isa.specs.declared.fields.Fields.{Fields}
-use Rattle.tc_isa.specs.Rows.{RowData, listed}
-use Rattle.tc_isa.specs.ValidRows.{Fits, uses_of, is_apart, is_long}
+use Rattle.tc_isa.specs.Rows.{RowData, listed, is_long}
+use Rattle.tc_isa.specs.ValidRows.{Fits, uses_of, is_apart}
 use Rattle.tc_isa.specs.Spelling.{spelling_of, spelling, word_of}
-use Rattle.tc_stmt.specs.RowFields.{ReferenceData, RowFieldsData, set_field, with_rule}
+use Rattle.tc_stmt.specs.RowFields.{RowFieldsData, set_field, with_rule}
+use Rattle.tc_stmt.specs.Items.{ReferenceData, ItemData, code, bytes}
 use Rattle.tc_stmt.specs.Displacements.{displacement_rule, with_displacement}
-use Rattle.tc_stmt.specs.Items.{ItemData, code, bytes}
 use Rattle.tc_asm.specs.Symbols.{SymbolData}
 use Rattle.tc_asm.specs.Drafts.{DraftData, start, distance, found, jumped, targeted, spelled_code, resolved, code_bytes, stepped}
 use Rattle.tc_asm.specs.DraftInvariants.{Each}
 use Rattle.tc_stmt.specs.Lines.{lines_in, items_in}
-use Rattle.tc_asm.specs.Sources.{symbols_of}
+use Rattle.tc_asm.specs.DraftedSources.{symbols_of}
 use Rattle.tc_stmt.proofs.Cases.{by_test}
 use Rattle.tc_asm.specs.Statements.{is_open}
-use Rattle.tc_stmt.specs.Stated.{Symbols}
+use Rattle.tc_stmt.specs.StatedRows.{Symbols}
 use Rattle.tc_stmt.proofs.StatedRows.{Sound, sound_displaced}
-use Rattle.tc_asm.specs.Added.{IsCode, IsItem}
+use Rattle.tc_asm.specs.AddedItems.{IsCode, IsItem}
 pub use Rattle.tc_encode.proofs.Spelled.{fits_true}
 use Rattle.tc_asm.proofs.SourceItems.{source_are}
 use Rattle.tc_asm.proofs.Uses.{GoodItem, GoodItems}

@@ -11,7 +11,7 @@ use Rattle.tc_asm.specs.declared.sections.Part.{Part}
 use Rattle.tc_asm.specs.declared.sections.Use.{Use}
 use Rattle.tc_asm.specs.Symbols.{SymbolData}
 use Rattle.tc_asm.specs.Drafts.{PartData, DraftData, part_names}
-use Rattle.tc_asm.specs.Views.{use_of, part_of}
+use Rattle.tc_asm.specs.DraftViews.{use_of, part_of}
 use Rattle.tc_asm.specs.DraftInvariants.{Each, IsNew, symbol_names, size_at, IsPlaced, IsSmall, Spaced, IsPart, IsDraft}
 use Rattle.tc_asm.proofs.ListLaws.{each_weaker, spaced_end, all_from_each}
 

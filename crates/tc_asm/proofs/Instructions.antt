@@ -3,19 +3,18 @@ use Rattle.std.proofs.Common.{◌≡◌, ◌≤◌, ◌+◌, ◌&&◌, ◌++◌,
 use Rattle.std.proofs.lemmas.Bool.{and_from}
 use Rattle.std.specs.Prelude.{slice_get, fold}
 use Rattle.tc_isa.specs.declared.fields.Fields.{Fields}
-use Rattle.tc_stmt.specs.RowFields.{ReferenceData}
-use Rattle.tc_stmt.specs.Items.{ItemData, code}
+use Rattle.tc_stmt.specs.Items.{ReferenceData, ItemData, code}
 use Rattle.tc_stmt.specs.Lines.{lines_in}
 use Rattle.tc_asm.specs.Symbols.{SymbolData}
 use Rattle.tc_asm.specs.Drafts.{DraftData, start, has_section, has_room, resolved, code_bytes, stepped}
 use Rattle.tc_asm.specs.Rules.{section_rule, bytes_room, reference_rule, content_rule, item_rule, items_rule}
-use Rattle.tc_asm.specs.Sources.{symbols_of}
+use Rattle.tc_asm.specs.DraftedSources.{symbols_of}
 use Rattle.tc_asm.specs.DraftInvariants.{Each}
 use Rattle.tc_asm.specs.Statements.{StatementData, statement, standing, statements_from}
 use Rattle.tc_asm.specs.InstructionLaws.{Spells, InstructionsLaw}
 use Rattle.tc_stmt.proofs.ListItems.{get_behind}
 use Rattle.tc_asm.proofs.Uses.{statements-append, fits, fits_too, then_fifteen}
-use Rattle.tc_asm.specs.Added.{IsCode, IsItem}
+use Rattle.tc_asm.specs.AddedItems.{IsCode, IsItem}
 use Rattle.tc_asm.proofs.SourceItems.{source_are}
 use Rattle.tc_asm.proofs.SourceDrafts.{source_items}
 use Rattle.tc_asm.proofs.CodeSizes.{resolved_fits}

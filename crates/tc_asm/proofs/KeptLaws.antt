@@ -11,16 +11,14 @@ use Rattle.std.proofs.lemmas.Bool.Decides.{Decides-eqb}
 use Rattle.tc_object.specs.Names.{name_of, is_length}
 use Rattle.tc_object.specs.Names as object
 use Rattle.tc_stmt.specs.Names.{is_name}
-use Rattle.tc_stmt.specs.RowFields.{ReferenceData}
+use Rattle.tc_stmt.specs.Items.{ReferenceData, ItemData, label, section, global, code, bytes, zeros}
 use Rattle.tc_asm.specs.declared.symbols.Place.{Place}
 use Rattle.tc_asm.specs.declared.symbols.Entry.{Entry}
-use Rattle.tc_stmt.specs.Items.{ItemData, label, section, global, code, bytes, zeros}
 use Rattle.tc_stmt.specs.Lines.{LineData}
 use Rattle.tc_asm.specs.Symbols.{SymbolData, unseen, entry_in, entry_of, put_entry, place_in, seen, labelled, made_global}
 use Rattle.tc_isa.specs.Relocations.{is_reloc}
-use Rattle.tc_asm.specs.Drafts.{UseData, PartData, DraftData, part, start, place_of, has_section, has_room, here, with_label, number_of_part, entered, with_global, extended, with_bytes, used, with_use, with_reference, with_content, resolved, code_bytes, stepped, part_names}
+use Rattle.tc_asm.specs.Drafts.{UseData, PartData, DraftData, part, start, place_of, has_section, has_room, here, with_label, number_of_part, entered, with_global, extended, with_bytes, used, with_use, with_reference, with_content, resolved, code_bytes, stepped, part_names, with_line}
 use Rattle.tc_asm.specs.Rules.{label_rule, section_rule, name_rule, symbol_room, reloc_room, bytes_room, defined_rule, reference_rule, content_rule, item_rule, items_rule, line_rule}
-use Rattle.tc_asm.specs.Sources.{with_line}
 use Rattle.tc_asm.specs.DraftInvariants.{is_among, IsNew, AreNames, symbol_names, size_at, IsPlace, IsPlaced, IsUse, IsPart, IsDraft}
 use Rattle.tc_stmt.proofs.Cases.{by_test}
 use Rattle.tc_asm.proofs.ListLaws.{each_weaker, each_push, in_turn_push, among_push, among_last, names_put, each_put, entry_has, known_among, among_known, changed, changed-set, changed-changed, length-changed, names-changed, size-changed, each_changed, count-changed, size-push, size_at-get, spaced_longer, spaced_push, any_first}

@@ -7,22 +7,22 @@ use Rattle.std.proofs.lemmas.List.Sums.{fold_more}
 use Rattle.tc_isa.specs.declared.fields.Fields.{Fields}
 use Rattle.tc_isa.specs.Relocations.{is_reloc}
 use Rattle.tc_stmt.specs.Names.{is_name}
-use Rattle.tc_stmt.specs.RowFields.{ReferenceData, RowFieldsData}
+use Rattle.tc_stmt.specs.RowFields.{RowFieldsData}
+use Rattle.tc_stmt.specs.Items.{ReferenceData, ItemData, item_of, label, section, global, code, bytes, zeros}
 use Rattle.tc_stmt.specs.declared.item.Item.{Item}
-use Rattle.tc_stmt.specs.Items.{ItemData, item_of, label, section, global, code, bytes, zeros}
 use Rattle.tc_stmt.specs.Lines.{LineData, lines_in, items_in}
-use Rattle.tc_stmt.specs.Readings.{lines_of}
+use Rattle.tc_stmt.specs.LinesRead.{lines_of}
 use Rattle.tc_stmt.specs.declared.source.Line.{Line}
 use Rattle.tc_stmt.specs.declared.source.Source.{Source}
 use Rattle.tc_stmt.proofs.ReadLines.{length-lines_read}
-use Rattle.tc_asm.specs.Added.{IsItem}
-use Rattle.tc_asm.specs.Alike.{Alike}
+use Rattle.tc_asm.specs.AddedItems.{IsItem}
+use Rattle.tc_asm.specs.AlikeDrafts.{Alike}
 use Rattle.tc_asm.specs.DraftInvariants.{Each}
 use Rattle.tc_asm.specs.Symbols.{SymbolData, entry_in, place_in, seen, labelled, made_global}
-use Rattle.tc_asm.specs.Drafts.{UseData, DraftData, part, start, place_of, has_section, has_room, here, with_label, number_of_part, entered, with_global, extended, with_bytes, used, with_use, with_reference, with_content, distance, jumped, resolved, bytes_of, code_bytes, stepped}
-use Rattle.tc_asm.specs.Rules.{label_rule, section_rule, name_rule, symbol_room, reloc_room, bytes_room, defined_rule, content_rule, item_rule, items_rule, line_rule}
-use Rattle.tc_asm.specs.Sources.{with_line, drafted, symbols_of, symbols_in}
-use Rattle.tc_asm.specs.KnownSymbols.{nameless, kept, is_new, has_symbol_room, are_new, kept_rule}
+use Rattle.tc_asm.specs.Drafts.{UseData, DraftData, part, start, place_of, has_section, has_room, here, with_label, number_of_part, entered, with_global, extended, with_bytes, used, with_use, with_reference, with_content, distance, jumped, resolved, bytes_of, code_bytes, stepped, with_line, drafted}
+use Rattle.tc_asm.specs.Rules.{has_symbol_room, label_rule, section_rule, name_rule, symbol_room, reloc_room, bytes_room, defined_rule, content_rule, item_rule, items_rule, line_rule}
+use Rattle.tc_asm.specs.DraftedSources.{symbols_of, symbols_in}
+use Rattle.tc_asm.specs.KnownSymbols.{nameless, kept, is_new, are_new, kept_rule}
 use Rattle.tc_asm.proofs.CodeLaws.{found_far}
 use Rattle.tc_asm.proofs.AlikeDrafts.{alike_same, step_alike, passes_agree}
 use Rattle.tc_asm.proofs.SourceItems.{source_are}

@@ -11,11 +11,11 @@ use Rattle.tc_object.specs.declared.relocs.Reloc.{Reloc}
 use Rattle.tc_object.specs.Names.{IsName}
 use Rattle.tc_object.specs.Objects.{SectionData, InTurn, is_section_name, is_symbol_name, IsSection, IsSymbol, IsReloc, IsObject, is_behind, last_of}
 use Rattle.tc_object.specs.Objects as object
-use Rattle.tc_stmt.specs.RowFields.{ReferenceData}
+use Rattle.tc_stmt.specs.Items.{ReferenceData}
 use Rattle.tc_asm.specs.declared.symbols.Place.{Place}
-use Rattle.tc_asm.specs.Symbols.{SymbolData}
+use Rattle.tc_asm.specs.Symbols.{SymbolData, number_of}
 use Rattle.tc_asm.specs.Drafts.{UseData, PartData, DraftData, part_names, count_of}
-use Rattle.tc_asm.specs.Objects.{section_of, symbol_at, symbol_of, number_of, addend_of, reloc_of, relocs_from, object_of}
+use Rattle.tc_asm.specs.Objects.{section_of, symbol_at, symbol_of, addend_of, reloc_of, relocs_from, object_of}
 use Rattle.tc_asm.specs.DraftInvariants.{Each, is_among, IsNew, symbol_names, size_at, IsPlace, IsPlaced, Spaced, IsUse, IsPart, IsDraft}
 use Rattle.tc_asm.proofs.FinishLaws.{size_small}
 use Rattle.tc_asm.proofs.ListLaws.{each_weaker, any_first, position_first, spaced_end}

@@ -6,7 +6,7 @@ use Rattle.std.proofs.lemmas.List.{length-map, length-replicate, get_or-map, map
 use Rattle.std.proofs.lemmas.Option.{slice_get-get_or}
 use Rattle.tc_asm.specs.declared.sections.Part.{Part}
 use Rattle.tc_asm.specs.Drafts.{PartData, UseData, extended, used}
-use Rattle.tc_asm.specs.Views.{part_of}
+use Rattle.tc_asm.specs.DraftViews.{part_of}
 
 module _ (change : PartData → PartData) where
   changed-set : (parts : List Part) (i : ℕ) (d p : Part) → i < length parts → part_of p ≡ change (part_of (get_or parts i d))

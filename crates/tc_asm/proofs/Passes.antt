@@ -9,7 +9,7 @@ use Rattle.tc_stmt.specs.declared.item.Item.{Item}
 use Rattle.tc_stmt.specs.declared.source.Line.{Line}
 use Rattle.tc_stmt.specs.Items.{ItemData, item_of}
 use Rattle.tc_stmt.specs.Lines.{LineData, line_data, lines_in, items_in}
-use Rattle.tc_stmt.specs.Readings.{lines_read, lines_of}
+use Rattle.tc_stmt.specs.LinesRead.{lines_read, lines_of}
 use Rattle.tc_stmt.specs.declared.source.Source.{Source}
 use Rattle.tc_object.specs.Objects.{ObjectData}
 use Rattle.tc_asm.specs.declared.errors.AsmErr.{AsmErr}
@@ -17,9 +17,9 @@ use Rattle.tc_asm.specs.Errors.{IfBad}
 use Rattle.tc_asm.specs.Objects.{object_of}
 use Rattle.tc_asm.proofs.LaidLaws.{lines-items}
 use Rattle.tc_asm.specs.Symbols.{SymbolData}
-use Rattle.tc_asm.specs.Drafts.{DraftData, start, stepped}
+use Rattle.tc_asm.specs.Drafts.{DraftData, start, stepped, with_line, drafted}
 use Rattle.tc_asm.specs.Rules.{item_rule, items_rule, line_rule}
-use Rattle.tc_asm.specs.Sources.{with_line, drafted, rule_in, symbols_of, KeepsRules, IsLeast}
+use Rattle.tc_asm.specs.DraftedSources.{rule_in, symbols_of, KeepsRules, IsLeast}
 
 -- the line at a place, with the lines after it
 module _ (ls : List LineData) (i : ℕ) (x : LineData) (zs : List LineData) (here : drop i ls ≡ x ∷ zs) where

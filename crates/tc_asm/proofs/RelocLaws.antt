@@ -5,7 +5,7 @@ use Rattle.tc_object.specs.declared.relocs.Reloc.{Reloc}
 use Rattle.tc_asm.specs.declared.sections.Part.{Part}
 use Rattle.tc_asm.specs.Symbols.{SymbolData}
 use Rattle.tc_asm.specs.Drafts.{PartData}
-use Rattle.tc_asm.specs.Views.{part_of, use_of}
+use Rattle.tc_asm.specs.DraftViews.{part_of, use_of}
 use Rattle.tc_asm.specs.Objects.{reloc_of, relocs_from}
 
 module _ (ss : List SymbolData) (parts : List Part) (i : ℕ) where

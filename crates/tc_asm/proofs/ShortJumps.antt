@@ -7,30 +7,29 @@ use Rattle.std.proofs.lemmas.Bool.Decides.{Decides-eqb, nat_tests}
 use Rattle.tc_isa.specs.declared.fields.Fields.{Fields}
 use Rattle.tc_isa.specs.declared.table.Form.{Form}
 use Rattle.tc_isa.specs.declared.table.Form.TheVariants.{Sb, Sbr}
-use Rattle.tc_isa.specs.Rows.{RowData, listed}
+use Rattle.tc_isa.specs.Rows.{RowData, listed, is_long}
 use Rattle.tc_isa.specs.Forms.{bounds, form_index}
-use Rattle.tc_isa.specs.ValidRows.{is_long}
 use Rattle.tc_isa.specs.Arithmetic.{sign_extended}
 use Rattle.tc_isa.specs.Meanings.{doubled_displacement, ahead_only}
 use Rattle.tc_stmt.specs.declared.want.Field.TheVariants.{K}
-use Rattle.tc_stmt.specs.RowFields.{ReferenceData, RowFieldsData, with_rule, with_value, set_field}
+use Rattle.tc_stmt.specs.RowFields.{RowFieldsData, with_rule, with_value, set_field}
+use Rattle.tc_stmt.specs.Items.{ReferenceData, ItemData, label, section, code, bytes}
 use Rattle.tc_stmt.specs.Displacements.{is_far, is_odd, displacement_rule, with_displacement}
-use Rattle.tc_stmt.specs.Values.{wrap}
-use Rattle.tc_stmt.specs.Stated.{is_short_jump}
+use Rattle.tc_stmt.specs.OperandForms.{wrap}
+use Rattle.tc_stmt.specs.StatedRows.{is_short_jump}
 use Rattle.tc_asm.specs.declared.symbols.Place.{Place}
-use Rattle.tc_stmt.specs.Items.{ItemData, label, section, code, bytes}
 use Rattle.tc_stmt.specs.Lines.{lines_in, items_in}
 use Rattle.tc_asm.specs.Symbols.{SymbolData, place_in}
 use Rattle.tc_asm.specs.Drafts.{DraftData, start, has_section, place_of, distance, found, targeted, jumped, resolved, code_bytes, stepped}
 use Rattle.tc_asm.specs.Rules.{content_rule, item_rule, items_rule}
-use Rattle.tc_asm.specs.Sources.{symbols_of}
+use Rattle.tc_asm.specs.DraftedSources.{symbols_of}
 use Rattle.tc_asm.specs.DraftInvariants.{Each}
 use Rattle.tc_asm.specs.Objects.{addend_of}
 use Rattle.tc_asm.specs.Statements.{StatementData, statement, content_of}
 use Rattle.tc_asm.specs.InstructionLaws.{Spells}
 use Rattle.tc_asm.specs.ShortJumps.{displacement, ShortJumpsLaw}
 use Rattle.tc_asm.proofs.Uses.{fits}
-use Rattle.tc_asm.specs.Added.{IsCode, IsItem}
+use Rattle.tc_asm.specs.AddedItems.{IsCode, IsItem}
 use Rattle.tc_asm.proofs.SourceItems.{source_are}
 use Rattle.tc_asm.proofs.SourceDrafts.{source_items}
 use Rattle.tc_asm.proofs.AlikeDrafts.{passes_agree}

@@ -5,9 +5,9 @@ use Rattle.std.proofs.lemmas.List.Sums.{fold-append}
 use Rattle.tc_stmt.specs.Items.{ItemData}
 use Rattle.tc_stmt.specs.Lines.{LineData, lines_in, items_in}
 use Rattle.tc_asm.specs.Symbols.{SymbolData}
-use Rattle.tc_asm.specs.Drafts.{DraftData, start, stepped}
+use Rattle.tc_asm.specs.Drafts.{DraftData, start, stepped, with_line, drafted}
 use Rattle.tc_asm.specs.Rules.{item_rule, items_rule, line_rule}
-use Rattle.tc_asm.specs.Sources.{with_line, drafted, symbols_of, KeepsRules, draft_in}
+use Rattle.tc_asm.specs.DraftedSources.{symbols_of, KeepsRules, draft_in}
 use Rattle.tc_asm.specs.DraftInvariants.{IsDraft}
 use Rattle.tc_asm.proofs.KeptLaws.{IsDraft-start, IsDraft-line}
 use Rattle.tc_object.specs.Objects.{IsObject}

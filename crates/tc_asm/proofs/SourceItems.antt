@@ -8,21 +8,21 @@ use Rattle.std.proofs.lemmas.Bool.Decides.{Decides-eqb}
 use Rattle.tc_lex.specs.declared.kinds.Token.{Token}
 use Rattle.tc_lex.specs.declared.kinds.TokenKind.TheVariants as kind
 use Rattle.tc_lex.specs.Cut.{tokens_of}
-use Rattle.tc_isa.specs.Spelling.{four_bytes}
+use Rattle.tcd_base.specs.Bytes.{four_bytes}
 use Rattle.tc_stmt.specs.Names.{is_name}
 use Rattle.tc_lex.specs.Pieces.{PieceData, is_kind, text_at}
 use Rattle.tc_lex.specs.Operands.{OperandData, operands}
-use Rattle.tc_stmt.specs.RowFields.{ReferenceData, RowFieldsData}
+use Rattle.tc_stmt.specs.RowFields.{RowFieldsData}
+use Rattle.tc_stmt.specs.Items.{ReferenceData, ItemData, section, global, bytes, zeros}
 use Rattle.tc_stmt.specs.Filling.{symbol_rule, reference}
-use Rattle.tc_stmt.specs.Values.{shape_index, is_symbol, is_half, wrap, fits_width}
+use Rattle.tc_stmt.specs.OperandForms.{shape_index, is_symbol, is_half, wrap, fits_width}
 use Rattle.tc_stmt.specs.StatementRow.{statement}
-use Rattle.tc_stmt.specs.Items.{ItemData, section, global, bytes, zeros}
 use Rattle.tc_stmt.specs.DataDirectives.{value_rule, value_item, space_item}
 use Rattle.tc_stmt.specs.Lines.{LineData, line_data, word_of, named_line, space_line, values_line, code_line, stated_line, line_from, pieces_line, piece_in, label_of, label_before, cut_line, line_in, lines_in, items_in}
-use Rattle.tc_asm.specs.Added.{IsData, IsItem}
+use Rattle.tc_asm.specs.AddedItems.{IsData, IsItem}
 use Rattle.tc_asm.specs.DraftInvariants.{Each}
 use Rattle.tc_stmt.proofs.Cases.{by_test}
-use Rattle.tc_stmt.specs.Stated.{IsStated}
+use Rattle.tc_stmt.specs.StatedRows.{IsStated}
 use Rattle.tc_stmt.proofs.StatedRows.{stated}
 
 -- ---- a line

@@ -6,7 +6,7 @@ use Rattle.tc_stmt.specs.Items.{ItemData, code, bytes, zeros}
 use Rattle.tc_stmt.specs.Lines.{lines_in, items_in}
 use Rattle.tc_asm.specs.Symbols.{SymbolData}
 use Rattle.tc_asm.specs.Drafts.{PartData, DraftData, start, stepped, part_names}
-use Rattle.tc_asm.specs.Sources.{symbols_of, draft_in}
+use Rattle.tc_asm.specs.DraftedSources.{symbols_of, draft_in}
 use Rattle.tc_asm.specs.Rules.{items_rule}
 use Rattle.tc_asm.specs.Objects.{section_of}
 use Rattle.tc_asm.specs.Statements.{StatementData, content_of, standing, statements_from, section_bytes, bytes_at, statements_in, sections_from, sections_in}

@@ -2,14 +2,14 @@
 use Rattle.std.proofs.Common.{◌≡◌, ◌+◌, ◌==◌, ◌++◌, ℕ, suc, Bool, true, false, cond, List, [], ◌∷◌, length, map, Option, Some, None, refl, sym, ap, ◌∙◌, arith}
 use Rattle.std.specs.Prelude.{slice_get}
 use Rattle.std.proofs.lemmas.List.{map-append}
-use Rattle.tc_stmt.specs.RowFields.{ReferenceData}
+use Rattle.tc_stmt.specs.Items.{ReferenceData}
 use Rattle.tc_object.specs.declared.relocs.Reloc.{Reloc}
-use Rattle.tc_asm.specs.Symbols.{SymbolData}
+use Rattle.tc_asm.specs.Symbols.{SymbolData, number_of}
 use Rattle.tc_asm.specs.Drafts.{UseData, PartData, part_names}
-use Rattle.tc_asm.specs.Objects.{number_of, addend_of, reloc_of, relocs_from}
+use Rattle.tc_asm.specs.Objects.{addend_of, reloc_of, relocs_from, reloc_at, ObjectSectionsLaw}
 use Rattle.tc_asm.specs.Statements.{StatementData, statements_in, is_open}
-use Rattle.tc_asm.specs.Sources.{draft_in, symbols_in}
-use Rattle.tc_asm.specs.RelocationLaws.{reloc_at, relocs_behind, relocs_of, ObjectSectionsLaw, RelocationsLaw}
+use Rattle.tc_asm.specs.DraftedSources.{draft_in, symbols_in}
+use Rattle.tc_asm.specs.RelocationLaws.{relocs_behind, relocs_of, RelocationsLaw}
 use Rattle.tc_asm.proofs.Uses.{use_at, uses_from}
 use Rattle.tc_asm.proofs.CodeSizes.{source_good}
 use Rattle.tc_asm.proofs.SourceParts.{part_is, sections_are}

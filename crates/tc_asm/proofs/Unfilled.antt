@@ -7,21 +7,19 @@ use Rattle.tc_isa.specs.declared.fields.Fields.{Fields}
 use Rattle.tc_isa.specs.Rows.{RowData, listed}
 use Rattle.tc_isa.specs.Spelling.{spelling}
 use Rattle.tc_isa.specs.Relocations.{is_reloc}
-use Rattle.tc_reloc.specs.Fields.{room_of, rest_of, spread_of}
-use Rattle.tc_reloc.specs.Applied.{with_field}
+use Rattle.tc_reloc.specs.Fields.{room_of, rest_of, spread_of, with_field}
 use Rattle.tc_reloc.proofs.FilledRows.{written_law}
-use Rattle.tc_stmt.specs.RowFields.{ReferenceData}
+use Rattle.tc_stmt.specs.Items.{ReferenceData, ItemData, section, code, bytes}
 use Rattle.tc_stmt.proofs.Cases.{by_test}
-use Rattle.tc_stmt.specs.Items.{ItemData, section, code, bytes}
 use Rattle.tc_stmt.specs.Lines.{lines_in, items_in}
 use Rattle.tc_asm.specs.Symbols.{SymbolData}
 use Rattle.tc_asm.specs.Drafts.{DraftData, start, found, targeted, jumped, spelled_code, resolved, code_bytes, stepped}
-use Rattle.tc_asm.specs.Sources.{symbols_of}
+use Rattle.tc_asm.specs.DraftedSources.{symbols_of}
 use Rattle.tc_asm.specs.DraftInvariants.{Each}
 use Rattle.tc_asm.specs.Statements.{StatementData, statement, content_of}
 use Rattle.tc_asm.specs.RelocationLaws.{UnfilledLaw}
 use Rattle.tc_asm.specs.InstructionLaws.{is_resolved}
-use Rattle.tc_asm.specs.Added.{IsCode, IsItem}
+use Rattle.tc_asm.specs.AddedItems.{IsCode, IsItem}
 use Rattle.tc_asm.proofs.SourceItems.{source_are}
 use Rattle.tc_asm.proofs.CodeSizes.{fits_true, resolved_fits}
 use Rattle.tc_asm.proofs.StatementItems.{item_at, each_there}

@@ -7,19 +7,17 @@ use Rattle.std.proofs.lemmas.Bool.Decides.{Decides-eqb}
 use Rattle.std.proofs.lemmas.List.{length-append}
 use Rattle.std.proofs.lemmas.List.Sums.{fold-append}
 use Rattle.tc_stmt.specs.Names.{is_name}
-use Rattle.tc_stmt.specs.RowFields.{ReferenceData}
-use Rattle.tc_stmt.specs.Items.{ItemData, label, section, global, code, bytes, zeros}
+use Rattle.tc_stmt.specs.Items.{ReferenceData, ItemData, label, section, global, code, bytes, zeros}
 use Rattle.tc_asm.specs.Symbols.{SymbolData, seen}
-use Rattle.tc_asm.specs.Drafts.{UseData, PartData, DraftData, part, start, place_of, has_section, has_room, with_label, number_of_part, entered, with_global, extended, with_bytes, used, with_use, with_reference, with_content, code_bytes, stepped}
+use Rattle.tc_asm.specs.Drafts.{UseData, PartData, DraftData, part, start, place_of, has_section, has_room, with_label, number_of_part, entered, with_global, extended, with_bytes, used, with_use, with_reference, with_content, code_bytes, stepped, with_line}
 use Rattle.tc_isa.specs.Relocations.{is_reloc}
 use Rattle.tc_asm.specs.Rules.{section_rule, bytes_room, symbol_room, reloc_room, reference_rule, content_rule, item_rule, items_rule}
-use Rattle.tc_asm.specs.Sources.{with_line}
 use Rattle.tc_asm.specs.DraftInvariants.{size_at}
 use Rattle.tc_asm.specs.Statements.{StatementData, statement, content_of, standing, statements_from, section_bytes, bytes_at, is_open}
 use Rattle.tc_stmt.proofs.Cases.{by_test}
 use Rattle.tc_asm.proofs.ListLaws.{changed, changed-set, size_at-get}
 use Rattle.tc_asm.proofs.LaidLaws.{drafted-bytes}
-use Rattle.tc_asm.specs.Added.{IsGood}
+use Rattle.tc_asm.specs.AddedItems.{IsGood}
 
 -- ---- statements and their uses
 -- the use of a statement with these bytes at this offset

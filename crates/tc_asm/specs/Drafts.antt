@@ -1,5 +1,5 @@
 -- The draft of an object, as the lines of a source build it.
-use Rattle.std.specs.Prelude.{ℕ, ◌+◌, ◌-◌, ◌^◌, ◌==◌, ◌&&◌, not, nat_lt, nat_le, Bool, true, false, if◌then◌else◌, List, ◌∷◌, ◌++◌, length, replicate, slice_get, slice_set, Option, Some, None, position, unwrap_or, map, sum_by, []}
+use Rattle.std.specs.Prelude.{ℕ, ◌+◌, ◌-◌, ◌^◌, ◌==◌, ◌&&◌, not, nat_lt, nat_le, Bool, true, false, if◌then◌else◌, List, ◌∷◌, ◌++◌, length, replicate, slice_get, slice_set, Option, Some, None, position, unwrap_or, map, sum_by, fold, []}
 use Rattle.std.specs.Option.{option_map_or}
 use Rattle.std.specs.Str.{bytes_eq}
 use Rattle.tc_stmt.specs.SourceRules.{no_rule, misplaced_symbol}
@@ -9,11 +9,12 @@ use Rattle.tc_isa.specs.Spelling.{spelling}
 use Rattle.tc_isa.specs.Relocations.{is_reloc}
 use Rattle.tc_encode.specs.Decoding.{do_fit}
 use Rattle.tc_stmt.specs.Names.{is_name}
-use Rattle.tc_stmt.specs.RowFields.{ReferenceData, RowFieldsData, with_rule}
+use Rattle.tc_stmt.specs.RowFields.{RowFieldsData, with_rule}
+use Rattle.tc_stmt.specs.Items.{ReferenceData, ItemData, label, section, global, code, bytes, zeros}
 use Rattle.tc_stmt.specs.Displacements.{with_displacement}
 use Rattle.tc_asm.specs.declared.symbols.Place.{Place}
-use Rattle.tc_stmt.specs.Items.{ItemData, label, section, global, code, bytes, zeros}
 use Rattle.tc_asm.specs.Symbols.{SymbolData, place_in, seen, labelled, made_global}
+use Rattle.tc_stmt.specs.Lines.{LineData}
 
 -- four bytes at an offset that wait for the value of a symbol
 pub record UseData : Type 0 where
@@ -173,3 +174,11 @@ part_names parts = map (λ (p : PartData). p.name) parts
 -- the number of uses of symbols in the sections
 abbrev pub count_of : List PartData → ℕ
 count_of parts = sum_by (λ (p : PartData). length p.uses) parts
+
+-- the draft after a further line
+unfoldable pub with_line : List SymbolData → DraftData → LineData → DraftData
+with_line labels d l = fold (stepped labels) d l.items
+
+-- the draft of these lines, given the symbols of the whole source
+abbrev pub drafted : List SymbolData → List LineData → DraftData
+drafted labels lines = fold (with_line labels) start lines

@@ -4,11 +4,10 @@ use Rattle.tc_isa.specs.declared.fields.Fields.{Fields}
 use Rattle.tc_isa.specs.Rows.{RowData, listed}
 use Rattle.tc_isa.specs.ValidRows.{Fits}
 use Rattle.tc_isa.specs.Spelling.{spelling}
-use Rattle.tc_stmt.specs.RowFields.{ReferenceData}
-use Rattle.tc_stmt.specs.Items.{ItemData, code}
+use Rattle.tc_stmt.specs.Items.{ReferenceData, ItemData, code}
 use Rattle.tc_stmt.specs.Lines.{lines_in, items_in}
 use Rattle.tc_asm.specs.Drafts.{start}
-use Rattle.tc_asm.specs.Sources.{symbols_of, KeepsRules}
+use Rattle.tc_asm.specs.DraftedSources.{symbols_of, KeepsRules}
 use Rattle.tc_asm.specs.Statements.{statement, statements_from, statements_in}
 
 -- the bytes spell an instruction of the listed row with this number, with fields that fit it

@@ -1,10 +1,10 @@
 -- The second pass over a source, if its symbols are known: it adds none to its draft.
-use Rattle.std.specs.Prelude.{ℕ, ◌&&◌, not, nat_lt, min, Bool, true, if◌then◌else◌, List, [], ◌∷◌, length, is_some}
+use Rattle.std.specs.Prelude.{ℕ, ◌&&◌, not, min, Bool, true, if◌then◌else◌, List, [], ◌∷◌, is_some}
 use Rattle.tc_stmt.specs.SourceRules.{no_rule}
 use Rattle.tc_stmt.specs.Items.{ItemData, label}
 use Rattle.tc_asm.specs.Symbols.{SymbolData, place_in}
 use Rattle.tc_asm.specs.Drafts.{DraftData, stepped}
-use Rattle.tc_asm.specs.Rules.{item_rule}
+use Rattle.tc_asm.specs.Rules.{has_symbol_room, item_rule}
 
 -- a draft without its symbols
 abbrev pub nameless : DraftData → DraftData
@@ -18,10 +18,6 @@ kept known d = if known then nameless d else d
 abbrev pub is_new : List SymbolData → ItemData → Bool
 is_new ss (label name) = not (is_some (place_in ss name))
 is_new ss i = true
-
--- there is room for one more symbol
-abbrev pub has_symbol_room : List SymbolData → Bool
-has_symbol_room ss = nat_lt (length ss) 65535
 
 -- each item after a draft has room for its symbol, and defines no label twice
 abbrev pub are_new : List SymbolData → DraftData → List ItemData → Bool

@@ -1,16 +1,16 @@
 -- Sources: the meaning of a line, the draft of all lines, their rules, and the object.
 pub mod Symbols
 pub mod Drafts
-pub mod Views
+pub mod DraftViews
 pub mod Rules
-pub mod Sources
+pub mod DraftedSources
 pub mod Objects
 pub mod DraftInvariants
 pub mod Errors
 pub mod Statements
 pub mod RelocationLaws
 pub mod InstructionLaws
-pub mod Added
-pub mod Alike
+pub mod AddedItems
+pub mod AlikeDrafts
 pub mod ShortJumps
 pub mod KnownSymbols

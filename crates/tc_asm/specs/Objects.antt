@@ -1,13 +1,14 @@
 -- The object of a draft.
-use Rattle.std.specs.Prelude.{ℕ, Bool, ◌+◌, ◌-◌, ◌%◌, ◌^◌, if◌then◌else◌, List, [], ◌∷◌, ◌++◌, map, Option, Some, None, position, unwrap_or}
-use Rattle.std.specs.Str.{bytes_eq}
+use Rattle.std.specs.Prelude.{ℕ, Bool, ◌+◌, ◌-◌, ◌%◌, ◌^◌, if◌then◌else◌, List, ◌∷◌, ◌++◌, map, Option, Some, None, ◌≡◌, []}
 use Rattle.tc_object.specs.Objects.{undefined_symbol, SectionData, ObjectData}
 use Rattle.tc_object.specs.Objects as object
 use Rattle.tc_object.specs.declared.relocs.Reloc.{Reloc}
-use Rattle.tc_stmt.specs.RowFields.{ReferenceData}
+use Rattle.tc_stmt.specs.Items.{ReferenceData}
 use Rattle.tc_asm.specs.declared.symbols.Place.{Place}
-use Rattle.tc_asm.specs.Symbols.{SymbolData}
+use Rattle.tc_asm.specs.Symbols.{SymbolData, number_of}
 use Rattle.tc_asm.specs.Drafts.{UseData, PartData, DraftData}
+use Rattle.tc_asm.specs.DraftedSources.{draft_in}
+use Rattle.tc_asm.specs.Statements.{sections_in, is_open}
 
 -- a section of the draft as one of the object
 abbrev pub section_of : PartData → SectionData
@@ -21,10 +22,6 @@ symbol_at name is_global (Some p) = record { name = name; kind = if is_global th
 -- a symbol of the draft as one of the object
 abbrev pub symbol_of : SymbolData → object.SymbolData
 symbol_of s = symbol_at s.name s.entry.is_global s.entry.place
-
--- the number of a symbol
-abbrev pub number_of : List SymbolData → List ℕ → ℕ
-number_of ss name = unwrap_or (position (λ s. bytes_eq name s.name) ss) 0
 
 -- the number added to a symbol, modulo 2^32
 abbrev pub addend_of : ReferenceData → ℕ
@@ -43,3 +40,16 @@ relocs_from ss section (p ∷ ps) = map (reloc_of ss section) p.uses ++ relocs_f
 -- places
 abbrev pub object_of : DraftData → ObjectData
 object_of d = record { sections = map section_of d.parts; symbols = map symbol_of d.symbols; relocs = relocs_from d.symbols 0 d.parts }
+
+-- the relocation of a statement in this section at this offset; none if it doesn't wait for an
+-- address
+abbrev pub reloc_at : List SymbolData → ℕ → ℕ → Option ReferenceData → List Reloc
+reloc_at symbols section offset None = []
+reloc_at symbols section offset (Some r) =
+    if is_open (Some r)
+    then record { section = section; offset = offset; kind = r.kind; symbol = number_of symbols r.name; addend = addend_of r } ∷ []
+    else []
+
+-- the sections of an object are those of the source
+abbrev pub ObjectSectionsLaw : Type 0
+ObjectSectionsLaw = (source : List ℕ) → (object_of (draft_in source)).sections ≡ sections_in source

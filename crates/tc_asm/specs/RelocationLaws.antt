@@ -1,23 +1,14 @@
 -- The relocations of a source's statements, and the laws of them.
-use Rattle.std.specs.Prelude.{◌≡◌, ◌+◌, ◌==◌, ◌++◌, ℕ, true, if◌then◌else◌, List, [], ◌∷◌, length, slice_get, Option, Some, None}
+use Rattle.std.specs.Prelude.{◌≡◌, ◌+◌, ◌==◌, ◌++◌, ℕ, true, if◌then◌else◌, List, ◌∷◌, length, slice_get, Some, []}
 use Rattle.tc_isa.specs.Relocations.{is_reloc}
-use Rattle.tc_reloc.specs.Applied.{with_field}
-use Rattle.tc_stmt.specs.RowFields.{ReferenceData}
+use Rattle.tc_reloc.specs.Fields.{with_field}
+use Rattle.tc_stmt.specs.Items.{ReferenceData}
 use Rattle.tc_object.specs.declared.relocs.Reloc.{Reloc}
 use Rattle.tc_stmt.specs.Lines.{lines_in}
 use Rattle.tc_asm.specs.Symbols.{SymbolData}
-use Rattle.tc_asm.specs.Sources.{KeepsRules, draft_in, symbols_in, names_in}
-use Rattle.tc_asm.specs.Objects.{number_of, addend_of, object_of}
-use Rattle.tc_asm.specs.Statements.{StatementData, statements_in, sections_in, is_open}
-
--- the relocation of a statement in this section at this offset; none if it doesn't wait for an
--- address
-abbrev pub reloc_at : List SymbolData → ℕ → ℕ → Option ReferenceData → List Reloc
-reloc_at symbols section offset None = []
-reloc_at symbols section offset (Some r) =
-    if is_open (Some r)
-    then record { section = section; offset = offset; kind = r.kind; symbol = number_of symbols r.name; addend = addend_of r } ∷ []
-    else []
+use Rattle.tc_asm.specs.DraftedSources.{KeepsRules, draft_in, symbols_in, names_in}
+use Rattle.tc_asm.specs.Objects.{object_of, reloc_at}
+use Rattle.tc_asm.specs.Statements.{StatementData, statements_in}
 
 -- the relocations of this section's statements, in order; the first of them is at this offset
 abbrev pub relocs_behind : List SymbolData → ℕ → ℕ → List StatementData → List Reloc
@@ -33,9 +24,6 @@ relocs_of symbols ts section [] = []
 relocs_of symbols ts section (name ∷ names) = relocs_behind symbols section 0 ts ++ relocs_of symbols ts (section + 1) names
 
 -- ---- laws
--- the sections of an object are those of the source
-abbrev pub ObjectSectionsLaw : Type 0
-ObjectSectionsLaw = (source : List ℕ) → (object_of (draft_in source)).sections ≡ sections_in source
 
 -- the relocations of an object are those of the statements that wait for addresses
 abbrev pub RelocationsLaw : Type 0

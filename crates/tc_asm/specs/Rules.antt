@@ -1,9 +1,8 @@
 -- The rules that depend on the earlier lines or on the whole source; 15 is none.
-use Rattle.std.specs.Prelude.{ℕ, ◌&&◌, ◌||◌, not, nat_lt, min, if◌then◌else◌, List, length, Option, Some, None, is_some, ◌∷◌, []}
+use Rattle.std.specs.Prelude.{ℕ, Bool, ◌&&◌, ◌||◌, not, nat_lt, min, if◌then◌else◌, List, length, Option, Some, None, is_some, ◌∷◌, []}
 use Rattle.tc_stmt.specs.SourceRules.{label_twice, no_rule, no_section, bad_name, past_limits, undefined_global}
 use Rattle.tc_stmt.specs.Names.{is_name}
-use Rattle.tc_stmt.specs.RowFields.{ReferenceData}
-use Rattle.tc_stmt.specs.Items.{ItemData, label, section, global, code, bytes, zeros}
+use Rattle.tc_stmt.specs.Items.{ReferenceData, ItemData, label, section, global, code, bytes, zeros}
 use Rattle.tc_asm.specs.Symbols.{SymbolData, entry_in, place_in}
 use Rattle.tc_isa.specs.Relocations.{is_reloc}
 use Rattle.tc_asm.specs.Drafts.{DraftData, has_section, has_room, number_of_part, resolved, code_bytes, stepped}
@@ -25,9 +24,13 @@ name_rule name = if is_name name then no_rule else bad_name
 abbrev pub section_room : DraftData → List ℕ → ℕ
 section_room d name = if nat_lt (number_of_part d.parts name) (length d.parts) || nat_lt (length d.parts) 64 then no_rule else past_limits
 
+-- there is room for one more symbol
+abbrev pub has_symbol_room : List SymbolData → Bool
+has_symbol_room ss = nat_lt (length ss) 65535
+
 -- 13: a 65,536th symbol
 abbrev pub symbol_room : DraftData → List ℕ → ℕ
-symbol_room d name = if is_some (entry_in d.symbols name) || nat_lt (length d.symbols) 65535 then no_rule else past_limits
+symbol_room d name = if is_some (entry_in d.symbols name) || has_symbol_room d.symbols then no_rule else past_limits
 
 -- 13: a 65,536th relocation
 abbrev pub reloc_room : DraftData → ReferenceData → ℕ

@@ -4,11 +4,11 @@ use Rattle.tc_isa.specs.declared.fields.Fields.{Fields}
 use Rattle.tc_isa.specs.Rows.{RowData}
 use Rattle.tc_isa.specs.Forms.{is_sbr}
 use Rattle.tc_isa.specs.Meanings.{doubled_displacement, ahead_only}
-use Rattle.tc_stmt.specs.RowFields.{ReferenceData}
+use Rattle.tc_stmt.specs.Items.{ReferenceData}
 use Rattle.tc_asm.specs.declared.symbols.Place.{Place}
 use Rattle.tc_stmt.specs.Lines.{lines_in}
 use Rattle.tc_asm.specs.Symbols.{place_in}
-use Rattle.tc_asm.specs.Sources.{KeepsRules, symbols_in}
+use Rattle.tc_asm.specs.DraftedSources.{KeepsRules, symbols_in}
 use Rattle.tc_asm.specs.Objects.{addend_of}
 use Rattle.tc_asm.specs.Statements.{StatementData, offset_of, statements_in}
 use Rattle.tc_asm.specs.InstructionLaws.{Spells}

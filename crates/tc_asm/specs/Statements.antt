@@ -1,12 +1,11 @@
 -- The statements of a source that have bytes, their offsets, and the sections that they make.
 use Rattle.std.specs.Prelude.{◌≡◌, ℕ, ◌==◌, ◌&&◌, if◌then◌else◌, zero, suc, List, ◌∷◌, ◌++◌, length, take, drop, replicate, slice_get, Option, Some, None, ◌+◌, Bool, false, []}
 use Rattle.std.specs.List.{flat_map}
-use Rattle.tc_stmt.specs.RowFields.{ReferenceData}
-use Rattle.tc_stmt.specs.Items.{ItemData, label, section, global, code, bytes, zeros}
+use Rattle.tc_stmt.specs.Items.{ReferenceData, ItemData, label, section, global, code, bytes, zeros}
 use Rattle.tc_stmt.specs.Lines.{LineData, items_in, lines_in}
 use Rattle.tc_asm.specs.Symbols.{SymbolData}
-use Rattle.tc_asm.specs.Drafts.{PartData, DraftData, start, has_section, has_room, code_bytes, stepped}
-use Rattle.tc_asm.specs.Sources.{drafted, symbols_of, names_in}
+use Rattle.tc_asm.specs.Drafts.{PartData, DraftData, start, has_section, has_room, code_bytes, stepped, drafted}
+use Rattle.tc_asm.specs.DraftedSources.{symbols_of, names_in}
 use Rattle.tc_isa.specs.Relocations.{is_reloc}
 use Rattle.tc_object.specs.Objects.{SectionData}
 

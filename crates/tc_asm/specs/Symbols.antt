@@ -1,5 +1,5 @@
 -- The table of symbols, in the order of first use.
-use Rattle.std.specs.Prelude.{ℕ, true, false, if◌then◌else◌, List, [], ◌∷◌, Option, Some, None, find, option_map, is_some, unwrap_or}
+use Rattle.std.specs.Prelude.{ℕ, true, false, if◌then◌else◌, List, ◌∷◌, Option, Some, None, find, option_map, is_some, unwrap_or, position, []}
 use Rattle.std.specs.Str.{bytes_eq}
 use Rattle.tc_asm.specs.declared.symbols.Place.{Place}
 use Rattle.tc_asm.specs.declared.symbols.Entry.{Entry}
@@ -53,3 +53,7 @@ labelled ss name place = put_entry ss name (with_label_at (entry_of ss name) pla
 -- the table after a name is made global
 unfoldable pub made_global : List SymbolData → List ℕ → List SymbolData
 made_global ss name = put_entry ss name (record (entry_of ss name) { is_global = true })
+
+-- the number of a symbol
+abbrev pub number_of : List SymbolData → List ℕ → ℕ
+number_of ss name = unwrap_or (position (λ s. bytes_eq name s.name) ss) 0

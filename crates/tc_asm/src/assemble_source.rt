@@ -2,18 +2,19 @@
 ghost use Rattle.std.specs.Prelude.{◌≡◌, ◌≤◌, ◌<◌, ◌^◌, ◌&&◌, if◌then◌else◌, All, true, map, length, min, IfOk, OnOk, IfErr, fold, take, drop, []};
 ghost use Rattle.tc_stmt.specs.Items.{item_of};
 ghost use Rattle.tc_stmt.specs.Lines.{line_data, lines_in, items_in};
-ghost use Rattle.tc_asm.specs.Added.{IsItem};
-ghost use Rattle.tc_asm.specs.Drafts.{start, stepped};
-ghost use Rattle.tc_asm.specs.Sources.{with_line, drafted, symbols_of as symbols_in, KeepsRules, IsLeast};
+ghost use Rattle.tc_asm.specs.AddedItems.{IsItem};
+ghost use Rattle.tc_asm.specs.Drafts.{start, stepped, with_line, drafted};
+ghost use Rattle.tc_asm.specs.DraftedSources.{symbols_of as symbols_in, KeepsRules, IsLeast};
 ghost use Rattle.tc_asm.specs.KnownSymbols.{kept, kept_rule, are_new};
 ghost use Rattle.tc_asm.specs.Objects.{object_of};
 ghost use Rattle.tc_asm.specs.Errors.{IfBad};
 ghost use Rattle.tc_asm.specs.DraftInvariants.{IsDraft};
-ghost use Rattle.tc_stmt.specs.Readings.{lines_of};
+ghost use Rattle.tc_stmt.specs.LinesRead.{lines_of};
 
 use crate::AsmErr;
 use crate::draft::Draft;
 use crate::emit::finish;
+use crate::put_items::add_items;
 use crate::symbols::Symbols;
 use std::alloc::{AllocError, Global};
 use tc_object::Object;
@@ -63,26 +64,6 @@ fn symbols_of<'a>(alloc: Global, items: &[Item<'a>]) -> Result<(Symbols<'a>, boo
     Ok((draft.symbols, new))
 }
 
-// Adds items, and returns the least rule that they break.
-fn add_items<'a>(
-    alloc: Global,
-    draft: &mut Draft<'a>,
-    labels: &Symbols<'a>,
-    known: bool,
-    items: &[Item<'a>],
-) -> Result<u8, AllocError>
-    ensures draft { OnOk result (kept known draft.new
-        ≡ kept known (fold (stepped labels.now) draft.old (map item_of items.now))) }
-    ensures rule { IfOk result
-        (λ rule. rule ≡ kept_rule known labels.now draft.old (map item_of items.now)) }
-{
-    let mut rule = NO_RULE;
-    for item in items {
-        rule = draft.put_item(alloc, labels, known, item)?.min(rule);
-    }
-    Ok(rule)
-}
-
 // The first `count` items.
 fn first_items<'p, 'a>(items: &'p [Item<'a>], count: u8) -> &'p [Item<'a>]
     ensures { result.now ≡ take count items.now }
@@ -98,7 +79,7 @@ fn later_items<'p, 'a>(items: &'p [Item<'a>], count: u8) -> &'p [Item<'a>]
 }
 
 // Adds a line, whose items are first in `items`, and returns the least rule that it breaks.
-#[tactic(auto, unfolding(crate::specs::Sources::with_line))]
+#[tactic(auto, unfolding(crate::specs::Drafts::with_line))]
 fn add_line<'a>(
     alloc: Global,
     draft: &mut Draft<'a>,

@@ -27,7 +27,7 @@ pub struct Draft<'a> {
 impl<'a> Model for Draft<'a> {
     ghost use Rattle.std.specs.Prelude.{map};
     ghost use Rattle.tc_asm.specs.Drafts.{DraftData};
-    ghost use Rattle.tc_asm.specs.Views.{part_of};
+    ghost use Rattle.tc_asm.specs.DraftViews.{part_of};
 
     ghost Value = { DraftData };
 
@@ -48,10 +48,9 @@ const NO_NUMBER: usize = 64;
 
 impl<'a> Draft<'a> {
     ghost use Rattle.std.specs.Prelude.{◌≡◌, [], OnOk, IfOk, Some, option_map, replicate};
-    ghost use Rattle.tc_stmt.specs.RowFields.{reference_of};
-    ghost use Rattle.tc_stmt.specs.Items.{item_of, label, code, bytes as data_item};
-    ghost use Rattle.tc_asm.specs.Added.{IsCode, IsData, IsItem, IsNamed};
-    ghost use Rattle.tc_asm.specs.Alike.{Alike};
+    ghost use Rattle.tc_stmt.specs.Items.{reference_of, item_of, label, code, bytes as data_item};
+    ghost use Rattle.tc_asm.specs.AddedItems.{IsCode, IsData, IsItem, IsNamed};
+    ghost use Rattle.tc_asm.specs.AlikeDrafts.{Alike};
     ghost use Rattle.tc_asm.specs.Drafts.{DraftData, start, place_of, has_section, has_room, with_label, entered, with_global, with_bytes, with_use, with_reference, with_content, stepped};
     ghost use Rattle.tc_asm.specs.Symbols.{seen};
     ghost use Rattle.tc_asm.specs.KnownSymbols.{is_new};

@@ -1,14 +1,14 @@
 // Turns a draft into an object.
-ghost use Rattle.std.specs.Prelude.{◌≡◌, ◌<◌, ◌≤◌, ◌++◌, ◌+◌, ◌^◌, map, length, All, IfOk, OnOk, is_some, true, string_bytes};
+ghost use Rattle.std.specs.Prelude.{◌≡◌, ◌<◌, ◌++◌, ◌+◌, ◌^◌, map, length, All, IfOk, OnOk, is_some, true, string_bytes};
 ghost use Rattle.tc_object.specs.Names.{name_of as name_in};
-ghost use Rattle.tc_stmt.specs.RowFields.{reference_of};
-ghost use Rattle.tc_asm.specs.Views.{use_of, part_of};
-ghost use Rattle.tc_asm.specs.Objects.{section_of, symbol_of, addend_of, reloc_of, relocs_from, object_of};
+ghost use Rattle.tc_stmt.specs.Items.{reference_of};
+ghost use Rattle.tc_asm.specs.DraftViews.{use_of, part_of};
+ghost use Rattle.tc_asm.specs.Objects.{section_of, symbol_of, addend_of, reloc_of, object_of};
 ghost use Rattle.tc_asm.specs.Symbols.{symbol as known_as};
 ghost use Rattle.tc_asm.specs.DraftInvariants.{IsDraft, IsSmall};
 
 use crate::draft::Draft;
-use crate::sections::{Part, Use, part_len};
+use crate::sections::{Part, Use, part_len, relocs};
 use crate::symbols::{Entry, Symbols};
 use std::alloc::{AllocError, Global};
 use tc_object::{
@@ -80,7 +80,7 @@ fn symbol(alloc: Global, name: &[u8], entry: Entry) -> Result<Symbol, AllocError
     }
 }
 
-fn symbols(alloc: Global, known: &Symbols) -> Result<Vec<Symbol>, AllocError>
+pub(crate) fn symbols(alloc: Global, known: &Symbols) -> Result<Vec<Symbol>, AllocError>
     requires names { All (λ s. is_some (name_in s.name) ≡ true) known.now }
     requires small { All (λ s. IsSmall s.entry.place) known.now }
     ensures { IfOk result (λ v. v.items ≡ map symbol_of known.now) }
@@ -121,7 +121,7 @@ fn reloc(known: &Symbols, section: usize, u: Use<'_>) -> Reloc
 }
 
 // Adds the relocations of a section to the list.
-fn add_relocs(
+pub(crate) fn add_relocs(
     out: &mut Vec<Reloc>,
     known: &Symbols,
     section: usize,
@@ -137,19 +137,6 @@ fn add_relocs(
         out.push(reloc(known, section, uses[i]))?;
     }
     Ok(())
-}
-
-fn relocs(alloc: Global, known: &Symbols, parts: &[Part]) -> Result<Vec<Reloc>, AllocError>
-    requires symbols { length known.now < 2 ^ 16 }
-    requires few { length parts.now ≤ 64 }
-    requires offsets { All (λ p. All (λ u. u.offset < 2 ^ 32) p.uses.items) parts.now }
-    ensures { IfOk result (λ v. v.items ≡ relocs_from known.now 0 (map part_of parts.now)) }
-{
-    let mut out = Vec::new(alloc);
-    for i in 0..parts.len() {
-        add_relocs(&mut out, known, i, &parts[i].uses)?;
-    }
-    Ok(out)
 }
 
 /// The object of a draft.

@@ -1,10 +1,11 @@
 // The bytes of an instruction, with a target in the same section resolved at once.
-ghost use Rattle.std.specs.Prelude.{◌≡◌, take, if◌then◌else◌};
-ghost use Rattle.tc_isa.specs.ValidRows.{is_long};
-ghost use Rattle.tc_isa.specs.Rows.{row_of};
+ghost use Rattle.std.specs.Prelude.{◌≡◌, take, if◌then◌else◌, ◌==◌, false, option_map, ◌<◌};
+ghost use Rattle.tc_isa.specs.Rows.{is_long, row_of};
 ghost use Rattle.tc_stmt.specs.RowFields.{row_fields_of};
-ghost use Rattle.tc_asm.specs.Alike.{code_size as size_of_code};
+ghost use Rattle.tc_asm.specs.AlikeDrafts.{code_size as size_of_code};
 ghost use Rattle.tc_asm.specs.Drafts.{bytes_of, found as found_in};
+ghost use Rattle.std.specs.Option.{option_map_or};
+ghost use Rattle.tc_stmt.specs.Items.{reference_of};
 
 use crate::draft::Draft;
 use crate::symbols::Symbols;
@@ -68,7 +69,7 @@ fn unbroken_fields<'a>(fields: Fields) -> RowFields<'a>
 impl<'a> Draft<'a> {
     ghost use Rattle.std.specs.Prelude.{option_map};
     ghost use Rattle.tc_isa.specs.Rows.{row_of};
-    ghost use Rattle.tc_stmt.specs.RowFields.{reference_of};
+    ghost use Rattle.tc_stmt.specs.Items.{reference_of};
     ghost use Rattle.tc_asm.specs.Drafts.{distance, jumped, targeted, resolved, code_bytes};
 
     // The distance in bytes from the current place to a symbol, and whether the symbol is before
@@ -179,5 +180,15 @@ impl<'a> Draft<'a> {
     {
         let found = self.resolve(labels, row, fields, r);
         code_of(row, &found.fields)
+    }
+}
+
+// Whether a target is resolved at once, without a relocation.
+pub(crate) fn has_near_target(r: &Option<Reference<'_>>) -> bool
+    ensures { result ≡ option_map_or (λ q. q.kind == 0) (option_map reference_of r.now) false }
+{
+    match r {
+        None => false,
+        Some(r) => r.kind == NO_RELOC,
     }
 }

@@ -1,5 +1,6 @@
 // Public laws of sources and of their objects.
-ghost use Rattle.tc_asm.specs.RelocationLaws.{ObjectSectionsLaw, RelocationsLaw, UnfilledLaw};
+ghost use Rattle.tc_asm.specs.RelocationLaws.{RelocationsLaw, UnfilledLaw};
+ghost use Rattle.tc_asm.specs.Objects.{ObjectSectionsLaw};
 ghost use Rattle.tc_asm.specs.InstructionLaws.{InstructionsLaw};
 ghost use Rattle.tc_asm.specs.ShortJumps.{ShortJumpsLaw};
 ghost use Rattle.tc_asm.specs.Statements.{OffsetLaw, SectionLaw};

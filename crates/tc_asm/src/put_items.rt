@@ -1,30 +1,21 @@
 // Adds items to a draft, with the least rule that each of them breaks.
-ghost use Rattle.std.specs.Prelude.{◌≡◌, ◌==◌, false, option_map};
-ghost use Rattle.std.specs.Option.{option_map_or};
-ghost use Rattle.tc_stmt.specs.RowFields.{reference_of};
+ghost use Rattle.std.specs.Prelude.{◌≡◌, option_map, ◌<◌, map, min, IfOk, OnOk, fold};
+ghost use Rattle.tc_stmt.specs.Items.{reference_of, item_of};
+ghost use Rattle.tc_asm.specs.Drafts.{stepped};
+ghost use Rattle.tc_asm.specs.KnownSymbols.{kept, kept_rule};
+ghost use Rattle.tc_asm.specs.DraftViews.{part_of};
 
 use crate::draft::Draft;
-use crate::encode::{code_of, first_bytes};
-use crate::sections::extend_part;
+use crate::encode::{code_of, first_bytes, has_near_target};
+use crate::sections::{Part, extend_part, part_len};
 use crate::symbols::{Place, Symbols};
 use std::alloc::{AllocError, Global};
 use tc_isa::{Fields, WORD32};
-use tc_stmt::{Item, LABEL_TWICE, NO_RELOC, NO_RULE, Reference, is_name, reference_to};
-
-// Whether a target is resolved at once, without a relocation.
-fn has_near_target(r: &Option<Reference<'_>>) -> bool
-    ensures { result ≡ option_map_or (λ q. q.kind == 0) (option_map reference_of r.now) false }
-{
-    match r {
-        None => false,
-        Some(r) => r.kind == NO_RELOC,
-    }
-}
+use tc_stmt::{Item, LABEL_TWICE, NO_RULE, Reference, is_name, reference_to};
 
 impl<'a> Draft<'a> {
     ghost use Rattle.std.specs.Prelude.{option_map, length, None, Some, OnOk, IfOk};
-    ghost use Rattle.tc_stmt.specs.RowFields.{reference_of};
-    ghost use Rattle.tc_stmt.specs.Items.{item_of, label, global, code};
+    ghost use Rattle.tc_stmt.specs.Items.{reference_of, item_of, label, global, code};
     ghost use Rattle.tc_asm.specs.Drafts.{stepped, with_bytes, with_reference, with_content};
     ghost use Rattle.tc_asm.specs.Rules.{content_rule, item_rule};
     ghost use Rattle.tc_asm.specs.KnownSymbols.{nameless, kept};
@@ -332,4 +323,36 @@ impl<'a> Draft<'a> {
             self.put(alloc, labels, item)
         }
     }
+}
+
+// Adds items, and returns the least rule that they break.
+pub(crate) fn add_items<'a>(
+    alloc: Global,
+    draft: &mut Draft<'a>,
+    labels: &Symbols<'a>,
+    known: bool,
+    items: &[Item<'a>],
+) -> Result<u8, AllocError>
+    ensures draft { OnOk result (kept known draft.new
+        ≡ kept known (fold (stepped labels.now) draft.old (map item_of items.now))) }
+    ensures rule { IfOk result
+        (λ rule. rule ≡ kept_rule known labels.now draft.old (map item_of items.now)) }
+{
+    let mut rule = NO_RULE;
+    for item in items {
+        rule = draft.put_item(alloc, labels, known, item)?.min(rule);
+    }
+    Ok(rule)
+}
+
+// Writes the zeros at the end of a section that are only counted.
+#[inline(never)]
+pub(crate) fn put_zeros(part: &mut Part) -> Result<(), AllocError>
+    ensures same { OnOk result (part_of part.new ≡ part_of part.old) }
+    ensures none { OnOk result (part.new.zeros ≡ 0) }
+{
+    let len = part_len(part);
+    part.bytes.resize(len, 0)?;
+    part.zeros = 0;
+    Ok(())
 }

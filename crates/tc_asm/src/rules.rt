@@ -24,9 +24,8 @@ pub(crate) fn is_reloc(kind: u8) -> bool
 
 impl<'a> Draft<'a> {
     ghost use Rattle.std.specs.Prelude.{option_map};
-    ghost use Rattle.tc_stmt.specs.RowFields.{reference_of};
-    ghost use Rattle.tc_stmt.specs.Items.{item_of, code};
-    ghost use Rattle.tc_asm.specs.KnownSymbols.{has_symbol_room};
+    ghost use Rattle.tc_stmt.specs.Items.{reference_of, item_of, code};
+    ghost use Rattle.tc_asm.specs.Rules.{has_symbol_room};
     ghost use Rattle.tc_asm.specs.Rules.{label_rule, section_rule, name_rule, section_room, symbol_room, reloc_room, bytes_room, defined_rule, reference_rule, content_rule, item_rule};
 
     // Rule 7: a label that is defined already.

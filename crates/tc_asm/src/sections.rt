@@ -1,13 +1,18 @@
 // The sections of a draft.
-ghost use Rattle.std.specs.Prelude.{◌≡◌, ◌<◌, ◌≤◌, ◌^◌, map, OnOk, length, position, replicate};
+ghost use Rattle.std.specs.Prelude.{◌≡◌, ◌<◌, ◌≤◌, ◌^◌, map, OnOk, length, position, replicate, All, IfOk};
 ghost use Rattle.std.specs.Str.{bytes_eq};
-ghost use Rattle.tc_stmt.specs.RowFields.{reference_of};
-ghost use Rattle.tc_asm.specs.Views.{part_of};
+ghost use Rattle.tc_stmt.specs.Items.{reference_of};
+ghost use Rattle.tc_asm.specs.DraftViews.{part_of};
 ghost use Rattle.tc_asm.specs.Drafts.{extended, used, number_of_part};
+ghost use Rattle.tc_asm.specs.Objects.{relocs_from};
 
 use crate::draft::MOST_BYTES;
-use std::alloc::AllocError;
+use crate::emit::{add_relocs, symbols};
+use crate::put_items::put_zeros;
+use crate::symbols::Symbols;
+use std::alloc::{AllocError, Global};
 use tc_lex::is_same;
+use tc_object::Reloc;
 use tc_stmt::Reference;
 
 /// Four bytes of a section that wait for the value of a symbol.
@@ -54,18 +59,6 @@ pub(crate) fn part_len(part: &Part) -> usize
     ensures { result ≡ length (part_of part.now).bytes }
 {
     part.bytes.len() + part.zeros as usize
-}
-
-// Writes the zeros at the end of a section that are only counted.
-#[inline(never)]
-fn put_zeros(part: &mut Part) -> Result<(), AllocError>
-    ensures same { OnOk result (part_of part.new ≡ part_of part.old) }
-    ensures none { OnOk result (part.new.zeros ≡ 0) }
-{
-    let len = part_len(part);
-    part.bytes.resize(len, 0)?;
-    part.zeros = 0;
-    Ok(())
 }
 
 // Leaves no zeros that are only counted.
@@ -134,4 +127,21 @@ pub(crate) fn use_part<'a>(
     let part = &mut parts[i];
     part.uses.push(Use { offset, reference })?;
     Ok(())
+}
+
+pub(crate) fn relocs(
+    alloc: Global,
+    known: &Symbols,
+    parts: &[Part],
+) -> Result<Vec<Reloc>, AllocError>
+    requires symbols { length known.now < 2 ^ 16 }
+    requires few { length parts.now ≤ 64 }
+    requires offsets { All (λ p. All (λ u. u.offset < 2 ^ 32) p.uses.items) parts.now }
+    ensures { IfOk result (λ v. v.items ≡ relocs_from known.now 0 (map part_of parts.now)) }
+{
+    let mut out = Vec::new(alloc);
+    for i in 0..parts.len() {
+        add_relocs(&mut out, known, i, &parts[i].uses)?;
+    }
+    Ok(out)
 }

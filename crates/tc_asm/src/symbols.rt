@@ -72,8 +72,7 @@ impl<'a> Model for Symbols<'a> {
 
 impl<'a> Symbols<'a> {
     ghost use Rattle.std.specs.Prelude.{◌≡◌, ◌<◌, ◌≤◌, [], IfOk, OnOk, length, slice_get, Some};
-    ghost use Rattle.tc_asm.specs.Objects.{number_of};
-    ghost use Rattle.tc_asm.specs.Symbols.{symbol, entry_in, entry_of, put_entry, place_in, seen, labelled, made_global};
+    ghost use Rattle.tc_asm.specs.Symbols.{number_of, symbol, entry_in, entry_of, put_entry, place_in, seen, labelled, made_global};
 
     /// An empty table.
     pub fn new(alloc: Global) -> Symbols<'a>
@@ -167,14 +166,6 @@ impl<'a> Symbols<'a> {
                 Ok(old.place)
             }
         }
-    }
-
-    /// Defines a name at this place, unless it has a label already.
-    pub fn label(&mut self, name: &'a [u8], place: Place) -> Result<(), AllocError>
-        ensures { OnOk result (self.new ≡ labelled self.old name.entry.now place) }
-    {
-        self.define(name, place)?;
-        Ok(())
     }
 
     /// Makes a name global.

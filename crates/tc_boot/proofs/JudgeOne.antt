@@ -7,8 +7,7 @@ use Rattle.tcd_plan.specs.PlanData.{PlanData}
 use Rattle.store_ranges.specs.Loads.{IsLoadedRom}
 use Rattle.tc_boot.specs.declared.judging.BootErr.{BootErr}
 use Rattle.tc_boot.specs.declared.judging.BootErr.TheVariants.{Enabled, Odd, Outside, Differs}
-use Rattle.tc_boot.specs.Reset.{HasBoot, IsInside}
-use Rattle.tc_boot.specs.Judging.{MayBoot, IsFirstDifference, Judges}
+use Rattle.tc_boot.specs.Judging.{HasBoot, IsInside, MayBoot, IsFirstDifference, Judges}
 use Rattle.tc_boot.specs.Laws.{JudgesOne}
 
 module _ (image : ImageData) (plan : PlanData) (at : ℕ) where

@@ -1,16 +1,17 @@
 -- Consequences of this crate's definitions, in plain equations.
 use Rattle.std.specs.Prelude.{◌≡◌, ◌+◌, ◌*◌, ◌<◌, ℕ, false, List, ◌++◌, length, take, Result}
-use Rattle.elf_image.specs.Images.{ImageData}
-use Rattle.tcd_plan.specs.PlanData.{PlanData}
+use Rattle.elf_image.specs.Images.{ImageData, IsImage}
+use Rattle.tcd_plan.specs.PlanData.{PlanData, IsPlan}
 use Rattle.tc_machine.specs.declared.events.Event.{Event}
 use Rattle.tc_machine.specs.declared.events.End.TheVariants.{Running}
 use Rattle.tc_machine.specs.declared.state.Machine.{Machine}
 use Rattle.tc_machine.specs.Stepping.{run}
-use Rattle.tc_machine.specs.Safe.{IsMachine, Starts, Fits, AllFit, IsSafeAt}
+use Rattle.tc_machine.specs.Safe.{IsMachine, Starts, Fits, AllFit, IsSafeAt, Safe}
 use Rattle.tc_mem.specs.PlanMemory.{IsPlanMemory, HoldsRom}
 use Rattle.tc_boot.specs.declared.judging.BootErr.{BootErr}
 use Rattle.tc_boot.specs.Reset.{Reset, BootsFrom, BootsSafely}
-use Rattle.tc_boot.specs.Judging.{Judges}
+use Rattle.tc_boot.specs.Judging.{HasBoot, Judges}
+use Rattle.tc_boot.specs.Sequence.{boot_events}
 
 -- The project's reading of a reset. A machine is at reset if it runs at the address with interrupts
 -- off, has the plan's core and memory, and has the image's bytes in rom. Its registers, ram and
@@ -44,3 +45,15 @@ EveryBootIsSafe =
 -- The test of a boot sequence has one answer.
 abbrev pub JudgesOne : Type 0
 JudgesOne = (image : ImageData) (plan : PlanData) (at : ℕ) (r s : Result ℕ BootErr) → Judges image plan at r → Judges image plan at s → r ≡ s
+
+-- If the image holds a boot sequence that may run, then it leads from every state at reset to a
+-- start state. The events are any list of fitting events with as many events as the sequence has.
+abbrev pub BootReachesStart : Type 0
+BootReachesStart =
+    (image : ImageData) (plan : PlanData) (at : ℕ) (m : Machine) (es : List Event) → IsPlan plan → IsImage image → HasBoot image plan at → Reset image plan at m
+    → AllFit plan m es → length es ≡ boot_events plan → BootsFrom image plan at m es
+
+-- an image that is safe from its start states is safe from reset on, if it holds a boot sequence
+-- that may run
+abbrev pub SafeBoots : Type 0
+SafeBoots = (image : ImageData) (plan : PlanData) (at most : ℕ) → IsPlan plan → IsImage image → HasBoot image plan at → Safe image plan most → BootsSafely image plan at most

@@ -1,11 +1,11 @@
 -- The boot sequence of a plan and an entry: 56 instructions of four bytes each.
-use Rattle.std.specs.Prelude.{◌+◌, ◌-◌, ◌*◌, ◌/◌, ◌%◌, ◌^◌, ℕ, if◌then◌else◌, List, [], ◌∷◌, ◌++◌, slice_index, Option, Some, None, slice_get}
+use Rattle.std.specs.Prelude.{◌+◌, ◌-◌, ◌*◌, ◌/◌, ◌%◌, ◌^◌, ℕ, if◌then◌else◌, List, ◌∷◌, ◌++◌, slice_index, slice_get, []}
 use Rattle.std.specs.List.{flat_map}
 use Rattle.elf_image.specs.Images.{ImageData}
 use Rattle.tcd_plan.specs.PlanData.{PlanData}
-use Rattle.tc_isa.specs.Insts.{InstData, fields_in}
-use Rattle.tc_isa.specs.Rows.{RowData, listed}
-use Rattle.tc_isa.specs.Spelling.{spelling}
+use Rattle.tc_isa.specs.Insts.{InstData}
+use Rattle.tc_isa.specs.Rows.{listed}
+use Rattle.tc_isa.specs.Spelling.{spelling_by}
 use Rattle.tc_machine.specs.PlanAreas.{first_link}
 
 -- ---- the instructions in use, by their rows in the instruction table and their fields; the names
@@ -127,10 +127,6 @@ abbrev pub boot_sequence : PlanData → ℕ → List InstData
 boot_sequence plan entry = core_part plan ++ first_part plan ++ link_part ++ last_part ++ address_part plan ++ jump_part entry
 
 -- ---- its bytes
--- the bytes of an instruction by its row of the table, if it has one
-abbrev pub spelling_by : Option RowData → InstData → List ℕ
-spelling_by None i = []
-spelling_by (Some r) i = spelling r (fields_in i)
 
 -- the bytes of an instruction
 abbrev pub spelling_of : InstData → List ℕ

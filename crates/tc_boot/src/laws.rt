@@ -1,6 +1,5 @@
 // Public laws of the boot sequence.
-ghost use Rattle.tc_boot.specs.Laws.{AllAreAtReset, BootsInside, EveryBootIsSafe, JudgesOne};
-ghost use Rattle.tc_boot.specs.Reset.{BootReachesStart, SafeBoots};
+ghost use Rattle.tc_boot.specs.Laws.{AllAreAtReset, BootsInside, EveryBootIsSafe, JudgesOne, BootReachesStart, SafeBoots};
 
 /// From every state at reset, the boot sequence reaches a start state. It takes three events for
 /// each CSA, and 53 more. If an image is safe from its start states, it is safe from reset on.

@@ -6,16 +6,16 @@ use Rattle.std.proofs.lemmas.Bool.Decides.{nat_tests}
 use Rattle.tc_lex.specs.declared.kinds.TokenKind.TheVariants as kind
 use Rattle.tcd_base.specs.NameBytes.{is_name_byte, is_name_first}
 use Rattle.tc_lex.specs.Bytes.{is_digit}
-use Rattle.tc_lex.specs.Cut.{has_hex_front}
-use Rattle.tc_isa.specs.Spelling.{four_bytes}
+use Rattle.tc_lex.specs.Cut.{has_hex_front, kind_index}
+use Rattle.tcd_base.specs.Bytes.{four_bytes}
 use Rattle.tc_lex.specs.declared.operand.Shape.TheVariants as shape
-use Rattle.tc_lex.specs.Pieces.{PieceData, is_kind, kind_index}
+use Rattle.tc_lex.specs.Pieces.{PieceData, is_kind}
 use Rattle.tc_lex.specs.Numbers.{number_of, add_digit}
 use Rattle.tc_lex.specs.Operands.{OperandData, operand, operands, value, plain, plain_number}
-use Rattle.tc_stmt.specs.Values.{shape_index}
+use Rattle.tc_stmt.specs.OperandForms.{shape_index}
 use Rattle.tc_stmt.specs.Items.{bytes, section}
-use Rattle.tc_stmt.specs.DataDirectives.{value_rule, value_item}
-use Rattle.tc_stmt.specs.Lines.{line_data, pieces_line, stated_line, values_line, values_rule, named_line, word_of, is_word_operand}
+use Rattle.tc_stmt.specs.DataDirectives.{value_rule, value_item, values_rule}
+use Rattle.tc_stmt.specs.Lines.{line_data, pieces_line, stated_line, values_line, named_line, word_of, is_word_operand}
 use Rattle.tcd_text.specs.Digits.{hex_byte}
 use Rattle.tc_disasm.specs.Tokens.{piece}
 use Rattle.tc_disasm.specs.Lexed.{IsStop}

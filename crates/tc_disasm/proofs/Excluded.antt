@@ -14,11 +14,11 @@ use Rattle.tc_lex.specs.Operands.{OperandData, ValueData, memory}
 use Rattle.tc_stmt.specs.RowFields.{RowFieldsData, with_rule, with_value}
 use Rattle.tc_stmt.specs.Filling.{reference, fill, fill_plain, fill_register, fill_a10, fill_value, fill_memory, fill_target, fill_absolute, put_register, put_number, put_absolute, with_symbol, with_misplaced, half_kind, symbol_rule}
 use Rattle.tc_stmt.specs.Displacements.{target_kind, with_displacement}
-use Rattle.tc_stmt.specs.Values.{shape_index, register_of, is_symbol, is_half}
+use Rattle.tc_stmt.specs.OperandForms.{shape_index, register_of, is_symbol, is_half}
 use Rattle.tc_disasm.specs.Texts.{register_text}
 use Rattle.tc_disasm.specs.Refused.{IsRefused, Falls}
 use Rattle.tc_disasm.specs.Printable.{Prints}
-use Rattle.tc_disasm.specs.Apart.{excludes}
+use Rattle.tc_disasm.specs.RowsApart.{excludes}
 use Rattle.tc_disasm.proofs.Registers.{register_of-text}
 
 by_bool : {A : Type 0} (P : A → Type 0) (b : Bool) (x y : A) → P x → P y → P (cond b x y)

@@ -4,23 +4,23 @@ use Rattle.std.specs.Prelude.{codes, min, not, nat_lt, nat_le, ◌&&◌}
 use Rattle.std.proofs.lemmas.Bool.Decides.{nat_tests}
 use Rattle.tc_lex.specs.declared.kinds.TokenKind.TheVariants as kind
 use Rattle.tc_isa.specs.Forms.{form_index, bounds}
-use Rattle.tc_isa.specs.ValidRows.{is_long}
+use Rattle.tc_isa.specs.Rows.{is_long, RowData}
 use Rattle.tc_isa.specs.Meanings.{place, code_place}
 use Rattle.tc_isa.specs.declared.fields.Fields.{Fields}
 use Rattle.tc_stmt.specs.declared.want.Field.TheVariants.{K}
 use Rattle.std.specs.Fmt.{decimal}
-use Rattle.tc_isa.specs.Rows.{RowData}
 use Rattle.tc_lex.specs.declared.operand.Shape.TheVariants as shape
 use Rattle.tc_stmt.specs.declared.want.Field.{Field}
 use Rattle.tc_stmt.specs.declared.want.Want.TheVariants.{Reg, Number, Target}
 use Rattle.tc_lex.specs.Operands.{operand, value_at, number_at, named_at, sum_at, value, plain, plain_number, with_number}
-use Rattle.tc_lex.specs.Pieces.{is_kind, text_at, kind_index}
+use Rattle.tc_lex.specs.Pieces.{is_kind, text_at}
+use Rattle.tc_lex.specs.Cut.{kind_index}
 use Rattle.tc_lex.specs.Numbers.{number_of}
 use Rattle.tc_stmt.specs.RowFields.{RowFieldsData, with_value, with_rule, field_of}
 use Rattle.tc_stmt.specs.Filling.{fill, fill_plain, fill_register, fill_value, fill_target, put_register, put_number}
-use Rattle.tc_stmt.specs.Displacements.{with_displacement, displacement_rule, is_odd}
-use Rattle.tc_stmt.specs.Values.{shape_index, wrap}
-use Rattle.tc_disasm.specs.Texts.{register_text, is_minus, size_of, is_two_way}
+use Rattle.tc_stmt.specs.Displacements.{with_displacement, displacement_rule, is_odd, is_two_way}
+use Rattle.tc_stmt.specs.OperandForms.{shape_index, wrap}
+use Rattle.tc_disasm.specs.Texts.{register_text, is_minus, size_of}
 use Rattle.tc_disasm.specs.Tokens.{field_number, piece, target}
 use Rattle.tc_disasm.proofs.Registers.{register_of-text}
 use Rattle.tc_disasm.proofs.Signs.{fits-printed, wrapped-printed}

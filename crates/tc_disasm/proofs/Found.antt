@@ -16,7 +16,7 @@ use Rattle.tc_stmt.specs.Filling.{fill, fill_all, fields_of_row, kept_apart}
 use Rattle.tc_stmt.specs.StatementRow.{after_row}
 use Rattle.tc_disasm.specs.Refused.{IsRefused, falls_by}
 use Rattle.tc_disasm.specs.Printable.{AllPrint}
-use Rattle.tc_disasm.specs.Apart.{excludes, differ}
+use Rattle.tc_disasm.specs.RowsApart.{excludes, differ}
 use Rattle.tc_disasm.proofs.Excluded.{falls, refused-there}
 
 then_refused : (next : RowFieldsData → Option RowFieldsData) (o : Option RowFieldsData) → ((f : RowFieldsData) → o ≡ Some f → IsRefused (next f)) → IsRefused (option_and_then next o)

@@ -3,14 +3,14 @@ use Rattle.std.proofs.Common.{◌≡◌, ◌<◌, ◌%◌, ◌||◌, ℕ, Bool, 
 use Rattle.std.specs.Prelude.{fold}
 use Rattle.std.specs.List.{list_any}
 use Rattle.tc_isa.specs.declared.fields.Fields.{Fields}
-use Rattle.tc_isa.specs.Bounded.{AreSmall}
+use Rattle.tc_isa.specs.InBounds.{AreSmall}
 use Rattle.tc_stmt.specs.declared.want.Field.{Field}
 use Rattle.tc_stmt.specs.declared.want.Field.TheVariants.{C, S1, S2, N, K}
 use Rattle.tc_stmt.specs.declared.want.Want.{Want}
 use Rattle.tc_stmt.specs.declared.want.Want.TheVariants.{Reg, A10, Number, Target, Absolute, Memory}
 use Rattle.tc_stmt.specs.RowFields.{set_field, field_of}
-use Rattle.tc_disasm.specs.Apart.{names}
-use Rattle.tc_disasm.specs.Puts.{given}
+use Rattle.tc_disasm.specs.RowsApart.{names}
+use Rattle.tc_stmt.specs.Wants.{given}
 
 byte : (n : ℕ) → n < 16 → n % 256 ≡ n
 byte n h = omega arith

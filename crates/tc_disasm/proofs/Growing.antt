@@ -17,9 +17,8 @@ use Rattle.tc_stmt.specs.Names.{is_name}
 use Rattle.tc_stmt.specs.Items.{section}
 use Rattle.tc_stmt.specs.Lines.{LineData, line_data}
 use Rattle.tc_asm.specs.Symbols.{SymbolData}
-use Rattle.tc_asm.specs.Drafts.{PartData, DraftData, part, has_section, has_room, number_of_part, entered, extended, with_bytes, stepped}
+use Rattle.tc_asm.specs.Drafts.{PartData, DraftData, part, has_section, has_room, number_of_part, entered, extended, with_bytes, stepped, with_line}
 use Rattle.tc_asm.specs.Rules.{content_rule, item_rule, line_rule}
-use Rattle.tc_asm.specs.Sources.{with_line}
 use Rattle.tc_disasm.proofs.Decimals.{decimal_is}
 use Rattle.tc_disasm.proofs.Runs.{Runs, Adds}
 

@@ -3,7 +3,8 @@ use Rattle.std.proofs.Common.{◌≡◌, ℕ, Bool, true, false, List, [], ◌�
 use Rattle.std.specs.Prelude.{if◌then◌else◌}
 use Rattle.tc_lex.specs.declared.kinds.TokenKind.TheVariants as kind
 use Rattle.tc_lex.specs.declared.operand.Shape.TheVariants as shape
-use Rattle.tc_lex.specs.Pieces.{is_kind, text_at, kind_index}
+use Rattle.tc_lex.specs.Pieces.{is_kind, text_at}
+use Rattle.tc_lex.specs.Cut.{kind_index}
 use Rattle.tc_lex.specs.Numbers.{number_of}
 use Rattle.tc_lex.specs.Operands.{operand, value_at, number_at, named_at, sum_at, value, plain, memory, plain_number, with_number}
 use Rattle.std.specs.Fmt.{decimal}

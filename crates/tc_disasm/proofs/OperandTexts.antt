@@ -9,13 +9,15 @@ use Rattle.tcd_base.specs.NameBytes.{is_name_byte, is_name_first}
 use Rattle.tc_lex.specs.Bytes.{is_digit}
 use Rattle.tc_isa.specs.Rows.{RowData}
 use Rattle.tc_isa.specs.declared.fields.Fields.{Fields}
-use Rattle.tc_isa.specs.Forms.{IsBelow, bounds}
+use Rattle.tc_isa.specs.Forms.{bounds}
+use Rattle.tc_isa.specs.InBounds.{IsBelow}
 use Rattle.tc_stmt.specs.declared.want.Want.{Want}
 use Rattle.tc_stmt.specs.declared.want.Want.TheVariants.{Reg, A10, Number, Target, Absolute, Memory}
 use Rattle.tc_stmt.specs.RowFields.{field_of}
 use Rattle.tc_lex.specs.Pieces.{PieceData}
 use Rattle.tcd_text.specs.Digits.{hex_word}
-use Rattle.tc_disasm.specs.Texts.{is_minus, size_of, number_text, target_text, register_text, base_text, absolute_text, address_in, is_two_way, operand_text, operands_text}
+use Rattle.tc_disasm.specs.Texts.{is_minus, size_of, number_text, target_text, register_text, base_text, absolute_text, address_in, operand_text, operands_text}
+use Rattle.tc_stmt.specs.Displacements.{is_two_way}
 use Rattle.tc_disasm.specs.Tokens.{piece, number, field_number, target, base, operand_tokens}
 use Rattle.tc_disasm.specs.Lexed.{IsStop}
 use Rattle.tc_disasm.proofs.Bounds.{field_of-below}

@@ -6,7 +6,8 @@ use Rattle.std.specs.List.{list_all}
 use Rattle.std.proofs.lemmas.Bool.Decides.{nat_tests}
 use Rattle.tc_isa.specs.Rows.{RowData}
 use Rattle.tc_isa.specs.declared.fields.Fields.{Fields}
-use Rattle.tc_isa.specs.Forms.{IsBelow, bounds, form_index}
+use Rattle.tc_isa.specs.Forms.{bounds, form_index}
+use Rattle.tc_isa.specs.InBounds.{IsBelow}
 use Rattle.tc_isa.specs.Meanings.{place, code_place}
 use Rattle.tc_lex.specs.declared.operand.Shape.TheVariants as shape
 use Rattle.tc_stmt.specs.declared.want.Field.TheVariants.{S2, K}
@@ -15,11 +16,12 @@ use Rattle.tc_stmt.specs.declared.want.Want.TheVariants.{Reg, A10, Number, Targe
 use Rattle.tc_lex.specs.Operands.{operand, value, plain, memory, plain_number}
 use Rattle.tc_stmt.specs.RowFields.{RowFieldsData, with_value, with_rule, field_of}
 use Rattle.tc_stmt.specs.Filling.{fill, fill_all, fill_plain, fill_a10, fill_value, fill_memory, fill_absolute, put_absolute, put_register, put_number}
-use Rattle.tc_stmt.specs.Values.{shape_index}
+use Rattle.tc_stmt.specs.OperandForms.{shape_index}
 use Rattle.tcd_text.specs.Digits.{hex_word}
-use Rattle.tc_disasm.specs.Texts.{register_text, is_minus, size_of, is_two_way, absolute_text, address_in}
+use Rattle.tc_disasm.specs.Texts.{register_text, is_minus, size_of, absolute_text, address_in}
+use Rattle.tc_stmt.specs.Displacements.{is_two_way}
 use Rattle.tc_disasm.specs.Tokens.{operand_tokens, base, number}
-use Rattle.tc_disasm.specs.Puts.{given}
+use Rattle.tc_stmt.specs.Wants.{given}
 use Rattle.tc_disasm.proofs.Decimals.{number_of-decimal}
 use Rattle.tc_disasm.proofs.Hexes.{number_of-hex}
 use Rattle.tc_disasm.proofs.Bounds.{field_of-below}

@@ -14,7 +14,7 @@ use Rattle.tc_stmt.specs.RowFields.{RowFieldsData}
 use Rattle.tc_stmt.specs.Filling.{fields_of_row}
 use Rattle.tc_stmt.specs.StatementRow.{after_row, outcome, or_next, start, statement}
 use Rattle.tc_disasm.specs.Printable.{AllPrint}
-use Rattle.tc_disasm.specs.Apart.{differ, entry, Entry, apart_from, all_apart}
+use Rattle.tc_disasm.specs.RowsApart.{differ, entry, Entry, apart_from, all_apart}
 use Rattle.tc_disasm.proofs.Decimals.{some_is}
 use Rattle.tc_disasm.proofs.Found.{refused-judged, goes_on}
 use Rattle.tc_disasm.proofs.Tables.{rows_apart}

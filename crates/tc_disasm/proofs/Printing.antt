@@ -7,24 +7,24 @@ use Rattle.std.specs.Fmt.{decimal}
 use Rattle.std.proofs.lemmas.Bool.Decides.{nat_tests}
 use Rattle.tc_isa.specs.Rows.{RowData, listed}
 use Rattle.tc_isa.specs.declared.fields.Fields.{Fields}
-use Rattle.tc_isa.specs.Forms.{IsBelow, bounds, fields}
+use Rattle.tc_isa.specs.Forms.{bounds, fields}
+use Rattle.tc_isa.specs.InBounds.{IsBelow, AreSmall}
 use Rattle.tc_isa.specs.ValidRows.{uses_of, rest_is_zero, Fits}
 use Rattle.tc_isa.specs.Insts.{InstData, IsInst, fields_in}
-use Rattle.tc_isa.specs.Bounded.{AreSmall}
 use Rattle.tc_isa.proofs.Shaped.{small}
 use Rattle.tc_lex.specs.declared.operand.Shape.TheVariants as shape
 use Rattle.tc_stmt.specs.declared.want.Field.TheVariants.{C, S1, S2, N, K}
 use Rattle.tc_stmt.specs.declared.want.Want.{Want}
 use Rattle.tc_stmt.specs.declared.want.Want.TheVariants.{Reg, A10, Number, Target, Absolute, Memory}
-use Rattle.tc_stmt.specs.Wants.{wants_of}
+use Rattle.tc_stmt.specs.Wants.{wants_of, given}
 use Rattle.tc_lex.specs.Operands.{operand, plain, plain_number, with_number}
 use Rattle.tc_stmt.specs.StatementRow.{statement}
 use Rattle.tc_stmt.specs.RowFields.{no_fields, with_rule, field_of}
 use Rattle.tc_stmt.specs.Filling.{fields_of_row, kept_apart}
-use Rattle.tc_disasm.specs.Texts.{register_text, is_minus, size_of, is_two_way, absolute_text, address_in}
+use Rattle.tc_disasm.specs.Texts.{register_text, is_minus, size_of, absolute_text, address_in}
+use Rattle.tc_stmt.specs.Displacements.{is_two_way}
 use Rattle.tc_disasm.specs.Tokens.{operand_tokens, printed_operands, base}
-use Rattle.tc_disasm.specs.Apart.{uses_by, names}
-use Rattle.tc_disasm.specs.Puts.{given}
+use Rattle.tc_disasm.specs.RowsApart.{uses_by, names}
 use Rattle.tc_disasm.specs.Printable.{Prints, AllPrint}
 use Rattle.tc_disasm.proofs.Decimals.{some_is, number_of-decimal}
 use Rattle.tc_disasm.proofs.Bounds.{field_of-below}

@@ -1,7 +1,7 @@
 -- Registers are read back.
 use Rattle.std.proofs.Common.{◌≡◌, ◌<◌, ◌+◌, zero, suc, ℕ, Bool, true, false, cond, refl, arith}
 use Rattle.tc_lex.specs.Bytes.{is_digit}
-use Rattle.tc_stmt.specs.Values.{register_of}
+use Rattle.tc_stmt.specs.OperandForms.{register_of}
 use Rattle.std.specs.Fmt.{digits}
 use Rattle.tc_disasm.specs.Texts.{register_text}
 

@@ -17,12 +17,14 @@ use Rattle.tc_stmt.specs.declared.want.Want.{Want}
 use Rattle.tc_stmt.specs.declared.want.Want.TheVariants.{Number, Target, Memory}
 use Rattle.tc_stmt.specs.Wants.{wants_of}
 use Rattle.tc_stmt.specs.RowFields.{field_of}
-use Rattle.tc_lex.specs.Pieces.{PieceData, is_kind, text_at, kind_index}
+use Rattle.tc_lex.specs.Pieces.{PieceData, is_kind, text_at}
+use Rattle.tc_lex.specs.Cut.{kind_index}
 use Rattle.tc_lex.specs.Operands.{OperandData, operand, operands, is_comma}
 use Rattle.tc_stmt.specs.StatementRow.{statement}
 use Rattle.tc_stmt.specs.Items.{code, label}
 use Rattle.tc_stmt.specs.Lines.{LineData, line_data, pieces_line, line_from, stated_line, code_line}
-use Rattle.tc_disasm.specs.Texts.{is_minus, is_two_way, row_text, operands_text, text_of}
+use Rattle.tc_disasm.specs.Texts.{is_minus, row_text, operands_text, text_of}
+use Rattle.tc_stmt.specs.Displacements.{is_two_way}
 use Rattle.tc_disasm.specs.Tokens.{piece, operand_tokens, base, field_number, number}
 use Rattle.tc_disasm.specs.Lexed.{IsStop}
 use Rattle.tc_disasm.proofs.Suits.{wants_suit}

@@ -9,9 +9,8 @@ use Rattle.tc_encode.proofs.Spelled.{fits_true}
 use Rattle.tc_stmt.specs.Items.{ItemData, code, bytes}
 use Rattle.tc_stmt.specs.Lines.{LineData, line_data}
 use Rattle.tc_asm.specs.Symbols.{SymbolData}
-use Rattle.tc_asm.specs.Drafts.{DraftData, has_section, has_room, with_bytes, with_reference, found, targeted, spelled_code, resolved, bytes_of, code_bytes, stepped}
+use Rattle.tc_asm.specs.Drafts.{DraftData, has_section, has_room, with_bytes, with_reference, found, targeted, spelled_code, resolved, bytes_of, code_bytes, stepped, with_line}
 use Rattle.tc_asm.specs.Rules.{content_rule, item_rule, line_rule}
-use Rattle.tc_asm.specs.Sources.{with_line}
 use Rattle.tc_asm.proofs.SourceDrafts.{KeepsFrom as Keeps}
 
 -- ---- lines one after another

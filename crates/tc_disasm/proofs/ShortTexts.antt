@@ -9,7 +9,8 @@ use Rattle.std.proofs.lemmas.List.{length-take-le}
 use Rattle.elf_image.specs.Images.{SegmentData}
 use Rattle.tc_isa.specs.Rows.{RowData}
 use Rattle.tc_isa.specs.declared.fields.Fields.{Fields}
-use Rattle.tc_isa.specs.Forms.{IsBelow, bounds}
+use Rattle.tc_isa.specs.Forms.{bounds}
+use Rattle.tc_isa.specs.InBounds.{IsBelow}
 use Rattle.tc_isa.specs.Insts.{InstData, IsInst, fields_in}
 use Rattle.tc_encode.specs.declared.errors.DecodeErr.{DecodeErr}
 use Rattle.tc_encode.specs.Decoding.{decoded_of}
@@ -19,7 +20,8 @@ use Rattle.tc_stmt.specs.declared.want.Want.TheVariants.{Reg, A10, Number, Targe
 use Rattle.tc_stmt.specs.Wants.{wants_of}
 use Rattle.tc_stmt.specs.RowFields.{field_of}
 use Rattle.tcd_text.specs.Digits.{hex_byte, hex_word}
-use Rattle.tc_disasm.specs.Texts.{is_minus, register_text, number_text, target_text, is_two_way, absolute_text, base_text, operand_text, operands_text, row_text, text_of}
+use Rattle.tc_disasm.specs.Texts.{is_minus, register_text, number_text, target_text, absolute_text, base_text, operand_text, operands_text, row_text, text_of}
+use Rattle.tc_stmt.specs.Displacements.{is_two_way}
 use Rattle.tc_disasm.specs.Listing.{text_at, size_at, remark, line_at, lines_from, section_line, section_text, sections_from}
 use Rattle.tc_disasm.proofs.Appending.{lines-front}
 use Rattle.tc_disasm.proofs.Bounds.{field_of-below}

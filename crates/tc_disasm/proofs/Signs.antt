@@ -2,7 +2,7 @@
 use Rattle.std.proofs.Common.{◌≡◌, ◌<◌, ◌-◌, ◌/◌, ◌%◌, ◌==◌, ◌&&◌, ℕ, Bool, true, false, cond, refl, arith}
 use Rattle.std.specs.Prelude.{nat_lt, nat_le, not}
 use Rattle.std.proofs.lemmas.Bool.Decides.{nat_tests}
-use Rattle.tc_stmt.specs.Values.{fits, wrap}
+use Rattle.tc_stmt.specs.OperandForms.{fits, wrap}
 use Rattle.tc_disasm.specs.Texts.{is_minus, size_of}
 
 pub fits-printed : (signed : Bool) (bound v : ℕ) → v < bound → bound % 2 ≡ 0 → fits signed bound (is_minus signed bound v) (size_of signed bound v) ≡ true

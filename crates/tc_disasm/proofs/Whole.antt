@@ -9,12 +9,12 @@ use Rattle.tc_object.specs.Objects.{SectionData, ObjectData}
 use Rattle.tc_lex.specs.Pieces.{is_kind}
 use Rattle.tc_stmt.specs.Lines.{LineData, line_data, line_in, lines_in, pieces_line, line_from}
 use Rattle.tc_asm.specs.Symbols.{SymbolData}
-use Rattle.tc_asm.specs.Drafts.{DraftData, start}
+use Rattle.tc_asm.specs.Drafts.{DraftData, start, with_line, drafted}
 use Rattle.tc_asm.specs.declared.errors.AsmErr.{AsmErr}
 use Rattle.tc_asm.specs.declared.errors.AsmErr.TheVariants.{Bad, NoMemory}
 use Rattle.tc_asm.specs.Errors.{IfBad}
 use Rattle.tc_asm.specs.Objects.{section_of, relocs_from, object_of}
-use Rattle.tc_asm.specs.Sources.{with_line, drafted, symbols_of, KeepsRules, IsLeast}
+use Rattle.tc_asm.specs.DraftedSources.{symbols_of, KeepsRules, IsLeast}
 use Rattle.tc_asm.specs.Rules.{line_rule}
 use Rattle.tc_disasm.specs.Listing.{by_address, sections_from, listing_of}
 use Rattle.tc_disasm.specs.Assembled.{section_name, HoldsSegments, ReadsBack}

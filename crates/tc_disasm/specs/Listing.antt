@@ -1,5 +1,5 @@
 -- The listing of an image.
-use Rattle.std.specs.Prelude.{ℕ, zero, suc, ◌+◌, ◌-◌, nat_lt, min, if◌then◌else◌, List, [], ◌∷◌, ◌++◌, length, take, codes, fold, Result, Ok, Err}
+use Rattle.std.specs.Prelude.{ℕ, zero, suc, ◌+◌, ◌-◌, nat_lt, min, if◌then◌else◌, List, ◌∷◌, ◌++◌, length, take, codes, fold, Result, Ok, Err, []}
 use Rattle.std.specs.Fmt.{decimal}
 use Rattle.std.specs.List.{flat_map}
 use Rattle.elf_image.specs.Images.{ImageData, SegmentData}
@@ -7,13 +7,7 @@ use Rattle.tc_isa.specs.Insts.{InstData}
 use Rattle.tc_encode.specs.declared.errors.DecodeErr.{DecodeErr}
 use Rattle.tc_encode.specs.Decoding.{decoded_of}
 use Rattle.tcd_text.specs.Digits.{hex_byte, hex_word}
-use Rattle.tc_disasm.specs.Texts.{text_of}
-
--- two bytes as a little-endian number, or a single last byte
-abbrev pub data_text : List ℕ → List ℕ
-data_text [] = []
-data_text (a ∷ []) = codes ".byte 0x" ++ hex_byte a
-data_text (a ∷ b ∷ bs) = codes ".half 0x" ++ (hex_byte b ++ hex_byte a)
+use Rattle.tc_disasm.specs.Texts.{text_of, data_text}
 
 -- the instruction that was decoded from the start of the bytes, else data
 abbrev pub piece_text : Result (InstData × ℕ) DecodeErr → List ℕ → List ℕ

@@ -1,12 +1,12 @@
 -- The text of an instruction.
-use Rattle.std.specs.Prelude.{ℕ, ◌-◌, ◌*◌, ◌/◌, ◌&&◌, not, nat_le, Bool, true, if◌then◌else◌, List, [], ◌∷◌, ◌++◌, codes, slice_get}
+use Rattle.std.specs.Prelude.{ℕ, ◌-◌, ◌*◌, ◌/◌, ◌&&◌, nat_le, Bool, true, if◌then◌else◌, List, ◌∷◌, ◌++◌, codes, slice_get, []}
 use Rattle.std.specs.Fmt.{decimal}
 use Rattle.std.specs.List.{flat_map}
 use Rattle.std.specs.Option.{option_map_or}
-use Rattle.tcd_text.specs.Digits.{hex_word}
+use Rattle.tcd_text.specs.Digits.{hex_word, hex_byte}
 use Rattle.tc_isa.specs.declared.table.Form.{Form}
 use Rattle.tc_isa.specs.declared.fields.Fields.{Fields}
-use Rattle.tc_isa.specs.Forms.{bounds, is_sbr, is_abs}
+use Rattle.tc_isa.specs.Forms.{bounds, is_abs}
 use Rattle.tc_isa.specs.Rows.{RowData, listed}
 use Rattle.tc_isa.specs.Insts.{InstData, fields_in}
 use Rattle.tc_isa.specs.Meanings.{place, code_place}
@@ -14,6 +14,7 @@ use Rattle.tc_stmt.specs.declared.want.Want.{Want}
 use Rattle.tc_stmt.specs.declared.want.Want.TheVariants.{Reg, A10, Number, Target, Absolute, Memory}
 use Rattle.tc_stmt.specs.Wants.{wants_of}
 use Rattle.tc_stmt.specs.RowFields.{field_of}
+use Rattle.tc_stmt.specs.Displacements.{is_two_way}
 
 -- a register of a bank, true for address registers: `d0` to `d15`, `a0` to `a15`
 unfoldable pub register_text : Bool → ℕ → List ℕ
@@ -30,10 +31,6 @@ size_of signed bound v = if is_minus signed bound v then bound - v else v
 -- a constant, in decimal
 unfoldable pub number_text : Bool → ℕ → ℕ → List ℕ
 number_text signed bound v = if is_minus signed bound v then 45 ∷ decimal (bound - v) else decimal v
-
--- a displacement can be negative, except in SBR rows
-unfoldable pub is_two_way : Form → Bool
-is_two_way form = not (is_sbr form)
 
 -- a target: `.+` or `.-` and a number of bytes, twice the displacement
 unfoldable pub target_text : Bool → ℕ → ℕ → List ℕ
@@ -72,3 +69,9 @@ row_text r f = r.name ++ operands_text r.form f (wants_of r)
 -- the text of an instruction
 unfoldable pub text_of : InstData → List ℕ
 text_of i = option_map_or (λ r. row_text r (fields_in i)) (slice_get listed i.row) []
+
+-- two bytes as a little-endian number, or a single last byte
+abbrev pub data_text : List ℕ → List ℕ
+data_text [] = []
+data_text (a ∷ []) = codes ".byte 0x" ++ hex_byte a
+data_text (a ∷ b ∷ bs) = codes ".half 0x" ++ (hex_byte b ++ hex_byte a)

@@ -13,7 +13,8 @@ use Rattle.tc_stmt.specs.Wants.{wants_of}
 use Rattle.tc_lex.specs.Operands.{OperandData, operand}
 use Rattle.tc_lex.specs.Pieces.{PieceData}
 use Rattle.tc_stmt.specs.RowFields.{field_of}
-use Rattle.tc_disasm.specs.Texts.{register_text, is_minus, size_of, is_two_way, absolute_text}
+use Rattle.tc_disasm.specs.Texts.{register_text, is_minus, size_of, absolute_text}
+use Rattle.tc_stmt.specs.Displacements.{is_two_way}
 
 -- a token of this kind with its text
 abbrev pub piece : TokenKind → List ℕ → PieceData

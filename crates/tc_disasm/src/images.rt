@@ -3,7 +3,7 @@ ghost use Rattle.std.specs.Prelude.{◌≡◌, ◌++◌, ◌≤◌, ◌+◌, ◌
 ghost use Rattle.std.specs.List.{list_all};
 ghost use Rattle.elf_image.specs.Images.{segment_data, is_segment};
 ghost use Rattle.tc_disasm.specs.Listing.{section_line, section_text, sections_from, listing_of};
-ghost use Rattle.tc_disasm.specs.Views.{lent_data};
+ghost use Rattle.tc_disasm.specs.LentSegments.{lent_data};
 
 use crate::lines::append_lines;
 use crate::ordering::by_address;

@@ -11,7 +11,7 @@ ghost use Rattle.tc_lex.specs.declared.kinds.Front.TheVariants.{Token};
 ghost use Rattle.tc_isa.specs.Insts.{InstData, IsInst, fields_in};
 ghost use Rattle.tc_lex.specs.Numbers.{number_of};
 ghost use Rattle.tc_stmt.specs.RowFields.{no_fields};
-ghost use Rattle.tc_stmt.specs.Values.{register_of};
+ghost use Rattle.tc_stmt.specs.OperandForms.{register_of};
 ghost use Rattle.tc_stmt.specs.StatementRow.{statement};
 ghost use Rattle.tcd_text.specs.Digits.{hex_word};
 ghost use Rattle.tc_disasm.specs.Texts.{register_text};

@@ -2,7 +2,8 @@
 ghost use Rattle.std.specs.Prelude.{◌≡◌, ◌<◌, ◌≤◌, ◌+◌, ◌^◌, ◌++◌, ◌∷◌, [], OnOk, IfOk, string_bytes, codes, length, min, drop};
 ghost use Rattle.std.specs.List.{flat_map};
 ghost use Rattle.tcd_text.specs.Digits.{hex_byte, hex_word};
-ghost use Rattle.tc_disasm.specs.Listing.{data_text, text_at, size_at, remark, line_at, lines_from};
+ghost use Rattle.tc_disasm.specs.Listing.{text_at, size_at, remark, line_at, lines_from};
+ghost use Rattle.tc_disasm.specs.Texts.{data_text};
 
 use crate::instructions::append_instruction;
 use crate::texts::{append, append_address};

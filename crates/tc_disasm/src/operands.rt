@@ -1,14 +1,17 @@
 // Appends the text of an operand.
-ghost use Rattle.std.specs.Prelude.{◌≡◌, ◌≤◌, ◌*◌, ◌++◌, OnOk, string_bytes, ◌<◌, ◌^◌};
-ghost use Rattle.tc_isa.specs.Forms.{IsBelow, bounds};
+ghost use Rattle.std.specs.Prelude.{◌≡◌, ◌≤◌, ◌*◌, ◌++◌, OnOk, string_bytes, ◌<◌, ◌^◌, codes};
+ghost use Rattle.tc_isa.specs.Forms.{bounds};
+ghost use Rattle.tc_isa.specs.InBounds.{IsBelow};
 ghost use Rattle.tc_isa.specs.Meanings.{code_place};
 ghost use Rattle.tc_stmt.specs.declared.want.Want.TheVariants.{Memory};
 ghost use Rattle.tc_stmt.specs.RowFields.{field_of};
-ghost use Rattle.tc_disasm.specs.Texts.{register_text, number_text, is_two_way, target_text, address_in, absolute_text, base_text, operand_text};
+ghost use Rattle.tc_disasm.specs.Texts.{register_text, number_text, target_text, address_in, absolute_text, base_text, operand_text, operands_text};
+ghost use Rattle.tc_stmt.specs.Displacements.{is_two_way};
+ghost use Rattle.std.specs.List.{flat_map};
 
 use crate::texts::{append, append_decimal};
 use tc_isa::{Fields, Form, bounds_of};
-use tc_stmt::{Field, Want, field_of};
+use tc_stmt::{Field, Want, field_of, wants};
 use tcd_base::NoMemory;
 use tcd_text::append_hex_word;
 
@@ -35,7 +38,7 @@ fn append_number(text: &mut String, signed: bool, bound: u32, value: u32) -> Res
     }
 }
 
-#[tactic(auto, unfolding(crate::specs::Texts::is_two_way, tc_isa::specs::Forms::form_index))]
+#[tactic(auto, unfolding(tc_stmt::specs::Displacements::is_two_way, tc_isa::specs::Forms::form_index))]
 fn is_two_way(form: Form) -> bool
     ensures { result ≡ is_two_way form }
 {
@@ -163,4 +166,48 @@ fn append_field(
         field_of(field, &bounds_of(form)),
         field_of(field, f),
     )
+}
+
+// Appends a comma and an operand.
+fn append_next(text: &mut String, form: Form, f: &Fields, want: Want) -> Result<(), NoMemory>
+    requires { IsBelow f.now (bounds form) }
+    ensures { OnOk result
+        (string_bytes text.new
+        ≡ string_bytes text.old ++ (codes ", " ++ operand_text form f.now want)) }
+{
+    append(text, ", ")?;
+    append_operand(text, form, f, want)
+}
+
+// Appends the operands after the first one.
+fn append_others(text: &mut String, form: Form, f: &Fields, wants: &[Want]) -> Result<(), NoMemory>
+    requires { IsBelow f.now (bounds form) }
+    ensures { OnOk result
+        (string_bytes text.new
+        ≡ string_bytes text.old
+        ++ flat_map (λ v. codes ", " ++ operand_text form f.now v) wants.now) }
+{
+    for want in wants {
+        append_next(text, form, f, *want)?;
+    }
+    Ok(())
+}
+
+#[tactic(auto, unfolding(crate::specs::Texts::operands_text))]
+pub(crate) fn append_operands(
+    text: &mut String,
+    form: Form,
+    f: &Fields,
+    wants: &[Want],
+) -> Result<(), NoMemory>
+    requires { IsBelow f.now (bounds form) }
+    ensures { OnOk result
+        (string_bytes text.new ≡ string_bytes text.old ++ operands_text form f.now wants.now) }
+{
+    if let Some((first, others)) = wants.split_first() {
+        append(text, " ")?;
+        append_operand(text, form, f, *first)?;
+        append_others(text, form, f, others)?;
+    }
+    Ok(())
 }

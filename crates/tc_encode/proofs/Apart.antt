@@ -6,9 +6,9 @@ use Rattle.std.proofs.lemmas.Bool.{and_parts, and_from, eqb-true, eq-eqb, or_par
 use Rattle.tc_isa.specs.declared.fields.Fields.{Fields}
 use Rattle.tc_isa.specs.declared.table.Form.{Form}
 use Rattle.tc_isa.specs.declared.table.Form.TheVariants.{Rlc, Rr, Rc, Bol, Bo, Brr, Brc, B, Abs, Sys, Sr, Sc, Sb, Sbr, Src, Srr, Slr, Ssr}
-use Rattle.tc_isa.specs.Rows.{RowData, listed}
+use Rattle.tc_isa.specs.Rows.{RowData, listed, is_long}
 use Rattle.tc_isa.specs.Forms.{second_of, form_index}
-use Rattle.tc_isa.specs.ValidRows.{Fits, IsRow, clash, none_clash, is_long}
+use Rattle.tc_isa.specs.ValidRows.{Fits, IsRow, clash, none_clash}
 use Rattle.tc_isa.specs.Spelling.{word_of, spelling_of, spelling}
 use Rattle.tc_encode.proofs.Inverse.{first-word, second-word}
 use Rattle.tc_isa.proofs.TableFacts.{row_at, rows_are_apart}

@@ -3,7 +3,9 @@ use Rattle.std.proofs.Common.{◌≡◌, ◌^◌, ◌<◌, ℕ, false, arith}
 use Rattle.tc_isa.specs.declared.fields.Fields.{Fields}
 use Rattle.tc_isa.specs.declared.table.Form.{Form}
 use Rattle.tc_isa.specs.declared.table.Form.TheVariants.{Rlc, Sr, Sc, Sb, Sbr, Src, Srr, Slr, Ssr}
-use Rattle.tc_isa.specs.Forms.{IsBelow, bounds, second_bound, word, is_long_form}
+use Rattle.tc_isa.specs.Forms.{bounds, second_bound, is_long_form}
+use Rattle.tc_isa.specs.Spelling.{word}
+use Rattle.tc_isa.specs.InBounds.{IsBelow}
 
 -- a word of 32 bits, and one of 16
 pub word-lt : (form : Form) (op1 op2 : ℕ) (f : Fields) → op1 < 256 → op2 < second_bound form → IsBelow f (bounds form) → word form op1 op2 f < 2 ^ 32

@@ -2,8 +2,9 @@
 use Rattle.std.proofs.Common.{◌≡◌, ◌/◌, ◌%◌, ◌^◌, ◌<◌, ℕ, zero, suc, Bool, true, false, List, [], ◌∷◌, take, drop, get_or, refl, sym, ap, subst, ◌∙◌, arith}
 use Rattle.std.specs.Prelude.{All, if◌then◌else◌}
 use Rattle.std.specs.Int.{w32, to_le_bytes}
-use Rattle.tc_isa.specs.ValidRows.{is_long}
-use Rattle.tc_isa.specs.Spelling.{word_of, spelling_of, four_bytes, Spells}
+use Rattle.tc_isa.specs.Rows.{is_long}
+use Rattle.tc_isa.specs.Spelling.{word_of, spelling_of, Spells}
+use Rattle.tcd_base.specs.Bytes.{four_bytes}
 use Rattle.tc_isa.specs.Insts.{InstData, IsInst, fields_in}
 use Rattle.tc_isa.proofs.TableFacts.{row_at}
 use Rattle.tc_encode.specs.Decoding.{need_of}

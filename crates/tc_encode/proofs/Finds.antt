@@ -10,7 +10,8 @@ use Rattle.tc_isa.specs.declared.fields.Uses.{Uses}
 use Rattle.tc_isa.specs.declared.fields.Fields.{Fields}
 use Rattle.tc_isa.specs.declared.table.Form.{Form}
 use Rattle.tc_isa.specs.Rows.{RowData, listed}
-use Rattle.tc_isa.specs.Forms.{IsBelow, bounds, fields_of, second_of, form_index, is_long_form}
+use Rattle.tc_isa.specs.Forms.{bounds, fields_of, second_of, form_index, is_long_form}
+use Rattle.tc_isa.specs.InBounds.{IsBelow}
 use Rattle.tc_isa.specs.ValidRows.{Fits, uses_of, rest_is_zero, is_apart}
 use Rattle.tc_isa.specs.Spelling.{word_of}
 use Rattle.tc_isa.specs.Insts.{InstData, IsInst, fields_in}

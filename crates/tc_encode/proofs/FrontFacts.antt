@@ -4,9 +4,9 @@ use Rattle.std.specs.Prelude.{if◌then◌else◌}
 use Rattle.std.proofs.lemmas.Bool.{and_parts, and_from, ltb-true, lt-ltb}
 use Rattle.std.proofs.lemmas.List.{take_at, append-nil}
 use Rattle.tc_isa.specs.declared.fields.Fields.{Fields}
-use Rattle.tc_isa.specs.Rows.{RowData}
+use Rattle.tc_isa.specs.Rows.{RowData, is_long}
 use Rattle.tc_encode.specs.WordSearch.{mix}
-use Rattle.tc_isa.specs.ValidRows.{Fits, IsRow, is_long, least}
+use Rattle.tc_isa.specs.ValidRows.{Fits, IsRow, least}
 use Rattle.tc_isa.specs.Spelling.{word_of, spelling_of, spelling}
 use Rattle.tc_encode.specs.Decoding.{size_of, begins_with, goes_on_as}
 use Rattle.tc_encode.proofs.Complete.{completed}

@@ -4,7 +4,9 @@ use Rattle.std.proofs.lemmas.Bool.{and_parts, and_from, eqb-true, eq-eqb}
 use Rattle.tc_isa.specs.declared.fields.Fields.{Fields}
 use Rattle.tc_isa.specs.declared.table.Form.{Form}
 use Rattle.tc_isa.specs.declared.table.Form.TheVariants.{Rlc, Rr, Sys, Sr, Sc, Sb, Sbr, Src, Srr, Slr, Ssr}
-use Rattle.tc_isa.specs.Forms.{IsBelow, bounds, second_bound, word, fields_of, second_of, is_long_form}
+use Rattle.tc_isa.specs.Forms.{bounds, second_bound, fields_of, second_of, is_long_form}
+use Rattle.tc_isa.specs.Spelling.{word}
+use Rattle.tc_isa.specs.InBounds.{IsBelow}
 use Rattle.tc_encode.specs.WordSearch.{has_no_gap}
 
 pub fields_below : (form : Form) (w : ℕ) → w < 2 ^ 32 → IsBelow (fields_of form w) (bounds form)

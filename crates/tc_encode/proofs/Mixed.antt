@@ -3,8 +3,11 @@ use Rattle.std.proofs.Common.{◌≡◌, ◌⊎◌, inl, inr, ◌<◌, ℕ, arit
 use Rattle.tc_isa.specs.declared.fields.Fields.{Fields}
 use Rattle.tc_isa.specs.declared.table.Form.{Form}
 use Rattle.tc_isa.specs.declared.table.Form.TheVariants.{Rlc}
-use Rattle.tc_isa.specs.Forms.{IsBelow, bounds, second_bound, word, fields_of}
-use Rattle.tc_encode.specs.WordSearch.{mix1, mix2, mix3}
+use Rattle.tc_isa.specs.Forms.{bounds, second_bound, fields_of}
+use Rattle.tc_isa.specs.Spelling.{word}
+use Rattle.tc_isa.specs.InBounds.{IsBelow}
+use Rattle.tc_encode.specs.WordSearch.{mix1, mix3}
+use Rattle.tc_isa.specs.Arithmetic.{mix2}
 
 pub record Mixed (form : Form) (op1 op2 : ℕ) (f g : Fields) (m : ℕ) : Type 0 where
   pub below : IsBelow (fields_of form m) (bounds form)

@@ -5,11 +5,13 @@ use Rattle.std.proofs.lemmas.Bool.{and_parts, and_from, ltb-true, lt-ltb}
 use Rattle.std.proofs.lemmas.Slice.Eq.{bytes_eq-Decides}
 use Rattle.std.proofs.lemmas.List.{take_at}
 use Rattle.tc_isa.specs.declared.fields.Fields.{Fields}
-use Rattle.tc_isa.specs.Rows.{RowData}
-use Rattle.tc_isa.specs.Forms.{bounds, fields_of, IsBelow}
-use Rattle.tc_isa.specs.ValidRows.{Fits, IsRow, is_below_test, is_long}
-use Rattle.tc_isa.specs.Spelling.{word_of, spelling_of, spelling, two_bytes, four_bytes}
-use Rattle.tc_encode.specs.Decoding.{number_of, size_of, do_fit, fields_at, begins_with}
+use Rattle.tc_isa.specs.Rows.{RowData, is_long}
+use Rattle.tc_isa.specs.Forms.{bounds, fields_of}
+use Rattle.tc_isa.specs.InBounds.{IsBelow, is_below_test}
+use Rattle.tc_isa.specs.ValidRows.{Fits, IsRow}
+use Rattle.tc_isa.specs.Spelling.{word_of, spelling_of, spelling}
+use Rattle.tcd_base.specs.Bytes.{two_bytes, four_bytes, number_of}
+use Rattle.tc_encode.specs.Decoding.{size_of, do_fit, fields_at, begins_with}
 use Rattle.tc_encode.proofs.Inverse.{fields-word}
 use Rattle.tc_encode.proofs.Bytes.{word-lt}
 

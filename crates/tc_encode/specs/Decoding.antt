@@ -1,20 +1,17 @@
 -- Bytes, decoded as an instruction.
-use Rattle.std.specs.Prelude.{◌+◌, ◌*◌, ◌%◌, ◌==◌, ◌&&◌, ℕ, suc, Bool, List, [], ◌∷◌, ◌++◌, length, take, drop, Option, Some, None, Result, Ok, Err, nat_lt, if◌then◌else◌}
+use Rattle.std.specs.Prelude.{◌%◌, ◌==◌, ◌&&◌, ℕ, suc, Bool, List, ◌∷◌, ◌++◌, length, take, drop, Option, Some, None, Result, Ok, Err, nat_lt, if◌then◌else◌, []}
 use Rattle.std.specs.List.{list_any}
 use Rattle.std.specs.Str.{bytes_eq}
 use Rattle.tc_isa.specs.declared.fields.Fields.{Fields}
 use Rattle.tc_isa.specs.Rows.{RowData, listed}
 use Rattle.tc_isa.specs.Forms.{bounds, fields_of}
-use Rattle.tc_isa.specs.ValidRows.{uses_of, rest_is_zero, is_apart, is_below_test, least}
+use Rattle.tc_isa.specs.ValidRows.{uses_of, rest_is_zero, is_apart, least}
+use Rattle.tc_isa.specs.InBounds.{is_below_test}
 use Rattle.tc_isa.specs.Spelling.{spelling}
 use Rattle.tc_isa.specs.Insts.{InstData}
 use Rattle.tc_encode.specs.declared.errors.DecodeErr.{DecodeErr}
 use Rattle.tc_encode.specs.declared.errors.DecodeErr.TheVariants.{Short, NotListed}
-
--- bytes as a number, the first byte lowest
-abbrev pub number_of : List ℕ → ℕ
-number_of [] = 0
-number_of (b ∷ bs) = b + 256 * number_of bs
+use Rattle.tcd_base.specs.Bytes.{number_of}
 
 -- the number of bytes of an instruction with this first byte: 4 if bit 0 is set, else 2
 abbrev pub need_of : ℕ → ℕ

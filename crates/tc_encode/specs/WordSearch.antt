@@ -1,5 +1,5 @@
 -- Search for an instruction by its word, and by the low bytes of its word.
-use Rattle.std.specs.Prelude.{◌≡◌, ◌+◌, ◌*◌, ◌/◌, ◌%◌, ◌^◌, ◌<◌, ℕ, zero, suc, Bool, true, false, ◌==◌, ◌&&◌, ◌||◌, nat_lt, nat_le, List, [], ◌∷◌, Option, Some, None, slice_get}
+use Rattle.std.specs.Prelude.{◌≡◌, ◌+◌, ◌*◌, ◌/◌, ◌%◌, ◌^◌, ◌<◌, ℕ, zero, suc, Bool, true, false, ◌==◌, ◌&&◌, ◌||◌, nat_lt, nat_le, List, ◌∷◌, Option, Some, None, slice_get, []}
 use Rattle.tc_isa.specs.declared.table.Form.{Form}
 use Rattle.tc_isa.specs.declared.table.Form.TheVariants.{Rlc, Rr, Rc, Bol, Bo, Brr, Brc, B, Abs, Sys, Sr, Sc, Sb, Sbr, Src, Srr, Slr, Ssr}
 use Rattle.tc_isa.specs.Rows.{RowData, listed}
@@ -19,10 +19,6 @@ pub record Makes (w : ℕ) (i : InstData) : Type 0 where
 -- the low n bytes of a, and the rest of b
 abbrev pub mix1 : ℕ → ℕ → ℕ
 mix1 a b = a % 2 ^ 8 + b / 2 ^ 8 * 2 ^ 8
-
--- the low two bytes of a, and the rest of b
-abbrev pub mix2 : ℕ → ℕ → ℕ
-mix2 a b = a % 2 ^ 16 + b / 2 ^ 16 * 2 ^ 16
 
 -- the low three bytes of a, and the rest of b
 abbrev pub mix3 : ℕ → ℕ → ℕ

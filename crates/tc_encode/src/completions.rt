@@ -1,31 +1,15 @@
 // Beginnings of instructions: whether fewer bytes than an instruction has can be completed.
 ghost use Rattle.std.specs.Prelude.{◌≡◌, ◌<◌, ◌≤◌, ◌%◌, IfSome, IfNone, slice_get, Some};
-ghost use Rattle.tc_isa.specs.Rows.{row_of, listed, RowData};
+ghost use Rattle.tc_isa.specs.Rows.{row_of, listed};
 ghost use Rattle.tc_isa.specs.ValidRows.{least};
 ghost use Rattle.tc_isa.specs.Insts.{InstData};
 ghost use Rattle.tc_encode.specs.Decoding.{size_of, need_of};
-ghost use Rattle.tc_encode.specs.WordSearch.{GoesOn, Makes, span};
+ghost use Rattle.tc_encode.specs.WordSearch.{GoesOn, span};
 
-use crate::forms::{join, split};
+use crate::decoding::inst_by;
+use crate::forms::join;
 use crate::index::groups;
-use tc_isa::{Fields, Inst, ROW_COUNT, Row, inst, rows};
-
-/// Returns the instruction of this row if the word is one.
-fn inst_by(place: u8, row: &Row, w: u32) -> Option<Inst>
-    requires { slice_get listed place ≡ Some (row_of row.now) }
-    ensures some { IfSome result (Makes w) }
-    ensures place { IfSome result (λ i. i.row ≡ place) }
-    ensures none { IfNone result ((i : InstData) → Makes w i → i.row ≡ place → ⊥) }
-{
-    let f = split(row.form, w);
-    let Some(found) = inst(place, f.c, f.s1, f.s2, f.n, f.k) else {
-        return None;
-    };
-    if join(row.form, row.op1, row.op2, &f) != w {
-        return None;
-    }
-    Some(found)
-}
+use tc_isa::{Fields, Inst, ROW_COUNT, Row, rows};
 
 /// Returns the least fields that fit the row.
 fn least_of(row: &Row) -> Fields

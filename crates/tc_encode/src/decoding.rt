@@ -1,13 +1,19 @@
 // Decodes the instruction that bytes begin with.
-ghost use Rattle.std.specs.Prelude.{◌≡◌, ◌↔◌, Ok, ◌<◌, ◌≤◌, ◌%◌, ◌^◌, ℕ, List, [], ◌∷◌, length, Err, All, slice_index, IfOk};
+ghost use Rattle.std.specs.Prelude.{◌≡◌, ◌↔◌, Ok, ◌<◌, ◌≤◌, ◌%◌, ◌^◌, ℕ, List, [], ◌∷◌, length, Err, All, slice_index, IfOk, IfSome, IfNone, slice_get, Some};
 ghost use Rattle.tc_isa.specs.Insts.{InstData};
 ghost use Rattle.tc_isa.specs.Spelling.{Begins, IsFront};
-ghost use Rattle.tc_encode.specs.Decoding.{decoded_of, need_of, number_of};
+ghost use Rattle.tc_encode.specs.Decoding.{decoded_of, need_of};
+ghost use Rattle.tcd_base.specs.Bytes.{number_of};
+ghost use Rattle.tc_isa.specs.Rows.{row_of, listed, RowData};
+ghost use Rattle.tc_encode.specs.WordSearch.{Makes};
+ghost use Rattle.tc_isa.specs.Forms.{second_of};
 
 use crate::completions::completion;
 use crate::errors::DecodeErr;
-use crate::word_search::find;
-use tc_isa::Inst;
+use crate::forms::{join, split};
+use crate::index::codes;
+use crate::word_search::{find, inst_of};
+use tc_isa::{Form, Inst, ROW_COUNT, Row, inst, rows};
 
 /// Decodes four bytes, the first of which is odd.
 fn long_word(a: u8, b: u8, c: u8, d: u8) -> Result<(Inst, usize), DecodeErr>
@@ -106,4 +112,49 @@ fn decode_short(bytes: &[u8]) -> Result<(Inst, usize), DecodeErr>
         [a] => Err(front(*a, 1, u32::from(*a))),
         [a, b, ..] => short_word(*a, *b),
     }
+}
+
+/// Returns the instruction of this row if the word is one.
+pub(crate) fn inst_by(place: u8, row: &Row, w: u32) -> Option<Inst>
+    requires { slice_get listed place ≡ Some (row_of row.now) }
+    ensures some { IfSome result (Makes w) }
+    ensures place { IfSome result (λ i. i.row ≡ place) }
+    ensures none { IfNone result ((i : InstData) → Makes w i → i.row ≡ place → ⊥) }
+{
+    let f = split(row.form, w);
+    let Some(found) = inst(place, f.c, f.s1, f.s2, f.n, f.k) else {
+        return None;
+    };
+    if join(row.form, row.op1, row.op2, &f) != w {
+        return None;
+    }
+    Some(found)
+}
+
+/// Returns the length of an instruction whose first byte is this one: 4 bytes if it is odd, else 2.
+pub(crate) fn length_by(first: u8) -> u8
+    ensures { result ≡ need_of first }
+{
+    if first % 2 == 1 { 4 } else { 2 }
+}
+
+/// Returns the instruction of the row at this place if it has these codes and the word.
+pub(crate) fn inst_at(place: u8, first: u8, second: u8, w: u32) -> Option<Inst>
+    requires place { place < ROW_COUNT }
+    requires first { first ≡ w % 256 }
+    requires second { (r : RowData) → slice_get listed place ≡ Some r → r.op1 ≡ first
+        → second ≡ second_of r.form w }
+    requires short { w % 2 ≡ 0 → w < 2 ^ 16 }
+    ensures some { IfSome result (Makes w) }
+    ensures none { IfNone result ((i : InstData) → Makes w i → i.row ≡ place → ⊥) }
+{
+    let at = usize::from(place);
+    let row = &rows()[at];
+    if row.op1 != first {
+        return None;
+    }
+    if row.op2 != second {
+        return None;
+    }
+    inst_of(place, row, w)
 }

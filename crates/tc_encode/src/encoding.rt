@@ -1,8 +1,8 @@
 // Encodes an instruction as bytes.
 ghost use Rattle.std.specs.Prelude.{◌≡◌, take, drop, All};
 ghost use Rattle.tc_isa.specs.Spelling.{Spells};
-ghost use Rattle.tc_encode.specs.Decoding.{need_of};
 
+use crate::decoding::length_by;
 use crate::forms::join;
 use tc_isa::{Fields, Inst, rows};
 
@@ -31,11 +31,4 @@ pub fn encode(inst: &Inst) -> Code
         len: length_by(row.op1),
         bytes: word.to_le_bytes(),
     }
-}
-
-/// Returns the length of an instruction whose first byte is this one: 4 bytes if it is odd, else 2.
-fn length_by(first: u8) -> u8
-    ensures { result ≡ need_of first }
-{
-    if first % 2 == 1 { 4 } else { 2 }
 }

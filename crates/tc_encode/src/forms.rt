@@ -1,6 +1,8 @@
 // The words of instructions, form by form.
 ghost use Rattle.std.specs.Prelude.{◌≡◌, ◌<◌, ◌^◌, ◌↔◌, IsTrue};
-ghost use Rattle.tc_isa.specs.Forms.{IsBelow, bounds, second_bound, word, fields_of, second_of};
+ghost use Rattle.tc_isa.specs.Forms.{bounds, second_bound, fields_of, second_of};
+ghost use Rattle.tc_isa.specs.Spelling.{word};
+ghost use Rattle.tc_isa.specs.InBounds.{IsBelow};
 
 use tc_isa::{Fields, Form};
 
@@ -134,7 +136,7 @@ pub fn second_code(form: Form, w: u32) -> u8
 }
 
 /// Returns the word of these codes and fields.
-#[tactic(auto, unfolding(tc_isa::specs::Forms::word, tc_isa::specs::Forms::bounds, tc_isa::specs::Forms::second_bound))]
+#[tactic(auto, unfolding(tc_isa::specs::Spelling::word, tc_isa::specs::Forms::bounds, tc_isa::specs::Forms::second_bound))]
 pub fn join(form: Form, op1: u8, op2: u8, f: &Fields) -> u32
     requires second { op2 < second_bound form }
     requires below { IsBelow f.now (bounds form) }

@@ -1,10 +1,11 @@
 // Index of the rows by their codes. Printed by tools/rows.py.
-ghost use Rattle.std.specs.Prelude.{◌≡◌, length, map, true, nat_le, nat_lt};
+ghost use Rattle.std.specs.Prelude.{◌≡◌, length, map, true, nat_le, nat_lt, ◌<◌, ℕ, IfSome, slice_get, Some};
 ghost use Rattle.std.specs.List.{list_all};
-ghost use Rattle.tc_isa.specs.Rows.{listed};
+ghost use Rattle.tc_isa.specs.Rows.{listed, RowData};
 ghost use Rattle.tc_encode.specs.WordSearch.{hold_all, hold_places, names_all};
+ghost use Rattle.tc_isa.specs.Forms.{form_index};
 
-use tc_isa::ROW_COUNT;
+use tc_isa::{Form, ROW_COUNT, rows};
 
 // By the first byte: the place of the first row with it.
 static STARTS: [u8; 256] = [
@@ -244,4 +245,28 @@ pub fn plain_rows() -> &'static [bool; ROW_COUNT]
     ensures { result.now ≡ map names_all listed }
 {
     &PLAIN
+}
+
+/// Returns the place of the row with these codes, if there is one.
+pub(crate) fn place_by(first: u8, second: u8) -> Option<u8>
+    ensures within { IfSome result (λ p. p < ROW_COUNT) }
+    ensures only { (place : ℕ) (r : RowData) → slice_get listed place ≡ Some r → r.op1 ≡ first
+        → r.op2 ≡ second → result ≡ Some place }
+{
+    let (bases, places) = codes();
+    let at = usize::from(bases[usize::from(first)]) + usize::from(second);
+    if at < places.len() {
+        Some(places[at])
+    } else {
+        None
+    }
+}
+
+/// Returns the form of the rows that begin with this byte. If there are none, any form will do.
+pub(crate) fn form_by(first: u8) -> Form
+    ensures { (place : ℕ) (r : RowData) → slice_get listed place ≡ Some r → r.op1 ≡ first
+        → form_index r.form ≡ form_index result }
+{
+    let (starts, _) = groups();
+    rows()[usize::from(starts[usize::from(first)])].form
 }

@@ -1,13 +1,15 @@
 // Finds the instruction of a word by the index of codes.
 ghost use Rattle.std.specs.Prelude.{◌≡◌, ◌<◌, ◌%◌, ◌^◌, ℕ, IfSome, IfNone, slice_get, Some};
 ghost use Rattle.tc_isa.specs.Rows.{RowData, row_of, listed};
-ghost use Rattle.tc_isa.specs.Forms.{second_of, form_index, IsBelow, bounds};
+ghost use Rattle.tc_isa.specs.Forms.{second_of, bounds};
+ghost use Rattle.tc_isa.specs.InBounds.{IsBelow};
 ghost use Rattle.tc_isa.specs.ValidRows.{uses_of, rest_is_zero};
 ghost use Rattle.tc_isa.specs.Insts.{InstData};
 ghost use Rattle.tc_encode.specs.WordSearch.{Makes, has_no_gap};
 
+use crate::decoding::inst_at;
 use crate::forms::{second_code, split};
-use crate::index::{codes, groups, plain_rows};
+use crate::index::{codes, form_by, place_by, plain_rows};
 use tc_isa::{Fields, Form, Inst, ROW_COUNT, Row, is_zero_elsewhere, parts_differ, rows, uses};
 
 /// Returns the instruction of a word, which has 16 bits if its lowest byte is even.
@@ -32,54 +34,9 @@ fn second_by(first: u8, w: u32) -> u8
     second_code(form_by(first), w)
 }
 
-/// Returns the place of the row with these codes, if there is one.
-fn place_by(first: u8, second: u8) -> Option<u8>
-    ensures within { IfSome result (λ p. p < ROW_COUNT) }
-    ensures only { (place : ℕ) (r : RowData) → slice_get listed place ≡ Some r → r.op1 ≡ first
-        → r.op2 ≡ second → result ≡ Some place }
-{
-    let (bases, places) = codes();
-    let at = usize::from(bases[usize::from(first)]) + usize::from(second);
-    if at < places.len() {
-        Some(places[at])
-    } else {
-        None
-    }
-}
-
-/// Returns the form of the rows that begin with this byte. If there are none, any form will do.
-fn form_by(first: u8) -> Form
-    ensures { (place : ℕ) (r : RowData) → slice_get listed place ≡ Some r → r.op1 ≡ first
-        → form_index r.form ≡ form_index result }
-{
-    let (starts, _) = groups();
-    rows()[usize::from(starts[usize::from(first)])].form
-}
-
-/// Returns the instruction of the row at this place if it has these codes and the word.
-fn inst_at(place: u8, first: u8, second: u8, w: u32) -> Option<Inst>
-    requires place { place < ROW_COUNT }
-    requires first { first ≡ w % 256 }
-    requires second { (r : RowData) → slice_get listed place ≡ Some r → r.op1 ≡ first
-        → second ≡ second_of r.form w }
-    requires short { w % 2 ≡ 0 → w < 2 ^ 16 }
-    ensures some { IfSome result (Makes w) }
-    ensures none { IfNone result ((i : InstData) → Makes w i → i.row ≡ place → ⊥) }
-{
-    let at = usize::from(place);
-    let row = &rows()[at];
-    if row.op1 != first {
-        return None;
-    }
-    if row.op2 != second {
-        return None;
-    }
-    inst_of(place, row, w)
-}
-
 /// Returns the instruction of this row, which has the word's codes, if the rest of the word is its
 /// spelling.
-fn inst_of(place: u8, row: &Row, w: u32) -> Option<Inst>
+pub(crate) fn inst_of(place: u8, row: &Row, w: u32) -> Option<Inst>
     requires place { slice_get listed place ≡ Some (row_of row.now) }
     requires within { place < ROW_COUNT }
     requires first { row.now.op1 ≡ w % 256 }

@@ -25,7 +25,8 @@ use Rattle.tc_isa.specs.declared.shapes.Shape.TheVariants.{Ret, Rfe, Svlcx, Rslc
 use Rattle.tc_isa.specs.Insts.{InstData, IsInst, fields_in}
 use Rattle.tc_isa.specs.Rows.{listed}
 use Rattle.tc_isa.specs.Meanings.{meanings, shape_of}
-use Rattle.tc_isa.specs.Bounded.{IsRegister, IsWord, IsArg, IsTarget, IsSize, IsShape, AreSmall}
+use Rattle.tc_isa.specs.InBounds.{IsRegister, IsArg, IsTarget, IsSize, IsShape, AreSmall}
+use Rattle.tcd_base.specs.Bytes.{IsWord}
 use Rattle.tc_isa.specs.FromFields.{register_of, word_at, operand_of, distance_of, goal_of, meant}
 use Rattle.tc_isa.proofs.Shaped.{small, row_below, shaped}
 

@@ -10,11 +10,11 @@ use Rattle.tc_isa.specs.declared.table.TheConstants.{ROW_COUNT}
 use Rattle.tc_isa.specs.declared.table.Form.{Form}
 use Rattle.tc_isa.specs.declared.table.Form.TheVariants.{Rlc}
 use Rattle.tc_isa.specs.Rows.{listed}
-use Rattle.tc_isa.specs.Forms.{IsBelow, bounds}
+use Rattle.tc_isa.specs.Forms.{bounds}
+use Rattle.tc_isa.specs.InBounds.{IsBelow, AreSmall}
 use Rattle.tc_isa.specs.Insts.{InstData, IsInst, fields_in}
 use Rattle.tc_isa.specs.Meanings.{Line, meanings, by_line, shape_of}
 use Rattle.tc_isa.specs.FromFields.{meant}
-use Rattle.tc_isa.specs.Bounded.{AreSmall}
 
 -- bounds of the fields of a form
 small_in : (form : Form) (f : Fields) → IsBelow f (bounds form) → AreSmall f

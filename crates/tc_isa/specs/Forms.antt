@@ -1,5 +1,5 @@
 -- The forms of instructions: the places and the bounds of the fields in the words of each form.
-use Rattle.std.specs.Prelude.{◌==◌, ◌+◌, ◌*◌, ◌/◌, ◌%◌, ◌^◌, ◌<◌, ℕ, Bool, true, false}
+use Rattle.std.specs.Prelude.{◌==◌, ◌+◌, ◌*◌, ◌/◌, ◌%◌, ◌^◌, ℕ, Bool, true, false}
 use Rattle.tc_isa.specs.declared.fields.Fields.{Fields}
 use Rattle.tc_isa.specs.declared.table.Form.{Form}
 use Rattle.tc_isa.specs.declared.table.Form.TheVariants.{Rlc, Rr, Rc, Bol, Bo, Brr, Brc, B, Abs, Sys, Sr, Sc, Sb, Sbr, Src, Srr, Slr, Ssr}
@@ -7,14 +7,6 @@ use Rattle.tc_isa.specs.declared.table.Form.TheVariants.{Rlc, Rr, Rc, Bol, Bo, B
 -- the fields c, s1, s2, n and k
 abbrev pub fields : ℕ → ℕ → ℕ → ℕ → ℕ → Fields
 fields c s1 s2 n k = record { c = c; s1 = s1; s2 = s2; n = n; k = k }
-
--- each field is below its bound; a field that the form doesn't have has the bound 1
-pub record IsBelow (f bounds : Fields) : Type 0 where
-  pub c : f.c < bounds.c
-  pub s1 : f.s1 < bounds.s1
-  pub s2 : f.s2 < bounds.s2
-  pub n : f.n < bounds.n
-  pub k : f.k < bounds.k
 
 -- the bounds of a form's fields
 unfoldable pub bounds : Form → Fields
@@ -57,27 +49,6 @@ second_bound Src = 1
 second_bound Srr = 1
 second_bound Slr = 1
 second_bound Ssr = 1
-
--- the bytes of an instruction as one number, the first byte lowest
-unfoldable pub word : Form → ℕ → ℕ → Fields → ℕ
-word Rlc op1 op2 f = f.c * 2 ^ 28 + f.k * 2 ^ 12 + f.s1 * 2 ^ 8 + op1
-word Rr op1 op2 f = f.c * 2 ^ 28 + op2 * 2 ^ 20 + f.n * 2 ^ 16 + f.s2 * 2 ^ 12 + f.s1 * 2 ^ 8 + op1
-word Rc op1 op2 f = f.c * 2 ^ 28 + op2 * 2 ^ 21 + f.k * 2 ^ 12 + f.s1 * 2 ^ 8 + op1
-word Bol op1 op2 f = f.k / 64 % 16 * 2 ^ 28 + f.k / 1024 * 2 ^ 22 + f.k % 64 * 2 ^ 16 + f.s2 * 2 ^ 12 + f.s1 * 2 ^ 8 + op1
-word Bo op1 op2 f = f.k / 64 * 2 ^ 28 + op2 * 2 ^ 22 + f.k % 64 * 2 ^ 16 + f.s2 * 2 ^ 12 + f.s1 * 2 ^ 8 + op1
-word Brr op1 op2 f = op2 * 2 ^ 31 + f.k * 2 ^ 16 + f.s2 * 2 ^ 12 + f.s1 * 2 ^ 8 + op1
-word Brc op1 op2 f = op2 * 2 ^ 31 + f.k * 2 ^ 16 + f.s2 * 2 ^ 12 + f.s1 * 2 ^ 8 + op1
-word B op1 op2 f = f.k % 2 ^ 16 * 2 ^ 16 + f.k / 2 ^ 16 * 2 ^ 8 + op1
-word Abs op1 op2 f = f.k / 64 % 16 * 2 ^ 28 + op2 * 2 ^ 26 + f.k / 1024 % 16 * 2 ^ 22 + f.k % 64 * 2 ^ 16 + f.k / 2 ^ 14 * 2 ^ 12 + f.s1 * 2 ^ 8 + op1
-word Sys op1 op2 f = op2 * 2 ^ 22 + op1
-word Sr op1 op2 f = op2 * 2 ^ 12 + f.s1 * 2 ^ 8 + op1
-word Sc op1 op2 f = f.k * 2 ^ 8 + op1
-word Sb op1 op2 f = f.k * 2 ^ 8 + op1
-word Sbr op1 op2 f = f.s2 * 2 ^ 12 + f.k * 2 ^ 8 + op1
-word Src op1 op2 f = f.k * 2 ^ 12 + f.s1 * 2 ^ 8 + op1
-word Srr op1 op2 f = f.s2 * 2 ^ 12 + f.s1 * 2 ^ 8 + op1
-word Slr op1 op2 f = f.s2 * 2 ^ 12 + f.s1 * 2 ^ 8 + op1
-word Ssr op1 op2 f = f.s2 * 2 ^ 12 + f.s1 * 2 ^ 8 + op1
 
 -- the fields of the number of an instruction
 unfoldable pub fields_of : Form → ℕ → Fields

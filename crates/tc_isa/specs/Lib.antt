@@ -8,5 +8,5 @@ pub mod Arithmetic
 pub mod Meanings
 pub mod Writes
 pub mod FromFields
-pub mod Bounded
+pub mod InBounds
 pub mod Relocations

@@ -1,5 +1,5 @@
 -- The rows of the instruction table, in their order. Printed by tools/rows.py.
-use Rattle.std.specs.Prelude.{ℕ, List, [], ◌∷◌, codes}
+use Rattle.std.specs.Prelude.{ℕ, List, ◌∷◌, codes, ◌%◌, ◌==◌, Bool, []}
 use Rattle.tc_isa.specs.declared.table.Row.{Row}
 use Rattle.tc_isa.specs.declared.table.Form.{Form}
 use Rattle.tc_isa.specs.declared.table.Form.TheVariants.{Rlc, Rr, Rc, Bol, Bo, Brr, Brc, B, Abs, Sys, Sr, Sc, Sb, Sbr, Src, Srr, Slr, Ssr}
@@ -166,3 +166,7 @@ listed =
     row (codes "st16.w") (codes "[As2], Ds1") Ssr 0x74 0x00 ∷
     row (codes "st16.a") (codes "[As2], As1") Ssr 0xf4 0x00 ∷
     []
+
+-- a row of 32 bits: its first byte is odd
+abbrev pub is_long : RowData → Bool
+is_long r = r.op1 % 2 == 1

@@ -1,22 +1,36 @@
 -- The bytes of instructions (TriCore 1 architecture manual, volume 2, instruction formats).
-use Rattle.std.specs.Prelude.{◌≡◌, ◌≢◌, ◌≤◌, ℕ, List, ◌++◌, length, take, ◌/◌, ◌%◌, ◌^◌, ◌∷◌, Bool, true, false, []}
+use Rattle.std.specs.Prelude.{◌≡◌, ◌≢◌, ◌≤◌, ℕ, List, ◌++◌, length, take, Bool, true, false, Option, Some, None, ◌+◌, ◌*◌, ◌/◌, ◌%◌, ◌^◌, []}
 use Rattle.tc_isa.specs.Insts.{InstData, IsInst, fields_in}
-use Rattle.tc_isa.specs.Rows.{RowData}
+use Rattle.tc_isa.specs.Rows.{RowData, is_long}
 use Rattle.tc_isa.specs.declared.fields.Fields.{Fields}
-use Rattle.tc_isa.specs.Forms.{word}
-use Rattle.tc_isa.specs.ValidRows.{is_long}
+use Rattle.tcd_base.specs.Bytes.{four_bytes, two_bytes}
+use Rattle.tc_isa.specs.declared.table.Form.{Form}
+use Rattle.tc_isa.specs.declared.table.Form.TheVariants.{Rlc, Rr, Rc, Bol, Bo, Brr, Brc, B, Abs, Sys, Sr, Sc, Sb, Sbr, Src, Srr, Slr, Ssr}
+
+-- the bytes of an instruction as one number, the first byte lowest
+unfoldable pub word : Form → ℕ → ℕ → Fields → ℕ
+word Rlc op1 op2 f = f.c * 2 ^ 28 + f.k * 2 ^ 12 + f.s1 * 2 ^ 8 + op1
+word Rr op1 op2 f = f.c * 2 ^ 28 + op2 * 2 ^ 20 + f.n * 2 ^ 16 + f.s2 * 2 ^ 12 + f.s1 * 2 ^ 8 + op1
+word Rc op1 op2 f = f.c * 2 ^ 28 + op2 * 2 ^ 21 + f.k * 2 ^ 12 + f.s1 * 2 ^ 8 + op1
+word Bol op1 op2 f = f.k / 64 % 16 * 2 ^ 28 + f.k / 1024 * 2 ^ 22 + f.k % 64 * 2 ^ 16 + f.s2 * 2 ^ 12 + f.s1 * 2 ^ 8 + op1
+word Bo op1 op2 f = f.k / 64 * 2 ^ 28 + op2 * 2 ^ 22 + f.k % 64 * 2 ^ 16 + f.s2 * 2 ^ 12 + f.s1 * 2 ^ 8 + op1
+word Brr op1 op2 f = op2 * 2 ^ 31 + f.k * 2 ^ 16 + f.s2 * 2 ^ 12 + f.s1 * 2 ^ 8 + op1
+word Brc op1 op2 f = op2 * 2 ^ 31 + f.k * 2 ^ 16 + f.s2 * 2 ^ 12 + f.s1 * 2 ^ 8 + op1
+word B op1 op2 f = f.k % 2 ^ 16 * 2 ^ 16 + f.k / 2 ^ 16 * 2 ^ 8 + op1
+word Abs op1 op2 f = f.k / 64 % 16 * 2 ^ 28 + op2 * 2 ^ 26 + f.k / 1024 % 16 * 2 ^ 22 + f.k % 64 * 2 ^ 16 + f.k / 2 ^ 14 * 2 ^ 12 + f.s1 * 2 ^ 8 + op1
+word Sys op1 op2 f = op2 * 2 ^ 22 + op1
+word Sr op1 op2 f = op2 * 2 ^ 12 + f.s1 * 2 ^ 8 + op1
+word Sc op1 op2 f = f.k * 2 ^ 8 + op1
+word Sb op1 op2 f = f.k * 2 ^ 8 + op1
+word Sbr op1 op2 f = f.s2 * 2 ^ 12 + f.k * 2 ^ 8 + op1
+word Src op1 op2 f = f.k * 2 ^ 12 + f.s1 * 2 ^ 8 + op1
+word Srr op1 op2 f = f.s2 * 2 ^ 12 + f.s1 * 2 ^ 8 + op1
+word Slr op1 op2 f = f.s2 * 2 ^ 12 + f.s1 * 2 ^ 8 + op1
+word Ssr op1 op2 f = f.s2 * 2 ^ 12 + f.s1 * 2 ^ 8 + op1
 
 -- the instruction of a row with these fields, as one number
 abbrev pub word_of : RowData → Fields → ℕ
 word_of r f = word r.form r.op1 r.op2 f
-
--- the two bytes of a number, the lowest first
-abbrev pub two_bytes : ℕ → List ℕ
-two_bytes w = w % 256 ∷ w / 256 ∷ []
-
--- the four bytes of a word, the lowest first
-abbrev pub four_bytes : ℕ → List ℕ
-four_bytes w = w % 256 ∷ w / 2 ^ 8 % 256 ∷ w / 2 ^ 16 % 256 ∷ w / 2 ^ 24 ∷ []
 
 -- the bytes of an instruction of 32 bits or of 16
 abbrev pub spelling_of : Bool → ℕ → List ℕ
@@ -45,3 +59,13 @@ pub record IsFront (bytes : List ℕ) : Type 0 where
   pub more : rest ≢ []
   pub inst : InstData
   pub spells : Spells (bytes ++ rest) inst
+
+-- the bytes of an instruction by its row of the table, if it has one
+abbrev pub spelling_by : Option RowData → InstData → List ℕ
+spelling_by None i = []
+spelling_by (Some r) i = spelling r (fields_in i)
+
+-- the bytes of an instruction, by its row
+abbrev pub spelled_by : Option RowData → InstData → List ℕ
+spelled_by None i = []
+spelled_by (Some row) i = spelling row (fields_in i)

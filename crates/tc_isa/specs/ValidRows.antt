@@ -1,10 +1,11 @@
 -- Valid rows: the fields that a row has, the fields that fit it, and that no two rows clash.
-use Rattle.std.specs.Prelude.{◌≡◌, ◌%◌, ◌<◌, ◌==◌, ◌&&◌, ◌||◌, not, ℕ, List, ◌∷◌, Bool, true, false, nat_lt, if◌then◌else◌, []}
+use Rattle.std.specs.Prelude.{◌≡◌, ◌<◌, ◌==◌, ◌&&◌, ◌||◌, not, ℕ, List, ◌∷◌, Bool, true, false, nat_lt, if◌then◌else◌, []}
 use Rattle.std.specs.List.{list_any}
-use Rattle.tc_isa.specs.Rows.{RowData}
+use Rattle.tc_isa.specs.Rows.{RowData, is_long}
 use Rattle.tc_isa.specs.declared.fields.Fields.{Fields}
 use Rattle.tc_isa.specs.declared.fields.Uses.{Uses}
-use Rattle.tc_isa.specs.Forms.{IsBelow, bounds, second_bound, fields, is_long_form, form_index}
+use Rattle.tc_isa.specs.Forms.{bounds, second_bound, fields, is_long_form, form_index}
+use Rattle.tc_isa.specs.InBounds.{IsBelow, is_below_test}
 
 -- two bytes are neighbours in the list
 abbrev pub has_pair : ℕ → ℕ → List ℕ → Bool
@@ -41,10 +42,6 @@ pub record Fits (r : RowData) (f : Fields) : Type 0 where
   pub zero : rest_is_zero (uses_of r) f ≡ true
   pub apart : is_apart r f ≡ true
 
--- a row of 32 bits: its first byte is odd
-abbrev pub is_long : RowData → Bool
-is_long r = r.op1 % 2 == 1
-
 -- both tests hold, or neither
 abbrev pub same_test : Bool → Bool → Bool
 same_test true b = b
@@ -60,10 +57,6 @@ pub record IsRow (r : RowData) : Type 0 where
   pub second : r.op2 < second_bound r.form
   pub has_least : Fits r (least r)
   pub size : is_long r ≡ is_long_form r.form
-
--- each field is below its bound
-abbrev pub is_below_test : Fields → Fields → Bool
-is_below_test f b = nat_lt f.c b.c && nat_lt f.s1 b.s1 && nat_lt f.s2 b.s2 && nat_lt f.n b.n && nat_lt f.k b.k
 
 -- the test of IsRow
 unfoldable pub is_row : RowData → Bool

@@ -1,6 +1,7 @@
 // The bounds of the operand fields, form by form.
 ghost use Rattle.std.specs.Prelude.{◌≡◌, ◌↔◌, IsTrue};
-ghost use Rattle.tc_isa.specs.Forms.{IsBelow, bounds};
+ghost use Rattle.tc_isa.specs.Forms.{bounds};
+ghost use Rattle.tc_isa.specs.InBounds.{IsBelow};
 
 use crate::{Fields, Form};
 

@@ -1,12 +1,15 @@
 // Builds instructions from the number of a row and the row's fields.
 ghost use Rattle.std.specs.Prelude.{◌≡◌, ◌↔◌, IsTrue, IsSome, IfSome};
 ghost use Rattle.tc_isa.specs.Rows.{row_of};
-ghost use Rattle.tc_isa.specs.ValidRows.{Fits, uses_of, rest_is_zero, is_apart};
+ghost use Rattle.tc_isa.specs.ValidRows.{Fits, uses_of, is_apart};
 ghost use Rattle.tc_isa.specs.Insts.{IsInst};
+ghost use Rattle.tc_isa.specs.FromFields.{word_at};
 
 use crate::bounds::{bounds_of, is_below};
-use crate::row_uses::uses;
+use crate::meaning::Immediate;
+use crate::row_uses::{is_zero_elsewhere, uses};
 use crate::{Fields, Inst, Row, Uses, rows};
+use tcd_base::sext;
 
 /// The first code of loads with a base and an offset of 10 bits, post-increment among them.
 const LOAD_AFTER: u8 = 0x09;
@@ -55,18 +58,6 @@ fn do_fit(row: &Row, uses: &Uses, fields: &Fields) -> bool
         && parts_differ(row, fields)
 }
 
-/// Returns true if the fields that the row doesn't have are 0.
-#[inline(always)]
-pub fn is_zero_elsewhere(uses: &Uses, f: &Fields) -> bool
-    ensures { result ≡ rest_is_zero uses.now f.now }
-{
-    (uses.c || f.c == 0)
-        && (uses.s1 || f.s1 == 0)
-        && (uses.s2 || f.s2 == 0)
-        && (uses.n || f.n == 0)
-        && (uses.k || f.k == 0)
-}
-
 /// Returns true if the row allows these registers: an address register that is loaded or stored
 /// with post-increment can't be the base too.
 #[inline(always)]
@@ -74,4 +65,21 @@ pub fn parts_differ(row: &Row, f: &Fields) -> bool
     ensures { result ≡ is_apart (row_of row.now) f.now }
 {
     !((row.op1 == LOAD_AFTER || row.op1 == STORE_AFTER) && row.op2 == OF_ADDRESS) || f.s1 != f.s2
+}
+
+pub(crate) fn constant(constant: Immediate, f: &Fields) -> u32
+    ensures { result ≡ word_at constant f.now }
+{
+    match constant {
+        Immediate::Zero => 0,
+        Immediate::Signed4 => sext(f.k % 16, 4),
+        Immediate::Signed9 => sext(f.k % 512, 9),
+        Immediate::Signed10 => sext(f.k % 1024, 10),
+        Immediate::Signed16 => sext(f.k % 65536, 16),
+        Immediate::Unsigned => f.k,
+        Immediate::High => f.k.wrapping_mul(65536),
+        Immediate::Address => f.k / 16384 % 16 * 268_435_456 + f.k % 16384,
+        Immediate::SignedS2 => sext(u32::from(f.s2 % 16), 4),
+        Immediate::UnsignedS2 => u32::from(f.s2),
+    }
 }

@@ -1,10 +1,9 @@
 // The fields that each row has, as its operands say. Printed by tools/rows.py.
 ghost use Rattle.std.specs.Prelude.{◌≡◌, map};
 ghost use Rattle.tc_isa.specs.Rows.{listed};
-ghost use Rattle.tc_isa.specs.ValidRows.{uses_of};
+ghost use Rattle.tc_isa.specs.ValidRows.{uses_of, rest_is_zero};
 
-use crate::ROW_COUNT;
-use crate::fields::Uses;
+use crate::{Fields, ROW_COUNT, Uses};
 
 const C_K: Uses = Uses {
     c: true,
@@ -252,4 +251,16 @@ pub fn uses() -> &'static [Uses]
     ensures { result.now ≡ map uses_of listed }
 {
     &USES
+}
+
+/// Returns true if the fields that the row doesn't have are 0.
+#[inline(always)]
+pub fn is_zero_elsewhere(uses: &Uses, f: &Fields) -> bool
+    ensures { result ≡ rest_is_zero uses.now f.now }
+{
+    (uses.c || f.c == 0)
+        && (uses.s1 || f.s1 == 0)
+        && (uses.s2 || f.s2 == 0)
+        && (uses.n || f.n == 0)
+        && (uses.k || f.k == 0)
 }

@@ -1,9 +1,9 @@
 // The registers that an instruction writes by itself.
 ghost use Rattle.std.specs.Prelude.{◌≡◌, ◌<◌, ◌^◌, ℕ, ◌↔◌};
-ghost use Rattle.tc_isa.specs.Bounded.{IsArg};
+ghost use Rattle.tc_isa.specs.InBounds.{IsArg};
 ghost use Rattle.tc_isa.specs.Writes.{written_registers, written_by, base_bit, bit_of};
 
-use crate::inst_shape::shape;
+use crate::shape_of_instruction::shape;
 use crate::{Arg, Inst, Shape};
 
 /// Returns a mask of the registers that the instruction writes by itself: bit r for register r,

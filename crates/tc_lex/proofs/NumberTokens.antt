@@ -5,7 +5,8 @@ use Rattle.std.specs.Option.{option_map_or}
 use Rattle.tc_lex.specs.declared.kinds.TokenKind.{TokenKind}
 use Rattle.tc_lex.specs.declared.kinds.TokenKind.TheVariants.{Word, Number, Minus}
 use Rattle.tc_lex.specs.Numbers.{number_of}
-use Rattle.tc_lex.specs.Pieces.{PieceData, is_kind, kind_index, text_at}
+use Rattle.tc_lex.specs.Pieces.{PieceData, is_kind, text_at}
+use Rattle.tc_lex.specs.Cut.{kind_index}
 use Rattle.tc_lex.specs.declared.operand.Shape.TheVariants as shape
 use Rattle.std.proofs.lemmas.Bool.Decides.{Decides-eqb}
 use Rattle.tc_lex.specs.Operands.{ValueData, value, plain_number, number_at, sum_at, named_at, value_at, plain, operand}

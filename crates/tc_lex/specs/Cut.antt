@@ -1,5 +1,5 @@
 -- The tokens of one line: as it is cut, and what they are, apart from how it is cut.
-use Rattle.std.specs.Prelude.{◌≡◌, ℕ, zero, suc, ◌+◌, ◌-◌, ◌<◌, ◌≤◌, ◌==◌, ◌&&◌, nat_lt, slice_index, Bool, if◌then◌else◌, List, ◌∷◌, ◌++◌, length, drop, Result, Ok, Err, true, false, take, ◌⊎◌, ◌||◌, []}
+use Rattle.std.specs.Prelude.{◌≡◌, ℕ, zero, suc, ◌+◌, ◌-◌, ◌<◌, ◌≤◌, ◌==◌, ◌&&◌, nat_lt, slice_index, Bool, if◌then◌else◌, List, ◌∷◌, ◌++◌, length, drop, Result, Ok, Err, true, false, take, ◌⊎◌, ◌||◌, codes, []}
 use Rattle.std.specs.List.{prefix_len}
 use Rattle.arrayvec.specs.ArrayVec.{ArrayVec}
 use Rattle.tc_lex.specs.declared.kinds.Token.{Token}
@@ -148,3 +148,18 @@ pub record IsFault (line : List ℕ) (low most at : ℕ) : Type 0 where
 abbrev pub Reads : List ℕ → Result (ArrayVec Token) ℕ → Type 0
 Reads line (Ok ts) = IsCut line 0 64 ts.items
 Reads line (Err at) = IsFault line 0 64 at
+
+-- a name
+unfoldable pub at_name : List ℕ → List ℕ
+at_name name = codes " name " ++ (name ++ 10 ∷ [])
+
+-- a number for each kind of token, so that kinds can be compared
+unfoldable pub kind_index : TokenKind → ℕ
+kind_index Word = 0
+kind_index Number = 1
+kind_index Comma = 2
+kind_index Colon = 3
+kind_index Open = 4
+kind_index Close = 5
+kind_index Plus = 6
+kind_index Minus = 7

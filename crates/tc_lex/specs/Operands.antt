@@ -8,7 +8,8 @@ use Rattle.tc_lex.specs.declared.operand.Shape.{Shape}
 use Rattle.tc_lex.specs.declared.operand.Shape.TheVariants as shape
 use Rattle.tc_lex.specs.declared.operand.Value.{Value}
 use Rattle.tc_lex.specs.declared.operand.Operand.{Operand}
-use Rattle.tc_lex.specs.Pieces.{PieceData, is_kind, text_at, kind_index}
+use Rattle.tc_lex.specs.Pieces.{PieceData, is_kind, text_at}
+use Rattle.tc_lex.specs.Cut.{kind_index}
 use Rattle.tc_lex.specs.Numbers.{number_of}
 
 -- a value as plain data; a wide one adds a number of 2^128 or more to its name, which no field

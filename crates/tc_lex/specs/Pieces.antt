@@ -1,10 +1,10 @@
 -- Tokens with their texts.
-use Rattle.std.specs.Prelude.{◌≡◌, ℕ, ◌==◌, ◌&&◌, nat_le, if◌then◌else◌, Bool, false, List, [], length, map, slice_get, slice_range, Result, Ok, Err}
+use Rattle.std.specs.Prelude.{◌≡◌, ℕ, ◌==◌, ◌&&◌, nat_le, if◌then◌else◌, Bool, false, List, length, map, slice_get, slice_range, Result, Ok, Err, []}
 use Rattle.std.specs.Option.{option_map_or}
 use Rattle.tc_lex.specs.declared.kinds.TokenKind.{TokenKind}
-use Rattle.tc_lex.specs.declared.kinds.TokenKind.TheVariants.{Word, Number, Comma, Colon, Open, Close, Plus, Minus}
 use Rattle.tc_lex.specs.declared.kinds.Token.{Token}
 use Rattle.tc_lex.specs.declared.pieces.Piece.{Piece}
+use Rattle.tc_lex.specs.Cut.{kind_index}
 
 -- a token with its text, as plain data
 pub record PieceData : Type 0 where
@@ -14,17 +14,6 @@ pub record PieceData : Type 0 where
 -- the plain data of a token
 abbrev pub piece_of : Piece → PieceData
 piece_of p = record { kind = p.kind; text = p.text.now }
-
--- a number for each kind of token, so that kinds can be compared
-unfoldable pub kind_index : TokenKind → ℕ
-kind_index Word = 0
-kind_index Number = 1
-kind_index Comma = 2
-kind_index Colon = 3
-kind_index Open = 4
-kind_index Close = 5
-kind_index Plus = 6
-kind_index Minus = 7
 
 -- the token at this place exists and has this kind
 unfoldable pub is_kind : List PieceData → ℕ → TokenKind → Bool

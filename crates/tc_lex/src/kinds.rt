@@ -1,4 +1,6 @@
 // The types of tokens.
+ghost use Rattle.std.specs.Prelude.{◌≡◌};
+ghost use Rattle.tc_lex.specs.Cut.{kind_index};
 
 /// The kind of a token.
 #[derive(Clone, Copy, Debug, PartialEq, Eq, Default)]
@@ -44,4 +46,20 @@ pub enum Front {
     Bad,
     /// A token of this kind, with its length in bytes.
     Token(TokenKind, usize),
+}
+
+#[tactic(auto, unfolding(crate::specs::Cut::kind_index))]
+pub(crate) fn kind_index(kind: TokenKind) -> u8
+    ensures { result ≡ kind_index kind }
+{
+    match kind {
+        TokenKind::Word => 0,
+        TokenKind::Number => 1,
+        TokenKind::Comma => 2,
+        TokenKind::Colon => 3,
+        TokenKind::Open => 4,
+        TokenKind::Close => 5,
+        TokenKind::Plus => 6,
+        TokenKind::Minus => 7,
+    }
 }

@@ -1,5 +1,5 @@
 // Finds the longest token at the start of a text.
-ghost use Rattle.std.specs.Prelude.{◌≡◌, ◌<◌, ◌≤◌, ◌-◌, drop, length, IsTrue, slice_index, true};
+ghost use Rattle.std.specs.Prelude.{◌≡◌, ◌<◌, ◌≤◌, ◌-◌, drop, length, slice_index, true};
 ghost use Rattle.std.specs.List.{prefix_len};
 ghost use Rattle.tc_lex.specs.Bytes.{is_digit, is_hex};
 ghost use Rattle.tcd_base.specs.NameBytes.{is_name_byte};
@@ -7,6 +7,7 @@ ghost use Rattle.tc_lex.specs.Cut.{has_hex_front, number_len, front_of, front_at
 
 use crate::bytes::{is_digit, is_hex};
 use crate::kinds::{Front, TokenKind};
+use crate::numbers::has_hex_front;
 use tcd_base::{is_name_byte, is_name_first};
 
 fn digits_len(rest: &[u8]) -> usize
@@ -28,15 +29,6 @@ fn word_len(rest: &[u8]) -> usize
     ensures within { result ≤ length rest.now }
 {
     rest.iter().take_while(|c| is_name_byte(**c)).count()
-}
-
-/// Whether the text begins with `0x` and a hex digit.
-#[tactic(auto, unfolding(crate::specs::Cut::has_hex_front))]
-pub(crate) fn has_hex_front(rest: &[u8]) -> bool
-    ensures value { result ≡ has_hex_front rest.now }
-    ensures long { IsTrue result → 2 < length rest.now }
-{
-    rest.len() > 2 && rest[0] == b'0' && rest[1] == b'x' && is_hex(rest[2])
 }
 
 #[tactic(auto, unfolding(crate::specs::Cut::number_len))]

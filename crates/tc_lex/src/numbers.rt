@@ -1,8 +1,10 @@
 // Reads the numbers that tokens spell.
-ghost use Rattle.std.specs.Prelude.{◌≡◌, ◌<◌, Some, length, true};
+ghost use Rattle.std.specs.Prelude.{◌≡◌, ◌<◌, Some, length, true, ◌-◌, IsTrue};
 ghost use Rattle.tc_lex.specs.Numbers.{digit_of, add_digit, digits_of, number_of};
+ghost use Rattle.tc_lex.specs.Bytes.{is_hex};
+ghost use Rattle.tc_lex.specs.Cut.{has_hex_front};
 
-use crate::longest_token::has_hex_front;
+use crate::bytes::is_hex;
 
 // The value of a digit of base 10 or 16.
 #[tactic(auto, unfolding(crate::specs::Numbers::digit_of, crate::specs::Bytes::is_digit))]
@@ -66,4 +68,13 @@ pub(crate) fn number_of(text: &[u8]) -> Option<u128>
     } else {
         digits(10, text)
     }
+}
+
+/// Whether the text begins with `0x` and a hex digit.
+#[tactic(auto, unfolding(crate::specs::Cut::has_hex_front))]
+pub(crate) fn has_hex_front(rest: &[u8]) -> bool
+    ensures value { result ≡ has_hex_front rest.now }
+    ensures long { IsTrue result → 2 < length rest.now }
+{
+    rest.len() > 2 && rest[0] == b'0' && rest[1] == b'x' && is_hex(rest[2])
 }

@@ -1,9 +1,11 @@
 // Tokens with their texts.
 ghost use Rattle.std.specs.Prelude.{◌≡◌, ◌<◌, map, length, true};
 ghost use Rattle.std.specs.Str.{bytes_eq};
-ghost use Rattle.tc_lex.specs.Pieces.{piece_of, kind_index, is_kind, text_at};
+ghost use Rattle.tc_lex.specs.Pieces.{piece_of, is_kind, text_at};
+ghost use Rattle.tc_lex.specs.Cut.{kind_index};
 
 use crate::TokenKind;
+use crate::kinds::kind_index;
 use crate::same_bytes::is_same;
 
 /// A token and its text.
@@ -13,22 +15,6 @@ pub struct Piece<'a> {
     pub kind: TokenKind,
     /// Its bytes in the line.
     pub text: &'a [u8],
-}
-
-#[tactic(auto, unfolding(crate::specs::Pieces::kind_index))]
-pub(crate) fn kind_index(kind: TokenKind) -> u8
-    ensures { result ≡ kind_index kind }
-{
-    match kind {
-        TokenKind::Word => 0,
-        TokenKind::Number => 1,
-        TokenKind::Comma => 2,
-        TokenKind::Colon => 3,
-        TokenKind::Open => 4,
-        TokenKind::Close => 5,
-        TokenKind::Plus => 6,
-        TokenKind::Minus => 7,
-    }
 }
 
 /// Whether token `i` exists and has this kind.

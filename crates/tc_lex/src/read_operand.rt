@@ -1,5 +1,5 @@
 // Reads an operand from its tokens.
-ghost use Rattle.std.specs.Prelude.{◌≡◌, ◌≢◌, ◌<◌, ◌≤◌, ◌+◌, ◌++◌, ◌∷◌, [], map, length, not, true};
+ghost use Rattle.std.specs.Prelude.{◌≡◌, ◌≢◌, ◌<◌, ◌≤◌, ◌+◌, ◌++◌, ◌∷◌, [], map, length, true};
 ghost use Rattle.tc_lex.specs.declared.kinds.TokenKind.TheVariants.{Word, Number, Colon, Open};
 ghost use Rattle.tc_lex.specs.Pieces.{piece_of, is_kind as is_kind_at};
 ghost use Rattle.tc_lex.specs.Operands.{value_of, operand_of, number_at, sum_at, named_at, value_at, operand, value as data_of, plain as plain_of, memory as memory_of, plain_number as number_value, with_number as sum_value};
@@ -9,6 +9,7 @@ use crate::numbers::number_of;
 use crate::operand::{Operand, Shape, Value};
 use crate::pieces::{Piece, is_kind, is_text, text_at};
 use crate::scratch::Scratch;
+use crate::split_operands::put;
 
 fn make_value(shape: Shape, name: &[u8], minus: bool, size: u128) -> Value<'_>
     ensures { value_of result ≡ data_of shape name.now minus size }
@@ -189,16 +190,6 @@ fn memory_operand<'a>(ps: &[Piece<'a>]) -> Operand<'a>
     } else {
         plain(make_value(Shape::Bad, &[], false, 0))
     }
-}
-
-// Adds an operand to the list.
-fn put<'a>(operand: Operand<'a>, out: &mut Scratch<Operand<'a>, 65>)
-    requires { length out.old.items < 65 }
-    ensures operands { map operand_of out.new.items
-        ≡ map operand_of out.old.items ++ operand_of operand.entry ∷ [] }
-    ensures one_more { length out.new.items ≡ length out.old.items + 1 }
-{
-    out.push(operand);
 }
 
 // Adds an operand that isn't a single word or number. Its locals are large, so they have a function

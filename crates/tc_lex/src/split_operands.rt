@@ -1,10 +1,12 @@
 // Splits the tokens of a statement at its commas into operands.
 ghost use Rattle.std.specs.Prelude.{◌≡◌, ◌≤◌, ◌<◌, map, length, position, IfSome, take, drop, ◌+◌, ◌++◌, ◌∷◌, []};
-ghost use Rattle.tc_lex.specs.Pieces.{piece_of, kind_index};
+ghost use Rattle.tc_lex.specs.Pieces.{piece_of};
+ghost use Rattle.tc_lex.specs.Cut.{kind_index};
 ghost use Rattle.tc_lex.specs.Operands.{operand_of, operands, is_comma, operand};
 
+use crate::kinds::kind_index;
 use crate::operand::Operand;
-use crate::pieces::{Piece, kind_index};
+use crate::pieces::Piece;
 use crate::read_operand::put_operand;
 use crate::scratch::Scratch;
 
@@ -49,4 +51,14 @@ pub fn operands<'a>(ps: &[Piece<'a>], out: &mut Scratch<Operand<'a>, 65>)
         rest = tokens_after(rest, i);
     }
     put_operand(rest, out);
+}
+
+// Adds an operand to the list.
+pub(crate) fn put<'a>(operand: Operand<'a>, out: &mut Scratch<Operand<'a>, 65>)
+    requires { length out.old.items < 65 }
+    ensures operands { map operand_of out.new.items
+        ≡ map operand_of out.old.items ++ operand_of operand.entry ∷ [] }
+    ensures one_more { length out.new.items ≡ length out.old.items + 1 }
+{
+    out.push(operand);
 }

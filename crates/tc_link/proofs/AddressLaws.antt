@@ -3,7 +3,8 @@ use Rattle.std.proofs.Common.{◌≡◌, ◌<◌, ◌+◌, ◌∷◌, ◌++◌, 
 use Rattle.std.specs.Prelude.{slice_get}
 use Rattle.std.specs.Option.{option_map_or}
 use Rattle.std.proofs.lemmas.List.{map_more}
-use Rattle.tc_link.specs.Placing.{GlobalData, PlacedData}
+use Rattle.tc_link.specs.Placing.{PlacedData}
+use Rattle.tc_link.specs.Names.{GlobalData}
 use Rattle.tc_link.specs.Relocated.{symbol_address, symbol_addresses}
 
 -- a further item

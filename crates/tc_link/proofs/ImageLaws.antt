@@ -8,9 +8,8 @@ use Rattle.std.proofs.lemmas.List.Sums.{sum_by-cons}
 use Rattle.elf_image.specs.Images.{SegmentData, ImageData, AreBytes, IsImage, is_segment, are_apart, all_apart}
 use Rattle.tc_object.specs.Objects.{SectionData, InTurn}
 use Rattle.tc_link.specs.Layouts.{PlaceData, LayoutData, IsPlace, IsPlaceAfter, IsLayout, shares}
-use Rattle.tc_link.specs.PlaceSizes.{taken_bytes}
+use Rattle.tc_link.specs.PlaceSizes.{taken_bytes, is_over, total}
 use Rattle.tc_link.specs.Segments.{joined_sections, segment_of, segments_of}
-use Rattle.tc_link.specs.Refusals.{is_over, total}
 use Rattle.tc_link.specs.Shapes.{shape_of}
 use Rattle.tc_link.proofs.ShapeLaws.{length-joined, taken-shapes}
 

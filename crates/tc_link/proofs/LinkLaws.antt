@@ -5,11 +5,13 @@ use Rattle.std.specs.Option.{option_or}
 use Rattle.elf_image.specs.Images.{ImageData}
 use Rattle.tc_object.specs.Objects.{SectionData, ObjectData, IsObject}
 use Rattle.tc_link.specs.Layouts.{PlaceData, LayoutData, IsLayout}
-use Rattle.tc_link.specs.Placing.{PlacedData, sections_of, globals_of, global_address, placed_after}
+use Rattle.tc_link.specs.Placing.{PlacedData, sections_of, placed_after, placed_of}
+use Rattle.tc_link.specs.Names.{globals_of, global_address}
 use Rattle.tc_link.specs.Segments.{segments_of}
 use Rattle.tcd_base.specs.Refusing.{unless}
-use Rattle.tc_link.specs.Linked.{placed_of, contents_of, entry_of, image_of, made_of, refused_early, image_of_objects}
-use Rattle.tc_link.specs.Refusals.{Refusal, no_entry, twice_in, missing_in, no_place_in, no_room_after, reloc_in}
+use Rattle.tc_link.specs.Linked.{entry_of, image_of, made_of, image_of_objects}
+use Rattle.tc_link.specs.Refusals.{refused_early, Refusal, no_entry, twice_in, missing_in, no_place_in, no_room_after, reloc_in}
+use Rattle.tc_link.specs.Relocated.{contents_of}
 use Rattle.tc_link.specs.Errors.{IsRefusal, refusal_of}
 use Rattle.tc_link.specs.Shapes.{shape_of}
 use Rattle.tc_link.specs.declared.errors.LinkErr.{LinkErr}

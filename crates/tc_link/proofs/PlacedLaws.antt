@@ -6,8 +6,8 @@ use Rattle.std.proofs.lemmas.List.{length-map, get_or-map, take_all}
 use Rattle.std.proofs.lemmas.Option.{slice_get-get_or}
 use Rattle.tc_object.specs.Objects.{SectionData, SymbolData, ObjectData}
 use Rattle.tc_link.specs.Layouts.{PlaceData}
-use Rattle.tc_link.specs.Placing.{PlacedData, GlobalData, is_global, global_data, global_address, address_in, placed_after}
-use Rattle.tc_link.specs.Names.{address_of}
+use Rattle.tc_link.specs.Placing.{PlacedData, address_in, placed_after, address_of}
+use Rattle.tc_link.specs.Names.{GlobalData, is_global, global_data, global_address}
 use Rattle.tc_link.proofs.ItemLaws.{same_item}
 
 -- the object of a number, with its place

@@ -10,8 +10,8 @@ use Rattle.tcd_text.specs.Lines.{lines_of}
 use Rattle.tc_link.specs.LayoutLines.{LineData, line_of, entry_in, region_in, entries_of, places_of}
 use Rattle.std.specs.List.{filter_map, cons_option}
 use Rattle.tcd_base.specs.Refusing.{unless}
-use Rattle.tc_link.specs.LayoutFaults.{fault_of, first_fault, layout_in, with_entry, IsFault, IsFaultOf}
-use Rattle.tc_link.specs.LayoutDrafts.{DraftData, with_line}
+use Rattle.tc_link.specs.LayoutFaults.{fault_of, first_fault, layout_in, IsFault, IsFaultOf}
+use Rattle.tc_link.specs.LayoutDrafts.{with_entry, DraftData, with_line}
 
 -- the first n lines have no fault and lead to the draft; the text is the rest
 pub record Reached (all : List (List ℕ)) (n : ℕ) (rest : List ℕ) (d : DraftData) : Type 0 where

@@ -10,11 +10,13 @@ use Rattle.std.proofs.lemmas.List.Sums.{fold_more}
 use Rattle.tc_object.specs.declared.relocs.Reloc.{Reloc}
 use Rattle.tc_object.specs.Objects.{SectionData, ObjectData, InTurn, IsReloc, IsObject, size_of, size_at}
 use Rattle.tc_link.specs.Layouts.{PlaceData}
-use Rattle.tc_link.specs.Placing.{GlobalData, PlacedData, sections_of, bases_after, placed_after}
-use Rattle.tc_link.specs.Relocated.{field_at, with_filled_field, with_relocation, with_item, with_reloc, field_place, value_of, reloc_refusal, relocated_sections}
+use Rattle.tc_link.specs.Placing.{PlacedData, sections_of, bases_after, placed_after}
+use Rattle.tc_link.specs.Names.{GlobalData}
+use Rattle.tc_link.specs.Relocated.{with_filled_field, with_relocation, with_item, with_reloc, field_place, value_of, relocated_sections}
+use Rattle.tc_link.specs.Refusals.{reloc_refusal, reloc, refusal_at}
+use Rattle.tc_reloc.specs.Fields.{field_at}
 use Rattle.tc_reloc.specs.declared.refusals.RelocErr.{RelocErr}
 use Rattle.tc_reloc.specs.Refusals.{refusal_of}
-use Rattle.tc_link.specs.Refusals.{reloc, refusal_at}
 use Rattle.tc_link.specs.Shapes.{Shape, shape_of}
 use Rattle.tc_link.proofs.ShapeLaws.{filled_shape}
 use Rattle.tc_link.proofs.ItemLaws.{same_item}

@@ -15,8 +15,8 @@ use Rattle.std.proofs.lemmas.List.Quantifiers.{position-Some}
 use Rattle.tc_object.specs.Objects.{SectionData, ObjectData}
 use Rattle.tc_link.specs.Layouts.{PlaceData}
 use Rattle.tc_link.specs.Placing.{PlacedData, sections_of, base_of, bases_after, placed_after}
-use Rattle.tc_link.specs.PlaceSizes.{round_up, with_size, taken_bytes, AreTaken}
-use Rattle.tc_link.specs.Refusals.{Refusal, no_room, is_over, total, no_room_of, no_room_after}
+use Rattle.tc_link.specs.PlaceSizes.{round_up, with_size, taken_bytes, AreTaken, is_over, total}
+use Rattle.tc_link.specs.Refusals.{Refusal, no_room, no_room_of, no_room_after}
 use Rattle.std.specs.Bool.{then_some}
 use Rattle.std.proofs.lemmas.Bool.Decides.{nat_tests}
 

@@ -3,9 +3,8 @@ use Rattle.std.proofs.Common.{◌≡◌, ◌+◌, ◌∷◌, [], ℕ, Bool, true
 use Rattle.std.specs.Bool.{then_some}
 use Rattle.std.specs.Option.{option_or}
 use Rattle.tc_object.specs.Objects.{SymbolData, ObjectData}
-use Rattle.tc_link.specs.Placing.{is_global}
+use Rattle.tc_link.specs.Names.{is_global, globals_named}
 use Rattle.tc_link.specs.Refusals.{Refusal, twice, twice_of, twice_in, first_at}
-use Rattle.tc_link.specs.Names.{globals_named}
 
 -- no answer at any item
 none_at : {A B : Type 0} (f : ℕ → A → Option B) (n : ℕ) (xs : List A) → ((k : ℕ) (x : A) → f k x ≡ None) → first_at f n xs ≡ None

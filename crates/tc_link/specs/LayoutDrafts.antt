@@ -1,24 +1,20 @@
 -- Views of a layout that isn't read to its end, for contracts.
-use Rattle.std.specs.Prelude.{◌≡◌, ◌≤◌, ◌++◌, ℕ, List, [], length, All, Option, Some}
+use Rattle.std.specs.Prelude.{◌≡◌, ◌≤◌, ◌++◌, ℕ, List, length, All, Option, Some, ◌+◌, ◌∷◌, Result, Ok, Err, []}
 use Rattle.std.specs.Option.{option_and_then, option_to_list}
 use Rattle.tc_object.specs.Names.{name_of}
 use Rattle.tc_object.specs.Objects.{InTurn}
-use Rattle.tc_link.specs.Layouts.{PlaceData, IsPlace, IsPlaceAfter}
+use Rattle.tc_link.specs.Layouts.{PlaceData, IsPlaceAfter, LayoutData}
 use Rattle.tc_link.specs.LayoutLines.{LineData, blank, entry, place, entry_in, region_in}
 use Rattle.tc_link.specs.declared.lines.Line.{Line}
 use Rattle.tc_link.specs.declared.lines.Line.TheVariants.{Blank, Entry, Region}
+use Rattle.tc_link.specs.declared.layout_errors.LayoutErr.{LayoutErr}
+use Rattle.tc_link.specs.declared.layout_errors.LayoutErr.TheVariants.{BadLine}
 
 -- the plain data of a line
 abbrev pub line_data : Line → LineData
 line_data Blank = blank
 line_data (Entry name) = entry name.now
 line_data (Region section at most) = place (record { section = section.now; at = at; most = most })
-
--- a line's name is one, and its place is valid
-abbrev pub IsGood : LineData → Type 0
-IsGood blank = Unit {0}
-IsGood (entry name) = name_of name ≡ Some name
-IsGood (place p) = IsPlace p
 
 -- the entries and places of the lines so far
 pub record DraftData : Type 0 where
@@ -37,3 +33,8 @@ with_line d line = record {
   entries = d.entries ++ option_to_list (option_and_then entry_in line);
   places = d.places ++ option_to_list (option_and_then region_in line);
 }
+
+-- the layout with its first entry; without an entry, a fault at the line after the last
+abbrev pub with_entry : ℕ → List (List ℕ) → List PlaceData → Result LayoutData LayoutErr
+with_entry n [] places = Err (BadLine (n + 1))
+with_entry n (name ∷ names) places = Ok (record { entry = name; places = places })

@@ -1,5 +1,5 @@
 -- The first fault of a layout, and the layout of a text without one.
-use Rattle.std.specs.Prelude.{◌≡◌, ◌+◌, nat_lt, nat_le, if◌then◌else◌, ℕ, List, ◌∷◌, ◌++◌, length, Option, Some, None, Result, Ok, Err, []}
+use Rattle.std.specs.Prelude.{◌≡◌, ◌+◌, nat_lt, nat_le, if◌then◌else◌, ℕ, List, ◌∷◌, ◌++◌, length, Option, Some, None, Result, Err, []}
 use Rattle.std.specs.Bool.{then_some}
 use Rattle.std.specs.Option.{option_or}
 use Rattle.std.specs.List.{list_any}
@@ -9,6 +9,7 @@ use Rattle.tcd_text.specs.Lines.{lines_of}
 use Rattle.tc_link.specs.LayoutLines.{LineData, blank, entry, place, line_of, entries_of, places_of}
 use Rattle.tc_link.specs.declared.layout_errors.LayoutErr.{LayoutErr}
 use Rattle.tc_link.specs.declared.layout_errors.LayoutErr.TheVariants.{BadLine, Twice, TooMany, Overlap, NoMemory}
+use Rattle.tc_link.specs.LayoutDrafts.{with_entry}
 
 -- the fault of line n with these contents, after lines with these entries and places
 abbrev pub fault_of : ℕ → List (List ℕ) → List PlaceData → Option LineData → Option LayoutErr
@@ -28,11 +29,6 @@ fault_after before line = fault_of (length before + 1) (entries_of before) (plac
 unfoldable pub first_fault : List (List ℕ) → List (List ℕ) → Option LayoutErr
 first_fault before [] = None
 first_fault before (line ∷ lines) = option_or (fault_after before line) (first_fault (before ++ line ∷ []) lines)
-
--- the layout with its first entry; without an entry, a fault at the line after the last
-abbrev pub with_entry : ℕ → List (List ℕ) → List PlaceData → Result LayoutData LayoutErr
-with_entry n [] places = Err (BadLine (n + 1))
-with_entry n (name ∷ names) places = Ok (record { entry = name; places = places })
 
 -- the layout of these lines, or their first fault
 abbrev pub layout_in : List (List ℕ) → Result LayoutData LayoutErr

@@ -1,12 +1,12 @@
 -- The lines of a layout.
-use Rattle.std.specs.Prelude.{◌+◌, ◌%◌, ◌^◌, ◌==◌, ◌&&◌, nat_le, if◌then◌else◌, ℕ, List, ◌∷◌, length, codes, Option, Some, None, filter_map, []}
+use Rattle.std.specs.Prelude.{◌+◌, ◌%◌, ◌^◌, ◌==◌, ◌&&◌, nat_le, if◌then◌else◌, ℕ, List, ◌∷◌, length, codes, Option, Some, None, filter_map, ◌≡◌, []}
 use Rattle.std.specs.Bool.{then_some}
 use Rattle.std.specs.Option.{option_map, option_and_then}
 use Rattle.std.specs.Str.{bytes_eq}
 use Rattle.tcd_text.specs.HexNumbers.{hex_number_of}
 use Rattle.tcd_text.specs.Lines.{words_of}
 use Rattle.tc_object.specs.Names.{name_of}
-use Rattle.tc_link.specs.Layouts.{PlaceData}
+use Rattle.tc_link.specs.Layouts.{PlaceData, IsPlace}
 
 -- the contents of a line: nothing, the entry, or a place
 pub data LineData : Type 0 where
@@ -51,3 +51,9 @@ entries_of lines = filter_map (λ l. option_and_then entry_in (line_of l)) lines
 -- the places in these lines, in order
 unfoldable pub places_of : List (List ℕ) → List PlaceData
 places_of lines = filter_map (λ l. option_and_then region_in (line_of l)) lines
+
+-- a line's name is one, and its place is valid
+abbrev pub IsGood : LineData → Type 0
+IsGood blank = Unit {0}
+IsGood (entry name) = name_of name ≡ Some name
+IsGood (place p) = IsPlace p

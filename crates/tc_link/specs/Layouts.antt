@@ -1,5 +1,5 @@
 -- Layouts as plain data, and the invariant of layouts.
-use Rattle.std.specs.Prelude.{◌≡◌, ◌≤◌, ◌<◌, ◌+◌, ◌%◌, ◌^◌, nat_lt, ℕ, Bool, false, min, max, List, length, Some, find, Option, []}
+use Rattle.std.specs.Prelude.{◌≡◌, ◌≤◌, ◌<◌, ◌+◌, ◌%◌, ◌^◌, nat_lt, ℕ, Bool, false, min, max, List, length, Some, []}
 use Rattle.std.specs.List.{list_any}
 use Rattle.std.specs.Str.{bytes_eq}
 use Rattle.tc_object.specs.Names.{name_of}
@@ -46,7 +46,3 @@ pub record IsLayout (l : LayoutData) : Type 0 where
   pub entry : name_of l.entry ≡ Some l.entry
   pub few : length l.places ≤ 64
   pub places : InTurn IsPlaceAfter [] l.places
-
--- the place for the sections of this name
-abbrev pub place_of : List PlaceData → List ℕ → Option PlaceData
-place_of places name = find (λ p. bytes_eq name p.section) places

@@ -1,12 +1,12 @@
 -- Global symbols by their names: how many have one, and the map that knows it.
-use Rattle.std.specs.Prelude.{◌≡◌, ◌==◌, nat_lt, if◌then◌else◌, ℕ, Bool, List, map, slice_get, Option, Some, None, ◌&&◌, count_by}
+use Rattle.std.specs.Prelude.{◌≡◌, ◌==◌, nat_lt, if◌then◌else◌, ℕ, Bool, List, map, Option, Some, None, ◌&&◌, count_by, filter, find}
 use Rattle.std.specs.Borrow.{Bor}
 use Rattle.std.specs.HashMap.{HashMap, get_by}
-use Rattle.std.specs.Option.{option_map, option_map_or}
+use Rattle.std.specs.Option.{option_map}
 use Rattle.std.specs.Str.{bytes_eq}
-use Rattle.tc_object.specs.Objects.{ObjectData, SymbolData}
+use Rattle.tc_object.specs.Objects.{ObjectData, SymbolData, global_symbol}
 use Rattle.tc_link.specs.declared.definitions.Definition.{Definition}
-use Rattle.tc_link.specs.Placing.{PlacedData, GlobalData, address_in, globals_of, global_address, is_global}
+use Rattle.tc_link.specs.Placing.{PlacedData, address_in, address_of}
 use Rattle.std.specs.List.{flat_map}
 
 -- the value of the map at a name
@@ -21,6 +21,27 @@ twice_at names q = option_map (λ d. d.is_twice) (at_name names q)
 -- for a name that n symbols have: None if there are none, else whether there are several
 abbrev pub twice_of_count : ℕ → Option Bool
 twice_of_count n = if n == 0 then None else Some (nat_lt 1 n)
+
+-- the symbol is defined, and other objects may use it
+abbrev pub is_global : SymbolData → Bool
+is_global s = s.kind == global_symbol
+
+-- a name and its address
+pub record GlobalData : Type 0 where
+  pub name : List ℕ
+  pub address : ℕ
+
+-- a global symbol's name, with its address if its sections begin at these addresses
+abbrev pub global_data : List ℕ → SymbolData → GlobalData
+global_data bases s = record { name = s.name; address = address_in bases s.section s.offset }
+
+-- the global symbols of placed objects
+unfoldable pub globals_of : List PlacedData → List GlobalData
+globals_of placed = flat_map (λ p. map (global_data p.bases) (filter is_global p.object.symbols)) placed
+
+-- the address of a global symbol, if one has the name
+abbrev pub global_address : List GlobalData → List ℕ → Option ℕ
+global_address globals name = option_map (λ g. g.address) (find (λ g. bytes_eq name g.name) globals)
 
 -- the symbol is global and has the name
 abbrev pub has_global_name : List ℕ → SymbolData → Bool
@@ -40,9 +61,6 @@ abbrev pub CountsGlobals : {S : Type 0} → HashMap (Bor (List ℕ)) Definition 
 CountsGlobals names objects = (q : List ℕ) → twice_at names q ≡ twice_of_count (globals_named objects q)
 
 -- ---- addresses
--- the address of a definition in these objects
-abbrev pub address_of : List PlacedData → Definition → ℕ
-address_of placed d = option_map_or (λ p. address_in p.bases d.section d.offset) (slice_get placed d.object) 0
 
 -- the address of a name in the map, for objects with these addresses
 abbrev pub address_named : {S : Type 0} → HashMap (Bor (List ℕ)) Definition S → List PlacedData → List ℕ → Option ℕ

@@ -1,8 +1,9 @@
 -- The numbers of bytes of their places that sections use.
-use Rattle.std.specs.Prelude.{◌≡◌, ◌≤◌, ◌<◌, ◌^◌, ℕ, List, length, slice_index, slice_index_or, ◌+◌, ◌*◌, ◌/◌, if◌then◌else◌, fold}
+use Rattle.std.specs.Prelude.{◌≡◌, ◌≤◌, ◌<◌, ◌^◌, ℕ, List, length, slice_index, slice_index_or, ◌+◌, ◌*◌, ◌/◌, if◌then◌else◌, fold, ◌||◌, nat_lt, Bool, sum_by}
 use Rattle.tc_object.specs.Objects.{SectionData}
 use Rattle.tc_link.specs.Layouts.{PlaceData}
 use Rattle.std.specs.Str.{bytes_eq}
+use Rattle.std.specs.List.{list_any}
 
 -- the least multiple of 4 that isn't below n
 abbrev pub round_up : ℕ → ℕ
@@ -23,3 +24,11 @@ AreTaken places sections sizes = (k : ℕ) (d : PlaceData) → k < length places
 -- all numbers are at most 2^32
 abbrev pub AreSmall : List ℕ → Type 0
 AreSmall sizes = (k : ℕ) → slice_index sizes k ≤ 2 ^ 32
+
+-- the number of bytes that the sections use in all places
+unfoldable pub total : List PlaceData → List SectionData → ℕ
+total places sections = sum_by (λ p. taken_bytes p.section sections) places
+
+-- these sections are too large for a place, or for the 16,777,216 bytes of an image
+unfoldable pub is_over : List PlaceData → List SectionData → Bool
+is_over places sections = list_any (λ p. nat_lt p.most (taken_bytes p.section sections)) places || nat_lt (2 ^ 24) (total places sections)

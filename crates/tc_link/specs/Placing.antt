@@ -1,16 +1,21 @@
 -- The addresses of the sections and symbols of objects.
-use Rattle.std.specs.Prelude.{◌+◌, ◌%◌, ◌^◌, ◌==◌, ℕ, Bool, List, ◌∷◌, ◌++◌, map, filter, find, slice_index, Option, []}
-use Rattle.std.specs.Option.{option_map, option_map_or}
+use Rattle.std.specs.Prelude.{◌+◌, ◌%◌, ◌^◌, ℕ, List, ◌∷◌, ◌++◌, slice_index, slice_get, find, Option, []}
+use Rattle.std.specs.Option.{option_map_or}
 use Rattle.std.specs.List.{flat_map}
-use Rattle.std.specs.Str.{bytes_eq}
-use Rattle.tc_object.specs.Objects.{global_symbol, SectionData, SymbolData, ObjectData}
-use Rattle.tc_link.specs.Layouts.{PlaceData, place_of}
+use Rattle.tc_object.specs.Objects.{SectionData, ObjectData}
+use Rattle.tc_link.specs.Layouts.{PlaceData, LayoutData}
 use Rattle.tc_link.specs.PlaceSizes.{round_up, taken_bytes}
+use Rattle.tc_link.specs.declared.definitions.Definition.{Definition}
+use Rattle.std.specs.Str.{bytes_eq}
 
 -- ---- sections
 -- the sections of all objects, in order
 abbrev pub sections_of : List ObjectData → List SectionData
 sections_of objects = flat_map (λ o. o.sections) objects
+
+-- the place for the sections of this name
+abbrev pub place_of : List PlaceData → List ℕ → Option PlaceData
+place_of places name = find (λ p. bytes_eq name p.section) places
 
 -- the address of a section after these sections, and 0 if it has no place
 abbrev pub base_of : List PlaceData → List SectionData → SectionData → ℕ
@@ -32,27 +37,15 @@ placed_after places before [] = []
 placed_after places before (o ∷ os) = record { object = o; bases = bases_after places before o.sections } ∷ placed_after places (before ++ o.sections) os
 
 -- ---- symbols
--- the symbol is defined, and other objects may use it
-abbrev pub is_global : SymbolData → Bool
-is_global s = s.kind == global_symbol
 
 -- the address of an offset in a section of this number
 abbrev pub address_in : List ℕ → ℕ → ℕ → ℕ
 address_in bases section offset = (slice_index bases section + offset) % 2 ^ 32
 
--- a name and its address
-pub record GlobalData : Type 0 where
-  pub name : List ℕ
-  pub address : ℕ
+-- the address of a definition in these objects
+abbrev pub address_of : List PlacedData → Definition → ℕ
+address_of placed d = option_map_or (λ p. address_in p.bases d.section d.offset) (slice_get placed d.object) 0
 
--- a global symbol's name, with its address if its sections begin at these addresses
-abbrev pub global_data : List ℕ → SymbolData → GlobalData
-global_data bases s = record { name = s.name; address = address_in bases s.section s.offset }
-
--- the global symbols of placed objects
-unfoldable pub globals_of : List PlacedData → List GlobalData
-globals_of placed = flat_map (λ p. map (global_data p.bases) (filter is_global p.object.symbols)) placed
-
--- the address of a global symbol, if one has the name
-abbrev pub global_address : List GlobalData → List ℕ → Option ℕ
-global_address globals name = option_map (λ g. g.address) (find (λ g. bytes_eq name g.name) globals)
+-- the objects with the addresses of their sections in the layout
+abbrev pub placed_of : LayoutData → List ObjectData → List PlacedData
+placed_of layout objects = placed_after layout.places [] objects

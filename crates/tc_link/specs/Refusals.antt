@@ -1,16 +1,17 @@
 -- Why objects can't be linked, and the first refusal of each kind.
-use Rattle.std.specs.Prelude.{◌+◌, ◌^◌, ◌==◌, ◌&&◌, ◌||◌, not, nat_lt, ℕ, Bool, List, ◌∷◌, ◌++◌, length, sum_by, Option, None, []}
+use Rattle.std.specs.Prelude.{◌+◌, ◌==◌, ◌&&◌, ◌||◌, not, nat_lt, ℕ, Bool, List, ◌∷◌, ◌++◌, length, Option, None, []}
 use Rattle.std.specs.Bool.{then_some}
 use Rattle.std.specs.Option.{option_map, option_or}
 use Rattle.std.specs.List.{list_any}
 use Rattle.tc_object.specs.Objects.{undefined_symbol, SectionData, SymbolData, ObjectData}
 use Rattle.tc_object.specs.declared.relocs.Reloc.{Reloc}
 use Rattle.tc_reloc.specs.declared.refusals.RelocErr.{RelocErr}
-use Rattle.tc_link.specs.Layouts.{PlaceData, is_placed}
-use Rattle.tc_link.specs.Placing.{PlacedData, GlobalData, is_global}
-use Rattle.tc_link.specs.PlaceSizes.{taken_bytes}
-use Rattle.tc_link.specs.Relocated.{reloc_refusal}
-use Rattle.tc_link.specs.Names.{globals_named}
+use Rattle.tc_link.specs.Layouts.{PlaceData, is_placed, LayoutData}
+use Rattle.tc_link.specs.Placing.{PlacedData, sections_of}
+use Rattle.tc_link.specs.Names.{GlobalData, is_global, globals_named}
+use Rattle.tc_link.specs.PlaceSizes.{is_over}
+use Rattle.tc_reloc.specs.Refusals.{refusal_of}
+use Rattle.tc_link.specs.Relocated.{field_place, value_of}
 
 -- why objects can't be linked
 pub data Refusal : Type 0 where
@@ -62,14 +63,6 @@ no_place_of places symbols number s = then_some ((nat_lt 0 (length s.bytes) || h
 unfoldable pub no_place_in : List PlaceData → List ObjectData → Option Refusal
 no_place_in places objects = first_some (λ _ o. first_some (no_place_of places o.symbols) o.sections) objects
 
--- the number of bytes that the sections use in all places
-unfoldable pub total : List PlaceData → List SectionData → ℕ
-total places sections = sum_by (λ p. taken_bytes p.section sections) places
-
--- these sections are too large for a place, or for the 16,777,216 bytes of an image
-unfoldable pub is_over : List PlaceData → List SectionData → Bool
-is_over places sections = list_any (λ p. nat_lt p.most (taken_bytes p.section sections)) places || nat_lt (2 ^ 24) (total places sections)
-
 -- a section for which there is no room after these sections
 abbrev pub no_room_of : List PlaceData → List SectionData → SectionData → Option Refusal
 no_room_of places before s = then_some (is_over places (before ++ s ∷ [])) (no_room s.name)
@@ -79,6 +72,10 @@ unfoldable pub no_room_after : List PlaceData → List SectionData → List Sect
 no_room_after places before [] = None
 no_room_after places before (s ∷ ss) = option_or (no_room_of places before s) (no_room_after places (before ++ s ∷ []) ss)
 
+-- the reason why a relocation can't be written, if there is one
+abbrev pub reloc_refusal : List GlobalData → PlacedData → Reloc → Option RelocErr
+reloc_refusal globals p r = refusal_of r.kind (field_place p r) (value_of globals p r)
+
 -- a relocation of the object with this number that can't be written
 abbrev pub refusal_at : List GlobalData → ℕ → PlacedData → ℕ → Reloc → Option Refusal
 refusal_at globals object p number r = option_map (λ err. reloc object r.section r.offset err) (reloc_refusal globals p r)
@@ -86,3 +83,10 @@ refusal_at globals object p number r = option_map (λ err. reloc object r.sectio
 -- the first relocation that can't be written, in the order of the objects, if there is one
 unfoldable pub reloc_in : List GlobalData → List PlacedData → Option Refusal
 reloc_in globals placed = first_some (λ object p. first_some (refusal_at globals object p) p.object.relocs) placed
+
+-- the first refusal before relocations are written, in this order
+abbrev pub refused_early : LayoutData → List ObjectData → Option Refusal
+refused_early layout objects =
+    option_or (twice_in objects)
+    (option_or (missing_in objects)
+    (option_or (no_place_in layout.places objects) (no_room_after layout.places [] (sections_of objects))))

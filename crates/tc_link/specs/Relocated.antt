@@ -1,13 +1,12 @@
 -- The bytes of sections with their relocations written, and the addresses of symbols.
-use Rattle.std.specs.Prelude.{◌+◌, ◌%◌, ◌^◌, ℕ, List, ◌++◌, fold, take, drop, slice_get, slice_set, Option, ◌==◌, if◌then◌else◌, map}
+use Rattle.std.specs.Prelude.{◌+◌, ◌%◌, ◌^◌, ℕ, List, ◌++◌, fold, take, drop, slice_get, slice_set, ◌==◌, if◌then◌else◌, map}
 use Rattle.std.specs.Option.{option_map_or}
 use Rattle.tc_object.specs.declared.relocs.Reloc.{Reloc}
 use Rattle.tc_object.specs.Objects.{SectionData, undefined_symbol, SymbolData}
-use Rattle.tc_reloc.specs.declared.refusals.RelocErr.{RelocErr}
-use Rattle.tc_reloc.specs.Refusals.{refusal_of}
-use Rattle.tc_reloc.specs.Fields.{content_of}
-use Rattle.tc_reloc.specs.Applied.{with_field}
-use Rattle.tc_link.specs.Placing.{GlobalData, PlacedData, address_in, global_address}
+use Rattle.tc_reloc.specs.Fields.{content_of, field_at, with_field}
+use Rattle.tc_link.specs.Placing.{PlacedData, address_in}
+use Rattle.tc_link.specs.Names.{GlobalData, global_address, globals_of}
+use Rattle.std.specs.List.{flat_map}
 
 -- the address of a relocation's field
 abbrev pub field_place : PlacedData → Reloc → ℕ
@@ -25,14 +24,6 @@ symbol_addresses globals p = map (symbol_address globals p.bases) p.object.symbo
 -- the value of a relocation: the address of its symbol plus the addend
 abbrev pub value_of : List GlobalData → PlacedData → Reloc → ℕ
 value_of globals p r = (option_map_or (symbol_address globals p.bases) (slice_get p.object.symbols r.symbol) 0 + r.addend) % 2 ^ 32
-
--- the reason why a relocation can't be written, if there is one
-abbrev pub reloc_refusal : List GlobalData → PlacedData → Reloc → Option RelocErr
-reloc_refusal globals p r = refusal_of r.kind (field_place p r) (value_of globals p r)
-
--- the four bytes at an offset
-abbrev pub field_at : List ℕ → ℕ → List ℕ
-field_at bytes at = take 4 (drop at bytes)
 
 -- the bytes with these four at an offset
 abbrev pub with_field_at : List ℕ → ℕ → List ℕ → List ℕ
@@ -60,3 +51,7 @@ with_reloc globals p sections r = with_item (with_relocation globals p r) r.sect
 -- the sections of a placed object after all its relocations are written, in order
 unfoldable pub relocated_sections : List GlobalData → PlacedData → List SectionData
 relocated_sections globals p = fold (with_reloc globals p) p.object.sections p.object.relocs
+
+-- all sections, with their relocations written
+unfoldable pub contents_of : List PlacedData → List SectionData
+contents_of placed = flat_map (relocated_sections (globals_of placed)) placed

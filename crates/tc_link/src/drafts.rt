@@ -35,9 +35,9 @@ impl Draft {
     ghost use Rattle.std.specs.List.{list_any};
     ghost use Rattle.tc_object.specs.Names.{name_of};
     ghost use Rattle.tc_link.specs.Layouts.{IsPlace, IsPlaceAfter, is_placed, shares_at};
-    ghost use Rattle.tc_link.specs.LayoutLines.{line_of, place};
-    ghost use Rattle.tc_link.specs.LayoutFaults.{fault_of, with_entry, IsFaultOf, IsFault};
-    ghost use Rattle.tc_link.specs.LayoutDrafts.{with_line, line_data, IsGood};
+    ghost use Rattle.tc_link.specs.LayoutLines.{line_of, place, IsGood};
+    ghost use Rattle.tc_link.specs.LayoutFaults.{fault_of, IsFaultOf, IsFault};
+    ghost use Rattle.tc_link.specs.LayoutDrafts.{with_entry, with_line, line_data};
     ghost use Rattle.tc_link.specs.declared.layout_errors.LayoutErr.TheVariants.{Twice, TooMany, Overlap, NoMemory};
 
     /// A draft without lines.

@@ -1,44 +1,15 @@
 // A map of the global symbols of objects by name, so that each look-up is a few steps.
-ghost use Rattle.std.specs.Prelude.{◌≡◌, ◌+◌, ◌++◌, ◌∷◌, nat_lt, ◌==◌, ℕ, List, [], true, false, count_by, map, filter, slice_get, OnOk, IfOk, IfErr, if◌then◌else◌, None, Some};
-ghost use Rattle.std.specs.Str.{bytes_eq};
+ghost use Rattle.std.specs.Prelude.{◌≡◌, ◌+◌, ◌++◌, ◌∷◌, nat_lt, ◌==◌, ℕ, List, [], true, false, count_by, map, filter, slice_get, OnOk, IfOk, IfErr, if◌then◌else◌, Some};
 ghost use Rattle.tc_object.specs.Objects.{ObjectData};
-ghost use Rattle.tc_link.specs.Placing.{PlacedData, GlobalData, is_global, global_data};
-ghost use Rattle.tc_link.specs.Names.{has_global_name, globals_named, at_name, twice_at, twice_of_count, address_of, AreGlobals, CountsGlobals, DefinesGlobals};
+ghost use Rattle.tc_link.specs.Placing.{PlacedData};
+ghost use Rattle.tc_link.specs.Names.{GlobalData, is_global, global_data, has_global_name, globals_named, twice_at, twice_of_count, AreGlobals, CountsGlobals, DefinesGlobals};
 ghost use Rattle.tc_link.specs.declared.errors.LinkErr.TheVariants.{NoMemory};
 
 use crate::LinkErr;
-use crate::definitions::Definition;
+use crate::definitions::{Definition, add_name, is_twice, no_names};
 use std::alloc::Global;
 use std::collections::HashMap;
 use tc_object::{GLOBAL_SYMBOL, ObjectRef, SymbolRef};
-
-// Adds a definition of this name. The first one keeps its place.
-fn add_name<'a>(
-    names: &mut HashMap<&'a str, Definition>,
-    name: &'a str,
-    definition: Definition,
-) -> Result<(), LinkErr>
-    requires { definition.is_twice ≡ false }
-    ensures counts { OnOk result ((q : List ℕ) (n : ℕ) → twice_at names.old q ≡ twice_of_count n
-        → twice_at names.new q ≡ twice_of_count (n + (if bytes_eq q name.now then 1 else 0))) }
-    ensures globals { OnOk result ((placed : List PlacedData) (before : List GlobalData)
-        → AreGlobals names.old placed before → AreGlobals names.new placed
-        (before ++ record { name = name.now; address = address_of placed definition } ∷ [])) }
-    ensures err { IfErr result (λ e. e ≡ NoMemory) }
-{
-    let old = names.insert(name, definition)?;
-    let Some(first) = old else {
-        return Ok(());
-    };
-    let twice = Definition {
-        object: first.object,
-        section: first.section,
-        offset: first.offset,
-        is_twice: true,
-    };
-    names.insert(name, twice)?;
-    Ok(())
-}
 
 // Adds a symbol of object number `object`, if it is global.
 fn add_symbol<'a>(
@@ -101,15 +72,6 @@ fn count_globals(objects: &[ObjectRef<'_>]) -> usize {
     count
 }
 
-// An empty map, with capacity for `count` names.
-fn no_names<'a>(alloc: Global, count: usize) -> Result<HashMap<&'a str, Definition>, LinkErr>
-    ensures none { IfOk result (λ names. (q : List ℕ) → at_name names q ≡ None) }
-    ensures err { IfErr result (λ e. e ≡ NoMemory) }
-{
-    let names = HashMap::with_capacity(alloc, count)?;
-    Ok(names)
-}
-
 /// The map of the global symbols of objects by name.
 pub(crate) fn names_of<'a>(
     alloc: Global,
@@ -132,16 +94,6 @@ pub(crate) fn are_single(names: &HashMap<&str, Definition>) -> bool
         → (q : List ℕ) → nat_lt 1 (globals_named objects q) ≡ false }
 {
     names.values().all(|definition| !definition.is_twice)
-}
-
-/// Whether several global symbols have the name.
-pub(crate) fn is_twice(names: &HashMap<&str, Definition>, name: &str) -> bool
-    ensures { (n : ℕ) → twice_at names.now name.now ≡ twice_of_count n → result ≡ nat_lt 1 n }
-{
-    match names.get(name) {
-        Some(definition) => definition.is_twice,
-        None => false,
-    }
 }
 
 /// Whether no global symbol has the name.

@@ -4,8 +4,8 @@ ghost use Rattle.std.specs.Option.{option_map, option_copied};
 ghost use Rattle.std.specs.Str.{bytes_eq};
 ghost use Rattle.tc_object.specs.Names.{name_of};
 ghost use Rattle.tcd_text.specs.HexNumbers.{hex_number_of};
-ghost use Rattle.tc_link.specs.LayoutLines.{entry, line_of, place_of_words};
-ghost use Rattle.tc_link.specs.LayoutDrafts.{line_data, IsGood};
+ghost use Rattle.tc_link.specs.LayoutLines.{entry, line_of, place_of_words, IsGood};
+ghost use Rattle.tc_link.specs.LayoutDrafts.{line_data};
 
 use crate::text::is_text;
 use tc_object::name_of;

@@ -3,11 +3,12 @@ ghost use Rattle.std.specs.Prelude.{◌≡◌, ◌≤◌, ◌<◌, ◌^◌, ℕ,
 ghost use Rattle.elf_image.specs.Images.{ImageData, AreBytes, IsImage};
 ghost use Rattle.tc_object.specs.Objects.{ObjectData, IsObject};
 ghost use Rattle.tc_link.specs.Layouts.{IsLayout};
-ghost use Rattle.tc_link.specs.Placing.{globals_of};
+ghost use Rattle.tc_link.specs.Names.{globals_of, AreGlobals, CountsGlobals};
 ghost use Rattle.tc_link.specs.Segments.{segments_of};
-ghost use Rattle.tc_link.specs.Names.{AreGlobals, CountsGlobals};
-ghost use Rattle.tc_link.specs.Linked.{placed_of, contents_of, refused_early, made_of, image_of_objects};
-ghost use Rattle.tc_link.specs.Refusals.{no_room_after};
+ghost use Rattle.tc_link.specs.Linked.{made_of, image_of_objects};
+ghost use Rattle.tc_link.specs.Refusals.{refused_early, no_room_after};
+ghost use Rattle.tc_link.specs.Placing.{placed_of};
+ghost use Rattle.tc_link.specs.Relocated.{contents_of};
 ghost use Rattle.tc_link.specs.Errors.{IsRefusal, refusal_of};
 
 use crate::addresses::address_named;

@@ -1,14 +1,13 @@
 // Computes the sizes of places, and the addresses of sections.
-ghost use Rattle.std.specs.Prelude.{◌≡◌, ◌≤◌, ◌<◌, ◌+◌, ◌++◌, ◌∷◌, [], ◌*◌, ◌^◌, ℕ, List, length, slice_index, position, IfSome, OnOk, IfOk, IfErr, None, false};
+ghost use Rattle.std.specs.Prelude.{◌≡◌, ◌≤◌, ◌<◌, ◌+◌, ◌++◌, ◌∷◌, [], ◌*◌, ◌^◌, List, length, position, IfSome, false, ℕ, IfOk, IfErr, slice_index};
 ghost use Rattle.tc_object.specs.Objects.{SectionData};
 ghost use Rattle.std.specs.Str.{bytes_eq};
-ghost use Rattle.tc_link.specs.Placing.{base_of, bases_after};
-ghost use Rattle.tc_link.specs.PlaceSizes.{round_up, with_size, AreTaken, AreSmall};
-ghost use Rattle.tc_link.specs.Refusals.{is_over, no_room_after};
-ghost use Rattle.tc_link.specs.Errors.{IsRefusal};
+ghost use Rattle.tc_link.specs.PlaceSizes.{round_up, with_size, AreTaken, AreSmall, is_over};
+ghost use Rattle.tc_link.specs.declared.errors.LinkErr.TheVariants.{NoMemory};
 
 use crate::{LinkErr, Place};
 use std::alloc::Global;
+use std::marker::Model;
 use tc_object::SectionRef;
 
 // The most bytes of an image.
@@ -35,7 +34,7 @@ fn with_size(place: &Place, size: u64, section: &SectionRef<'_>) -> u64
 }
 
 // Adds a section to the number of used bytes of its place.
-fn add_size(places: &[Place], sizes: &mut [u64], section: &SectionRef<'_>)
+pub(crate) fn add_size(places: &[Place], sizes: &mut [u64], section: &SectionRef<'_>)
     requires count { length sizes.old ≡ length places.now }
     requires small { AreSmall sizes.old }
     ensures taken { (before : List SectionData) → AreTaken places.now before sizes.old
@@ -47,8 +46,8 @@ fn add_size(places: &[Place], sizes: &mut [u64], section: &SectionRef<'_>)
 }
 
 // Whether a place is too small, or all places together are above the limit of an image.
-#[tactic(auto, unfolding(crate::specs::Refusals::is_over, crate::specs::Refusals::total))]
-fn is_over(places: &[Place], sizes: &[u64]) -> bool
+#[tactic(auto, unfolding(crate::specs::PlaceSizes::is_over, crate::specs::PlaceSizes::total))]
+pub(crate) fn is_over(places: &[Place], sizes: &[u64]) -> bool
     requires count { length sizes.now ≡ length places.now }
     requires few { length places.now ≤ 64 }
     ensures over { (before : List SectionData) → AreTaken places.now before sizes.now
@@ -65,7 +64,7 @@ fn is_over(places: &[Place], sizes: &[u64]) -> bool
     total > MOST_BYTES
 }
 
-fn find_place(places: &[Place], name: &str) -> Option<usize>
+pub(crate) fn find_place(places: &[Place], name: &str) -> Option<usize>
     ensures value { result ≡ position (λ p. bytes_eq name.now p.section) places.now }
     ensures within { IfSome result (λ i. i < length places.now) }
 {
@@ -74,51 +73,12 @@ fn find_place(places: &[Place], name: &str) -> Option<usize>
         .position(|place| name == place.section.as_str())
 }
 
-// The address of a section after sections that use these numbers of bytes.
-fn base_of(places: &[Place], sizes: &[u64], section: &SectionRef<'_>) -> u64
-    requires count { length sizes.now ≡ length places.now }
-    requires small { AreSmall sizes.now }
-    ensures { (before : List SectionData) → AreTaken places.now before sizes.now
-        → result ≡ base_of places.now before section.now }
+// The numbers of used bytes before the first section: zero for each place.
+pub(crate) fn empty_sizes(alloc: Global, places: &[Place]) -> Result<Vec<u64>, LinkErr>
+    ensures count { IfOk result (λ sizes. length sizes.items ≡ length places.now) }
+    ensures none { IfOk result (λ sizes. (k : ℕ) → slice_index sizes.items k ≡ 0) }
+    ensures err { IfErr result (λ e. e ≡ NoMemory) }
 {
-    match find_place(places, section.name) {
-        None => 0,
-        Some(i) => {
-            let place = &places[i];
-            u64::from(place.at) + round_up(sizes[i])
-        }
-    }
-}
-
-/// The addresses of the sections of an object, or the first section without room.
-pub(crate) fn bases_of(
-    alloc: Global,
-    places: &[Place],
-    sizes: &mut [u64],
-    sections: &[SectionRef<'_>],
-) -> Result<Vec<u64>, LinkErr>
-    requires count { length sizes.old ≡ length places.now }
-    requires few { length places.now ≤ 64 }
-    requires small { AreSmall sizes.old }
-    ensures bases { IfOk result (λ bases. (before : List SectionData)
-        → AreTaken places.now before sizes.old
-        → bases.items ≡ bases_after places.now before sections.now) }
-    ensures taken { OnOk result ((before : List SectionData) → AreTaken places.now before sizes.old
-        → AreTaken places.now (before ++ sections.now) sizes.new) }
-    ensures room { OnOk result ((before : List SectionData) → AreTaken places.now before sizes.old
-        → no_room_after places.now before sections.now ≡ None) }
-    ensures small { OnOk result (AreSmall sizes.new) }
-    ensures err { IfErr result (λ e. (before : List SectionData)
-        → AreTaken places.now before sizes.old
-        → IsRefusal (no_room_after places.now before sections.now) e) }
-{
-    let mut bases = Vec::new(alloc);
-    for section in sections {
-        bases.push(base_of(places, sizes, section))?;
-        add_size(places, sizes, section);
-        if is_over(places, sizes) {
-            return Err(LinkErr::NoRoom(String::from_str(alloc, section.name)?));
-        }
-    }
-    Ok(bases)
+    let sizes = vec![in alloc; 0u64; places.len()]?;
+    Ok(sizes)
 }

@@ -1,13 +1,13 @@
 // Gives the sections of objects their addresses.
-ghost use Rattle.std.specs.Prelude.{◌≡◌, ◌≤◌, ◌<◌, [], ℕ, IfOk, IfErr, length, slice_index, slice_index_or, None};
+ghost use Rattle.std.specs.Prelude.{◌≡◌, ◌≤◌, ◌<◌, [], ℕ, IfOk, IfErr, length, slice_index_or, None};
 ghost use Rattle.tc_object.specs.Objects.{ObjectData, IsObject};
 ghost use Rattle.tc_link.specs.Placing.{placed_after, sections_of};
 ghost use Rattle.tc_link.specs.Refusals.{no_room_after};
 ghost use Rattle.tc_link.specs.PlaceSizes.{AreTaken, AreSmall};
 ghost use Rattle.tc_link.specs.Errors.{IsRefusal};
-ghost use Rattle.tc_link.specs.declared.errors.LinkErr.TheVariants.{NoMemory};
 
-use crate::place_sizes::bases_of;
+use crate::addresses::bases_of;
+use crate::place_sizes::empty_sizes;
 use crate::{LinkErr, Place};
 use std::alloc::Global;
 use std::marker::Model;
@@ -26,16 +26,6 @@ impl<'a, 'b> Model for Placed<'a, 'b> {
     ghost Value = { PlacedData };
 
     ghost view = { λ p. record { object = p.object.now; bases = p.bases.items } };
-}
-
-// The numbers of used bytes before the first section: zero for each place.
-fn empty_sizes(alloc: Global, places: &[Place]) -> Result<Vec<u64>, LinkErr>
-    ensures count { IfOk result (λ sizes. length sizes.items ≡ length places.now) }
-    ensures none { IfOk result (λ sizes. (k : ℕ) → slice_index sizes.items k ≡ 0) }
-    ensures err { IfErr result (λ e. e ≡ NoMemory) }
-{
-    let sizes = vec![in alloc; 0u64; places.len()]?;
-    Ok(sizes)
 }
 
 // The objects with the addresses of their sections, or the first section without room. `sizes` are

@@ -1,37 +1,25 @@
 // Writes relocations into sections.
-ghost use Rattle.std.specs.Prelude.{◌≡◌, ◌≤◌, ◌<◌, ◌+◌, ◌++◌, ◌^◌, [], ℕ, List, length, map, fold, take, drop, slice_get, Option, Some, None, OnOk, OnErr, IfOk, IfErr, MatchResult};
-ghost use Rattle.tc_object.specs.Objects.{SectionData, size_at};
+ghost use Rattle.std.specs.Prelude.{◌≡◌, ◌≤◌, ◌<◌, ◌+◌, List, length, map, Some, None, OnOk, IfOk, IfErr, MatchResult};
+ghost use Rattle.tc_object.specs.Objects.{size_at};
 ghost use Rattle.tc_reloc.specs.Refusals.{refusal_of};
-ghost use Rattle.tc_link.specs.Placing.{GlobalData, globals_of};
-ghost use Rattle.tc_link.specs.Relocated.{symbol_addresses, field_at, with_field_at, with_filled_field, reloc_refusal, with_reloc, relocated_sections};
+ghost use Rattle.tc_link.specs.Names.{GlobalData, globals_of, AreGlobals};
+ghost use Rattle.tc_link.specs.Relocated.{symbol_addresses, with_field_at, with_filled_field, with_reloc, relocated_sections, contents_of, value_of};
+ghost use Rattle.tc_link.specs.Refusals.{reloc_refusal, first_some, refusal_at, reloc_in};
+ghost use Rattle.tc_reloc.specs.Fields.{field_at};
 ghost use Rattle.tc_link.specs.Shapes.{shape_of};
-ghost use Rattle.tc_link.specs.Linked.{contents_of};
-ghost use Rattle.tc_link.specs.Refusals.{first_some, refusal_at, reloc_in};
-ghost use Rattle.tc_link.specs.Names.{AreGlobals};
 ghost use Rattle.tc_link.specs.Errors.{IsRefusal};
 ghost use Rattle.tc_link.specs.declared.errors.LinkErr.TheVariants.{NoMemory};
+ghost use Rattle.tc_link.specs.Placing.{PlacedData};
 
 use crate::LinkErr;
-use crate::addresses::{address_in, symbol_addresses, value_of};
+use crate::addresses::{address_at, address_in, symbol_addresses};
 use crate::definitions::Definition;
 use crate::placed::Placed;
-use crate::written_sections::WrittenSection;
+use crate::written_sections::{WrittenSection, append, copy_of};
 use std::alloc::Global;
 use std::collections::HashMap;
 use tc_object::{Reloc, SectionRef};
 use tc_reloc::{RelocErr, apply};
-
-// A section with a copy of its bytes.
-fn copy_of<'a>(alloc: Global, section: &SectionRef<'a>) -> Result<WrittenSection<'a>, LinkErr>
-    ensures ok { IfOk result (λ copy. copy ≡ section.now) }
-    ensures err { IfErr result (λ e. e ≡ NoMemory) }
-{
-    let bytes = Vec::from_slice(alloc, section.bytes)?;
-    Ok(WrittenSection {
-        name: section.name,
-        bytes,
-    })
-}
 
 // Sections with copies of their bytes.
 fn copies_of<'a>(
@@ -164,22 +152,8 @@ fn relocate<'a>(
     Ok(sections)
 }
 
-// Adds sections to the list.
-fn append<'a>(
-    contents: &mut Vec<WrittenSection<'a>>,
-    more: Vec<WrittenSection<'a>>,
-) -> Result<(), LinkErr>
-    ensures ok { OnOk result (contents.new.items ≡ contents.old.items ++ more.entry.items) }
-    ensures err { IfErr result (λ e. e ≡ NoMemory) }
-{
-    for section in more {
-        contents.push(section)?;
-    }
-    Ok(())
-}
-
 /// All sections with their relocations written, or the first relocation that is refused.
-#[tactic(auto, unfolding(crate::specs::Linked::contents_of, crate::specs::Refusals::reloc_in))]
+#[tactic(auto, unfolding(crate::specs::Relocated::contents_of, crate::specs::Refusals::reloc_in))]
 pub(crate) fn contents_of<'a>(
     alloc: Global,
     names: &HashMap<&str, Definition>,
@@ -197,4 +171,12 @@ pub(crate) fn contents_of<'a>(
         append(&mut contents, sections)?;
     }
     Ok(contents)
+}
+
+/// The value of a relocation: the address of its symbol plus the addend.
+pub(crate) fn value_of(addresses: &[u32], reloc: &Reloc) -> u32
+    ensures { (all : List GlobalData) (p : PlacedData) → addresses.now ≡ symbol_addresses all p
+        → result ≡ value_of all p reloc.now }
+{
+    address_at(addresses, reloc.symbol).wrapping_add(reloc.addend)
 }

@@ -3,15 +3,14 @@ ghost use Rattle.std.specs.Prelude.{◌≡◌, ◌<◌, ◌==◌, ◌&&◌, nat_
 ghost use Rattle.std.specs.Option.{option_map};
 ghost use Rattle.tc_object.specs.declared.relocs.Reloc.{Reloc};
 ghost use Rattle.tc_object.specs.Objects.{ObjectData};
-ghost use Rattle.tc_link.specs.Placing.{is_global};
+ghost use Rattle.tc_link.specs.Names.{is_global, globals_named, CountsGlobals};
 ghost use Rattle.tc_link.specs.Refusals.{twice, missing, twice_of, twice_in, missing_of, missing_in, first_some, is_used};
-ghost use Rattle.tc_link.specs.Names.{globals_named, CountsGlobals};
 ghost use Rattle.tc_link.specs.Errors.{IsRefusal};
 ghost use Rattle.tc_link.specs.declared.errors.LinkErr.TheVariants.{NoMemory};
 
 use crate::LinkErr;
-use crate::definitions::Definition;
-use crate::global_symbols::{are_single, is_missing, is_twice};
+use crate::definitions::{Definition, is_twice};
+use crate::global_symbols::{are_single, is_missing};
 use std::alloc::Global;
 use std::collections::HashMap;
 use tc_object::{GLOBAL_SYMBOL, ObjectRef, SymbolRef, UNDEFINED_SYMBOL};

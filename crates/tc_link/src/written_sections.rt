@@ -1,5 +1,11 @@
 // A section whose relocations are written.
+ghost use Rattle.std.specs.Prelude.{◌≡◌, ◌<◌, ◌+◌, ◌++◌, OnOk, IfOk, IfErr};
+ghost use Rattle.tc_link.specs.declared.errors.LinkErr.TheVariants.{NoMemory};
+
+use crate::LinkErr;
+use std::alloc::Global;
 use std::marker::Model;
+use tc_object::SectionRef;
 
 /// A section with a borrowed name and with bytes of its own.
 #[derive(Drop)]
@@ -14,4 +20,33 @@ impl<'a> Model for WrittenSection<'a> {
     ghost Value = { SectionData };
 
     ghost view = { λ s. record { name = s.name.now; bytes = s.bytes.items } };
+}
+
+// A section with a copy of its bytes.
+pub(crate) fn copy_of<'a>(
+    alloc: Global,
+    section: &SectionRef<'a>,
+) -> Result<WrittenSection<'a>, LinkErr>
+    ensures ok { IfOk result (λ copy. copy ≡ section.now) }
+    ensures err { IfErr result (λ e. e ≡ NoMemory) }
+{
+    let bytes = Vec::from_slice(alloc, section.bytes)?;
+    Ok(WrittenSection {
+        name: section.name,
+        bytes,
+    })
+}
+
+// Adds sections to the list.
+pub(crate) fn append<'a>(
+    contents: &mut Vec<WrittenSection<'a>>,
+    more: Vec<WrittenSection<'a>>,
+) -> Result<(), LinkErr>
+    ensures ok { OnOk result (contents.new.items ≡ contents.old.items ++ more.entry.items) }
+    ensures err { IfErr result (λ e. e ≡ NoMemory) }
+{
+    for section in more {
+        contents.push(section)?;
+    }
+    Ok(())
 }

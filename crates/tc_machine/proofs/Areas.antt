@@ -2,9 +2,9 @@
 use Rattle.std.proofs.Common.{◌≡◌, ◌≢◌, ℕ, zero, suc, ◌+◌, ◌-◌, ◌^◌, ◌<◌, ◌≤◌, inr, Bool, true, false, cond, List, [], ◌∷◌, length, refl, sym, ap, ◌∙◌, subst, arith}
 use Rattle.std.proofs.lemmas.Bool.{le-ltb, lt-ltb, ltb-true}
 use Rattle.std.specs.Prelude.{nat_lt}
-use Rattle.csa_chain.specs.Memory.{Memory, with_words}
+use Rattle.csa_chain.specs.MemoryBytes.{Memory, with_words}
 use Rattle.csa_chain.specs.Chain.{link_in, link_address, is_area, area_word}
-use Rattle.csa_chain.specs.Contexts.{with_link}
+use Rattle.csa_chain.specs.ContextWords.{with_link}
 use Rattle.csa_chain.proofs.ChainLaws.{Links, Avoids, Avoids-before, Distinct, Distinct-after, reverse_onto, reverse-append_onto, free_after_save, free_after_restore, chain_within-Links, are_mapped_from}
 use Rattle.csa_chain.proofs.ContextLaws.{link_in-with_link, with_link-lt, link_in-lt}
 use Rattle.elf_image.specs.Images.{ImageData}

@@ -1,9 +1,9 @@
 -- The words of a save area, read one after another.
 use Rattle.std.proofs.Common.{◌≡◌, ℕ, zero, suc, ◌+◌, ◌*◌, cond, List, [], ◌∷◌, map, Some, None, refl, ap, ◌∙◌, arith}
-use Rattle.csa_chain.specs.Memory.{Memory, word_at, words_at}
+use Rattle.csa_chain.specs.MemoryBytes.{Memory, word_at, words_at}
 use Rattle.csa_chain.specs.Chain.{link_address, is_area}
 use Rattle.tc_mem.specs.Areas.{area_of}
-use Rattle.tc_machine.specs.Contexts.{area_words}
+use Rattle.tc_machine.specs.SavesAndRestores.{area_words}
 
 -- n numbers, one after another
 abbrev count_from : ℕ → ℕ → List ℕ

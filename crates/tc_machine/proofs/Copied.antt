@@ -10,7 +10,7 @@ use Rattle.std.proofs.lemmas.Option.{slice_get-get_or}
 use Rattle.std.specs.FinMap as finite
 use Rattle.std.specs.FinMap.{same_map, nat_cmp-IsAntisymmetric}
 use Rattle.std.specs.Cmp.{nat_cmp_total}
-use Rattle.csa_chain.specs.Memory.{Memory, is_mapped}
+use Rattle.csa_chain.specs.MemoryBytes.{Memory, is_mapped}
 use Rattle.elf_image.specs.declared.segments.Segment.{Segment}
 use Rattle.elf_image.specs.Images.{ImageData, SegmentData, segment_data, is_segment, byte_in, image_byte}
 use Rattle.tcd_base.specs.declared.range.Range.{Range}

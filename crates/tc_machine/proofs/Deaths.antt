@@ -12,10 +12,10 @@ use Rattle.tc_machine.specs.declared.events.Event.{Event}
 use Rattle.tc_machine.specs.declared.events.End.{End}
 use Rattle.tc_machine.specs.declared.events.End.TheVariants.{Running, Dead}
 use Rattle.tc_machine.specs.declared.state.Machine.{Machine}
-use Rattle.tc_machine.specs.Machine.{with_reg, with_status, died, goes_on, then_}
-use Rattle.tc_machine.specs.Contexts.{saved, save, has_kind, restored, restore}
+use Rattle.tc_machine.specs.Machine.{with_reg, died, goes_on, then_}
+use Rattle.tc_machine.specs.Instructions.{with_status, trap, access_address, with_base, traps_at, with_core_register, lowered, does}
+use Rattle.tc_machine.specs.SavesAndRestores.{saved, save, has_kind, restored, restore}
 use Rattle.tc_machine.specs.Fetching.{fetched}
-use Rattle.tc_machine.specs.Instructions.{trap, access_address, with_base, traps_at, with_core_register, lowered, does}
 use Rattle.tc_machine.specs.Stepping.{is_taken, executed, done, step}
 use Rattle.tc_machine.specs.MachineLaws.{DeathChanges}
 

@@ -3,7 +3,7 @@ use Rattle.std.proofs.Common.{◌≡◌, ◌≢◌, ℕ, zero, suc, ◌+◌, ◌
 use Rattle.std.proofs.lemmas.Bool.{cases_eq, cases_lt}
 use Rattle.std.specs.Prelude.{is_some}
 use Rattle.std.specs.FinMap as map
-use Rattle.csa_chain.specs.Memory.{Memory, is_mapped, with_byte, HasBytes}
+use Rattle.csa_chain.specs.MemoryBytes.{Memory, is_mapped, with_byte, HasBytes}
 use Rattle.csa_chain.proofs.MemoryLaws.{get-with_byte_same, get-with_byte_other, is_mapped-with_byte, is_mapped-with_words, get-with_words_other}
 use Rattle.csa_chain.proofs.WordLaws.{HasBytes-with_words}
 use Rattle.elf_image.specs.Images.{ImageData, image_byte}

@@ -3,7 +3,7 @@ use Rattle.std.proofs.Common.{◌≡◌, ℕ, zero, suc, ◌+◌, ◌-◌, ◌^�
 use Rattle.std.specs.Prelude.{not, IfSome}
 use Rattle.std.proofs.lemmas.Bool.{cases_lt, lt-ltb, le-ltb, ltb-false, eq-eqb}
 use Rattle.std.proofs.lemmas.Option.{slice_get-get_or}
-use Rattle.csa_chain.specs.Memory.{Memory}
+use Rattle.csa_chain.specs.MemoryBytes.{Memory}
 use Rattle.csa_chain.specs.Chain.{link_address, area_word}
 use Rattle.csa_chain.proofs.ChainLaws.{Links, Links-chain_within, are_mapped_each, reverse_onto, reverse-append_onto}
 use Rattle.elf_image.specs.Images.{ImageData}

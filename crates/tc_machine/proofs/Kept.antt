@@ -4,7 +4,7 @@ use Rattle.std.specs.Bool.{OnTrue}
 use Rattle.std.proofs.lemmas.Bool.{lt-leb}
 use Rattle.std.specs.Prelude.{not, length}
 use Rattle.std.specs.Option.{option_map}
-use Rattle.csa_chain.specs.Memory.{Memory}
+use Rattle.csa_chain.specs.MemoryBytes.{Memory}
 use Rattle.csa_chain.specs.Chain.{chain}
 use Rattle.tc_isa.specs.declared.shapes.Arg.{Arg}
 use Rattle.tc_isa.specs.declared.shapes.Arg.TheVariants.{Reg, Word}
@@ -16,11 +16,11 @@ use Rattle.tc_machine.specs.declared.events.Event.{Event}
 use Rattle.tc_machine.specs.declared.events.End.{End}
 use Rattle.tc_machine.specs.declared.events.End.TheVariants.{Running, Dead}
 use Rattle.tc_machine.specs.declared.state.Machine.{Machine}
-use Rattle.tc_machine.specs.Machine.{with_reg, with_status, then_, goes_on}
+use Rattle.tc_machine.specs.Machine.{with_reg, then_, goes_on}
+use Rattle.tc_machine.specs.Instructions.{with_status, does, with_base, lowered, access_address}
 use Rattle.tc_machine.specs.Fetching.{fetched, mapped_bytes, shaped}
-use Rattle.tc_machine.specs.Instructions.{does, with_base, lowered, access_address}
 use Rattle.tc_machine.specs.Stepping.{is_taken, executed, done, step, used_of}
-use Rattle.tc_machine.specs.Kinds.{keeps_of}
+use Rattle.tc_machine.specs.InstructionKinds.{keeps_of}
 
 -- two states with equal memory and PCXI
 pub record Same (m n : Machine) : Type 0 where

@@ -1,7 +1,7 @@
 -- What holds of the memory of every plan: its ranges, its save areas and their links.
 use Rattle.std.proofs.Common.{◌≡◌, ◌≢◌, ℕ, zero, suc, ◌+◌, ◌*◌, ◌/◌, ◌%◌, ◌^◌, ◌<◌, ◌≤◌, ◌⊎◌, inl, inr, List, [], ◌∷◌, length, get_or, refl, sym, ap, ◌∙◌, arith}
 use Rattle.std.proofs.lemmas.Bool.{cases_lt}
-use Rattle.csa_chain.specs.Memory.{Memory, with_words}
+use Rattle.csa_chain.specs.MemoryBytes.{Memory, with_words}
 use Rattle.csa_chain.specs.Chain.{link_address}
 use Rattle.csa_chain.proofs.MemoryLaws.{get-with_words_other}
 use Rattle.csa_chain.proofs.ChainLaws.{Avoids, Distinct, reverse_onto}

@@ -6,7 +6,7 @@ use Rattle.tc_machine.specs.declared.events.End.TheVariants.{Running}
 use Rattle.tc_machine.specs.declared.events.Cause.TheVariants.{Fcd, Fcu, Csu, Ctyp, NoArea}
 use Rattle.tc_machine.specs.declared.state.Machine.{Machine}
 use Rattle.tc_machine.specs.Machine.{died, goes_on, then_, moved}
-use Rattle.tc_machine.specs.Contexts.{context_of, saved, save, has_kind, restored, restore}
+use Rattle.tc_machine.specs.SavesAndRestores.{context_of, saved, save, has_kind, restored, restore}
 
 -- a save succeeds if the first free area is mapped and isn't the limit of the list
 pub save-is : (m : Machine) (upper : Bool) → link_in m.fcx ≢ 0 → is_area m.mem (link_in m.fcx) ≡ true → link_in m.fcx ≢ link_in m.lcx → save m upper ≡ saved m upper

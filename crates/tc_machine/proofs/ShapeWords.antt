@@ -8,7 +8,7 @@ use Rattle.tc_isa.specs.declared.shapes.Shape.{Shape}
 use Rattle.tc_isa.specs.declared.shapes.Shape.TheVariants.{Compute, Load, Jump, Call, Bisr, Syscall}
 use Rattle.tc_isa.specs.Insts.{InstData, IsInst}
 use Rattle.tc_isa.specs.Meanings.{shape_of}
-use Rattle.tc_isa.specs.Bounded as bounded
+use Rattle.tc_isa.specs.InBounds as bounded
 use Rattle.tc_isa.proofs.ShapeBounds.{shape_is}
 
 -- an operand's word has 32 bits, and so has an address

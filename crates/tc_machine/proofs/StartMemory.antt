@@ -3,13 +3,13 @@ use Rattle.std.proofs.Common.{◌≡◌, ℕ, zero, suc, ◌+◌, ◌*◌, ◌^�
 use Rattle.std.proofs.lemmas.Bool.{cases_eq, cases_lt}
 use Rattle.std.specs.Prelude.{is_some}
 use Rattle.std.specs.FinMap as finite
-use Rattle.csa_chain.specs.Memory.{Memory, is_mapped, word_at, with_words, HasBytes}
+use Rattle.csa_chain.specs.MemoryBytes.{Memory, is_mapped, word_at, with_words, HasBytes}
 use Rattle.csa_chain.specs.Chain.{link_address, is_area, area_word}
 use Rattle.csa_chain.proofs.ChainLaws.{area_word-written, SameArea-written, area_word_same, are_mapped_from}
 use Rattle.elf_image.specs.Images.{ImageData, image_byte}
 use Rattle.tcd_plan.specs.PlanData.{PlanData, IsPlan, areas_range, all_apart}
-use Rattle.tc_mem.specs.Pages.{is_in, IsZeros}
-use Rattle.tcd_base.specs.Ranges.{IsInOne}
+use Rattle.tc_mem.specs.PlanMemory.{IsZeros, HoldsRom, IsPlanMemory}
+use Rattle.tcd_base.specs.Ranges.{is_in, IsInOne}
 use Rattle.tc_machine.specs.Safe.{IsLinkedUp}
 use Rattle.tc_machine.specs.Starting.{with_images, next_link, with_links, mapped_ranges_of, IsFilled}
 use Rattle.tc_machine.proofs.Filled.{images_put, images_mapped, images_none, images_outside, links_mapped, links_bytes, links_outside}
@@ -18,7 +18,6 @@ use Rattle.tc_machine.proofs.Zeros.{is_in-one, zero_at}
 use Rattle.tcd_plan.specs.Regions.{IsInAreas, IsMappedBy}
 use Rattle.tcd_plan.proofs.CutLaws.{IsInOne-parts}
 use Rattle.tc_machine.specs.PlanAreas.{first_link}
-use Rattle.tc_mem.specs.PlanMemory.{HoldsRom, IsPlanMemory}
 use Rattle.tcd_base.proofs.RangeLaws.{IsInOne-front, IsInOne-behind}
 use Rattle.tcd_plan.proofs.ApartLaws.{all_apart-before, rom_apart}
 

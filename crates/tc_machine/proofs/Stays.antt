@@ -6,7 +6,7 @@ use Rattle.tcd_plan.specs.PlanData.{PlanData, IsPlan}
 use Rattle.std.proofs.lemmas.Nat.{or_lt}
 use Rattle.csa_chain.specs.Chain.{link_in, link_address, is_area, area_word}
 use Rattle.csa_chain.specs.MemoryChanges.{HasWords}
-use Rattle.csa_chain.specs.Contexts.{pcpn_of, pie_of}
+use Rattle.csa_chain.specs.ContextWords.{pcpn_of, pie_of}
 use Rattle.csa_chain.proofs.ContextLaws.{pcxi_word-lt, with_link-lt, link_in-lt, pcpn_of-lt}
 use Rattle.csa_chain.proofs.WordLaws.{area_word-lt, HasBytes-with_words, All-16, d_after_upper-HasWords, a_after_upper-HasWords, d_after_lower-HasWords, a_after_lower-HasWords}
 use Rattle.tc_isa.specs.declared.shapes.Arg.{Arg}
@@ -26,12 +26,12 @@ use Rattle.tc_machine.specs.declared.events.End.{End}
 use Rattle.tc_machine.specs.declared.events.End.TheVariants.{Running, Dead}
 use Rattle.tc_machine.specs.declared.events.Event.{Event}
 use Rattle.tc_machine.specs.declared.state.Machine.{Machine}
-use Rattle.tc_machine.specs.Machine.{reg, with_reg, arg, a10, a11, is_of, handler_psw, with_status, moved, advanced, died, goes_on, then_}
-use Rattle.tc_machine.specs.Contexts.{context_of, saved, save, has_kind, last_context, released, restored, restore}
-use Rattle.csa_chain.specs.Memory.{load_number, with_bytes, extend}
+use Rattle.tc_machine.specs.Machine.{reg, with_reg, a10, a11, is_of, handler_psw, moved, died, goes_on, then_}
+use Rattle.tc_machine.specs.Instructions.{arg, with_status, advanced, handler_stack, at_handler, trap, access_address, with_base, traps_at, misaligned, core_register, with_core_register, target_of, lowered, does}
+use Rattle.tc_machine.specs.Stepping.{interrupt, is_taken, executed, done, step, run}
+use Rattle.tc_machine.specs.SavesAndRestores.{context_of, saved, save, has_kind, last_context, released, restored, restore}
+use Rattle.csa_chain.specs.MemoryBytes.{load_number, with_bytes, extend}
 use Rattle.tc_machine.specs.Fetching.{mapped_bytes, shaped, fetched}
-use Rattle.tc_machine.specs.Instructions.{handler_stack, at_handler, interrupt, trap, access_address, with_base, traps_at, misaligned, core_register, with_core_register, target_of, lowered, does}
-use Rattle.tc_machine.specs.Stepping.{is_taken, executed, done, step, run}
 use Rattle.tc_machine.specs.Safe.{AreRegisters, IsMachine, Fits, AllFit}
 use Rattle.tc_machine.proofs.Saves.{moved-lt}
 use Rattle.tc_machine.proofs.ShapeWords.{IsArg, IsTarget, IsShape, shape_of-suits}

@@ -7,11 +7,11 @@ use Rattle.tc_machine.specs.declared.events.Cause.{Cause}
 use Rattle.tc_machine.specs.declared.events.Event.{Event}
 use Rattle.tc_machine.specs.declared.events.End.TheVariants.{Running}
 use Rattle.tc_machine.specs.declared.state.Machine.{Machine}
-use Rattle.tc_machine.specs.Machine.{a11, with_status, moved, advanced, then_}
-use Rattle.tc_machine.specs.Contexts.{save, restore}
+use Rattle.tc_machine.specs.Machine.{a11, moved, then_}
+use Rattle.tc_machine.specs.Instructions.{with_status, advanced, target_of, does}
+use Rattle.tc_machine.specs.Stepping.{interrupt, is_taken, executed, done, step, store_in, where_running, stored}
+use Rattle.tc_machine.specs.SavesAndRestores.{save, restore}
 use Rattle.tc_machine.specs.Fetching.{fetched}
-use Rattle.tc_machine.specs.Instructions.{interrupt, target_of, does}
-use Rattle.tc_machine.specs.Stepping.{is_taken, executed, done, step, store_in, where_running, stored}
 use Rattle.tc_machine.proofs.Saves.{then_-running}
 
 -- if no interrupt is taken, the instruction at pc is executed

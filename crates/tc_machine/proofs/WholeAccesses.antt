@@ -5,11 +5,13 @@ use Rattle.std.specs.Bool.{MatchBool}
 use Rattle.std.proofs.lemmas.Bool.{and_parts, leb-true}
 use Rattle.std.proofs.lemmas.Option.{cond_some}
 use Rattle.std.specs.FinMap as map
-use Rattle.csa_chain.specs.Memory.{Memory, is_mapped, byte_at, are_mapped, word_at, with_word, load_number, with_bytes, HasBytes}
+use Rattle.csa_chain.specs.MemoryBytes.{Memory, is_mapped, byte_at, are_mapped, word_at, with_word, load_number, with_bytes, HasBytes}
 use Rattle.csa_chain.specs.Chain.{link_address, is_area, area_word}
 use Rattle.csa_chain.proofs.ChainLaws.{are_mapped_each}
 use Rattle.tcd_base.specs.Bytes.{bytes_of_word}
-use Rattle.tc_mem.specs.Blocks.{are_in_block, word_of, half_at, half_of, with_half, with_word_in, with_half_in, first_word_of}
+use Rattle.tc_mem.specs.Blocks.{are_in_block, word_of, half_at, half_of, with_word_in, with_half_in}
+use Rattle.tc_mem.specs.Areas.{first_word_of}
+use Rattle.tc_mem.specs.Written.{with_half}
 use Rattle.tc_machine.specs.Fetching.{mapped_bytes}
 
 -- ---- the bytes of a block

@@ -6,7 +6,7 @@ use Rattle.std.proofs.lemmas.List.Elements.{All-set}
 use Rattle.std.proofs.Math.Nat.{div-le_self}
 use Rattle.std.proofs.lemmas.Nat.{or_lt, and_le_l, xor_lt}
 use Rattle.std.specs.FinMap as map
-use Rattle.csa_chain.specs.Memory.{Memory, with_byte, load_number, with_bytes, extend, HasBytes}
+use Rattle.csa_chain.specs.MemoryBytes.{Memory, with_byte, load_number, with_bytes, extend, HasBytes}
 use Rattle.csa_chain.proofs.WordLaws.{HasBytes-with_byte}
 use Rattle.tc_isa.specs.declared.shapes.Op.{Op}
 use Rattle.tc_isa.specs.declared.shapes.Op.TheVariants as op

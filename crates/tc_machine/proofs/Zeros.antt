@@ -2,10 +2,10 @@
 use Rattle.std.proofs.Common.{◌≡◌, ℕ, ◌+◌, ◌^◌, ◌<◌, inl, inr, Bool, true, false, ◌&&◌, cond, List, [], ◌∷◌, Some, None, sym, ap, ◌∙◌, arith, nat_le, nat_lt}
 use Rattle.std.proofs.lemmas.Bool.{and_parts, and_from, or_cases, le-leb, leb-true, lt-ltb, ltb-true, or_right, or_left}
 use Rattle.std.specs.FinMap as map
-use Rattle.csa_chain.specs.Memory.{Memory, HasBytes}
+use Rattle.csa_chain.specs.MemoryBytes.{Memory, HasBytes}
 use Rattle.tcd_base.specs.declared.range.Range.{Range}
-use Rattle.tc_mem.specs.Pages.{is_in, IsZeros}
-use Rattle.tcd_base.specs.Ranges.{IsInOne}
+use Rattle.tc_mem.specs.PlanMemory.{IsZeros}
+use Rattle.tcd_base.specs.Ranges.{is_in, IsInOne}
 
 pub is_in-from : (q : ℕ) (rs : List Range) → IsInOne q 1 rs → is_in rs q ≡ true
 is_in-from q [] h = absurd h

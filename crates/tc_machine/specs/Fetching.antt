@@ -1,7 +1,7 @@
 -- The instruction at pc, and the bytes that loads and stores reach.
-use Rattle.std.specs.Prelude.{ℕ, zero, suc, ◌+◌, ◌%◌, ◌^◌, ◌==◌, if◌then◌else◌, List, [], ◌∷◌, Option, Some, None, Result, Ok, Err}
+use Rattle.std.specs.Prelude.{ℕ, zero, suc, ◌+◌, ◌%◌, ◌^◌, ◌==◌, if◌then◌else◌, List, ◌∷◌, Option, Some, None, Result, Ok, Err, []}
 use Rattle.std.specs.FinMap as map
-use Rattle.csa_chain.specs.Memory.{Memory}
+use Rattle.csa_chain.specs.MemoryBytes.{Memory}
 use Rattle.tc_isa.specs.Insts.{InstData}
 use Rattle.tc_isa.specs.Meanings.{shape_of}
 use Rattle.tc_isa.specs.declared.shapes.Shape.{Shape}
@@ -35,3 +35,8 @@ shaped (Err e) = Err (cause_of e)
 -- the instruction at pc, decoded from at most four mapped bytes; there is none at an odd address
 unfoldable pub fetched : Machine → Result (Shape × ℕ) Cause
 fetched m = if m.pc % 2 == 0 then shaped (decoded_of (mapped_bytes 4 m.mem m.pc)) else Err NoCode
+
+-- the size of what was fetched
+abbrev pub size_in : Result (Shape × ℕ) Cause → ℕ
+size_in (Ok found) = found.1
+size_in (Err cause) = 0

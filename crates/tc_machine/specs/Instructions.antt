@@ -1,6 +1,6 @@
 -- What each shape of instruction does (TriCore 1 architecture manual, volumes 1 and 2).
 use Rattle.std.specs.Prelude.{ℕ, ◌+◌, ◌-◌, ◌*◌, ◌/◌, ◌%◌, ◌^◌, Bool, true, false, not, ◌&&◌, ◌==◌, if◌then◌else◌, slice_set, bit_or}
-use Rattle.csa_chain.specs.Contexts.{pcpn_of, pie_of}
+use Rattle.csa_chain.specs.ContextWords.{pcpn_of, pie_of}
 use Rattle.tc_isa.specs.Arithmetic.{alu_of, taken_of}
 use Rattle.tc_isa.specs.declared.shapes.Arg.{Arg}
 use Rattle.tc_isa.specs.declared.shapes.Arg.TheVariants.{Reg, Word}
@@ -10,9 +10,9 @@ use Rattle.tc_isa.specs.declared.shapes.Shape.TheVariants.{Compute, Scaled, Load
 use Rattle.tc_isa.specs.declared.shapes.Target.TheVariants as target
 use Rattle.tc_machine.specs.declared.events.Event.{Event}
 use Rattle.tc_machine.specs.declared.state.Machine.{Machine}
-use Rattle.tc_machine.specs.Machine.{reg, with_reg, arg, a10, a11, is_of, handler_psw, moved, advanced, then_}
-use Rattle.tc_machine.specs.Contexts.{save, restore}
-use Rattle.csa_chain.specs.Memory.{load_number, with_bytes, extend}
+use Rattle.tc_machine.specs.Machine.{reg, with_reg, a10, a11, is_of, handler_psw, moved, then_}
+use Rattle.tc_machine.specs.SavesAndRestores.{save, restore}
+use Rattle.csa_chain.specs.MemoryBytes.{load_number, with_bytes, extend}
 
 -- ---- entries of handlers
 -- the stack pointer of a handler: the interrupt stack's, or A10 if that stack is in use already
@@ -29,15 +29,23 @@ at_handler m s back entry = record s {
   pc = entry;
 }
 
--- an interrupt: volume 1, interrupts
-abbrev pub interrupt : Machine → ℕ → Machine
-interrupt m irq =
-    then_ (save m true) (λ s. record (at_handler m s m.pc (bit_or m.biv (irq * 2 ^ 5))) { ccpn = irq })
-
 -- a trap of a class, with its identification number in D15: volume 1, traps
 abbrev pub trap : Machine → ℕ → ℕ → ℕ → Machine
 trap m class tin back =
     then_ (save m true) (λ s. record (at_handler m s back (bit_or m.btv (class * 2 ^ 5))) { d = slice_set s.d 15 tin })
+
+-- the value of an operand
+abbrev pub arg : Machine → Arg → ℕ
+arg m (Reg r) = reg m r
+arg m (Word w) = w
+
+-- PSW with this status in bits 31:24
+abbrev pub with_status : ℕ → ℕ → ℕ
+with_status psw status = status * 2 ^ 24 + psw % 2 ^ 24
+
+-- the machine after an instruction of n bytes that is followed by the next one
+abbrev pub advanced : ℕ → Machine → Machine
+advanced n m = record m { pc = moved m.pc n }
 
 -- ---- loads and stores
 -- the address of an access
@@ -129,3 +137,9 @@ does m e (Syscall tin) n = trap m 6 tin (moved m.pc n)
 does m e (Mfcr dst number) n = advanced n (with_reg m dst (core_register m e number))
 does m e (Mtcr src number) n = advanced n (with_core_register m number (reg m src))
 does m e Nothing n = advanced n m
+
+-- the instruction is a load or a store whose access traps
+abbrev pub traps : Machine → Event → Shape → Bool
+traps m e (Load dst base offset size signed after) = traps_at e (access_address m base offset after) size
+traps m e (Store src base offset size after) = traps_at e (access_address m base offset after) size
+traps m e _ = false

@@ -1,9 +1,9 @@
 -- Definitions of the machine: its state, instructions, events, start states, and safety.
 pub mod Machine
-pub mod Contexts
+pub mod SavesAndRestores
 pub mod Fetching
 pub mod Instructions
-pub mod Kinds
+pub mod InstructionKinds
 pub mod Stepping
 pub mod PlanAreas
 pub mod Safe

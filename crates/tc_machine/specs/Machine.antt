@@ -1,7 +1,5 @@
 -- The state of the machine: its registers, its memory and its end.
 use Rattle.std.specs.Prelude.{ℕ, ◌+◌, ◌-◌, ◌*◌, ◌/◌, ◌%◌, ◌^◌, Bool, ◌==◌, nat_lt, if◌then◌else◌, slice_index, slice_set}
-use Rattle.tc_isa.specs.declared.shapes.Arg.{Arg}
-use Rattle.tc_isa.specs.declared.shapes.Arg.TheVariants.{Reg, Word}
 use Rattle.tc_machine.specs.declared.events.Cause.{Cause}
 use Rattle.tc_machine.specs.declared.events.End.{End}
 use Rattle.tc_machine.specs.declared.events.End.TheVariants.{Running, Dead}
@@ -14,11 +12,6 @@ reg m r = if nat_lt r 16 then slice_index m.d r else slice_index m.a (r - 16)
 -- the machine with the word w in register r
 abbrev pub with_reg : Machine → ℕ → ℕ → Machine
 with_reg m r w = if nat_lt r 16 then record m { d = slice_set m.d r w } else record m { a = slice_set m.a (r - 16) w }
-
--- the value of an operand
-abbrev pub arg : Machine → Arg → ℕ
-arg m (Reg r) = reg m r
-arg m (Word w) = w
 
 -- A10 is the stack pointer, A11 the return address
 abbrev pub a10 : Machine → ℕ
@@ -36,17 +29,9 @@ is_of psw = psw / 2 ^ 9 % 2 == 1
 abbrev pub handler_psw : ℕ → ℕ
 handler_psw psw = psw / 2 ^ 14 * 2 ^ 14 + 2 * 2 ^ 10 + 2 ^ 9 + psw % 2 ^ 8
 
--- PSW with this status in bits 31:24
-abbrev pub with_status : ℕ → ℕ → ℕ
-with_status psw status = status * 2 ^ 24 + psw % 2 ^ 24
-
 -- the address by bytes after x, modulo 2 ^ 32
 abbrev pub moved : ℕ → ℕ → ℕ
 moved at by = (at + by) % 2 ^ 32
-
--- the machine after an instruction of n bytes that is followed by the next one
-abbrev pub advanced : ℕ → Machine → Machine
-advanced n m = record m { pc = moved m.pc n }
 
 -- a machine that dies: only its end changes
 abbrev pub died : Cause → Machine → Machine
@@ -60,3 +45,8 @@ goes_on (Dead cause) m next = m
 -- what follows if the machine still runs; a dead machine doesn't change
 abbrev pub then_ : Machine → (Machine → Machine) → Machine
 then_ m next = goes_on m.end m next
+
+-- the machine is dead, of any cause
+abbrev pub IsDead : End → Type 0
+IsDead Running = ⊥
+IsDead (Dead cause) = Unit {0}

@@ -12,14 +12,13 @@ use Rattle.tc_machine.specs.declared.events.Cause.TheVariants.{Fcd}
 use Rattle.tc_machine.specs.declared.events.Event.{Event}
 use Rattle.tc_machine.specs.declared.events.End.TheVariants.{Running, Dead}
 use Rattle.tc_machine.specs.declared.state.Machine.{Machine}
-use Rattle.tc_machine.specs.Machine.{with_status}
-use Rattle.tc_machine.specs.Contexts.{saved, save, has_kind, restored, restore}
+use Rattle.tc_machine.specs.Instructions.{with_status, does, access_address}
+use Rattle.tc_machine.specs.SavesAndRestores.{saved, save, has_kind, restored, restore}
 use Rattle.tc_machine.specs.Fetching.{fetched}
-use Rattle.tc_machine.specs.Instructions.{does, access_address}
 use Rattle.tc_machine.specs.Stepping.{is_taken, step, run, load_at_pc, stored}
-use Rattle.tc_machine.specs.Safe.{IsMachine, Starts, AllFit, SpellsAt, ChainsAreWhole, Fits, Safe}
+use Rattle.tc_machine.specs.Safe.{IsMachine, Starts, AllFit, SpellsAt, ChainsAreWhole, Fits, Safe, IsRun}
 use Rattle.tc_mem.specs.PlanMemory.{HoldsRom}
-use Rattle.csa_chain.specs.Memory.{Memory, is_mapped}
+use Rattle.csa_chain.specs.MemoryBytes.{Memory, is_mapped}
 use Rattle.tcd_base.specs.declared.range.Range.{Range}
 use Rattle.tcd_base.specs.Ranges.{IsInOne}
 use Rattle.tcd_plan.specs.declared.plans.Device.{Device}
@@ -78,10 +77,6 @@ EveryEventFits =
     → ((m.ie ≡ true → irq ≤ m.ccpn) → (x k : ℕ) (d : Device) → load_at_pc m ≡ Some (x, 4) → slice_get plan.devices k ≡ Some d
     → d.range.at ≤ x → x + 4 ≤ d.range.at + d.range.len → (d.lo ≤ input) × (input ≤ d.hi))
     → Fits plan m (record { irq = irq; input = input; status = status; aln = aln })
-
--- a run, state by state: each state is the step of the one before
-abbrev pub IsRun : (ℕ → Machine) → (ℕ → Event) → Type 0
-IsRun states events = (k : ℕ) → states (suc k) ≡ step (states k) (events k)
 
 -- the first n events
 abbrev pub first_events : ℕ → (ℕ → Event) → List Event

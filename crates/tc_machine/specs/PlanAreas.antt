@@ -1,5 +1,5 @@
 -- The save areas of a plan, by their links.
-use Rattle.std.specs.Prelude.{ℕ, zero, suc, ◌+◌, ◌*◌, ◌/◌, ◌%◌, ◌^◌, List, [], ◌∷◌}
+use Rattle.std.specs.Prelude.{ℕ, zero, suc, ◌+◌, ◌*◌, ◌/◌, ◌%◌, ◌^◌, List, ◌∷◌, nat_lt, if◌then◌else◌, []}
 use Rattle.tcd_plan.specs.PlanData.{PlanData}
 
 -- n links, one after another
@@ -14,3 +14,7 @@ first_link p = p.csa_at / 2 ^ 28 * 2 ^ 16 + p.csa_at % 2 ^ 28 / 64
 -- the links of the plan's areas, upward
 abbrev pub plan_areas : PlanData → List ℕ
 plan_areas p = links_up (first_link p) p.areas
+
+-- the link of the first free area, and of the one after area i
+abbrev pub link_or_end : PlanData → ℕ → ℕ
+link_or_end plan i = if nat_lt i plan.areas then first_link plan + i else 0

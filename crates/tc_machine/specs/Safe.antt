@@ -1,7 +1,7 @@
 -- Start states, events that fit, and what safe means: the definitions under the headline.
-use Rattle.std.specs.Prelude.{◌≡◌, ℕ, ◌+◌, ◌-◌, ◌/◌, ◌%◌, ◌^◌, ◌<◌, ◌≤◌, ◌⊎◌, false, nat_lt, if◌then◌else◌, List, [], ◌∷◌, ◌++◌, length, reverse, slice_index, Some, IfSome, All, Contains}
+use Rattle.std.specs.Prelude.{◌≡◌, ℕ, ◌+◌, ◌-◌, ◌/◌, ◌%◌, ◌^◌, ◌<◌, ◌≤◌, ◌⊎◌, false, nat_lt, if◌then◌else◌, List, ◌∷◌, ◌++◌, length, reverse, slice_index, Some, IfSome, All, Contains, suc, []}
 use Rattle.std.specs.FinMap as map
-use Rattle.csa_chain.specs.Memory.{Memory, HasBytes}
+use Rattle.csa_chain.specs.MemoryBytes.{Memory, HasBytes}
 use Rattle.csa_chain.specs.Chain.{chain, area_word}
 use Rattle.elf_image.specs.Images.{ImageData, image_byte}
 use Rattle.tcd_plan.specs.PlanData.{PlanData}
@@ -117,3 +117,7 @@ pub record IsSafeAt (image : ImageData) (plan : PlanData) (most : ℕ) (m : Mach
 abbrev pub Safe : ImageData → PlanData → ℕ → Type 0
 Safe image plan most =
     (m : Machine) (es : List Event) (e : Event) → Starts image plan m → AllFit plan m es → Fits plan (run m es) e → IsSafeAt image plan most (run m es) e
+
+-- a run, state by state: each state is the step of the one before
+abbrev pub IsRun : (ℕ → Machine) → (ℕ → Event) → Type 0
+IsRun states events = (k : ℕ) → states (suc k) ≡ step (states k) (events k)

@@ -1,12 +1,12 @@
 -- The state that a machine starts in, and how its memory is filled.
-use Rattle.std.specs.Prelude.{◌≡◌, ℕ, zero, suc, ◌+◌, ◌*◌, ◌/◌, ◌%◌, ◌^◌, ◌<◌, ◌≤◌, ◌⊎◌, Bool, true, nat_lt, if◌then◌else◌, List, [], ◌∷◌, ◌++◌, slice_index, Option, Some, None}
+use Rattle.std.specs.Prelude.{◌≡◌, ℕ, zero, suc, ◌+◌, ◌*◌, ◌^◌, ◌<◌, ◌≤◌, ◌⊎◌, Bool, true, nat_lt, if◌then◌else◌, List, ◌∷◌, ◌++◌, slice_index, Option, Some, None, []}
 use Rattle.std.specs.FinMap as map
-use Rattle.csa_chain.specs.Memory.{Memory, is_mapped, with_byte, with_words, HasBytes}
-use Rattle.csa_chain.specs.Chain.{area_word}
+use Rattle.csa_chain.specs.MemoryBytes.{Memory, is_mapped, with_byte, with_words, HasBytes}
+use Rattle.csa_chain.specs.Chain.{area_word, link_at}
 use Rattle.elf_image.specs.Images.{ImageData, SegmentData, byte_in, image_byte}
 use Rattle.tcd_base.specs.declared.range.Range.{Range}
 use Rattle.tcd_plan.specs.PlanData.{PlanData}
-use Rattle.tc_mem.specs.Pages.{IsZeros}
+use Rattle.tc_mem.specs.PlanMemory.{IsZeros}
 use Rattle.tc_machine.specs.declared.state.Machine.{Machine}
 use Rattle.tcd_base.specs.Ranges.{IsInOne}
 use Rattle.tc_machine.specs.Safe.{Starts}
@@ -44,10 +44,6 @@ next_link first n i = if nat_lt (i + 1) n then first + (i + 1) else 0
 unfoldable pub with_links : ℕ → ℕ → ℕ → Memory → ℕ → Memory
 with_links at first n m zero = m
 with_links at first n m (suc k) = with_words (with_links at first n m k) (at + 64 * k) (next_link first n k ∷ [])
-
--- the link of the area at an address
-abbrev pub link_at : ℕ → ℕ
-link_at at = at / 2 ^ 28 * 2 ^ 16 + at % 2 ^ 28 / 64
 
 -- the mapped ranges: rom, ram and n areas from an address on
 abbrev pub mapped_ranges_of : List Range → List Range → ℕ → ℕ → List Range

@@ -1,5 +1,5 @@
 -- Steps and runs.
-use Rattle.std.specs.Prelude.{ℕ, Bool, ◌&&◌, nat_lt, if◌then◌else◌, List, ◌∷◌, length, Option, Some, None, Result, Ok, Err, []}
+use Rattle.std.specs.Prelude.{ℕ, Bool, ◌&&◌, nat_lt, if◌then◌else◌, List, ◌∷◌, length, Option, Some, None, Result, Ok, Err, ◌*◌, ◌^◌, true, bit_or, []}
 use Rattle.std.specs.Option.{option_map}
 use Rattle.csa_chain.specs.Chain.{chain}
 use Rattle.tc_encode.specs.Decoding.{decoded_of}
@@ -10,9 +10,10 @@ use Rattle.tc_machine.specs.declared.events.Event.{Event}
 use Rattle.tc_machine.specs.declared.events.End.{End}
 use Rattle.tc_machine.specs.declared.events.End.TheVariants.{Running, Dead}
 use Rattle.tc_machine.specs.declared.state.Machine.{Machine}
-use Rattle.tc_machine.specs.Machine.{died, then_, with_status}
+use Rattle.tc_machine.specs.Machine.{died, then_}
+use Rattle.tc_machine.specs.Instructions.{with_status, does, access_address, traps_at, at_handler}
 use Rattle.tc_machine.specs.Fetching.{fetched, mapped_bytes, shaped}
-use Rattle.tc_machine.specs.Instructions.{does, interrupt, access_address, traps_at}
+use Rattle.tc_machine.specs.SavesAndRestores.{save}
 
 -- the event's interrupt is taken: interrupts are enabled, and its priority is above the current one
 abbrev pub is_taken : Machine → Event → Bool
@@ -22,6 +23,11 @@ is_taken m e = m.ie && nat_lt m.ccpn e.irq
 abbrev pub executed : Machine → Event → Result (Shape × ℕ) Cause → Machine
 executed m e (Ok found) = does m e found.0 found.1
 executed m e (Err cause) = died cause m
+
+-- an interrupt: volume 1, interrupts
+abbrev pub interrupt : Machine → ℕ → Machine
+interrupt m irq =
+    then_ (save m true) (λ s. record (at_handler m s m.pc (bit_or m.biv (irq * 2 ^ 5))) { ccpn = irq })
 
 -- an event of a machine that runs: an interrupt, else the instruction at pc
 abbrev pub done : Machine → Event → Machine

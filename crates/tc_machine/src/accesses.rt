@@ -2,9 +2,11 @@
 ghost use Rattle.std.specs.Prelude.{◌≡◌, ◌<◌, ◌%◌, ◌^◌, unwrap_or};
 ghost use Rattle.std.specs.Bool.{MatchBool};
 ghost use Rattle.std.specs.FinMap as map;
-ghost use Rattle.tc_isa.specs.Bounded.{IsSize};
-ghost use Rattle.csa_chain.specs.Memory.{load_number, with_bytes, extend};
+ghost use Rattle.tc_isa.specs.InBounds.{IsSize};
+ghost use Rattle.csa_chain.specs.MemoryBytes.{load_number, with_bytes, extend};
+ghost use Rattle.tc_machine.specs.Instructions.{traps_at};
 
+use crate::Event;
 use crate::registers::ahead;
 use tc_mem::Mem;
 use tcd_base::sext;
@@ -17,7 +19,7 @@ fn byte(mem: &Mem, input: u32, addr: u32) -> u8
 }
 
 /// Returns the halfword at an address, byte by byte.
-#[tactic(auto, unfolding(csa_chain::specs::Memory::load_number))]
+#[tactic(auto, unfolding(csa_chain::specs::MemoryBytes::load_number))]
 fn half_by_bytes(mem: &Mem, input: u32, addr: u32) -> u16
     ensures { result ≡ load_number mem.now input addr 2 }
 {
@@ -37,7 +39,7 @@ fn half(mem: &Mem, input: u32, addr: u32) -> u16
 }
 
 /// Returns the word at an address, byte by byte.
-#[tactic(auto, unfolding(csa_chain::specs::Memory::load_number))]
+#[tactic(auto, unfolding(csa_chain::specs::MemoryBytes::load_number))]
 fn word_by_bytes(mem: &Mem, input: u32, addr: u32) -> u32
     ensures { result ≡ load_number mem.now input addr 4 }
 {
@@ -58,7 +60,7 @@ fn word(mem: &Mem, input: u32, addr: u32) -> u32
 }
 
 /// Returns the byte at an address, for a load.
-#[tactic(auto, unfolding(csa_chain::specs::Memory::load_number))]
+#[tactic(auto, unfolding(csa_chain::specs::MemoryBytes::load_number))]
 fn single(mem: &Mem, input: u32, addr: u32) -> u8
     ensures { result ≡ load_number mem.now input addr 1 }
 {
@@ -86,7 +88,7 @@ pub(crate) fn load(mem: &Mem, input: u32, addr: u32, size: u8, signed: bool) -> 
 }
 
 /// Stores the low `n` bytes of a word from an address on, byte by byte.
-#[tactic(auto, unfolding(csa_chain::specs::Memory::with_bytes))]
+#[tactic(auto, unfolding(csa_chain::specs::MemoryBytes::with_bytes))]
 fn store_bytes(mem: &mut Mem, addr: u32, word: u32, n: u8)
     ensures { mem.new ≡ with_bytes mem.old addr word n }
 {
@@ -116,4 +118,13 @@ pub(crate) fn store(mem: &mut Mem, addr: u32, word: u32, n: u8)
         return;
     }
     store_bytes(mem, addr, word, n);
+}
+
+/// Returns true if an access traps: its address is no multiple of its size, and the event says that
+/// such accesses trap.
+pub fn traps(event: &Event, addr: u32, size: u8) -> bool
+    requires { IsSize size }
+    ensures { result ≡ traps_at event.now addr size }
+{
+    event.aln && addr % u32::from(size) != 0
 }

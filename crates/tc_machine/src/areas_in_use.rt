@@ -2,11 +2,11 @@
 ghost use Rattle.std.specs.Prelude.{◌≡◌, Ok, Some, None, IfOk, if◌then◌else◌};
 ghost use Rattle.std.specs.Bool.{OnTrue};
 ghost use Rattle.csa_chain.specs.Chain.{link_in, is_area, area_word};
-ghost use Rattle.tc_isa.specs.Bounded.{IsShape};
+ghost use Rattle.tc_isa.specs.InBounds.{IsShape};
 ghost use Rattle.tc_encode.specs.Decoding.{decoded_of};
 ghost use Rattle.tc_machine.specs.Fetching.{mapped_bytes, shaped};
 ghost use Rattle.tc_machine.specs.Stepping.{load_in, next_load_of, used_of, step};
-ghost use Rattle.tc_machine.specs.Kinds.{keeps_of, keeps_at};
+ghost use Rattle.tc_machine.specs.InstructionKinds.{keeps_of, keeps_at};
 
 use crate::contexts::link;
 use crate::{Cause, End, Event, Machine};

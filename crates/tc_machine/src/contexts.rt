@@ -1,10 +1,10 @@
 // Saves and restores contexts.
 ghost use Rattle.std.specs.Prelude.{◌≡◌, ◌<◌, ◌%◌, ◌^◌, Some, None, if◌then◌else◌, slice_index, true, [], ◌∷◌, ◌+◌};
-ghost use Rattle.csa_chain.specs.Memory.{with_word};
+ghost use Rattle.csa_chain.specs.MemoryBytes.{with_word};
 ghost use Rattle.csa_chain.specs.Chain.{link_in, link_address, is_area, area_word};
-ghost use Rattle.csa_chain.specs.Contexts.{pcxi_word_of};
+ghost use Rattle.csa_chain.specs.ContextWords.{pcxi_word_of};
 ghost use Rattle.tc_mem.specs.Areas.{area_of};
-ghost use Rattle.tc_machine.specs.Contexts.{context_of, saved, save, area_words, last_context, released, restored_upper, restored_lower, restored, restore};
+ghost use Rattle.tc_machine.specs.SavesAndRestores.{context_of, saved, save, area_words, last_context, released, restored_upper, restored_lower, restored, restore};
 
 use crate::{Cause, Machine};
 use csa_chain::{
@@ -20,7 +20,7 @@ pub(crate) fn link(word: u32) -> u32
 }
 
 /// Writes a word to the four bytes from an address on, byte by byte.
-#[tactic(auto, unfolding(csa_chain::specs::Memory::with_word))]
+#[tactic(auto, unfolding(csa_chain::specs::MemoryBytes::with_word))]
 fn put_bytes(mem: &mut Mem, addr: u32, word: u32)
     requires { addr + 3 < 2 ^ 32 }
     ensures { mem.new ≡ with_word mem.old addr word }
@@ -96,7 +96,7 @@ impl Machine {
     /// Saves a context. The machine dies if the free list is empty or its first area isn't mapped.
     /// After the save it dies if the limit of the list is reached.
     /// (TriCore 1 architecture manual, volume 1, context management)
-    #[tactic(auto, unfolding(crate::specs::Contexts::save))]
+    #[tactic(auto, unfolding(crate::specs::SavesAndRestores::save))]
     pub(crate) fn save(&mut self, upper: bool)
         ensures { self.new ≡ save self.old upper }
     {
@@ -118,7 +118,7 @@ impl Machine {
 
     /// Moves the area that PCXI names to the front of the free list. Its old word 0 is the new
     /// PCXI.
-    #[tactic(auto, unfolding(csa_chain::specs::Memory::with_words))]
+    #[tactic(auto, unfolding(csa_chain::specs::MemoryBytes::with_words))]
     fn release(&mut self, used: u32, before: u32)
         requires used { used ≡ link_in self.old.pcxi }
         requires before { before ≡ area_word self.old.mem used 0 }
@@ -153,7 +153,7 @@ impl Machine {
     /// Restores a context. The machine dies if there is none, if it is of the other kind, or if its
     /// area isn't mapped.
     /// (TriCore 1 architecture manual, volume 1, context management)
-    #[tactic(auto, unfolding(crate::specs::Contexts::restore))]
+    #[tactic(auto, unfolding(crate::specs::SavesAndRestores::restore))]
     pub(crate) fn restore(&mut self, upper: bool)
         ensures { self.new ≡ restore self.old upper }
     {

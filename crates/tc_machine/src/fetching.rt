@@ -1,7 +1,7 @@
 // Fetches and decodes the instruction at pc.
 ghost use Rattle.std.specs.Prelude.{◌≡◌, ◌<◌, ◌≤◌, IfOk};
 ghost use Rattle.tcd_base.specs.Bytes.{bytes_of_word};
-ghost use Rattle.tc_isa.specs.Bounded.{IsShape};
+ghost use Rattle.tc_isa.specs.InBounds.{IsShape};
 ghost use Rattle.tc_encode.specs.Decoding.{decoded_of};
 ghost use Rattle.tc_machine.specs.Fetching.{mapped_bytes, cause_of, fetched, shaped};
 

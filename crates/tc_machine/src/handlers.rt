@@ -1,7 +1,8 @@
 // Enters handlers of interrupts and traps.
 ghost use Rattle.std.specs.Prelude.{◌≡◌, ◌<◌, ◌*◌, ◌^◌, slice_set, false};
 ghost use Rattle.tc_machine.specs.Machine.{is_of, handler_psw, moved};
-ghost use Rattle.tc_machine.specs.Instructions.{handler_stack, interrupt, trap};
+ghost use Rattle.tc_machine.specs.Instructions.{handler_stack, trap};
+ghost use Rattle.tc_machine.specs.Stepping.{interrupt};
 
 use crate::{End, Machine};
 

@@ -1,12 +1,11 @@
 // Executes instructions.
 ghost use Rattle.std.specs.Prelude.{◌≡◌, ◌<◌};
-ghost use Rattle.tc_isa.specs.Bounded.{IsShape, IsArg, IsTarget, IsSize};
+ghost use Rattle.tc_isa.specs.InBounds.{IsShape, IsArg, IsTarget, IsSize};
 ghost use Rattle.tc_machine.specs.declared.events.Event.{Event};
 ghost use Rattle.tc_machine.specs.Instructions.{does};
-ghost use Rattle.tc_machine.specs.Kinds.{OnAccess, OnContext, OnSystem};
+ghost use Rattle.tc_machine.specs.InstructionKinds.{OnAccess, OnContext, OnSystem};
 
-use crate::accesses::{load, store};
-use crate::operands::traps;
+use crate::accesses::{load, store, traps};
 use crate::registers::ahead;
 use crate::{End, Event, Machine};
 use csa_chain::pcxi_parts;

@@ -1,21 +1,12 @@
 // Addresses and operands of instructions.
-ghost use Rattle.std.specs.Prelude.{◌≡◌, ◌<◌, ◌^◌};
-ghost use Rattle.tc_isa.specs.Bounded.{IsArg, IsTarget, IsSize};
-ghost use Rattle.tc_machine.specs.Machine.{moved, reg, arg, with_reg, advanced};
-ghost use Rattle.tc_machine.specs.Instructions.{access_address, with_base, traps_at, target_of, lowered, does};
+ghost use Rattle.std.specs.Prelude.{◌≡◌, ◌<◌};
+ghost use Rattle.tc_isa.specs.InBounds.{IsArg, IsTarget};
+ghost use Rattle.tc_machine.specs.Machine.{reg};
+ghost use Rattle.tc_machine.specs.Instructions.{arg, access_address, with_base, target_of, lowered, does};
 
+use crate::Machine;
 use crate::registers::ahead;
-use crate::{Event, Machine};
 use tc_isa::{Arg, Target};
-
-/// Returns true if an access traps: its address is no multiple of its size, and the event says that
-/// such accesses trap.
-pub fn traps(event: &Event, addr: u32, size: u8) -> bool
-    requires { IsSize size }
-    ensures { result ≡ traps_at event.now addr size }
-{
-    event.aln && addr % u32::from(size) != 0
-}
 
 impl Machine {
     /// Returns the address of an access.

@@ -1,7 +1,8 @@
 // Reads and writes registers and operands.
 ghost use Rattle.std.specs.Prelude.{◌≡◌, ◌<◌};
-ghost use Rattle.tc_isa.specs.Bounded.{IsArg};
-ghost use Rattle.tc_machine.specs.Machine.{reg, with_reg, arg, moved, advanced, died};
+ghost use Rattle.tc_isa.specs.InBounds.{IsArg};
+ghost use Rattle.tc_machine.specs.Machine.{reg, with_reg, moved, died};
+ghost use Rattle.tc_machine.specs.Instructions.{arg, advanced};
 
 use crate::{Cause, End, Machine};
 use tc_isa::Arg;

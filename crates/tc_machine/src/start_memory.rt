@@ -2,8 +2,9 @@
 ghost use Rattle.std.specs.Prelude.{◌≡◌, ◌<◌, ◌≤◌, ◌+◌, ◌*◌, ◌^◌, [], ◌∷◌, ◌++◌, map, length, All, IsTrue, IfOk};
 ghost use Rattle.std.specs.List.{list_all};
 ghost use Rattle.elf_image.specs.Images.{segment_data, is_segment};
-ghost use Rattle.csa_chain.specs.Memory.{HasBytes};
-ghost use Rattle.tc_machine.specs.Starting.{with_image, with_images, next_link, with_links, link_at, mapped_ranges_of, IsFilled, IsCopied};
+ghost use Rattle.csa_chain.specs.MemoryBytes.{HasBytes};
+ghost use Rattle.tc_machine.specs.Starting.{with_image, with_images, next_link, with_links, mapped_ranges_of, IsFilled, IsCopied};
+ghost use Rattle.csa_chain.specs.Chain.{link_at};
 
 use crate::contexts::put_word;
 use elf_image::{Image, Segment};
@@ -88,7 +89,7 @@ fn next_link(first: u32, n: u32, i: u32) -> u32
 }
 
 /// Links `n` areas from the address `at` on; `first` is the link of the first.
-#[tactic(auto, unfolding(crate::specs::Starting::with_links, csa_chain::specs::Memory::with_words))]
+#[tactic(auto, unfolding(crate::specs::Starting::with_links, csa_chain::specs::MemoryBytes::with_words))]
 fn link_areas(mem: &mut Mem, at: u32, first: u32, n: u32)
     requires areas { at + 64 * n ≤ 2 ^ 32 }
     requires links { first + n < 2 ^ 32 }

@@ -5,7 +5,7 @@ use Rattle.std.specs.Prelude.{is_some, IfSome}
 use Rattle.std.specs.Bool.{OnFalse}
 use Rattle.std.specs.FinMap as finite
 use Rattle.std.proofs.lemmas.List.{set-get_or}
-use Rattle.csa_chain.specs.Memory.{Memory, is_mapped, are_mapped, with_byte, with_words, word_at, words_at}
+use Rattle.csa_chain.specs.MemoryBytes.{Memory, is_mapped, are_mapped, with_byte, with_words, word_at, words_at}
 use Rattle.csa_chain.proofs.MemoryLaws.{with_byte_gone}
 use Rattle.tcd_base.specs.Bytes.{word_at as word_in}
 use Rattle.tc_mem.specs.Areas.{area_of, with_area}

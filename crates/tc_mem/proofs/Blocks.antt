@@ -7,10 +7,12 @@ use Rattle.std.proofs.lemmas.Nat.{pow_pos, pow-add, div-add-mod'}
 use Rattle.std.proofs.lemmas.Nat.Bits.{bit_at_ones, bit_at_cat_low, same_from_bits_below}
 use Rattle.std.proofs.Math.Nat.{div-div-eq-div-mul, mod-lt}
 use Rattle.std.proofs.lemmas.List.{set-get_or}
-use Rattle.csa_chain.specs.Memory.{Memory, is_mapped, byte_at, are_mapped, word_at, with_word, with_words}
+use Rattle.csa_chain.specs.MemoryBytes.{Memory, is_mapped, byte_at, are_mapped, word_at, with_word, with_words}
 use Rattle.csa_chain.proofs.ChainLaws.{are_mapped_each, are_mapped_from}
 use Rattle.tcd_base.specs.Bytes.{word_at as word_in, half_at as half_in}
-use Rattle.tc_mem.specs.Blocks.{are_in_block, word_of, half_at, half_of, with_half, with_word_in, with_half_in, first_word_of}
+use Rattle.tc_mem.specs.Blocks.{are_in_block, word_of, half_at, half_of, with_word_in, with_half_in}
+use Rattle.tc_mem.specs.Areas.{first_word_of}
+use Rattle.tc_mem.specs.Written.{with_half}
 use Rattle.tc_mem.specs.Pages.{is_set, are_set, memory_of, bytes_with, ArePages, number_of}
 use Rattle.tc_mem.specs.declared.page.Page.{Page}
 use Rattle.tc_mem.proofs.Search.{no_page}

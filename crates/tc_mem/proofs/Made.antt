@@ -7,7 +7,9 @@ use Rattle.tc_mem.proofs.Search.{no_page, number_at_is}
 use Rattle.tc_mem.proofs.Mapped.{get-memory_of, byte_in_found, byte_in_none}
 use Rattle.tc_mem.proofs.Numbers.{place_of, not_contained}
 use Rattle.tc_mem.proofs.AreaLaws.{not_true}
-use Rattle.tc_mem.specs.Pages.{byte_of, is_in, memory_of, IsPage, ArePages, AreSmall, IsMem, IsZeros, number_of}
+use Rattle.tc_mem.specs.Pages.{byte_of, memory_of, IsPage, ArePages, AreSmall, IsMem, number_of}
+use Rattle.tc_mem.specs.PlanMemory.{IsZeros}
+use Rattle.tcd_base.specs.Ranges.{is_in}
 use Rattle.tc_mem.specs.declared.page.Page.{Page}
 use Rattle.tcd_base.specs.declared.range.Range.{Range}
 

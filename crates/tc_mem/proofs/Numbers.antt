@@ -5,7 +5,7 @@ use Rattle.std.proofs.lemmas.Bool.{cases_lt, cases_eq, leb-true, ltb-true}
 use Rattle.std.proofs.lemmas.Grind.{get_or_default_zero}
 use Rattle.std.proofs.lemmas.List.Folds.{list_any_more}
 use Rattle.std.proofs.lemmas.List.Elements.{Contains-append_left, Contains-push}
-use Rattle.tc_mem.specs.Pages.{is_in}
+use Rattle.tcd_base.specs.Ranges.{is_in}
 use Rattle.tcd_base.specs.declared.range.Range.{Range}
 
 -- after one more number

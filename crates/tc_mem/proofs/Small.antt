@@ -1,7 +1,7 @@
 -- Bytes stay below 256.
 use Rattle.std.proofs.Common.{◌≡◌, ◌+◌, ◌/◌, ◌%◌, ◌<◌, ◌==◌, ℕ, zero, suc, Bool, true, false, cond, List, [], ◌∷◌, get_or, set, replicate, lit<, Option, Some, None, sym, ◌∙◌, arith}
 use Rattle.std.proofs.lemmas.List.Elements.{All-head, All-tail, All-set}
-use Rattle.csa_chain.specs.Memory.{HasBytes}
+use Rattle.csa_chain.specs.MemoryBytes.{HasBytes}
 use Rattle.tc_mem.specs.Pages.{is_set, byte_of, memory_of, bytes_with, ArePages, AreSmall, IsMem}
 use Rattle.tc_mem.specs.declared.page.Page.{Page}
 use Rattle.tc_mem.proofs.Search.{no_page}

@@ -8,7 +8,7 @@ use Rattle.std.proofs.lemmas.List.Elements.{All-get_or}
 use Rattle.std.specs.FinMap as finite
 use Rattle.std.specs.FinMap.{same_map, nat_cmp-IsAntisymmetric}
 use Rattle.std.specs.Cmp.{nat_cmp_total}
-use Rattle.csa_chain.specs.Memory.{Memory, is_mapped, with_byte, with_word, with_words}
+use Rattle.csa_chain.specs.MemoryBytes.{Memory, is_mapped, with_byte, with_word, with_words}
 use Rattle.csa_chain.proofs.MemoryLaws.{get-with_byte_other, get-with_byte_same}
 use Rattle.tc_mem.specs.Pages.{is_set, byte_of, memory_of, bytes_with, IsPage, ArePages, number_of}
 use Rattle.tc_mem.specs.declared.page.Page.{Page}

@@ -6,7 +6,7 @@ use Rattle.std.proofs.lemmas.List.{length-take, length-drop, length-append, get_
 use Rattle.std.proofs.lemmas.List.Elements.{All-get_or}
 use Rattle.std.proofs.lemmas.List.Edits.{length-between, get_or-between}
 use Rattle.std.specs.FinMap as finite
-use Rattle.csa_chain.specs.Memory.{Memory, is_mapped}
+use Rattle.csa_chain.specs.MemoryBytes.{Memory, is_mapped}
 use Rattle.tc_mem.specs.Pages.{is_set, byte_of, memory_of, with_bytes_at, ArePages, number_of}
 use Rattle.tc_mem.specs.Written.{IsWritten}
 use Rattle.tc_mem.specs.declared.page.Page.{Page}

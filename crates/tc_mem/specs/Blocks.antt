@@ -1,6 +1,7 @@
 -- Accesses of a word or a halfword inside one block of 64 bytes, whose bits are one word of a page.
-use Rattle.std.specs.Prelude.{ℕ, ◌+◌, ◌*◌, ◌/◌, ◌%◌, ◌^◌, Bool, ◌&&◌, nat_le, if◌then◌else◌, Option, Some, None}
-use Rattle.csa_chain.specs.Memory.{Memory, byte_at, are_mapped, word_at, with_byte, with_word}
+use Rattle.std.specs.Prelude.{ℕ, ◌+◌, ◌*◌, ◌%◌, ◌^◌, Bool, ◌&&◌, nat_le, if◌then◌else◌, Option, Some, None}
+use Rattle.csa_chain.specs.MemoryBytes.{Memory, byte_at, are_mapped, word_at, with_word}
+use Rattle.tc_mem.specs.Written.{with_half}
 
 -- the n bytes from an address on are mapped and cross no multiple of 64
 abbrev pub are_in_block : Memory → ℕ → ℕ → Bool
@@ -18,10 +19,6 @@ with_word_in m x w = if are_in_block m x 4 then with_word m x w else m
 abbrev pub half_at : Memory → ℕ → ℕ
 half_at m x = byte_at m x + 2 ^ 8 * byte_at m (x + 1)
 
--- the memory with the halfword h in the two bytes from an address on
-abbrev pub with_half : Memory → ℕ → ℕ → Memory
-with_half m x h = with_byte (with_byte m x (h % 2 ^ 8)) (x + 1) (h / 2 ^ 8 % 2 ^ 8)
-
 -- the halfword at an address, if its two bytes are mapped and in one block
 abbrev pub half_of : Memory → ℕ → Option ℕ
 half_of m x = if are_in_block m x 2 then Some (half_at m x) else None
@@ -29,7 +26,3 @@ half_of m x = if are_in_block m x 2 then Some (half_at m x) else None
 -- the memory with this halfword at an address, if its two bytes are mapped and in one block
 abbrev pub with_half_in : Memory → ℕ → ℕ → Memory
 with_half_in m x h = if are_in_block m x 2 then with_half m x h else m
-
--- the first word of the 64 bytes from an address on, if all of them are mapped
-abbrev pub first_word_of : Memory → ℕ → Option ℕ
-first_word_of m x = if are_mapped m x 64 then Some (word_at m x) else None

@@ -1,11 +1,9 @@
 -- Pages of 4,096 bytes, and the memory of a list of pages.
-use Rattle.std.specs.Prelude.{◌≡◌, ◌<◌, ◌+◌, ◌-◌, ◌*◌, ◌/◌, ◌%◌, ◌^◌, ℕ, Bool, ◌==◌, ◌&&◌, nat_le, nat_lt, if◌then◌else◌, List, [], ◌∷◌, ◌++◌, map, length, take, drop, slice_index, slice_set, Option, Some, None, All}
-use Rattle.std.specs.List.{list_any}
+use Rattle.std.specs.Prelude.{◌≡◌, ◌<◌, ◌+◌, ◌-◌, ◌*◌, ◌/◌, ◌%◌, ◌^◌, ℕ, Bool, ◌==◌, if◌then◌else◌, List, ◌∷◌, ◌++◌, map, length, take, drop, slice_index, slice_set, Option, Some, None, All, []}
 use Rattle.std.specs.List.Sorted.{IsStrictlyIncreasing}
 use Rattle.std.specs.Int.{bit_at}
 use Rattle.std.specs.FinMap as finite
-use Rattle.csa_chain.specs.Memory.{Memory}
-use Rattle.tcd_base.specs.declared.range.Range.{Range}
+use Rattle.csa_chain.specs.MemoryBytes.{Memory}
 use Rattle.tc_mem.specs.declared.page.Page.{Page}
 
 -- the byte at an offset of a page is mapped: a bit for each, 64 to a word
@@ -56,14 +54,6 @@ AreSmall ps = All (λ p. (k : ℕ) → slice_index p.bytes k < 256) ps
 pub record IsMem (ps : List Page) : Type 0 where
   pub pages : ArePages ps
   pub small : AreSmall ps
-
--- an address is in one of the ranges
-abbrev pub is_in : List Range → ℕ → Bool
-is_in ranges q = list_any (λ r. nat_le r.at q && nat_lt q (r.at + r.len)) ranges
-
--- the ranges are mapped, to zeros, and nothing else
-abbrev pub IsZeros : List Range → Memory → Type 0
-IsZeros ranges m = (q : ℕ) → finite.get m q ≡ (if is_in ranges q then Some 0 else None)
 
 -- these bytes from an offset on, written into the bytes of a page
 abbrev pub with_bytes_at : List ℕ → ℕ → List ℕ → List ℕ

@@ -1,18 +1,20 @@
 // The type `Mem`: a sorted list of pages, and its public functions.
-ghost use Rattle.std.specs.Prelude.{◌≡◌, ◌≤◌, ◌+◌, ◌%◌, ◌^◌, All, IfOk, length};
+ghost use Rattle.std.specs.Prelude.{◌≡◌, ◌≤◌, ◌+◌, ◌%◌, ◌^◌, All, IfOk, length, ◌<◌, slice_index, ◌/◌, ℕ, Some, None, if◌then◌else◌};
 ghost use Rattle.std.specs.Bool.{OnFalse};
 ghost use Rattle.std.specs.FinMap as finite;
-ghost use Rattle.csa_chain.specs.Memory.{is_mapped, are_mapped, with_byte, is_mapped as has_byte, HasBytes};
-ghost use Rattle.tc_mem.specs.Areas.{area_of, with_area};
-ghost use Rattle.tc_mem.specs.Blocks.{are_in_block, word_of, half_of, with_word_in, with_half_in, first_word_of};
-ghost use Rattle.tc_mem.specs.Pages.{IsZeros, memory_of, IsMem};
+ghost use Rattle.csa_chain.specs.MemoryBytes.{is_mapped, are_mapped, with_byte, HasBytes};
+ghost use Rattle.tc_mem.specs.Areas.{area_of, with_area, first_word_of};
+ghost use Rattle.tc_mem.specs.Blocks.{are_in_block, word_of, half_of, with_word_in, with_half_in};
+ghost use Rattle.tc_mem.specs.Pages.{memory_of, IsMem, IsPage, byte_of};
+ghost use Rattle.tc_mem.specs.PlanMemory.{IsZeros};
 ghost use Rattle.tc_mem.specs.Written.{IsWritten};
+ghost use Rattle.tcd_base.specs.Ranges.{is_in};
 
 use crate::page::{
-    Page, area_in, byte, first_in, mapped_half, mapped_word, put_area, put_byte, put_bytes,
-    put_mapped_half, put_mapped_word,
+    Page, byte, mapped_half, mapped_word, mark_range, no_bits, pages_of, put_bytes, read_area,
+    read_first, write, write_area, write_bytes, write_half, write_word, zeros,
 };
-use crate::page_numbers::{find_near, find_page, pages_of};
+use crate::page_numbers::find_page;
 use std::alloc::Global;
 use std::marker::Model;
 use tcd_base::{NoMemory, Range};
@@ -29,7 +31,7 @@ pub struct Mem {
 impl Model for Mem {
     ghost use Rattle.std.specs.FinMap as finite;
     ghost use Rattle.std.specs.Coded.{coded_ℕ};
-    ghost use Rattle.csa_chain.specs.Memory.{Memory};
+    ghost use Rattle.csa_chain.specs.MemoryBytes.{Memory};
     ghost use Rattle.tc_mem.specs.Pages.{memory_of, IsMem};
 
     ghost Value = { Memory };
@@ -165,23 +167,8 @@ pub(crate) fn read(pages: &[Page], addr: u32, near: usize) -> Option<u8>
     byte(&pages[i], addr)
 }
 
-// Writes a byte if it is mapped, and returns whether it is.
-pub(crate) fn write(pages: &mut [Page], addr: u32, byte: u8, near: usize) -> bool
-    requires { IsMem pages.old }
-    ensures mapped { result ≡ has_byte (memory_of pages.old) addr }
-    ensures written { memory_of pages.new ≡ with_byte (memory_of pages.old) addr byte }
-    ensures kept { OnFalse result (memory_of pages.new ≡ memory_of pages.old) }
-    ensures pages { IsMem pages.new }
-    ensures bytes { HasBytes (memory_of pages.new) }
-{
-    let Some(i) = find_page(pages, addr / 4096, near) else {
-        return false;
-    };
-    put_byte(&mut pages[i], (addr % 4096) as usize, byte)
-}
-
 // Writes bytes from an address on, all in one page. Those that aren't mapped are dropped.
-fn write_in_page(pages: &mut [Page], addr: u32, bytes: &[u8])
+pub(crate) fn write_in_page(pages: &mut [Page], addr: u32, bytes: &[u8])
     requires pages { IsMem pages.old }
     requires within { addr % 4096 + length bytes.now ≤ 4096 }
     ensures written { IsWritten (memory_of pages.old) addr bytes.now (memory_of pages.new) }
@@ -191,52 +178,6 @@ fn write_in_page(pages: &mut [Page], addr: u32, bytes: &[u8])
         return;
     };
     put_bytes(&mut pages[i], (addr % 4096) as usize, bytes);
-}
-
-// Writes bytes from an address on. Those that aren't mapped are dropped.
-pub(crate) fn write_bytes(pages: &mut [Page], addr: u32, bytes: &[u8])
-    requires pages { IsMem pages.old }
-    requires fits { addr + length bytes.now ≤ 2 ^ 32 }
-    ensures written { IsWritten (memory_of pages.old) addr bytes.now (memory_of pages.new) }
-    ensures pages { IsMem pages.new }
-    ensures bytes { HasBytes (memory_of pages.new) }
-{
-    let mut done = 0;
-    while done < bytes.len() {
-        let at = addr + done as u32;
-        let end = bytes.len().min(done + (4096 - at % 4096) as usize);
-        write_in_page(pages, at, &bytes[done..end]);
-        done = end;
-    }
-}
-
-// Returns the words of an area that is wholly mapped.
-pub(crate) fn read_area(pages: &[Page], addr: u32, near: usize) -> Option<[u32; 16]>
-    requires pages { IsMem pages.now }
-    requires aligned { addr % 64 ≡ 0 }
-    ensures words { result ≡ area_of (memory_of pages.now) addr }
-    ensures bytes { HasBytes (memory_of pages.now) }
-{
-    let Some(i) = find_page(pages, addr / 4096, near) else {
-        return None;
-    };
-    area_in(&pages[i], (addr % 4096) as usize)
-}
-
-// Writes an area if it is wholly mapped, and returns whether it is.
-pub(crate) fn write_area(pages: &mut [Page], addr: u32, words: &[u32; 16], near: &mut usize) -> bool
-    requires pages { IsMem pages.old }
-    requires aligned { addr % 64 ≡ 0 }
-    ensures mapped { result ≡ are_mapped (memory_of pages.old) addr 64 }
-    ensures written { memory_of pages.new ≡ with_area (memory_of pages.old) addr words.now }
-    ensures pages { IsMem pages.new }
-    ensures bytes { HasBytes (memory_of pages.new) }
-{
-    let Some(i) = find_page(pages, addr / 4096, *near) else {
-        return false;
-    };
-    *near = i;
-    put_area(&mut pages[i], (addr % 4096) as usize, words)
 }
 
 // Returns the word at an address if its bytes are mapped and in one block of 64.
@@ -269,51 +210,21 @@ pub(crate) fn read_half(pages: &[Page], addr: u32, near: usize) -> Option<u16>
     mapped_half(&pages[i], (addr % 4096) as usize)
 }
 
-// Writes a word if its bytes are mapped and in one block of 64, and returns whether they are.
-pub(crate) fn write_word(pages: &mut [Page], addr: u32, word: u32, near: usize) -> bool
-    requires { IsMem pages.old }
-    ensures mapped { result ≡ are_in_block (memory_of pages.old) addr 4 }
-    ensures written { memory_of pages.new ≡ with_word_in (memory_of pages.old) addr word }
-    ensures pages { IsMem pages.new }
-    ensures bytes { HasBytes (memory_of pages.new) }
+// Returns the page with this number in which the bytes of the ranges are mapped.
+pub(crate) fn page_of(number: u32, ranges: &[Range]) -> Page
+    ensures number { result.number ≡ number }
+    ensures page { IsPage result }
+    ensures small { (k : ℕ) → slice_index result.bytes k < 256 }
+    ensures zeros { (q : ℕ) → q / 4096 ≡ number
+        → byte_of q result ≡ (if is_in ranges.now q then Some 0 else None) }
 {
-    if addr % 64 > 60 {
-        return false;
+    let mut mapped = no_bits();
+    for range in ranges {
+        mark_range(&mut mapped, number, range);
     }
-    let Some(i) = find_page(pages, addr / 4096, near) else {
-        return false;
-    };
-    put_mapped_word(&mut pages[i], (addr % 4096) as usize, word)
-}
-
-// Writes a halfword if its bytes are mapped and in one block of 64, and returns whether they are.
-pub(crate) fn write_half(pages: &mut [Page], addr: u32, half: u16, near: usize) -> bool
-    requires { IsMem pages.old }
-    ensures mapped { result ≡ are_in_block (memory_of pages.old) addr 2 }
-    ensures written { memory_of pages.new ≡ with_half_in (memory_of pages.old) addr half }
-    ensures pages { IsMem pages.new }
-    ensures bytes { HasBytes (memory_of pages.new) }
-{
-    if addr % 64 > 62 {
-        return false;
+    Page {
+        number,
+        mapped,
+        bytes: zeros(),
     }
-    let Some(i) = find_page(pages, addr / 4096, near) else {
-        return false;
-    };
-    put_mapped_half(&mut pages[i], (addr % 4096) as usize, half)
-}
-
-// Returns the first word of an area that is wholly mapped. The search for its page begins at
-// `near`, which is then set to the place of the page.
-pub(crate) fn read_first(pages: &[Page], addr: u32, near: &mut usize) -> Option<u32>
-    requires pages { IsMem pages.now }
-    requires aligned { addr % 64 ≡ 0 }
-    ensures word { result ≡ first_word_of (memory_of pages.now) addr }
-    ensures bytes { HasBytes (memory_of pages.now) }
-{
-    let Some(i) = find_near(pages, addr / 4096, *near) else {
-        return None;
-    };
-    *near = i;
-    first_in(&pages[i], (addr % 4096) as usize)
 }

@@ -1,9 +1,19 @@
 // One page: its bytes, their bits, and what reads and writes them.
-ghost use Rattle.std.specs.Prelude.{◌≡◌, ◌≢◌, ◌<◌, ◌≤◌, ◌+◌, ◌-◌, ◌==◌, [], ◌∷◌, ℕ, ◌*◌, ◌/◌, ◌%◌, ◌^◌, All, IfSome, IfNone, is_some, map, length, true, slice_index, slice_set, if◌then◌else◌, ◌||◌, ◌&&◌, nat_le, nat_lt};
+ghost use Rattle.std.specs.Prelude.{◌≡◌, ◌≢◌, ◌<◌, ◌≤◌, ◌+◌, ◌-◌, ◌==◌, [], ◌∷◌, ℕ, ◌*◌, ◌/◌, ◌%◌, ◌^◌, All, IfSome, IfNone, is_some, map, length, true, slice_index, slice_set, if◌then◌else◌, ◌||◌, ◌&&◌, nat_le, nat_lt, IfOk, false};
 ghost use Rattle.tcd_base.specs.Bytes.{word_at, half_at};
-ghost use Rattle.tc_mem.specs.Pages.{is_set, byte_of, bytes_with, with_bytes_at, are_set};
+ghost use Rattle.tc_mem.specs.Pages.{is_set, byte_of, bytes_with, with_bytes_at, are_set, memory_of, IsMem};
+ghost use Rattle.std.specs.Bool.{OnFalse};
+ghost use Rattle.csa_chain.specs.MemoryBytes.{are_mapped, with_byte, is_mapped as has_byte, HasBytes};
+ghost use Rattle.tc_mem.specs.Areas.{area_of, with_area, first_word_of};
+ghost use Rattle.tc_mem.specs.Blocks.{are_in_block, with_word_in, with_half_in};
+ghost use Rattle.tc_mem.specs.Written.{IsWritten};
+ghost use Rattle.tc_mem.specs.PlanMemory.{IsZeros};
 
-use tcd_base::Range;
+use crate::memory::{page_of, write_in_page};
+use crate::page_numbers::{find_near, find_page, page_numbers};
+use std::alloc::Global;
+use std::marker::Model;
+use tcd_base::{NoMemory, Range};
 
 /// A page of 4,096 bytes: its first address divided by 4,096, the bits that say which bytes are
 /// mapped (64 to a word, the lowest first), and the bytes.
@@ -326,4 +336,146 @@ pub(crate) fn mark_range(mapped: &mut [u64; 64], number: u32, range: &Range)
     if from < to {
         mark_between(mapped, (from - base) as usize, (to - base) as usize);
     }
+}
+
+// Writes a byte if it is mapped, and returns whether it is.
+pub(crate) fn write(pages: &mut [Page], addr: u32, byte: u8, near: usize) -> bool
+    requires { IsMem pages.old }
+    ensures mapped { result ≡ has_byte (memory_of pages.old) addr }
+    ensures written { memory_of pages.new ≡ with_byte (memory_of pages.old) addr byte }
+    ensures kept { OnFalse result (memory_of pages.new ≡ memory_of pages.old) }
+    ensures pages { IsMem pages.new }
+    ensures bytes { HasBytes (memory_of pages.new) }
+{
+    let Some(i) = find_page(pages, addr / 4096, near) else {
+        return false;
+    };
+    put_byte(&mut pages[i], (addr % 4096) as usize, byte)
+}
+
+// Writes bytes from an address on. Those that aren't mapped are dropped.
+pub(crate) fn write_bytes(pages: &mut [Page], addr: u32, bytes: &[u8])
+    requires pages { IsMem pages.old }
+    requires fits { addr + length bytes.now ≤ 2 ^ 32 }
+    ensures written { IsWritten (memory_of pages.old) addr bytes.now (memory_of pages.new) }
+    ensures pages { IsMem pages.new }
+    ensures bytes { HasBytes (memory_of pages.new) }
+{
+    let mut done = 0;
+    while done < bytes.len() {
+        let at = addr + done as u32;
+        let end = bytes.len().min(done + (4096 - at % 4096) as usize);
+        write_in_page(pages, at, &bytes[done..end]);
+        done = end;
+    }
+}
+
+// Returns the words of an area that is wholly mapped.
+pub(crate) fn read_area(pages: &[Page], addr: u32, near: usize) -> Option<[u32; 16]>
+    requires pages { IsMem pages.now }
+    requires aligned { addr % 64 ≡ 0 }
+    ensures words { result ≡ area_of (memory_of pages.now) addr }
+    ensures bytes { HasBytes (memory_of pages.now) }
+{
+    let Some(i) = find_page(pages, addr / 4096, near) else {
+        return None;
+    };
+    area_in(&pages[i], (addr % 4096) as usize)
+}
+
+// Writes an area if it is wholly mapped, and returns whether it is.
+pub(crate) fn write_area(pages: &mut [Page], addr: u32, words: &[u32; 16], near: &mut usize) -> bool
+    requires pages { IsMem pages.old }
+    requires aligned { addr % 64 ≡ 0 }
+    ensures mapped { result ≡ are_mapped (memory_of pages.old) addr 64 }
+    ensures written { memory_of pages.new ≡ with_area (memory_of pages.old) addr words.now }
+    ensures pages { IsMem pages.new }
+    ensures bytes { HasBytes (memory_of pages.new) }
+{
+    let Some(i) = find_page(pages, addr / 4096, *near) else {
+        return false;
+    };
+    *near = i;
+    put_area(&mut pages[i], (addr % 4096) as usize, words)
+}
+
+// Writes a word if its bytes are mapped and in one block of 64, and returns whether they are.
+pub(crate) fn write_word(pages: &mut [Page], addr: u32, word: u32, near: usize) -> bool
+    requires { IsMem pages.old }
+    ensures mapped { result ≡ are_in_block (memory_of pages.old) addr 4 }
+    ensures written { memory_of pages.new ≡ with_word_in (memory_of pages.old) addr word }
+    ensures pages { IsMem pages.new }
+    ensures bytes { HasBytes (memory_of pages.new) }
+{
+    if addr % 64 > 60 {
+        return false;
+    }
+    let Some(i) = find_page(pages, addr / 4096, near) else {
+        return false;
+    };
+    put_mapped_word(&mut pages[i], (addr % 4096) as usize, word)
+}
+
+// Writes a halfword if its bytes are mapped and in one block of 64, and returns whether they are.
+pub(crate) fn write_half(pages: &mut [Page], addr: u32, half: u16, near: usize) -> bool
+    requires { IsMem pages.old }
+    ensures mapped { result ≡ are_in_block (memory_of pages.old) addr 2 }
+    ensures written { memory_of pages.new ≡ with_half_in (memory_of pages.old) addr half }
+    ensures pages { IsMem pages.new }
+    ensures bytes { HasBytes (memory_of pages.new) }
+{
+    if addr % 64 > 62 {
+        return false;
+    }
+    let Some(i) = find_page(pages, addr / 4096, near) else {
+        return false;
+    };
+    put_mapped_half(&mut pages[i], (addr % 4096) as usize, half)
+}
+
+// Returns the first word of an area that is wholly mapped. The search for its page begins at
+// `near`, which is then set to the place of the page.
+pub(crate) fn read_first(pages: &[Page], addr: u32, near: &mut usize) -> Option<u32>
+    requires pages { IsMem pages.now }
+    requires aligned { addr % 64 ≡ 0 }
+    ensures word { result ≡ first_word_of (memory_of pages.now) addr }
+    ensures bytes { HasBytes (memory_of pages.now) }
+{
+    let Some(i) = find_near(pages, addr / 4096, *near) else {
+        return None;
+    };
+    *near = i;
+    first_in(&pages[i], (addr % 4096) as usize)
+}
+
+// Returns the bytes of a new page.
+pub(crate) fn zeros() -> [u8; 4096]
+    ensures size { length result ≡ 4096 }
+    ensures zeros { (k : ℕ) → k < 4096 → slice_index result k ≡ 0 }
+    ensures small { (k : ℕ) → slice_index result k < 256 }
+{
+    [0; 4096]
+}
+
+// Returns the bits of a page in which nothing is mapped.
+pub(crate) fn no_bits() -> [u64; 64]
+    ensures size { length result ≡ 64 }
+    ensures clear { (k : ℕ) → k < 4096 → is_set result k ≡ false }
+{
+    [0; 64]
+}
+
+// Returns the pages of the ranges. There is room for all of them before the first one is made, so
+// each is written where it stays.
+pub(crate) fn pages_of(alloc: Global, ranges: &[Range]) -> Result<Vec<Page>, NoMemory>
+    ensures pages { IfOk result (λ v. IsMem v.items) }
+    ensures bytes { IfOk result (λ v. HasBytes (memory_of v.items)) }
+    ensures zeros { IfOk result (λ v. IsZeros ranges.now (memory_of v.items)) }
+{
+    let numbers = page_numbers(alloc, ranges)?;
+    let mut pages = Vec::with_capacity(alloc, numbers.len())?;
+    for number in &numbers {
+        pages.push_reserved(page_of(*number, ranges));
+    }
+    Ok(pages)
 }

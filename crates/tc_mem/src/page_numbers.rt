@@ -1,10 +1,10 @@
 // Pages by their numbers: the search for one, and the pages of ranges.
-ghost use Rattle.std.specs.Prelude.{◌≡◌, ◌≢◌, ◌<◌, All, IfSome, IfNone, map, length, slice_index, ◌≤◌, ◌+◌, ◌*◌, ◌/◌, ◌^◌, ℕ, Contains, IfOk, IsTrue, false, OnOk, OnErr, Some, None, if◌then◌else◌};
+ghost use Rattle.std.specs.Prelude.{◌≡◌, ◌≢◌, ◌<◌, All, IfSome, IfNone, map, length, slice_index, ◌≤◌, ◌+◌, ◌/◌, ℕ, Contains, IfOk, IsTrue, OnOk, Some, None};
 ghost use Rattle.std.specs.List.Sorted.{IsStrictlyIncreasing};
-ghost use Rattle.tc_mem.specs.Pages.{number_of, IsPage, IsMem, is_set, byte_of, is_in, memory_of, IsZeros};
-ghost use Rattle.csa_chain.specs.Memory.{HasBytes};
+ghost use Rattle.tc_mem.specs.Pages.{number_of};
+ghost use Rattle.tcd_base.specs.Ranges.{is_in};
 
-use crate::page::{Page, mark_range};
+use crate::page::Page;
 use std::alloc::Global;
 use tcd_base::{NoMemory, Range};
 
@@ -74,42 +74,6 @@ pub(crate) fn find_page(pages: &[Page], number: u32, near: usize) -> Option<usiz
     find_near(pages, number, likely_place(pages, number, near))
 }
 
-// Returns the bytes of a new page.
-fn zeros() -> [u8; 4096]
-    ensures size { length result ≡ 4096 }
-    ensures zeros { (k : ℕ) → k < 4096 → slice_index result k ≡ 0 }
-    ensures small { (k : ℕ) → slice_index result k < 256 }
-{
-    [0; 4096]
-}
-
-// Returns the bits of a page in which nothing is mapped.
-fn no_bits() -> [u64; 64]
-    ensures size { length result ≡ 64 }
-    ensures clear { (k : ℕ) → k < 4096 → is_set result k ≡ false }
-{
-    [0; 64]
-}
-
-// Returns the page with this number in which the bytes of the ranges are mapped.
-fn page_of(number: u32, ranges: &[Range]) -> Page
-    ensures number { result.number ≡ number }
-    ensures page { IsPage result }
-    ensures small { (k : ℕ) → slice_index result.bytes k < 256 }
-    ensures zeros { (q : ℕ) → q / 4096 ≡ number
-        → byte_of q result ≡ (if is_in ranges.now q then Some 0 else None) }
-{
-    let mut mapped = no_bits();
-    for range in ranges {
-        mark_range(&mut mapped, number, range);
-    }
-    Page {
-        number,
-        mapped,
-        bytes: zeros(),
-    }
-}
-
 // Appends the numbers of the pages in which a range has bytes.
 fn add_numbers(numbers: &mut Vec<u32>, range: &Range) -> Result<(), NoMemory>
     ensures kept { OnOk result
@@ -126,7 +90,7 @@ fn add_numbers(numbers: &mut Vec<u32>, range: &Range) -> Result<(), NoMemory>
 }
 
 // Returns the numbers of the pages in which the ranges have bytes, ascending.
-fn page_numbers(alloc: Global, ranges: &[Range]) -> Result<Vec<u32>, NoMemory>
+pub(crate) fn page_numbers(alloc: Global, ranges: &[Range]) -> Result<Vec<u32>, NoMemory>
     ensures rising { IfOk result (λ v. IsStrictlyIncreasing v.items) }
     ensures all { IfOk result
         (λ v. (q : ℕ) → IsTrue (is_in ranges.now q) → Contains v.items (q / 4096)) }
@@ -138,19 +102,4 @@ fn page_numbers(alloc: Global, ranges: &[Range]) -> Result<Vec<u32>, NoMemory>
     numbers.sort_unstable();
     numbers.dedup();
     Ok(numbers)
-}
-
-// Returns the pages of the ranges. There is room for all of them before the first one is made, so
-// each is written where it stays.
-pub(crate) fn pages_of(alloc: Global, ranges: &[Range]) -> Result<Vec<Page>, NoMemory>
-    ensures pages { IfOk result (λ v. IsMem v.items) }
-    ensures bytes { IfOk result (λ v. HasBytes (memory_of v.items)) }
-    ensures zeros { IfOk result (λ v. IsZeros ranges.now (memory_of v.items)) }
-{
-    let numbers = page_numbers(alloc, ranges)?;
-    let mut pages = Vec::with_capacity(alloc, numbers.len())?;
-    for number in &numbers {
-        pages.push_reserved(page_of(*number, ranges));
-    }
-    Ok(pages)
 }

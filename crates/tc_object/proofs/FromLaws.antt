@@ -11,8 +11,8 @@ use Rattle.tcd_base.specs.FieldReaders.{◌>>=◌, u8_at, u16_at, u32_at, bytes_
 use Rattle.tcd_base.proofs.FieldReads.{bytes_at_ok, bind_ok}
 use Rattle.tc_object.specs.declared.relocs.Reloc.{Reloc}
 use Rattle.tc_object.specs.Names.{IsName, is_length, is_name}
-use Rattle.tc_object.specs.Objects.{SectionData, SymbolData, ObjectData, InTurn, IsSection, IsSymbol, IsReloc, IsObject, is_section_name, is_symbol_name, is_section_of, is_offset_of, last_of, is_not_below, is_behind, size_at}
-use Rattle.tc_object.specs.Grammar.{checked, name_length_at, name_bytes_at, name_after, section_after, section_with, kind_at, symbol_section_at, symbol_offset_at, symbol_after, symbol_with, symbol_named, reloc_section_at, reloc_offset_at, reloc_symbol_at, reloc_after, magic_at, section_count_at, parts_at, object_at, object_of}
+use Rattle.tc_object.specs.Objects.{SectionData, SymbolData, ObjectData, InTurn, IsSection, IsSymbol, IsReloc, IsObject, is_section_name, is_symbol_name, is_section_of, is_offset_of, last_of, is_behind, size_at}
+use Rattle.tc_object.specs.Grammar.{is_not_below, checked, name_length_at, name_bytes_at, name_after, section_after, section_with, kind_at, symbol_section_at, symbol_offset_at, symbol_after, symbol_with, symbol_named, reloc_section_at, reloc_offset_at, reloc_symbol_at, reloc_after, magic_at, section_count_at, parts_at, object_at, object_of}
 use Rattle.tc_object.specs.Spelling.{bytes_of_name, bytes_of_section, bytes_of_symbol, bytes_of_reloc, bytes_of_header, bytes_of}
 use Rattle.tcd_base.proofs.PassedLaws.{AreBytes, bytes_from, Passed, passed_bytes, passed_both, ok_pair, passed_test, took_passed, byte_passed, half_passed, word_passed, many_passed}
 

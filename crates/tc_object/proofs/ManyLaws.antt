@@ -6,7 +6,7 @@ use Rattle.tcd_base.specs.FieldReaders.{many_at}
 use Rattle.tcd_base.proofs.ManyLaws.{many_fail}
 use Rattle.tc_object.specs.declared.errors.ObjErr.{ObjErr}
 use Rattle.tc_object.specs.declared.errors.ObjErr.TheVariants.{Bad, NoMemory}
-use Rattle.tc_object.specs.Answers.{IsFaultOf}
+use Rattle.tc_object.specs.Faults.{IsFaultOf}
 
 -- the first fault of an item, as an error says it
 pub many_fault : {A : Type 0} (item : List A → Place → Result (A × Place) FormErr) (n i : ℕ) (before : List A) (start p : Place) (e : ObjErr) → i < n

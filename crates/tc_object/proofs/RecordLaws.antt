@@ -8,11 +8,11 @@ use Rattle.tcd_base.specs.Bytes.{half_at, word_at}
 use Rattle.tcd_base.specs.Place.{Place}
 use Rattle.tcd_base.specs.FieldReaders.{◌>>=◌, u8_at, u16_at, u32_at}
 use Rattle.tc_object.specs.declared.relocs.Reloc.{Reloc}
-use Rattle.tc_object.specs.Objects.{SectionData, SymbolData, is_section_of, is_offset_of, last_of, is_not_below, is_behind, size_at}
+use Rattle.tc_object.specs.Objects.{SectionData, SymbolData, is_section_of, is_offset_of, last_of, is_behind, size_at}
+use Rattle.tc_object.specs.Grammar.{is_not_below, checked, kind_at, symbol_section_at, symbol_offset_at, symbol_named, reloc_section_at, reloc_offset_at, reloc_symbol_at, reloc_after}
 use Rattle.tc_object.specs.Faults.{unless_good, reloc_fault, symbol_fault}
 use Rattle.tcd_base.proofs.FieldReads.{chosen}
 use Rattle.tc_object.proofs.BackLaws.{then_ok}
-use Rattle.tc_object.specs.Grammar.{checked, kind_at, symbol_section_at, symbol_offset_at, symbol_named, reloc_section_at, reloc_offset_at, reloc_symbol_at, reloc_after}
 
 -- ---- fields of bytes that were taken
 byte_in : (bytes : List ℕ) (place n i j : ℕ) → i < n → j ≡ place + i → get_or (take n (drop place bytes)) i 0 ≡ get_or bytes j 0

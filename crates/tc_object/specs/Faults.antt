@@ -1,8 +1,11 @@
 -- The first fault of a record of fixed size, at the byte offset of the field that has it.
-use Rattle.std.specs.Prelude.{◌+◌, ◌&&◌, nat_lt, nat_le, if◌then◌else◌, ℕ, Bool, List, length, Option, Some, None}
+use Rattle.std.specs.Prelude.{◌+◌, ◌&&◌, nat_lt, nat_le, if◌then◌else◌, ℕ, Bool, List, length, Option, Some, None, ◌≡◌, Result, Err}
 use Rattle.tcd_base.specs.declared.errors.FormErr.{FormErr}
 use Rattle.tc_object.specs.declared.relocs.Reloc.{Reloc}
-use Rattle.tc_object.specs.Objects.{SectionData, SymbolData, is_section_of, is_offset_of, last_of, is_not_below, is_behind, size_at}
+use Rattle.tc_object.specs.Objects.{SectionData, SymbolData, is_section_of, is_offset_of, last_of, is_behind, size_at}
+use Rattle.tc_object.specs.Grammar.{is_not_below}
+use Rattle.tc_object.specs.declared.errors.ObjErr.{ObjErr}
+use Rattle.tc_object.specs.declared.errors.ObjErr.TheVariants.{Bad, NoMemory}
 
 -- if the test fails, the fault of this kind at this offset, else the next one
 abbrev pub unless_good : Bool → ℕ → ℕ → Option FormErr → Option FormErr
@@ -26,3 +29,8 @@ symbol_fault sections s start =
     unless_good (nat_le 0 s.kind && nat_le s.kind 2) 4 start
     (unless_good (is_section_of sections s.kind s.section) 4 (start + 1)
     (unless_good (is_offset_of sections s.kind s.section s.offset) 4 (start + 3) None))
+
+-- the error is the first fault of the reading; out of memory says nothing of the file
+abbrev pub IsFaultOf : {A : Type 0} → Result A FormErr → ObjErr → Type 0
+IsFaultOf read (Bad e) = read ≡ Err e
+IsFaultOf read NoMemory = Unit {0}

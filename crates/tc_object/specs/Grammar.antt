@@ -1,12 +1,13 @@
 -- The grammar of object files: fields read from left to right, and the first fault.
 -- The kinds of faults are SHORT (any field) to TRAILING of tcd_base, 1 to 6.
-use Rattle.std.specs.Prelude.{◌+◌, ◌==◌, ◌&&◌, not, nat_lt, nat_le, if◌then◌else◌, ℕ, Bool, List, [], length, Result, Ok}
+use Rattle.std.specs.Prelude.{◌+◌, ◌==◌, ◌&&◌, not, nat_lt, nat_le, if◌then◌else◌, ℕ, Bool, List, length, Result, Ok, true, Option, Some, None, []}
 use Rattle.tcd_base.specs.declared.errors.FormErr.{FormErr}
 use Rattle.tcd_base.specs.Place.{Place}
-use Rattle.tcd_base.specs.FieldReaders.{◌>>=◌, fault_at, u8_at, u16_at, u32_at, bytes_at, many_at}
+use Rattle.tcd_base.specs.FieldReaders.{◌>>=◌, u8_at, u16_at, u32_at, bytes_at, many_at}
+use Rattle.tcd_base.specs.Refusing.{fault_at}
 use Rattle.tc_object.specs.declared.relocs.Reloc.{Reloc}
 use Rattle.tc_object.specs.Names.{is_length, is_name}
-use Rattle.tc_object.specs.Objects.{SectionData, SymbolData, ObjectData, is_section_name, is_symbol_name, size_at, is_section_of, is_offset_of, last_of, is_not_below, is_behind}
+use Rattle.tc_object.specs.Objects.{SectionData, SymbolData, ObjectData, is_section_name, is_symbol_name, size_at, is_section_of, is_offset_of, last_of, is_behind}
 
 -- ---- fields
 -- the value if the test holds, else the fault of this kind at this place
@@ -63,6 +64,11 @@ symbol_with sections is_used p = name_after is_used p >>= λ name. symbol_named 
 -- a symbol after these, with a name that none of them has
 unfoldable pub symbol_after : List SectionData → List SymbolData → Place → Result (SymbolData × Place) FormErr
 symbol_after sections before p = symbol_with sections (is_symbol_name before) p
+
+-- a section's number isn't below that of the last relocation, if there is one
+abbrev pub is_not_below : Option Reloc → ℕ → Bool
+is_not_below None section = true
+is_not_below (Some r) section = nat_le r.section section
 
 -- ---- relocations
 -- a section below that of the last relocation is out of order, whatever the offset

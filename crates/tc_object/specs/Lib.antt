@@ -5,4 +5,3 @@ pub mod Objects
 pub mod Grammar
 pub mod Faults
 pub mod Spelling
-pub mod Answers

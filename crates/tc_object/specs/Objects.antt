@@ -1,5 +1,5 @@
 -- Objects as plain data, and the invariant of objects.
-use Rattle.std.specs.Prelude.{◌≡◌, ◌≤◌, ◌<◌, ◌+◌, ◌-◌, ◌^◌, ◌==◌, ◌&&◌, ◌||◌, nat_lt, nat_le, if◌then◌else◌, ℕ, Bool, true, List, [], ◌∷◌, ◌++◌, length, slice_get, Option, Some, None}
+use Rattle.std.specs.Prelude.{◌≡◌, ◌≤◌, ◌<◌, ◌+◌, ◌-◌, ◌^◌, ◌==◌, ◌&&◌, ◌||◌, nat_lt, nat_le, if◌then◌else◌, ℕ, Bool, true, List, ◌∷◌, ◌++◌, length, slice_get, Option, Some, None, []}
 use Rattle.tc_object.specs.declared.relocs.Reloc.{Reloc}
 use Rattle.std.specs.List.{list_any}
 use Rattle.std.specs.Str.{bytes_eq}
@@ -86,11 +86,6 @@ pub record IsSymbol (sections : List SectionData) (before : List SymbolData) (s 
 -- the last of these relocations, if there is one
 abbrev pub last_of : List Reloc → Option Reloc
 last_of rs = slice_get rs (length rs - 1)
-
--- a section's number isn't below that of the last relocation, if there is one
-abbrev pub is_not_below : Option Reloc → ℕ → Bool
-is_not_below None section = true
-is_not_below (Some r) section = nat_le r.section section
 
 -- a place comes after that of the last relocation: in a later section, or at a greater offset
 abbrev pub is_behind : Option Reloc → ℕ → ℕ → Bool

@@ -30,7 +30,7 @@ impl<'a> Model for ObjectRef<'a> {
 
 impl<'a> ObjectRef<'a> {
     ghost use Rattle.std.specs.Prelude.{◌≡◌, ◌≤◌, ◌^◌, length, Ok, IfOk, IfErr};
-    ghost use Rattle.tc_object.specs.Answers.{IsFaultOf};
+    ghost use Rattle.tc_object.specs.Faults.{IsFaultOf};
     ghost use Rattle.tc_object.specs.Grammar.{object_of};
     ghost use Rattle.tc_object.specs.Spelling.{bytes_of};
 

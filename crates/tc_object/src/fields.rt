@@ -1,17 +1,15 @@
 // Readers of single fields of an object file.
 ghost use Rattle.std.specs.Prelude.{◌≡◌, ◌≤◌, ◌^◌, ◌&&◌, nat_le, length};
 ghost use Rattle.tcd_base.specs.FieldReaders.{Reads};
-ghost use Rattle.tc_object.specs.Grammar.{magic_at, section_count_at, kind_at};
+ghost use Rattle.tc_object.specs.Grammar.{magic_at, kind_at};
 
-use tcd_base::{
-    ABOVE_LIMIT, BAD_MAGIC, BAD_VALUE, Cursor, FormErr, fault, read_u8, read_u16, read_u32,
-};
+use tcd_base::{BAD_MAGIC, BAD_VALUE, Cursor, FormErr, fault, read_u8, read_u32};
 
 /// The magic bytes 54 43 4F 31 ("TCO1") as a little-endian word.
 pub(crate) const MAGIC: u32 = 0x314f_4354;
 
 /// The most sections of an object.
-const MOST_SECTIONS: u16 = 64;
+pub(crate) const MOST_SECTIONS: u16 = 64;
 
 /// Reads the magic bytes 54 43 4F 31 ("TCO1").
 #[tactic(auto, unfolding(crate::specs::Grammar::magic_at))]
@@ -26,21 +24,6 @@ pub(crate) fn read_magic(c: &mut Cursor<'_>) -> Result<u32, FormErr>
         return Err(fault(BAD_MAGIC, start));
     }
     Ok(magic)
-}
-
-/// Reads the number of sections, at most 64.
-#[tactic(auto, unfolding(crate::specs::Grammar::section_count_at))]
-pub(crate) fn read_section_count(c: &mut Cursor<'_>) -> Result<u16, FormErr>
-    requires { length c.old.bytes ≤ 2 ^ 30 }
-    ensures read { Reads result c.new (section_count_at c.old) }
-    ensures bytes { c.new.bytes ≡ c.old.bytes }
-{
-    let start = c.place();
-    let count = read_u16(c)?;
-    if count > MOST_SECTIONS {
-        return Err(fault(ABOVE_LIMIT, start));
-    }
-    Ok(count)
 }
 
 /// Whether `kind` is in `low..=high`.

@@ -32,7 +32,7 @@ impl Model for Object {
 impl Object {
     ghost use Rattle.std.specs.Prelude.{◌≡◌, ◌≤◌, ◌^◌, length, Ok, IfOk, IfErr};
     ghost use Rattle.tc_object.specs.declared.errors.ObjErr.TheVariants.{NoMemory};
-    ghost use Rattle.tc_object.specs.Answers.{IsFaultOf};
+    ghost use Rattle.tc_object.specs.Faults.{IsFaultOf};
     ghost use Rattle.tc_object.specs.Grammar.{object_of};
     ghost use Rattle.tc_object.specs.Spelling.{bytes_of};
 

@@ -1,11 +1,11 @@
 // Reads a whole object: the header, the sections, the symbols and the relocations.
 ghost use Rattle.std.specs.Prelude.{◌≡◌, ◌≤◌, ◌^◌, length, Ok, IfOk, IfErr};
-ghost use Rattle.tc_object.specs.Answers.{IsFaultOf};
+ghost use Rattle.tc_object.specs.Faults.{IsFaultOf};
 ghost use Rattle.tc_object.specs.Grammar.{object_of};
 
-use crate::fields::{read_magic, read_section_count};
+use crate::fields::read_magic;
 use crate::reloc_reader::read_relocs;
-use crate::section_reader::read_sections;
+use crate::section_reader::{read_section_count, read_sections};
 use crate::symbol_reader::read_symbols;
 use crate::{ObjErr, Reloc, SectionRef, SymbolRef};
 use std::alloc::Global;

@@ -2,10 +2,9 @@
 ghost use Rattle.std.specs.Prelude.{◌≡◌, ◌≤◌, ◌+◌, ◌^◌, ◌-◌, [], length, slice_index, Ok, Err, Some, None, IfOk, IfErr, MatchResult};
 ghost use Rattle.tcd_base.specs.Bytes.{half_at, word_at};
 ghost use Rattle.tcd_base.specs.FieldReaders.{Reads, many_at};
-ghost use Rattle.tc_object.specs.Answers.{IsFaultOf};
-ghost use Rattle.tc_object.specs.Objects.{size_at, last_of, is_not_below, is_behind};
-ghost use Rattle.tc_object.specs.Grammar.{reloc_section_at, reloc_offset_at, reloc_symbol_at, reloc_after};
-ghost use Rattle.tc_object.specs.Faults.{reloc_fault};
+ghost use Rattle.tc_object.specs.Faults.{IsFaultOf, reloc_fault};
+ghost use Rattle.tc_object.specs.Objects.{size_at, last_of, is_behind};
+ghost use Rattle.tc_object.specs.Grammar.{is_not_below, reloc_section_at, reloc_offset_at, reloc_symbol_at, reloc_after};
 
 use crate::fields::{is_kind, read_kind};
 use crate::symbol_reader::size_at;

@@ -1,14 +1,15 @@
 // Readers of sections.
 ghost use Rattle.std.specs.Prelude.{◌≡◌, ◌≤◌, ◌^◌, ◌-◌, [], length, Ok, Err, IfOk, IfErr, MatchResult};
-ghost use Rattle.tc_object.specs.Answers.{IsFaultOf};
+ghost use Rattle.tc_object.specs.Faults.{IsFaultOf};
 ghost use Rattle.tcd_base.specs.FieldReaders.{Reads, many_at};
 ghost use Rattle.tc_object.specs.Objects.{is_section_name};
-ghost use Rattle.tc_object.specs.Grammar.{name_after, section_after};
+ghost use Rattle.tc_object.specs.Grammar.{name_after, section_after, section_count_at};
 
+use crate::fields::MOST_SECTIONS;
 use crate::names::{read_name_bytes, read_name_length};
 use crate::{ObjErr, SectionRef};
 use std::alloc::Global;
-use tcd_base::{BAD_VALUE, Cursor, FormErr, fault, read_bytes, read_u32};
+use tcd_base::{ABOVE_LIMIT, BAD_VALUE, Cursor, FormErr, fault, read_bytes, read_u16, read_u32};
 
 // Whether one of these sections has the name. A search by hand is enough: there are at most 64.
 fn is_section_name(sections: &[SectionRef<'_>], name: &str) -> bool
@@ -68,4 +69,19 @@ pub(crate) fn read_sections<'a>(
         sections.push(section)?;
     }
     Ok(sections)
+}
+
+/// Reads the number of sections, at most 64.
+#[tactic(auto, unfolding(crate::specs::Grammar::section_count_at))]
+pub(crate) fn read_section_count(c: &mut Cursor<'_>) -> Result<u16, FormErr>
+    requires { length c.old.bytes ≤ 2 ^ 30 }
+    ensures read { Reads result c.new (section_count_at c.old) }
+    ensures bytes { c.new.bytes ≡ c.old.bytes }
+{
+    let start = c.place();
+    let count = read_u16(c)?;
+    if count > MOST_SECTIONS {
+        return Err(fault(ABOVE_LIMIT, start));
+    }
+    Ok(count)
 }

@@ -3,10 +3,9 @@ ghost use Rattle.std.specs.Prelude.{◌≡◌, ◌≤◌, ◌+◌, ◌^◌, ◌-
 ghost use Rattle.tcd_base.specs.Bytes.{half_at, word_at};
 ghost use Rattle.std.specs.Str.{bytes_eq};
 ghost use Rattle.tcd_base.specs.FieldReaders.{Reads, many_at};
-ghost use Rattle.tc_object.specs.Answers.{IsFaultOf};
+ghost use Rattle.tc_object.specs.Faults.{IsFaultOf, symbol_fault};
 ghost use Rattle.tc_object.specs.Objects.{size_at, is_section_of, is_offset_of};
 ghost use Rattle.tc_object.specs.Grammar.{symbol_section_at, symbol_offset_at, symbol_named, symbol_with, symbol_after};
-ghost use Rattle.tc_object.specs.Faults.{symbol_fault};
 ghost use Rattle.tc_object.specs.Used.{is_among};
 
 use crate::fields::{is_kind, read_kind};

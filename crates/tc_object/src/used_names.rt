@@ -1,7 +1,7 @@
 // Reads names that aren't used yet. A map holds the used ones, so each look-up is a few steps.
 ghost use Rattle.std.specs.Prelude.{◌≡◌, ◌≤◌, ◌^◌, ◌||◌, not, false, true, ℕ, List, length, Ok, Err, OnOk, IfOk, IfErr};
 ghost use Rattle.std.specs.Str.{bytes_eq};
-ghost use Rattle.tc_object.specs.Answers.{IsFaultOf};
+ghost use Rattle.tc_object.specs.Faults.{IsFaultOf};
 ghost use Rattle.tc_object.specs.Grammar.{name_after};
 ghost use Rattle.tc_object.specs.Used.{is_among};
 

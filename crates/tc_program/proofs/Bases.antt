@@ -5,14 +5,14 @@ use Rattle.std.specs.Option.{option_map_or, option_or}
 use Rattle.std.specs.Bool.{then_some}
 use Rattle.std.specs.Str.{bytes_eq}
 use Rattle.tc_object.specs.Objects.{SectionData, ObjectData}
-use Rattle.tc_link.specs.Layouts.{PlaceData, is_placed, place_of}
-use Rattle.tc_link.specs.Placing.{PlacedData, base_of, bases_after, placed_after}
+use Rattle.tc_link.specs.Layouts.{PlaceData, is_placed}
+use Rattle.tc_link.specs.Placing.{place_of, PlacedData, base_of, bases_after, placed_after}
 use Rattle.tc_link.specs.PlaceSizes.{round_up, taken_bytes}
 use Rattle.tc_link.specs.Placing as placing
 use Rattle.tc_link.specs.Refusals.{Refusal, no_place, first_at, has_symbol, no_place_of, no_place_in}
 use Rattle.tc_asm.specs.Objects.{object_of}
 use Rattle.tc_asm.specs.Statements.{sections_in}
-use Rattle.tc_asm.specs.Sources.{draft_in}
+use Rattle.tc_asm.specs.DraftedSources.{draft_in}
 use Rattle.tc_program.specs.Addresses.{sections_of, Begins}
 use Rattle.tc_asm.proofs.SourceParts.{sections_are}
 use Rattle.tc_program.proofs.Sections.{AreObjects, all_sections, objects_take}

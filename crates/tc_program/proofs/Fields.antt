@@ -3,17 +3,17 @@ use Rattle.std.proofs.Common.{◌≡◌, ◌+◌, ℕ, zero, suc, Bool, true, fa
 use Rattle.std.specs.Prelude.{slice_get, slice_set, fold, if◌then◌else◌}
 use Rattle.std.specs.Option.{option_map_or}
 use Rattle.std.proofs.lemmas.List.{length-append, append-nil}
-use Rattle.tc_stmt.specs.RowFields.{ReferenceData}
+use Rattle.tc_stmt.specs.Items.{ReferenceData}
 use Rattle.tc_object.specs.declared.relocs.Reloc.{Reloc}
 use Rattle.tc_object.specs.Objects.{SectionData}
 use Rattle.tc_asm.specs.Symbols.{SymbolData}
 use Rattle.tc_asm.specs.Drafts.{UseData, PartData}
 use Rattle.tc_asm.specs.Objects.{section_of, reloc_of, relocs_from}
 use Rattle.tc_asm.specs.Statements.{StatementData, section_bytes, offset_of, is_open}
-use Rattle.tc_reloc.specs.Fields.{content_of}
-use Rattle.tc_reloc.specs.Applied.{with_field}
-use Rattle.tc_link.specs.Placing.{GlobalData, PlacedData}
-use Rattle.tc_link.specs.Relocated.{field_place, value_of, field_at, with_relocation, with_reloc}
+use Rattle.tc_reloc.specs.Fields.{content_of, field_at, with_field}
+use Rattle.tc_link.specs.Placing.{PlacedData}
+use Rattle.tc_link.specs.Names.{GlobalData}
+use Rattle.tc_link.specs.Relocated.{field_place, value_of, with_relocation, with_reloc}
 use Rattle.tc_stmt.proofs.ListItems.{seam_get, seam_set, take_behind, drop_behind}
 use Rattle.tc_asm.proofs.Uses.{use_at, uses_from, HaveFields}
 

@@ -10,7 +10,8 @@ use Rattle.std.proofs.lemmas.Option.{slice_get_within}
 use Rattle.std.proofs.lemmas.Slice.Eq.{bytes_eq-Decides}
 use Rattle.elf_image.specs.Images.{SegmentData, holds, byte_in, are_apart, all_apart}
 use Rattle.tc_object.specs.Objects.{SectionData, InTurn}
-use Rattle.tc_link.specs.Layouts.{PlaceData, IsPlaceAfter, is_placed, place_of}
+use Rattle.tc_link.specs.Layouts.{PlaceData, IsPlaceAfter, is_placed}
+use Rattle.tc_link.specs.Placing.{place_of}
 use Rattle.tc_link.specs.PlaceSizes.{round_up, taken_bytes}
 use Rattle.tc_link.specs.Segments.{with_padding, with_section, joined_sections}
 use Rattle.tc_link.specs.Shapes.{Shape, shape_of}

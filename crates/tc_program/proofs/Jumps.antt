@@ -2,7 +2,7 @@
 use Rattle.std.proofs.Common.{◌+◌, ◌%◌, ◌^◌, ℕ, refl, sym, subst}
 use Rattle.tc_asm.proofs.ShortJumps.{short_jumps_law}
 use Rattle.tc_program.specs.Addresses.{Begins, own}
-use Rattle.tc_program.specs.Laws.{JumpsLaw}
+use Rattle.tc_program.specs.PlacementLaws.{JumpsLaw}
 use Rattle.tc_program.proofs.Stands.{rules_at}
 
 pub jumps_law : JumpsLaw

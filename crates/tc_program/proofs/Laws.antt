@@ -6,18 +6,19 @@ use Rattle.elf_image.specs.Images.{ImageData}
 use Rattle.tc_object.specs.Objects.{ObjectData, IsObject}
 use Rattle.tc_asm.specs.DraftInvariants.{IsDraft}
 use Rattle.tc_link.specs.Layouts.{LayoutData}
-use Rattle.tc_link.specs.Placing.{globals_of, global_address}
-use Rattle.tc_link.specs.Relocated.{relocated_sections}
+use Rattle.tc_link.specs.Names.{globals_of, global_address}
+use Rattle.tc_link.specs.Relocated.{relocated_sections, contents_of}
 use Rattle.tc_link.specs.Segments.{segments_of}
 use Rattle.tcd_base.specs.Refusing.{unless}
-use Rattle.tc_link.specs.Linked.{placed_of, contents_of, entry_of, made_of, refused_early, image_of_objects}
-use Rattle.tc_link.specs.Refusals.{Refusal, no_place_in, reloc_in}
+use Rattle.tc_link.specs.Linked.{entry_of, made_of, image_of_objects}
+use Rattle.tc_link.specs.Refusals.{refused_early, Refusal, no_place_in, reloc_in}
+use Rattle.tc_link.specs.Placing.{placed_of}
 use Rattle.tc_link.specs.Shapes.{shape_of}
 use Rattle.tc_link.proofs.RelocLaws.{contents_shapes}
-use Rattle.tc_asm.specs.Sources.{draft_in}
+use Rattle.tc_asm.specs.DraftedSources.{draft_in}
 use Rattle.tc_program.specs.Addresses.{sections_of}
 use Rattle.tc_program.specs.Placed.{span_of}
-use Rattle.tc_program.specs.Laws.{AreAssembled, SegmentsLaw, EntryLaw}
+use Rattle.tc_program.specs.PlacementLaws.{AreAssembled, SegmentsLaw, EntryLaw}
 use Rattle.tc_program.proofs.Sections.{AreObjects, all_sections}
 use Rattle.tc_asm.proofs.SourceDrafts.{source_draft, source_object}
 use Rattle.tc_program.proofs.Names.{global_at}

@@ -17,10 +17,11 @@ use Rattle.tc_asm.specs.DraftInvariants.{Each, is_among, IsNew, AreNames, symbol
 use Rattle.tc_asm.specs.Objects.{section_of, symbol_at, symbol_of, object_of}
 use Rattle.tc_link.specs.Layouts.{PlaceData}
 use Rattle.tc_link.specs.Refusals.{has_symbol, no_place_in}
-use Rattle.tc_link.specs.Placing.{PlacedData, GlobalData, bases_after, placed_after, is_global, global_data, globals_of, global_address, address_in}
+use Rattle.tc_link.specs.Placing.{PlacedData, bases_after, placed_after, address_in}
+use Rattle.tc_link.specs.Names.{GlobalData, is_global, global_data, globals_of, global_address}
 use Rattle.tc_link.specs.Placing as placing
 use Rattle.tc_asm.specs.Statements.{sections_in}
-use Rattle.tc_asm.specs.Sources.{draft_in, symbols_in}
+use Rattle.tc_asm.specs.DraftedSources.{draft_in, symbols_in}
 use Rattle.tc_program.specs.Addresses.{Begins, HasLabel, HasGlobal}
 use Rattle.tc_stmt.proofs.ListItems.{flat_at, map_at, map_get, filter_at, find_at}
 use Rattle.tc_asm.proofs.SourceParts.{sections_are}

@@ -4,7 +4,7 @@ use Rattle.std.specs.Prelude.{slice_get}
 use Rattle.tc_object.specs.Objects.{SectionData, ObjectData}
 use Rattle.tc_asm.specs.Objects.{object_of}
 use Rattle.tc_link.specs.Placing as placing
-use Rattle.tc_asm.specs.Sources.{draft_in}
+use Rattle.tc_asm.specs.DraftedSources.{draft_in}
 use Rattle.tc_program.specs.Addresses.{sections_of}
 use Rattle.tc_asm.proofs.SourceParts.{sections_are}
 

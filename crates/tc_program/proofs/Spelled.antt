@@ -6,19 +6,18 @@ use Rattle.tc_isa.specs.declared.fields.Fields.{Fields}
 use Rattle.tc_isa.specs.Rows.{RowData}
 use Rattle.tc_isa.specs.Spelling.{spelling}
 use Rattle.tc_isa.proofs.TableFacts.{row_at}
-use Rattle.tc_stmt.specs.RowFields.{ReferenceData}
-use Rattle.tc_reloc.specs.Applied.{with_field}
-use Rattle.tc_stmt.specs.Items.{ItemData, code, bytes, zeros}
+use Rattle.tc_stmt.specs.Items.{ReferenceData, ItemData, code, bytes, zeros}
+use Rattle.tc_reloc.specs.Fields.{with_field}
 use Rattle.tc_stmt.specs.Lines.{lines_in, items_in}
 use Rattle.tc_asm.specs.Symbols.{SymbolData}
 use Rattle.tc_asm.specs.Drafts.{DraftData, start, spelled_code, resolved, code_bytes, stepped}
 use Rattle.tc_isa.specs.Relocations.{is_reloc}
-use Rattle.tc_asm.specs.Sources.{symbols_of}
+use Rattle.tc_asm.specs.DraftedSources.{symbols_of}
 use Rattle.tc_asm.specs.DraftInvariants.{Each}
 use Rattle.tc_asm.specs.Statements.{StatementData, content_of, standing, statements_from}
-use Rattle.tc_program.specs.Laws.{FillsRow, FieldsLaw}
+use Rattle.tc_program.specs.PlacementLaws.{FillsRow, FieldsLaw}
 use Rattle.tc_stmt.proofs.ListItems.{InRest, in_front_or_rest}
-use Rattle.tc_asm.specs.Added.{IsCode, IsItem}
+use Rattle.tc_asm.specs.AddedItems.{IsCode, IsItem}
 use Rattle.tc_asm.proofs.SourceItems.{source_are}
 use Rattle.tc_asm.proofs.CodeSizes.{fits_true, resolved_fits}
 use Rattle.tc_reloc.proofs.FilledRows.{filled_row, filled_fits}

@@ -9,42 +9,41 @@ use Rattle.std.proofs.lemmas.Bool.Decides.{Decides-eqb}
 use Rattle.std.proofs.lemmas.List.{length-append, map-append}
 use Rattle.std.proofs.lemmas.Option.{slice_get_within, slice_get-get_or}
 use Rattle.std.proofs.lemmas.Slice.Eq.{bytes_eq-Decides}
-use Rattle.elf_image.specs.Images.{SegmentData, ImageData, is_segment, byte_in, image_byte}
+use Rattle.elf_image.specs.Images.{SegmentData, ImageData, is_segment, byte_in, image_byte, HoldsFrom}
 use Rattle.tc_object.specs.declared.relocs.Reloc.{Reloc}
 use Rattle.tc_object.specs.Objects.{SectionData, ObjectData, IsObject}
 use Rattle.tc_object.specs.Objects as obj
-use Rattle.tc_stmt.specs.RowFields.{ReferenceData}
+use Rattle.tc_stmt.specs.Items.{ReferenceData}
 use Rattle.tc_reloc.specs.declared.refusals.RelocErr.{RelocErr}
 use Rattle.tc_reloc.specs.Refusals.{refusal_of}
-use Rattle.tc_reloc.specs.Fields.{content_of}
-use Rattle.tc_reloc.specs.Applied.{with_field}
+use Rattle.tc_reloc.specs.Fields.{content_of, with_field}
 use Rattle.tc_stmt.specs.Lines.{lines_in, items_in}
-use Rattle.tc_asm.specs.Symbols.{SymbolData}
+use Rattle.tc_asm.specs.Symbols.{SymbolData, number_of}
 use Rattle.tc_asm.specs.Drafts.{UseData, PartData, start}
 use Rattle.tc_isa.specs.Relocations.{is_reloc}
-use Rattle.tc_asm.specs.Sources.{KeepsRules, symbols_of, draft_in}
+use Rattle.tc_asm.specs.DraftedSources.{KeepsRules, symbols_of, draft_in}
 use Rattle.tc_asm.specs.Rules.{items_rule}
 use Rattle.tc_asm.specs.DraftInvariants.{is_among, symbol_names, IsUse, IsPart}
-use Rattle.tc_asm.specs.Objects.{section_of, symbol_of, number_of, addend_of, reloc_of, relocs_from, object_of}
+use Rattle.tc_asm.specs.Objects.{section_of, symbol_of, addend_of, reloc_of, relocs_from, object_of}
 use Rattle.tc_asm.specs.Statements.{StatementData, section_bytes, offset_of, bytes_at, statements_in, is_open}
 use Rattle.tc_asm.proofs.LaidLaws.{drafted-bytes, stands}
 use Rattle.tc_asm.proofs.ListLaws.{position_first}
-use Rattle.tc_link.specs.Layouts.{PlaceData, LayoutData, IsLayout, place_of}
-use Rattle.tc_link.specs.Placing.{PlacedData, GlobalData, bases_after, globals_of}
+use Rattle.tc_link.specs.Layouts.{PlaceData, LayoutData, IsLayout}
+use Rattle.tc_link.specs.Placing.{place_of, PlacedData, bases_after, placed_of}
+use Rattle.tc_link.specs.Names.{GlobalData, globals_of}
 use Rattle.tc_link.specs.PlaceSizes.{round_up, taken_bytes}
-use Rattle.tc_link.specs.Relocated.{symbol_address, relocated_sections, field_place, value_of, reloc_refusal}
+use Rattle.tc_link.specs.Relocated.{symbol_address, relocated_sections, field_place, value_of, contents_of}
+use Rattle.tc_link.specs.Refusals.{reloc_refusal, Refusal, reloc, missing_in, is_used, has_symbol, refusal_at, reloc_in, first_at, refused_early}
 use Rattle.tc_link.specs.Placing as placing
 use Rattle.tc_link.specs.Segments.{joined_sections, segment_of, segments_of}
-use Rattle.tc_link.specs.Linked.{placed_of, contents_of, refused_early}
-use Rattle.tc_link.specs.Refusals.{Refusal, reloc, missing_in, is_used, has_symbol, refusal_at, reloc_in, first_at}
 use Rattle.tc_link.specs.Shapes.{Shape, shape_of}
 use Rattle.tc_link.proofs.ShapeLaws.{taken-shapes}
 use Rattle.tc_link.proofs.RelocLaws.{relocated_shapes, contents_shapes}
 use Rattle.tc_link.proofs.ImageLaws.{KeepsLimits}
 use Rattle.tc_link.proofs.LinkLaws.{linked_image}
 use Rattle.tc_program.specs.Addresses.{Begins, Means}
-use Rattle.tc_program.specs.Placed.{value_at, plain, filled, HoldsFrom, StandsAt}
-use Rattle.tc_program.specs.Laws.{AreAssembled}
+use Rattle.tc_program.specs.Placed.{value_at, plain, filled, StandsAt}
+use Rattle.tc_program.specs.PlacementLaws.{AreAssembled}
 use Rattle.tc_stmt.proofs.ListItems.{IsIn, get_front, get_behind, map_get, map_take, filter_in, find_at, flat_parted}
 use Rattle.tc_asm.proofs.SourceParts.{sections_are, part_bytes, part_is, have}
 use Rattle.tc_program.proofs.Sections.{object_at}

@@ -16,10 +16,10 @@ use Rattle.tc_asm.specs.DraftInvariants.{IsDraft}
 use Rattle.tc_asm.specs.Objects.{symbol_at, symbol_of, object_of}
 use Rattle.tc_link.specs.Layouts.{PlaceData}
 use Rattle.tc_link.specs.Refusals.{Refusal, missing, first_at, is_used, missing_of, missing_in, no_place_in}
-use Rattle.tc_link.specs.Names.{has_global_name, globals_named, symbols_of}
-use Rattle.tc_link.specs.Placing.{GlobalData, placed_after, bases_after, is_global, global_data, globals_of, global_address, address_in}
+use Rattle.tc_link.specs.Names.{has_global_name, globals_named, symbols_of, GlobalData, is_global, global_data, globals_of, global_address}
+use Rattle.tc_link.specs.Placing.{placed_after, bases_after, address_in}
 use Rattle.tc_link.specs.Relocated.{symbol_address}
-use Rattle.tc_asm.specs.Sources.{draft_in, symbols_in}
+use Rattle.tc_asm.specs.DraftedSources.{draft_in, symbols_in}
 use Rattle.tc_program.specs.Addresses.{Means, own, other}
 use Rattle.tc_stmt.proofs.ListItems.{map_get}
 use Rattle.tc_program.proofs.Bases.{none_at, none_parts}

@@ -8,20 +8,21 @@ use Rattle.std.proofs.lemmas.Slice.Eq.{bytes_eq-Decides}
 use Rattle.elf_image.specs.Images.{SegmentData, ImageData, byte_in, image_byte}
 use Rattle.tc_object.specs.Objects.{SectionData, ObjectData}
 use Rattle.tc_stmt.specs.Lines.{lines_in}
-use Rattle.tc_asm.specs.Sources.{symbols_of, draft_in}
+use Rattle.tc_asm.specs.DraftedSources.{symbols_of, draft_in}
 use Rattle.tc_asm.specs.Objects.{section_of}
 use Rattle.tc_asm.specs.Statements.{StatementData, section_bytes, offset_of, statements_in, sections_in}
 use Rattle.tc_asm.proofs.LaidLaws.{drafted-bytes}
-use Rattle.tc_link.specs.Layouts.{PlaceData, LayoutData, IsLayout, place_of}
-use Rattle.tc_link.specs.Placing.{globals_of}
+use Rattle.tc_link.specs.Layouts.{PlaceData, LayoutData, IsLayout}
+use Rattle.tc_link.specs.Placing.{place_of, placed_of}
+use Rattle.tc_link.specs.Names.{globals_of}
 use Rattle.tc_link.specs.PlaceSizes.{round_up, taken_bytes}
 use Rattle.tc_link.specs.Segments.{segment_of, segments_of}
-use Rattle.tc_link.specs.Linked.{placed_of, contents_of}
+use Rattle.tc_link.specs.Relocated.{contents_of}
 use Rattle.tc_link.specs.Shapes.{shape_of}
 use Rattle.tc_link.proofs.RelocLaws.{contents_shapes}
 use Rattle.tc_program.specs.Addresses.{sections_of, Begins}
 use Rattle.tc_program.specs.Placed.{IsCovered}
-use Rattle.tc_program.specs.Laws.{AreAssembled}
+use Rattle.tc_program.specs.PlacementLaws.{AreAssembled}
 use Rattle.tc_stmt.proofs.ListItems.{FlatAt, flat_at, map_at, filter_at}
 use Rattle.tc_asm.proofs.SourceParts.{sections_are, part_bytes}
 use Rattle.tc_program.proofs.Sections.{all_sections}

@@ -6,8 +6,9 @@ use Rattle.tc_object.specs.Objects.{SectionData}
 use Rattle.tc_asm.specs.declared.symbols.Place.{Place}
 use Rattle.tc_asm.specs.Symbols.{entry_of, place_in}
 use Rattle.tc_asm.specs.Statements.{sections_in}
-use Rattle.tc_asm.specs.Sources.{symbols_in}
-use Rattle.tc_link.specs.Layouts.{PlaceData, place_of}
+use Rattle.tc_asm.specs.DraftedSources.{symbols_in}
+use Rattle.tc_link.specs.Layouts.{PlaceData}
+use Rattle.tc_link.specs.Placing.{place_of}
 use Rattle.tc_link.specs.PlaceSizes.{round_up, taken_bytes}
 
 -- the sections of all sources, in order

@@ -1,4 +1,4 @@
 -- Programs: sources that are assembled and linked to an image.
 pub mod Addresses
 pub mod Placed
-pub mod Laws
+pub mod PlacementLaws

@@ -1,17 +1,18 @@
 -- The addresses of the statements of sources in an image that was linked from them.
 use Rattle.std.specs.Prelude.{◌≡◌, ◌≤◌, ◌<◌, ◌+◌, ◌%◌, ◌^◌, ◌⊎◌, nat_lt, ℕ, true, false, List, length, map, filter, slice_get, Some, None}
-use Rattle.elf_image.specs.Images.{SegmentData, ImageData, image_byte}
+use Rattle.elf_image.specs.Images.{SegmentData, ImageData, image_byte, HoldsFrom}
 use Rattle.tc_isa.specs.Relocations.{is_reloc}
 use Rattle.tc_reloc.specs.Refusals.{refusal_of}
-use Rattle.tc_reloc.specs.Fields.{content_of}
-use Rattle.tc_reloc.specs.Applied.{with_field}
-use Rattle.tc_stmt.specs.RowFields.{ReferenceData}
+use Rattle.tc_reloc.specs.Fields.{content_of, with_field}
+use Rattle.tc_stmt.specs.Items.{ReferenceData}
 use Rattle.tc_object.specs.Objects.{SectionData}
 use Rattle.tc_asm.specs.Objects.{addend_of}
 use Rattle.tc_asm.specs.Statements.{StatementData, offset_of, statements_in, is_open}
 use Rattle.tc_link.specs.Layouts.{PlaceData, LayoutData}
 use Rattle.tc_link.specs.PlaceSizes.{taken_bytes}
 use Rattle.tc_program.specs.Addresses.{sections_of, Begins, HasGlobal, Means}
+use Rattle.tc_asm.specs.InstructionLaws.{Spells}
+use Rattle.tc_asm.specs.ShortJumps.{displacement}
 
 -- ---- bytes
 -- the number to write into the field of a symbol
@@ -27,10 +28,6 @@ pub data BytesAt (places : List PlaceData) (sources : List (List ℕ)) (number :
       (r : ReferenceData) (address : ℕ) → t.reference ≡ Some r → is_reloc r.kind ≡ true → length t.bytes ≡ 4 → Means places sources number r.name address
       → refusal_of r.kind at (value_at address r) ≡ None
       → BytesAt places sources number t at (with_field r.kind t.bytes (content_of r.kind at (value_at address r)))
-
--- the image has these bytes from an address on
-abbrev pub HoldsFrom : ImageData → ℕ → List ℕ → Type 0
-HoldsFrom image at bytes = (k b : ℕ) → slice_get bytes k ≡ Some b → image_byte image (at + k) ≡ Some b
 
 -- The statement with this index is after the earlier ones of its section.
 pub record StandsAt (places : List PlaceData) (sources : List (List ℕ)) (image : ImageData) (number index : ℕ) (ts : List StatementData) (t : StatementData) : Type 0 where
@@ -78,3 +75,13 @@ pub record Placed (sources : List (List ℕ)) (layout : LayoutData) (image : Ima
       → StandsAt layout.places sources image number index (statements_in source) t
   pub zero : (q b : ℕ) → image_byte image q ≡ Some b → IsCovered layout.places sources q ⊎ (b ≡ 0)
   pub entry : HasGlobal layout.places sources layout.entry image.entry
+
+-- A jump or call of 16 bits with these bytes, at an address of the image. It spells an instruction,
+-- whose displacement goes from there to the address of its name in the source, plus the number that
+-- is added.
+pub record Reaches (places : List PlaceData) (sources : List (List ℕ)) (number : ℕ) (r : ReferenceData) (at : ℕ) (bytes : List ℕ) : Type 0 where
+  pub place : ℕ
+  pub spells : Spells place bytes
+  pub address : ℕ
+  pub means : Means places sources number r.name address
+  pub is : (at + displacement spells.row spells.fields) % 2 ^ 32 ≡ value_at address r

@@ -1,5 +1,5 @@
 // Public laws of sources and of the images that are linked from their objects.
-ghost use Rattle.tc_program.specs.Laws.{SegmentsLaw, EntryLaw, SymbolsLaw, FieldsLaw, JumpsLaw, PlacedLaw};
+ghost use Rattle.tc_program.specs.PlacementLaws.{SegmentsLaw, EntryLaw, SymbolsLaw, FieldsLaw, JumpsLaw, PlacedLaw};
 
 /// Laws of an image that is linked from the objects of sources, if the sources break no rule.
 ///

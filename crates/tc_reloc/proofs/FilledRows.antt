@@ -4,18 +4,18 @@ use Rattle.std.specs.Prelude.{slice_get, not}
 use Rattle.std.specs.List.{list_all}
 use Rattle.std.proofs.lemmas.Bool.{and_parts, or_cases}
 use Rattle.std.proofs.lemmas.Bool.Decides.{Decides-eqb}
-use Rattle.tcd_base.specs.Bytes.{word_at, bytes_of_word}
+use Rattle.tcd_base.specs.Bytes.{word_at, bytes_of_word, four_bytes}
 use Rattle.tc_isa.specs.declared.fields.Fields.{Fields}
 use Rattle.tc_isa.specs.declared.table.Form.{Form}
 use Rattle.tc_isa.specs.declared.table.Form.TheVariants.{Rlc, Bol, Brr, Brc, B}
-use Rattle.tc_isa.specs.Rows.{RowData, listed}
-use Rattle.tc_isa.specs.Forms.{IsBelow, bounds, second_bound, word}
+use Rattle.tc_isa.specs.Rows.{RowData, listed, is_long}
+use Rattle.tc_isa.specs.Forms.{bounds, second_bound}
+use Rattle.tc_isa.specs.Spelling.{word, spelling_of, spelling, word_of}
+use Rattle.tc_isa.specs.InBounds.{IsBelow}
 use Rattle.tc_isa.specs.declared.fields.Uses.{Uses}
-use Rattle.tc_isa.specs.ValidRows.{uses_of, rest_is_zero, Fits, IsRow, is_long}
-use Rattle.tc_isa.specs.Spelling.{four_bytes, spelling_of, spelling, word_of}
+use Rattle.tc_isa.specs.ValidRows.{uses_of, rest_is_zero, Fits, IsRow}
 use Rattle.tc_isa.proofs.TableFacts.{row_at}
-use Rattle.tc_reloc.specs.Fields.{room_of, spread_of, rest_of}
-use Rattle.tc_reloc.specs.Applied.{with_field}
+use Rattle.tc_reloc.specs.Fields.{room_of, spread_of, rest_of, with_field}
 use Rattle.tc_isa.specs.Relocations.{fills}
 use Rattle.tc_reloc.specs.FillingLaws.{FitsLaw, WrittenLaw}
 

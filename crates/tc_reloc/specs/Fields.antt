@@ -1,8 +1,9 @@
 -- The number that a relocation writes, and the bits of the little-endian word that hold it.
 -- The fields are those of the TriCore 1 architecture manual, volume 2, instruction formats.
-use Rattle.std.specs.Prelude.{◌+◌, ◌*◌, ◌/◌, ◌%◌, ◌^◌, ◌==◌, ◌||◌, if◌then◌else◌, ℕ}
+use Rattle.std.specs.Prelude.{◌+◌, ◌*◌, ◌/◌, ◌%◌, ◌^◌, ◌==◌, ◌||◌, if◌then◌else◌, ℕ, List, take, drop}
 use Rattle.tc_isa.specs.Relocations.{rel24, abs24, rel15, hi16, lo16, offset16, word32}
 use Rattle.tc_reloc.specs.Refusals.{distance}
+use Rattle.tcd_base.specs.Bytes.{word_at, bytes_of_word}
 
 -- the number in the field
 unfoldable pub content_of : ℕ → ℕ → ℕ → ℕ
@@ -50,3 +51,11 @@ rest_of kind w =
     else if kind == hi16 || kind == lo16 then w % 2 ^ 12 + w / 2 ^ 28 * 2 ^ 28
     else if kind == offset16 then w % 2 ^ 16
     else 0
+
+-- the four bytes at an offset
+abbrev pub field_at : List ℕ → ℕ → List ℕ
+field_at bytes at = take 4 (drop at bytes)
+
+-- four bytes with a number in the field of this kind; all other bits keep their values
+abbrev pub with_field : ℕ → List ℕ → ℕ → List ℕ
+with_field kind field k = bytes_of_word (rest_of kind (word_at field 0) + spread_of kind k)

@@ -1,12 +1,11 @@
 -- Relocations and the instructions whose constants they fill.
 use Rattle.std.specs.Prelude.{◌≡◌, ◌<◌, ℕ, true, slice_get, Some}
 use Rattle.tc_isa.specs.declared.fields.Fields.{Fields}
-use Rattle.tc_isa.specs.Rows.{RowData, listed}
-use Rattle.tc_isa.specs.ValidRows.{Fits, is_long}
+use Rattle.tc_isa.specs.Rows.{RowData, listed, is_long}
+use Rattle.tc_isa.specs.ValidRows.{Fits}
 use Rattle.tc_isa.specs.Spelling.{spelling}
 use Rattle.tc_isa.specs.Relocations.{fills}
-use Rattle.tc_reloc.specs.Fields.{room_of}
-use Rattle.tc_reloc.specs.Applied.{with_field}
+use Rattle.tc_reloc.specs.Fields.{room_of, with_field}
 
 -- the instruction of a listed row with another constant
 abbrev pub with_constant : Fields → ℕ → Fields

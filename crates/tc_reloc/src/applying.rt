@@ -4,6 +4,7 @@ ghost use Rattle.tcd_base.specs.Bytes.{word_at};
 ghost use Rattle.tc_reloc.specs.Fields.{content_of, rest_of, spread_of};
 ghost use Rattle.tc_reloc.specs.Held.{held_of, reached_by};
 ghost use Rattle.tc_reloc.specs.Applied.{applied};
+ghost use Rattle.tc_reloc.specs.Refusals.{distance};
 
 use crate::fields::{content, rest, spread};
 use crate::refusals::{RelocErr, refusal};
@@ -44,4 +45,11 @@ fn fill_field(kind: u8, word: u32, place: u32, value: u32) -> u32
         return value;
     }
     rest(kind, word) + spread(kind, content(kind, place, value))
+}
+
+/// The distance from a place to a value, modulo 2^32.
+pub(crate) fn distance(place: u32, value: u32) -> u32
+    ensures { result ≡ distance place value }
+{
+    value.wrapping_sub(place)
 }

@@ -2,7 +2,7 @@
 ghost use Rattle.std.specs.Prelude.{◌≡◌, ◌<◌};
 ghost use Rattle.tc_reloc.specs.Fields.{content_of, rest_of, spread_of, room_of};
 
-use crate::refusals::distance;
+use crate::applying::distance;
 use tc_isa::{ABS24, HI16, LO16, OFFSET16, REL15, REL24};
 
 /// The number that goes into the field.

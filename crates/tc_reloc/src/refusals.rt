@@ -2,6 +2,7 @@
 ghost use Rattle.std.specs.Prelude.{◌≡◌, ◌≤◌};
 ghost use Rattle.tc_reloc.specs.Refusals.{distance, is_near, refusal_of};
 
+use crate::applying::distance;
 use tc_isa::{ABS24, REL15, REL24};
 
 /// Why a value can't be written into its field, in the order of the tests.
@@ -13,13 +14,6 @@ pub enum RelocErr {
     FarOff,
     /// 3: an absolute jump to an address that its field can't hold, since a bit of 27:21 is set.
     Segment,
-}
-
-/// The distance from a place to a value, modulo 2^32.
-pub(crate) fn distance(place: u32, value: u32) -> u32
-    ensures { result ≡ distance place value }
-{
-    value.wrapping_sub(place)
 }
 
 // Whether half of a distance is a signed number of `bits` bits.

@@ -5,8 +5,7 @@ use Rattle.std.proofs.lemmas.Bool.{cond-true, cond-false}
 use Rattle.tcd_plan.specs.declared.plans.Device.{Device}
 use Rattle.tc_script.specs.declared.scripts.AnswerRange.{AnswerRange}
 use Rattle.tcd_base.specs.Ranges.{is_within}
-use Rattle.tc_script.specs.ScriptData.{answer_of}
-use Rattle.tc_script.specs.ScriptRuns.{answer_at}
+use Rattle.tc_script.specs.Ports.{answer_of, answer_at}
 
 -- what a slice of devices reads as past its end
 abbrev pub no_device : Device

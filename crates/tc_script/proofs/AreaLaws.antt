@@ -3,10 +3,10 @@ use Rattle.std.proofs.Common.{◌≡◌, ◌≢◌, ℕ, zero, suc, ◌+◌, ◌
 use Rattle.std.specs.Bool.{OnTrue}
 use Rattle.std.specs.Option.{option_map}
 use Rattle.std.proofs.lemmas.Bool.{cond_both, cond-true, cond-false, eqb-false}
-use Rattle.csa_chain.specs.Memory.{Memory, with_words, with_bytes, load_number, extend}
+use Rattle.csa_chain.specs.MemoryBytes.{Memory, with_words, with_bytes, load_number, extend}
 use Rattle.csa_chain.specs.Chain.{link_in, link_address, is_area, area_word, chain}
-use Rattle.csa_chain.specs.ChainChanges.{MissesAreas}
-use Rattle.csa_chain.specs.Contexts.{pcxi_word_of}
+use Rattle.csa_chain.specs.ChainLaws.{MissesAreas}
+use Rattle.csa_chain.specs.ContextWords.{pcxi_word_of}
 use Rattle.csa_chain.proofs.ChainLaws.{Links, Avoids, chain_within-Links, Links-chain_within, used_after_save, used_after_restore}
 use Rattle.csa_chain.proofs.ContextLaws.{link_in-pcxi_word, link_in-lt}
 use Rattle.csa_chain.proofs.ChainMoves.{store_misses}
@@ -22,18 +22,18 @@ use Rattle.tc_machine.specs.declared.events.Event.{Event}
 use Rattle.tc_machine.specs.declared.events.End.{End}
 use Rattle.tc_machine.specs.declared.events.End.TheVariants.{Running, Dead}
 use Rattle.tc_machine.specs.declared.state.Machine.{Machine}
-use Rattle.tc_machine.specs.Machine.{reg, with_reg, with_status, advanced, died, then_, goes_on}
-use Rattle.tc_machine.specs.Contexts.{context_of, saved, save, has_kind, restored, restore}
+use Rattle.tc_machine.specs.Machine.{reg, with_reg, died, then_, goes_on}
+use Rattle.tc_machine.specs.Instructions.{with_status, advanced, does, misaligned, with_base, access_address, traps_at}
+use Rattle.tc_machine.specs.Stepping.{interrupt, is_taken, executed, done, step, used_of}
+use Rattle.tc_machine.specs.SavesAndRestores.{context_of, saved, save, has_kind, restored, restore}
 use Rattle.tc_machine.specs.Fetching.{fetched, mapped_bytes, shaped}
-use Rattle.tc_machine.specs.Instructions.{does, interrupt, misaligned, with_base, access_address, traps_at}
-use Rattle.tc_machine.specs.Stepping.{is_taken, executed, done, step, used_of}
-use Rattle.tc_machine.specs.Kinds.{keeps_of}
+use Rattle.tc_machine.specs.InstructionKinds.{keeps_of}
 use Rattle.tc_machine.proofs.Kept.{Same, same_does}
 use Rattle.tc_machine.proofs.Saves.{then_-running, length-context_of}
 use Rattle.tc_script.specs.declared.area_counts.AreasUsed.{AreasUsed}
 use Rattle.tc_script.specs.declared.area_counts.Effect.{Effect}
 use Rattle.tc_script.specs.declared.area_counts.Effect.TheVariants.{Stays, Saves, Restores, Unknown}
-use Rattle.tc_script.specs.AreaRows.{row_of, AreInRow, IsCounted, HasSaved, HasRestored, HasStored, HasStayed, EffectHolds, IsEffectOf}
+use Rattle.tc_script.specs.AreasInSequence.{row_of, AreInRow, IsCounted, HasSaved, HasRestored, HasStored, HasStayed, EffectHolds, IsEffectOf}
 
 -- ---- rows
 row_length : (first n : ℕ) → length (row_of first n) ≡ n

@@ -11,11 +11,9 @@ use Rattle.tcd_plan.specs.PlanData.{PlanData, IsPlan, ranges_apart, all_apart, a
 use Rattle.tcd_base.specs.Ranges.{IsWithin, is_within}
 use Rattle.tcd_plan.proofs.ApartLaws.{all_apart-behind}
 use Rattle.tc_script.specs.declared.scripts.AnswerRange.{AnswerRange}
-use Rattle.tc_script.specs.Fitting.{AreInside}
-use Rattle.tc_script.specs.Ports.{IsBounded}
-use Rattle.tc_script.specs.Runs.{Answers}
-use Rattle.tc_script.specs.ScriptData.{answer_of}
-use Rattle.tc_script.specs.ScriptRuns.{answer_at}
+use Rattle.tc_script.specs.ScriptsFitPlans.{AreInside}
+use Rattle.tc_script.specs.Ports.{IsBounded, answer_at, answer_of}
+use Rattle.tc_script.specs.DrivenRuns.{Answers}
 use Rattle.tcd_base.proofs.RangeLaws.{within_true, true_within}
 use Rattle.tc_script.proofs.Only.{AnswersBy}
 

@@ -25,7 +25,7 @@ use Rattle.tc_machine.specs.Stepping.{where_running, load_in, load_at_pc, next_l
 use Rattle.tc_machine.proofs.ShapeWords.{IsSize, IsShape, shape_of-suits}
 use Rattle.tc_script.specs.declared.scripts.Turn.{Turn}
 use Rattle.tc_script.specs.Ports.{IsAskable, IsBounded}
-use Rattle.tc_script.specs.Runs.{Answers, IsInput, IsEventOf}
+use Rattle.tc_script.specs.DrivenRuns.{Answers, IsInput, IsEventOf}
 use Rattle.tcd_plan.specs.Regions.{IsInDevice, AnswersAt, AnswersLoad}
 
 -- ---- ranges

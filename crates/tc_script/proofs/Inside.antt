@@ -10,7 +10,7 @@ use Rattle.std.proofs.lemmas.List.Elements.{All-nil, All-append, All-replicate}
 use Rattle.tcd_text.specs.Lines.{words_of}
 use Rattle.tcd_text.proofs.LineLaws.{more_words}
 use Rattle.tcd_plan.specs.declared.plans.Device.{Device}
-use Rattle.tcd_plan.specs.PlanData.{PlanData, IsPlan, is_device, is_range}
+use Rattle.tcd_plan.specs.PlanData.{PlanData, IsPlan, is_device, is_range, is_source}
 use Rattle.tc_script.specs.declared.errors.ScriptErr.{ScriptErr}
 use Rattle.tc_script.specs.declared.errors.ScriptErr.TheVariants.{OutOfRange}
 use Rattle.tc_script.specs.declared.reading.Draft.{Draft}
@@ -19,8 +19,9 @@ use Rattle.tc_script.specs.declared.statements.Statement.{Statement}
 use Rattle.tc_script.specs.declared.statements.Statement.TheVariants.{Step, Irq, Aln, In}
 use Rattle.tc_script.specs.Numbers.{number_of}
 use Rattle.tc_script.specs.Statements.{some_if, of_one_number, of_three_numbers, statement_of, is_blank, IsOrdered}
-use Rattle.tc_script.specs.Fitting.{AreInside, FitsPlan}
-use Rattle.tc_script.specs.Reading.{own_bounds, begun, with_turns, is_source, holds_bounds, with_bounds, stated, if_said, line_read, then_read, lines_read}
+use Rattle.tc_script.specs.ScriptsFitPlans.{AreInside, FitsPlan}
+use Rattle.tc_script.specs.ScriptText.{begun, with_turns, holds_bounds, with_bounds, stated, if_said, line_read, then_read, lines_read}
+use Rattle.tc_script.specs.Ports.{own_bounds}
 
 -- ---- bounds in order
 abbrev IsOrderedIf : Option Statement → Type 0

@@ -5,7 +5,7 @@ use Rattle.std.specs.Option.{option_eq}
 use Rattle.std.proofs.lemmas.Bool.{eqb-true, false≢true}
 use Rattle.std.proofs.lemmas.List.{get_or_default}
 use Rattle.std.proofs.lemmas.Grind.{get_or-set_at}
-use Rattle.csa_chain.specs.Memory.{Memory, HasBytes}
+use Rattle.csa_chain.specs.MemoryBytes.{Memory, HasBytes}
 use Rattle.tcd_base.specs.Bytes.{bytes_of_word}
 use Rattle.tc_isa.specs.declared.shapes.Shape.{Shape}
 use Rattle.tc_mem.specs.Blocks.{word_of}

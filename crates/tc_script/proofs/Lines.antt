@@ -5,7 +5,7 @@ use Rattle.tcd_plan.specs.PlanData.{PlanData}
 use Rattle.tc_script.specs.declared.errors.ScriptErr.{ScriptErr}
 use Rattle.tc_script.specs.declared.errors.ScriptErr.TheVariants.{NoMemory}
 use Rattle.tc_script.specs.declared.reading.Draft.{Draft}
-use Rattle.tc_script.specs.Reading.{line_read, then_read, lines_read, script_in, Refuses, Gives}
+use Rattle.tc_script.specs.ScriptText.{line_read, then_read, lines_read, script_in, Refuses, Gives}
 
 lines_read-cons : (plan : PlanData) (n : ℕ) (line : List ℕ) (lines : List (List ℕ)) (d : Draft) → lines_read plan n (line ∷ lines) d ≡ then_read (line_read plan n line d) (λ d. lines_read plan (n + 1) lines d)
 unfolding lines_read

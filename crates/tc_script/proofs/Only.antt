@@ -15,8 +15,10 @@ use Rattle.tc_script.specs.declared.scripts.Turn.{Turn}
 use Rattle.tc_script.specs.declared.scripts.AnswerRange.{AnswerRange}
 use Rattle.tc_script.specs.ScriptData.{ScriptData}
 use Rattle.tcd_base.specs.Ranges.{is_within}
-use Rattle.tc_script.specs.Runs.{Answers, IsInput, IsEventOf, IsDead, ScriptedRun, peak_of, IsDriven}
-use Rattle.tc_script.specs.ScriptRuns.{answer_at, input_of, event_of, while_running, events_of, answers_by, IsOfScript, HasOneRun, IsScriptRun}
+use Rattle.tc_script.specs.DrivenRuns.{Answers, IsInput, IsEventOf, ScriptedRun, peak_of, IsDriven}
+use Rattle.tc_machine.specs.Machine.{IsDead}
+use Rattle.tc_script.specs.ScriptRuns.{input_of, event_of, while_running, events_of, answers_by, IsOfScript, HasOneRun, IsScriptRun}
+use Rattle.tc_script.specs.Ports.{answer_at}
 use Rattle.tc_script.proofs.Events.{inside, in_one-true}
 
 -- the answers are those of the script

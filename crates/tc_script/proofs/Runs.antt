@@ -8,7 +8,8 @@ use Rattle.tc_machine.specs.Stepping.{step, run, used_of}
 use Rattle.tc_machine.specs.Safe.{Fits, AllFit}
 use Rattle.tc_script.specs.declared.driving.Peak.{Peak}
 use Rattle.tc_script.specs.declared.scripts.Turn.{Turn}
-use Rattle.tc_script.specs.Runs.{Answers, IsEventOf, IsDead, ScriptedRun, peak_of, IsDriven}
+use Rattle.tc_script.specs.DrivenRuns.{Answers, IsEventOf, ScriptedRun, peak_of, IsDriven}
+use Rattle.tc_machine.specs.Machine.{IsDead}
 
 run-push : (m : Machine) (es : List Event) (e : Event) → run m (es ++ e ∷ []) ≡ step (run m es) e
 run-push m [] e = refl

@@ -13,7 +13,7 @@ use Rattle.tcd_plan.specs.declared.plans.Device.{Device}
 use Rattle.tc_script.specs.declared.scripts.Turn.{Turn}
 use Rattle.tc_script.specs.declared.scripts.AnswerRange.{AnswerRange}
 use Rattle.tc_script.specs.ScriptData.{IsScript}
-use Rattle.tc_script.specs.Reading.{own_bounds}
+use Rattle.tc_script.specs.Ports.{own_bounds}
 
 -- a script before its first line
 pub IsScript-begun : (ts : List Turn) (ds : List Device) (bs : List AnswerRange) → ts ≡ [] → bs ≡ map own_bounds ds → length ds ≤ 16 → IsScript ts bs

@@ -1,7 +1,7 @@
 -- A cache of decoded words of code.
 use Rattle.std.specs.Prelude.{◌≡◌, ℕ, List, Result, IfSome, IfOk, slice_index_or}
 use Rattle.tcd_base.specs.Bytes.{bytes_of_word}
-use Rattle.tc_isa.specs.Bounded.{IsShape}
+use Rattle.tc_isa.specs.InBounds.{IsShape}
 use Rattle.tc_isa.specs.declared.shapes.Shape.{Shape}
 use Rattle.tc_machine.specs.declared.events.Cause.{Cause}
 use Rattle.tc_encode.specs.Decoding.{decoded_of}

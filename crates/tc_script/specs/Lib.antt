@@ -2,10 +2,10 @@
 pub mod Numbers
 pub mod Statements
 pub mod ScriptData
-pub mod Reading
-pub mod Fitting
+pub mod ScriptText
+pub mod ScriptsFitPlans
 pub mod Ports
-pub mod Runs
+pub mod DrivenRuns
 pub mod ScriptRuns
-pub mod AreaRows
+pub mod AreasInSequence
 pub mod KnownWords

@@ -1,5 +1,5 @@
 -- A script as plain data.
-use Rattle.std.specs.Prelude.{ℕ, ◌+◌, ◌-◌, ◌%◌, ◌≤◌, List, length, All}
+use Rattle.std.specs.Prelude.{◌≤◌, List, length, All}
 use Rattle.tc_script.specs.declared.scripts.Turn.{Turn}
 use Rattle.tc_script.specs.declared.scripts.AnswerRange.{AnswerRange}
 
@@ -13,7 +13,3 @@ pub record IsScript (turns : List Turn) (bounds : List AnswerRange) : Type 0 whe
   pub few : length turns ≤ 100000
   pub few_devices : length bounds ≤ 16
   pub ordered : All (λ b. b.lo ≤ b.hi) bounds
-
--- the answer at an event, numbered from 0: the words from lo to hi, in turn and over again
-abbrev pub answer_of : AnswerRange → ℕ → ℕ
-answer_of b t = b.lo + t % (b.hi - b.lo + 1)

@@ -1,5 +1,5 @@
 -- Runs by a script that answers for the devices: there is one list of events.
-use Rattle.std.specs.Prelude.{◌≡◌, ℕ, ◌+◌, if◌then◌else◌, List, [], ◌∷◌, length, Option, Some, None}
+use Rattle.std.specs.Prelude.{◌≡◌, ℕ, ◌+◌, if◌then◌else◌, List, ◌∷◌, length, Option, Some, None, []}
 use Rattle.std.specs.List.{list_any}
 use Rattle.tcd_plan.specs.declared.plans.Device.{Device}
 use Rattle.tcd_plan.specs.PlanData.{PlanData}
@@ -12,15 +12,10 @@ use Rattle.tc_machine.specs.Safe.{AllFit}
 use Rattle.tc_script.specs.declared.driving.Peak.{Peak}
 use Rattle.tc_script.specs.declared.scripts.Turn.{Turn}
 use Rattle.tc_script.specs.declared.scripts.AnswerRange.{AnswerRange}
-use Rattle.tc_script.specs.ScriptData.{ScriptData, answer_of}
+use Rattle.tc_script.specs.ScriptData.{ScriptData}
 use Rattle.tcd_base.specs.Ranges.{is_within}
-use Rattle.tc_script.specs.Runs.{Answers, ScriptedRun, peak_of}
-
--- what the device at the address answers at an event, 0 if no device is there
-abbrev pub answer_at : List Device → List AnswerRange → ℕ → ℕ → ℕ
-answer_at [] bounds x t = 0
-answer_at (d ∷ ds) [] x t = 0
-answer_at (d ∷ ds) (b ∷ bs) x t = if is_within x 1 d.range then answer_of b t else answer_at ds bs x t
+use Rattle.tc_script.specs.DrivenRuns.{Answers, ScriptedRun, peak_of}
+use Rattle.tc_script.specs.Ports.{answer_at}
 
 -- the input at an event: the answer at the load's address if the load is wholly inside one device
 -- range, else 0

@@ -1,13 +1,13 @@
 // Counts the save areas in use, event by event.
 // A recount of the chain is needed only if the effect of an event isn't known.
 ghost use Rattle.std.specs.Prelude.{◌≡◌, ◌<◌, ◌^◌, ◌+◌, ◌*◌, true, false, IfOk, unwrap_or};
-ghost use Rattle.tc_isa.specs.Bounded.{IsShape, IsSize};
+ghost use Rattle.tc_isa.specs.InBounds.{IsShape, IsSize};
 ghost use Rattle.tc_encode.specs.Decoding.{decoded_of};
 ghost use Rattle.tc_machine.specs.declared.state.Machine.{Machine};
 ghost use Rattle.tc_machine.specs.Fetching.{mapped_bytes, shaped};
 ghost use Rattle.tc_machine.specs.Instructions.{traps_at};
 ghost use Rattle.tc_machine.specs.Stepping.{step, used_of, is_taken};
-ghost use Rattle.tc_script.specs.AreaRows.{IsCounted, HasSaved, HasRestored, HasStored, HasStayed, EffectHolds, IsEffectOf};
+ghost use Rattle.tc_script.specs.AreasInSequence.{IsCounted, HasSaved, HasRestored, HasStored, HasStayed, EffectHolds, IsEffectOf};
 
 use csa_chain::address_of;
 use tc_isa::Shape;

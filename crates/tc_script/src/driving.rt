@@ -1,16 +1,17 @@
 // Drives the machine by the turns of a script.
-ghost use Rattle.std.specs.Prelude.{◌≡◌, ◌≤◌, ◌<◌, ◌^◌, Some, IfSome, IfOk};
+ghost use Rattle.std.specs.Prelude.{◌≡◌, ◌<◌, ◌^◌, IfOk};
 ghost use Rattle.std.specs.Bool.{MatchBool};
-ghost use Rattle.tc_isa.specs.Bounded.{IsShape};
+ghost use Rattle.tc_isa.specs.InBounds.{IsShape};
 ghost use Rattle.tc_encode.specs.Decoding.{decoded_of};
 ghost use Rattle.tc_machine.specs.Fetching.{mapped_bytes, shaped};
-ghost use Rattle.tc_script.specs.Fitting.{HasSources};
+ghost use Rattle.tc_script.specs.ScriptsFitPlans.{HasSources};
 ghost use Rattle.tc_script.specs.Ports.{IsAskable, IsBounded};
-ghost use Rattle.tc_script.specs.Runs.{IsInput, IsEventOf, IsDead, IsDriven};
+ghost use Rattle.tc_script.specs.DrivenRuns.{IsEventOf, IsDriven};
+ghost use Rattle.tc_machine.specs.Machine.{IsDead};
 
 use crate::area_counts::{count_areas, effect_of_event, used_after};
 use crate::known_words::KnownWords;
-use crate::ports::Ports;
+use crate::ports::{Ports, input};
 use crate::{Script, Turn};
 use tc_isa::Shape;
 use tc_machine::{Cause, End, Event, Machine};
@@ -30,32 +31,6 @@ fn is_running(m: &Machine) -> bool
     match m.end {
         End::Running => true,
         End::Dead(_) => false,
-    }
-}
-
-/// Returns the input of an event with this load: the closure's answer if the load is wholly inside
-/// one device range, else 0.
-fn input_at<F: Fn(u32, u32) -> u32>(ports: &Ports<F>, addr: u32, size: u8, t: u32) -> u32
-    requires some { 1 ≤ size }
-    requires askable { IsAskable (F.pre ports.now.answer) ports.now.devices }
-    ensures { IsInput ports.now.devices (F.post ports.now.answer) t (Some (addr, size)) result }
-{
-    if ports.holds(addr, size) {
-        ports.ask(addr, t)
-    } else {
-        0
-    }
-}
-
-/// Returns the input of an event, 0 if it loads nothing.
-fn input<F: Fn(u32, u32) -> u32>(ports: &Ports<F>, load: Option<(u32, u8)>, t: u32) -> u32
-    requires some { IfSome load (λ l. 1 ≤ l.1) }
-    requires askable { IsAskable (F.pre ports.now.answer) ports.now.devices }
-    ensures { IsInput ports.now.devices (F.post ports.now.answer) t load result }
-{
-    match load {
-        Some((addr, size)) => input_at(ports, addr, size, t),
-        None => 0,
     }
 }
 

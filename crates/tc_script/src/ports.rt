@@ -1,9 +1,11 @@
 // The answers of devices: the ports that a run is driven with.
-ghost use Rattle.std.specs.Prelude.{◌≡◌, ◌<◌};
+ghost use Rattle.std.specs.Prelude.{◌≡◌, ◌<◌, ◌≤◌, Some, IfSome};
 ghost use Rattle.tcd_base.specs.Ranges.{is_within};
 ghost use Rattle.std.specs.List.{list_any};
-ghost use Rattle.tc_script.specs.Ports.{IsAskable, IsBounded};
+ghost use Rattle.tc_script.specs.Ports.{IsAskable, IsBounded, answer_of};
+ghost use Rattle.tc_script.specs.DrivenRuns.{IsInput};
 
+use crate::scripts::AnswerRange;
 use arrayvec::ArrayVec;
 use std::marker::Model;
 use tcd_plan::{Device, Plan};
@@ -59,4 +61,44 @@ impl<F: Fn(u32, u32) -> u32> Ports<F> {
     {
         (self.answer)(addr, t)
     }
+}
+
+/// Returns the input of an event with this load: the closure's answer if the load is wholly inside
+/// one device range, else 0.
+fn input_at<F: Fn(u32, u32) -> u32>(ports: &Ports<F>, addr: u32, size: u8, t: u32) -> u32
+    requires some { 1 ≤ size }
+    requires askable { IsAskable (F.pre ports.now.answer) ports.now.devices }
+    ensures { IsInput ports.now.devices (F.post ports.now.answer) t (Some (addr, size)) result }
+{
+    if ports.holds(addr, size) {
+        ports.ask(addr, t)
+    } else {
+        0
+    }
+}
+
+/// Returns the input of an event, 0 if it loads nothing.
+pub(crate) fn input<F: Fn(u32, u32) -> u32>(
+    ports: &Ports<F>,
+    load: Option<(u32, u8)>,
+    t: u32,
+) -> u32
+    requires some { IfSome load (λ l. 1 ≤ l.1) }
+    requires askable { IsAskable (F.pre ports.now.answer) ports.now.devices }
+    ensures { IsInput ports.now.devices (F.post ports.now.answer) t load result }
+{
+    match load {
+        Some((addr, size)) => input_at(ports, addr, size, t),
+        None => 0,
+    }
+}
+
+/// Returns the answer at an event, numbered from 0: the words from `lo` to `hi`, in turn and over
+/// again.
+pub(crate) fn answer(bounds: AnswerRange, at: u32) -> u32
+    requires { bounds.lo ≤ bounds.hi }
+    ensures { result ≡ answer_of bounds at }
+{
+    let count = u64::from(bounds.hi - bounds.lo) + 1;
+    (u64::from(bounds.lo) + u64::from(at) % count) as u32
 }

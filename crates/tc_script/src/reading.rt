@@ -1,9 +1,10 @@
 // Reads a script from the bytes of a file.
 ghost use Rattle.std.specs.Prelude.{◌≡◌, ◌<◌, ◌≤◌, ◌^◌, IsTrue, IfOk, length, map, slice_get};
-ghost use Rattle.tcd_plan.specs.PlanData.{IsPlan};
-ghost use Rattle.tc_script.specs.Fitting.{FitsPlan};
+ghost use Rattle.tcd_plan.specs.PlanData.{IsPlan, is_source};
+ghost use Rattle.tc_script.specs.ScriptsFitPlans.{FitsPlan};
 ghost use Rattle.tc_script.specs.Statements.{IsOrdered};
-ghost use Rattle.tc_script.specs.Reading.{own_bounds, begun, with_turns, is_source, holds_bounds, with_bounds, stated, line_read, Takes, script_of, Gives};
+ghost use Rattle.tc_script.specs.ScriptText.{begun, with_turns, holds_bounds, with_bounds, stated, line_read, Takes, script_of, Gives};
+ghost use Rattle.tc_script.specs.Ports.{own_bounds};
 
 use crate::statements::{Statement, statement_in};
 use crate::{AnswerRange, Script, ScriptErr, Turn};
@@ -92,7 +93,7 @@ impl Draft {
     }
 
     /// Applies a statement.
-    #[tactic(auto, unfolding(crate::specs::Reading::stated))]
+    #[tactic(auto, unfolding(crate::specs::ScriptText::stated))]
     fn state(&mut self, plan: &Plan, line: u32, said: Statement) -> Result<(), ScriptErr>
         requires ordered { IsOrdered said }
         requires devices { length self.old.script.bounds ≡ length plan.now.devices }

@@ -1,7 +1,8 @@
 // Drives the machine by a script that answers for the devices too.
 ghost use Rattle.std.specs.Prelude.{◌≡◌, length};
-ghost use Rattle.tc_script.specs.Fitting.{FitsPlan};
-ghost use Rattle.tc_script.specs.ScriptRuns.{answer_at, IsScriptRun};
+ghost use Rattle.tc_script.specs.ScriptsFitPlans.{FitsPlan};
+ghost use Rattle.tc_script.specs.ScriptRuns.{IsScriptRun};
+ghost use Rattle.tc_script.specs.Ports.{answer_at};
 
 use crate::{Peak, Ports, Script, drive};
 use tc_machine::Machine;

@@ -1,19 +1,10 @@
 // Scripts as data.
 ghost use Rattle.std.specs.Prelude.{◌≡◌, ◌<◌, ◌≤◌, length, slice_get, Some, option_map};
-ghost use Rattle.tc_script.specs.ScriptData.{answer_of};
+ghost use Rattle.tc_script.specs.Ports.{answer_of};
 
+use crate::ports::answer;
 use arrayvec::ArrayVec;
 use std::marker::Model;
-
-/// Returns the answer at an event, numbered from 0: the words from `lo` to `hi`, in turn and over
-/// again.
-fn answer(bounds: AnswerRange, at: u32) -> u32
-    requires { bounds.lo ≤ bounds.hi }
-    ensures { result ≡ answer_of bounds at }
-{
-    let count = u64::from(bounds.hi - bounds.lo) + 1;
-    (u64::from(bounds.lo) + u64::from(at) % count) as u32
-}
 
 /// A turn: the priority of the interrupt that is requested (0 for none), and whether a misaligned
 /// access traps.

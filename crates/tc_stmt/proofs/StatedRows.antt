@@ -9,9 +9,10 @@ use Rattle.std.proofs.lemmas.Bool.{ltb-true, leb-true, ltb-false, leb-false, and
 use Rattle.std.proofs.lemmas.Bool.Decides.{Decides-eqb}
 use Rattle.tc_isa.specs.declared.fields.Fields.{Fields}
 use Rattle.tc_isa.specs.declared.fields.Uses.{Uses}
-use Rattle.tc_isa.specs.Rows.{RowData, listed}
-use Rattle.tc_isa.specs.Forms.{IsBelow, bounds, form_index}
-use Rattle.tc_isa.specs.ValidRows.{IsRow, uses_of, rest_is_zero, is_apart, is_long}
+use Rattle.tc_isa.specs.Rows.{RowData, listed, is_long}
+use Rattle.tc_isa.specs.Forms.{bounds, form_index}
+use Rattle.tc_isa.specs.InBounds.{IsBelow}
+use Rattle.tc_isa.specs.ValidRows.{IsRow, uses_of, rest_is_zero, is_apart}
 use Rattle.tc_isa.proofs.TableFacts.{row_at}
 use Rattle.tc_lex.specs.declared.operand.Shape.{Shape}
 use Rattle.tc_lex.specs.declared.operand.Shape.TheVariants as shape
@@ -23,14 +24,15 @@ use Rattle.tc_stmt.specs.declared.tally.Tally.{Tally}
 use Rattle.tc_stmt.specs.Names.{is_name}
 use Rattle.tc_lex.specs.Operands.{ValueData, OperandData}
 use Rattle.tc_stmt.specs.Wants.{want_of, wants_of}
-use Rattle.tc_stmt.specs.RowFields.{ReferenceData, RowFieldsData, no_fields, with_rule, set_field, field_of, with_value}
+use Rattle.tc_stmt.specs.RowFields.{RowFieldsData, no_fields, with_rule, set_field, field_of, with_value}
+use Rattle.tc_stmt.specs.Items.{ReferenceData}
 use Rattle.tc_stmt.specs.Filling.{put_register, put_number, symbol_rule, reference, with_symbol, half_kind, fill_value, fill_memory, fill_target, put_absolute, fill_absolute, fill_register, fill_a10, fill_plain, fill, fill_all, kept_apart, fields_of_row}
 use Rattle.tc_stmt.specs.Displacements.{is_far, is_odd, displacement_rule, with_displacement, target_kind}
-use Rattle.tc_stmt.specs.Values.{shape_index, register_of, fits, wrap, is_symbol, is_half}
+use Rattle.tc_stmt.specs.OperandForms.{shape_index, register_of, fits, wrap, is_symbol, is_half}
 use Rattle.tc_stmt.specs.StatementRow.{after_row, outcome, or_next, statement}
 use Rattle.tc_stmt.specs.StatementRow as judging
 use Rattle.tc_isa.specs.Relocations.{is_reloc, fills}
-use Rattle.tc_stmt.specs.Stated.{is_short_jump, TakesSymbol, Symbols, Stated, IsStated, StatedLaw}
+use Rattle.tc_stmt.specs.StatedRows.{is_short_jump, TakesSymbol, Symbols, Stated, IsStated, StatedLaw}
 use Rattle.tc_stmt.proofs.Cases.{by_test, one_passes}
 use Rattle.tc_stmt.proofs.ZeroConstants.{zero_judged}
 

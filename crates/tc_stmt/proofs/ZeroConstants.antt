@@ -16,10 +16,11 @@ use Rattle.tc_stmt.specs.declared.want.Want.{Want}
 use Rattle.tc_stmt.specs.declared.want.Want.TheVariants.{Reg, A10, Number, Target, Absolute, Memory}
 use Rattle.tc_lex.specs.Operands.{ValueData, OperandData}
 use Rattle.tc_stmt.specs.Wants.{want_of, wants_of}
-use Rattle.tc_stmt.specs.RowFields.{ReferenceData, RowFieldsData, no_fields, with_rule, set_field, with_value, field_of}
+use Rattle.tc_stmt.specs.RowFields.{RowFieldsData, no_fields, with_rule, set_field, with_value, field_of}
+use Rattle.tc_stmt.specs.Items.{ReferenceData}
 use Rattle.tc_stmt.specs.Filling.{put_register, put_number, symbol_rule, with_symbol, half_kind, fill_value, fill_memory, fill_target, put_absolute, fill_absolute, fill_register, fill_a10, fill_plain, fill, fill_all, kept_apart, fields_of_row}
 use Rattle.tc_stmt.specs.Displacements.{displacement_rule, with_displacement}
-use Rattle.tc_stmt.specs.Values.{shape_index, register_of, fits, wrap, is_symbol, is_half}
+use Rattle.tc_stmt.specs.OperandForms.{shape_index, register_of, fits, wrap, is_symbol, is_half}
 use Rattle.tc_stmt.proofs.Cases.{by_test, one_passes}
 
 -- ---- rows

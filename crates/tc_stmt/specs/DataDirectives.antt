@@ -1,11 +1,11 @@
 -- The values of `.byte`, `.half`, `.word` and `.space`.
-use Rattle.std.specs.Prelude.{ℕ, ◌*◌, ◌^◌, ◌==◌, ◌&&◌, ◌||◌, not, nat_le, min, if◌then◌else◌, ◌∷◌, take, Some, None, []}
+use Rattle.std.specs.Prelude.{ℕ, ◌*◌, ◌^◌, ◌==◌, ◌&&◌, ◌||◌, not, nat_le, min, if◌then◌else◌, ◌∷◌, take, Some, None, List, length, fold, []}
 use Rattle.tc_isa.specs.Relocations.{word32}
 use Rattle.tc_stmt.specs.SourceRules.{wrong_operands, no_rule, wide_number, misplaced_symbol}
-use Rattle.tc_isa.specs.Spelling.{four_bytes}
+use Rattle.tcd_base.specs.Bytes.{four_bytes}
 use Rattle.tc_lex.specs.Operands.{OperandData}
 use Rattle.tc_stmt.specs.Filling.{symbol_rule, reference}
-use Rattle.tc_stmt.specs.Values.{shape_index, is_symbol, is_half, wrap, is_number, is_huge, fits_width}
+use Rattle.tc_stmt.specs.OperandForms.{shape_index, is_symbol, is_half, wrap, is_number, is_huge, fits_width}
 use Rattle.tc_stmt.specs.Items.{ItemData, bytes, zeros}
 
 -- the least rule that a value of this many bytes breaks; 15 is none
@@ -35,3 +35,7 @@ space_rule o =
 -- the item for `.space`: zeros, and none of them if a rule is broken
 unfoldable pub space_item : OperandData → ItemData
 space_item o = zeros (if space_rule o == no_rule then o.value.size else 0)
+
+-- the least rule that values break; no values break rule 3
+unfoldable pub values_rule : ℕ → List OperandData → ℕ
+values_rule width os = fold (λ rule o. min rule (value_rule width o)) (if length os == 0 then wrong_operands else no_rule) os

@@ -2,12 +2,11 @@
 use Rattle.std.specs.Prelude.{ℕ, ◌-◌, ◌*◌, ◌/◌, ◌%◌, ◌==◌, not, nat_lt, min, Bool, if◌then◌else◌}
 use Rattle.tc_isa.specs.Relocations.{rel24, rel15}
 use Rattle.tc_stmt.specs.SourceRules.{wide_number, no_rule, far_target, odd_displacement}
-use Rattle.tc_isa.specs.Rows.{RowData}
+use Rattle.tc_isa.specs.Rows.{RowData, is_long}
 use Rattle.tc_isa.specs.declared.table.Form.{Form}
 use Rattle.tc_isa.specs.Forms.{bounds, is_sbr, is_b}
-use Rattle.tc_isa.specs.ValidRows.{is_long}
 use Rattle.tc_stmt.specs.declared.want.Field.TheVariants.{K}
-use Rattle.tc_stmt.specs.Values.{wrap}
+use Rattle.tc_stmt.specs.OperandForms.{wrap}
 use Rattle.tc_stmt.specs.RowFields.{RowFieldsData, with_rule, with_value}
 
 -- a displacement of this many bytes doesn't fit; SBR (form 13) only reaches forwards
@@ -35,3 +34,7 @@ with_displacement r minus size acc =
 -- 16 bits
 unfoldable pub target_kind : RowData → ℕ
 target_kind r = if is_long r then (if is_b r.form then rel24 else rel15) else 0
+
+-- a displacement can be negative, except in SBR rows
+unfoldable pub is_two_way : Form → Bool
+is_two_way form = not (is_sbr form)

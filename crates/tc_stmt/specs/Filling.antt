@@ -1,5 +1,5 @@
 -- The fields of a row that operands fill, each at its own place, and the least rule that they
-use Rattle.std.specs.Prelude.{ℕ, ◌+◌, ◌*◌, ◌/◌, ◌%◌, ◌^◌, ◌==◌, ◌&&◌, ◌||◌, not, nat_le, min, Bool, true, if◌then◌else◌, List, ◌∷◌, codes, Option, Some, None, option_and_then, []}
+use Rattle.std.specs.Prelude.{ℕ, ◌+◌, ◌*◌, ◌/◌, ◌%◌, ◌^◌, ◌==◌, ◌&&◌, ◌||◌, not, nat_le, min, Bool, true, if◌then◌else◌, List, ◌∷◌, codes, Option, Some, None, option_and_then, ◌≡◌, []}
 use Rattle.std.specs.Str.{bytes_eq}
 use Rattle.tc_isa.specs.Relocations.{hi16, lo16, offset16, abs24}
 use Rattle.tc_stmt.specs.SourceRules.{wrong_register, wide_number, equal_registers, no_rule, bad_name, misplaced_symbol}
@@ -14,9 +14,12 @@ use Rattle.tc_stmt.specs.declared.want.Want.{Want}
 use Rattle.tc_stmt.specs.declared.want.Want.TheVariants.{Reg, A10, Number, Target, Absolute, Memory}
 use Rattle.tc_stmt.specs.Names.{is_name}
 use Rattle.tc_lex.specs.Operands.{ValueData, OperandData}
-use Rattle.tc_stmt.specs.Values.{fits, is_absent, is_half, is_high, is_huge, is_number, is_sum, is_symbol, is_word, register_of, shape_index, wrap}
-use Rattle.tc_stmt.specs.RowFields.{ReferenceData, RowFieldsData, field_of, no_fields, with_rule, with_value}
+use Rattle.tc_stmt.specs.OperandForms.{fits, is_absent, is_half, is_high, is_huge, is_number, is_sum, is_symbol, is_word, register_of, shape_index, wrap}
+use Rattle.tc_stmt.specs.RowFields.{RowFieldsData, field_of, no_fields, with_rule, with_value, row_fields_of}
+use Rattle.tc_stmt.specs.Items.{ReferenceData}
 use Rattle.tc_stmt.specs.Displacements.{target_kind, with_displacement}
+use Rattle.tc_stmt.specs.declared.row_fields.RowFields.{RowFields}
+use Rattle.tc_stmt.specs.RowIndex.{is_named}
 
 -- break.
 
@@ -45,10 +48,6 @@ with_symbol kind v acc = if symbol_rule v == no_rule then record acc { reference
 -- a symbol in a place that takes none
 abbrev pub with_misplaced : ValueData → RowFieldsData → RowFieldsData
 with_misplaced v acc = with_rule (min misplaced_symbol (symbol_rule v)) acc
-
--- the row has this name
-abbrev pub is_named : RowData → List ℕ → Bool
-is_named r name = bytes_eq r.name name
 
 -- the relocation of a half of an address in this row, or 0 if it has none
 unfoldable pub half_kind : RowData → Shape → ℕ
@@ -139,3 +138,7 @@ kept_apart r f = if is_apart r f.fields then f else with_rule equal_registers f
 -- the row's fields after all operands; None if their forms aren't those of the row
 unfoldable pub fields_of_row : RowData → List Want → List OperandData → Option RowFieldsData
 fields_of_row r ws os = option_and_then (λ f. Some (kept_apart r f)) (fill_all r ws os no_fields)
+
+-- the code's answer is this: false for None, else the fields in the record
+abbrev pub Fills : Bool → RowFields → Option RowFieldsData → Type 0
+Fills fits f given = (if fits then Some (row_fields_of f) else None) ≡ given

@@ -1,10 +1,22 @@
 -- The items that the lines of a source add to it, in order.
-use Rattle.std.specs.Prelude.{ℕ, Bool, List, [], ◌∷◌, take, Option, Some, None}
+use Rattle.std.specs.Prelude.{ℕ, Bool, List, ◌∷◌, take, Option, Some, None, []}
 use Rattle.tc_isa.specs.declared.fields.Fields.{Fields}
 use Rattle.tc_isa.specs.Relocations.{word32}
-use Rattle.tc_stmt.specs.RowFields.{ReferenceData}
 use Rattle.tc_stmt.specs.declared.item.Item.{Item}
 use Rattle.tc_stmt.specs.declared.item.Item.TheVariants as item
+use Rattle.tc_stmt.specs.declared.row_fields.Reference.{Reference}
+
+-- A symbol whose address, plus or minus a number, goes into a field. The kind is that of the
+-- relocation; 0 means that the address is used at once.
+pub record ReferenceData : Type 0 where
+  pub kind : ℕ
+  pub name : List ℕ
+  pub minus : Bool
+  pub size : ℕ
+
+-- the plain data of a symbol's reference
+abbrev pub reference_of : Reference → ReferenceData
+reference_of r = record { kind = r.kind; name = r.name.now; minus = r.minus; size = r.size }
 
 -- A label; a section to continue or begin; a global name; an instruction of the row with this
 -- number, with its fields and perhaps a symbol; bytes, perhaps with a symbol; a number of zeros.

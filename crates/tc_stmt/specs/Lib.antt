@@ -3,13 +3,13 @@ pub mod Names
 pub mod Wants
 pub mod RowFields
 pub mod StatementRow
-pub mod Stated
+pub mod StatedRows
 pub mod RowIndex
 pub mod Items
 pub mod DataDirectives
 pub mod Lines
-pub mod Readings
+pub mod LinesRead
 pub mod SourceRules
-pub mod Values
+pub mod OperandForms
 pub mod Filling
 pub mod Displacements

@@ -1,5 +1,5 @@
 -- The meaning of a line by itself.
-use Rattle.std.specs.Prelude.{◌≡◌, ℕ, ◌+◌, ◌++◌, IfOk, ◌==◌, ◌&&◌, min, Bool, false, if◌then◌else◌, List, [], ◌∷◌, codes, take, drop, length, map, fold, find, Option, Some, None, Result, Ok, Err}
+use Rattle.std.specs.Prelude.{◌≡◌, ℕ, ◌+◌, ◌++◌, IfOk, ◌==◌, ◌&&◌, Bool, false, if◌then◌else◌, List, ◌∷◌, codes, take, drop, length, map, find, Option, Some, None, Result, Ok, Err, []}
 use Rattle.std.specs.Option.{option_map_or}
 use Rattle.std.specs.List.{flat_map, slice_split}
 use Rattle.std.specs.Str.{bytes_eq}
@@ -7,16 +7,15 @@ use Rattle.tc_stmt.specs.SourceRules.{no_rule, wrong_operands}
 use Rattle.tc_lex.specs.declared.kinds.Token.{Token}
 use Rattle.tc_lex.specs.declared.kinds.TokenKind.TheVariants as kind
 use Rattle.tc_lex.specs.Cut.{tokens_of}
-use Rattle.tc_isa.specs.Rows.{listed}
-use Rattle.tc_isa.specs.ValidRows.{is_long}
+use Rattle.tc_isa.specs.Rows.{listed, is_long}
 use Rattle.tc_lex.specs.Pieces.{PieceData, is_kind, text_at, text_in as text_between, piece_in as with_text}
 use Rattle.tc_lex.specs.Operands.{OperandData, operands}
 use Rattle.tc_stmt.specs.RowFields.{RowFieldsData}
-use Rattle.tc_stmt.specs.Values.{is_word}
+use Rattle.tc_stmt.specs.OperandForms.{is_word}
 use Rattle.tc_stmt.specs.StatementRow.{statement}
 use Rattle.tc_stmt.specs.declared.item.Item.{Item}
 use Rattle.tc_stmt.specs.Items.{ItemData, item_of, label, section, global, code, zeros}
-use Rattle.tc_stmt.specs.DataDirectives.{value_rule, value_item, space_rule, space_item}
+use Rattle.tc_stmt.specs.DataDirectives.{value_item, space_rule, space_item, values_rule}
 
 -- the least rule that a line breaks by itself (15 is none), and the items that it adds to its
 -- source
@@ -56,10 +55,6 @@ unfoldable pub space_line : List OperandData → LineData
 space_line [] = line_data wrong_operands (zeros 0 ∷ [])
 space_line (o ∷ []) = line_data (space_rule o) (space_item o ∷ [])
 space_line (o ∷ p ∷ os) = line_data wrong_operands (zeros 0 ∷ [])
-
--- the least rule that values break; no values break rule 3
-unfoldable pub values_rule : ℕ → List OperandData → ℕ
-values_rule width os = fold (λ rule o. min rule (value_rule width o)) (if length os == 0 then wrong_operands else no_rule) os
 
 -- `.byte`, `.half` or `.word` with values of this many bytes
 unfoldable pub values_line : ℕ → List OperandData → LineData

@@ -1,25 +1,12 @@
 -- The fields and the symbol of a row, as far as operands fill them, and the least rule broken.
-use Rattle.std.specs.Prelude.{◌≡◌, ℕ, ◌%◌, min, Bool, if◌then◌else◌, List, Option, Some, None, option_map}
+use Rattle.std.specs.Prelude.{ℕ, ◌%◌, min, Option, None, option_map}
 use Rattle.tc_stmt.specs.SourceRules.{no_rule}
 use Rattle.tc_isa.specs.declared.fields.Fields.{Fields}
 use Rattle.tc_isa.specs.Forms.{fields}
 use Rattle.tc_stmt.specs.declared.want.Field.{Field}
 use Rattle.tc_stmt.specs.declared.want.Field.TheVariants.{C, S1, S2, N, K}
 use Rattle.tc_stmt.specs.declared.row_fields.RowFields.{RowFields}
-use Rattle.tc_stmt.specs.declared.row_fields.Reference.{Reference}
-use Rattle.tc_stmt.specs.Values.{fits}
-
--- A symbol whose address, plus or minus a number, goes into a field. The kind is that of the
--- relocation; 0 means that the address is used at once.
-pub record ReferenceData : Type 0 where
-  pub kind : ℕ
-  pub name : List ℕ
-  pub minus : Bool
-  pub size : ℕ
-
--- the plain data of a symbol's reference
-abbrev pub reference_of : Reference → ReferenceData
-reference_of r = record { kind = r.kind; name = r.name.now; minus = r.minus; size = r.size }
+use Rattle.tc_stmt.specs.Items.{ReferenceData, reference_of}
 
 -- the fields and the symbol so far, and the least rule broken; 15 is none
 pub record RowFieldsData : Type 0 where
@@ -30,10 +17,6 @@ pub record RowFieldsData : Type 0 where
 -- the plain data of a row's fields
 abbrev pub row_fields_of : RowFields → RowFieldsData
 row_fields_of f = record { fields = f.fields; rule = f.rule; reference = option_map reference_of f.reference }
-
--- the code's answer is this: false for None, else the fields in the record
-abbrev pub Fills : Bool → RowFields → Option RowFieldsData → Type 0
-Fills fits f given = (if fits then Some (row_fields_of f) else None) ≡ given
 
 -- the state before the first operand: zero fields, no rule broken, no symbol
 abbrev pub no_fields : RowFieldsData

@@ -1,6 +1,7 @@
 -- Rows that a search skips, since their names have another key.
-use Rattle.std.specs.Prelude.{ℕ, zero, suc, ◌+◌, ◌-◌, ◌*◌, ◌%◌, ◌==◌, ◌&&◌, not, nat_lt, Bool, true, false, List, [], ◌∷◌, length, slice_index}
+use Rattle.std.specs.Prelude.{ℕ, zero, suc, ◌+◌, ◌-◌, ◌*◌, ◌%◌, ◌==◌, ◌&&◌, not, nat_lt, Bool, true, false, List, ◌∷◌, length, slice_index, []}
 use Rattle.tc_isa.specs.Rows.{RowData}
+use Rattle.std.specs.Str.{bytes_eq}
 
 -- A number below 256 that few names of rows share. It depends on the length and the first four
 -- bytes, with 0 for missing bytes.
@@ -23,3 +24,7 @@ are_next i (r ∷ rs) (n ∷ ns) = nat_lt i n && none_has (n - (i + 1)) (name_ke
 abbrev pub are_first : ℕ → List RowData → List ℕ → Bool
 are_first k rs [] = true
 are_first k rs (n ∷ ns) = none_has n k rs && are_first (k + 1) rs ns
+
+-- the row has this name
+abbrev pub is_named : RowData → List ℕ → Bool
+is_named r name = bytes_eq r.name name

@@ -1,5 +1,5 @@
 -- The meaning of the operand texts of the rows.
-use Rattle.std.specs.Prelude.{ℕ, ◌==◌, true, false, if◌then◌else◌, List, [], ◌∷◌, map, codes}
+use Rattle.std.specs.Prelude.{ℕ, ◌==◌, true, false, if◌then◌else◌, List, ◌∷◌, map, codes, []}
 use Rattle.std.specs.Borrow.{Bor}
 use Rattle.std.specs.List.{slice_split}
 use Rattle.std.specs.Str.{bytes_eq}
@@ -7,6 +7,8 @@ use Rattle.tc_isa.specs.Rows.{RowData}
 use Rattle.tc_stmt.specs.declared.want.Field.TheVariants.{C, S1, S2, N, K}
 use Rattle.tc_stmt.specs.declared.want.Want.{Want}
 use Rattle.tc_stmt.specs.declared.want.Want.TheVariants.{Reg, A10, Number, Target, Absolute, Memory}
+use Rattle.tc_isa.specs.declared.fields.Fields.{Fields}
+use Rattle.tc_stmt.specs.RowFields.{set_field, field_of}
 
 -- the words of the operand texts
 unfoldable pub want_of : List ℕ → Want
@@ -41,3 +43,13 @@ wants_of r = if bytes_eq r.operands [] then [] else map (λ t. want_of (without_
 -- the wants of a row, as values
 abbrev pub now_of : Bor (List Want) → List Want
 now_of w = w.now
+
+-- g with the fields of f that a want names
+unfoldable pub given : Fields → Fields → Want → Fields
+given f g (Reg p x) = set_field x (field_of x f) g
+given f g A10 = g
+given f g (Number s x) = set_field x (field_of x f) g
+given f g Target = set_field K f.k g
+given f g Absolute = set_field K f.k g
+given f g (Memory p true) = set_field K f.k (set_field S2 f.s2 g)
+given f g (Memory p false) = set_field S2 f.s2 g

@@ -1,10 +1,9 @@
 // The values of `.byte`, `.half`, `.word` and `.space`.
 ghost use Rattle.std.specs.Prelude.{◌≡◌, ◌≤◌, ◌<◌, ◌+◌, ◌^◌, ◌*◌, take, true, if◌then◌else◌, ◌⊎◌};
-ghost use Rattle.tc_isa.specs.Spelling.{four_bytes};
+ghost use Rattle.tcd_base.specs.Bytes.{four_bytes};
 ghost use Rattle.tc_lex.specs.Operands.{operand_of};
-ghost use Rattle.tc_stmt.specs.RowFields.{reference_of};
-ghost use Rattle.tc_stmt.specs.Values.{shape_index, wrap, fits_width};
-ghost use Rattle.tc_stmt.specs.Items.{item_of};
+ghost use Rattle.tc_stmt.specs.Items.{reference_of, item_of};
+ghost use Rattle.tc_stmt.specs.OperandForms.{shape_index, wrap, fits_width};
 ghost use Rattle.tc_stmt.specs.SourceRules.{no_rule};
 ghost use Rattle.tc_stmt.specs.DataDirectives.{value_rule, value_item, space_rule, space_item};
 

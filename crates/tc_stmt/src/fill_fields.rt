@@ -4,16 +4,18 @@ ghost use Rattle.tc_isa.specs.Rows.{row_of};
 ghost use Rattle.tc_isa.specs.Forms.{bounds};
 ghost use Rattle.tc_lex.specs.Operands.{value_of, operand_of};
 ghost use Rattle.tc_stmt.specs.SourceRules.{no_rule};
-ghost use Rattle.tc_stmt.specs.RowFields.{Fills, row_fields_of, set_field, field_of, with_value as put_in};
-ghost use Rattle.tc_stmt.specs.Filling.{put_register, put_number, half_kind, fill_value, fill_memory, fill_target, put_absolute, fill_absolute, fill_register, fill_a10, fill_plain, fill, is_named as named};
+ghost use Rattle.tc_stmt.specs.RowFields.{row_fields_of, set_field, field_of, with_value as put_in};
+ghost use Rattle.tc_stmt.specs.Filling.{Fills, put_register, put_number, half_kind, fill_value, fill_memory, fill_target, put_absolute, fill_absolute, fill_register, fill_a10, fill_plain, fill, fill_all};
+ghost use Rattle.tc_stmt.specs.RowIndex.{is_named as named};
 ghost use Rattle.tc_stmt.specs.Displacements.{displacement_rule, with_displacement, target_kind, is_far};
-ghost use Rattle.tc_stmt.specs.Values.{register_of, fits, wrap};
+ghost use Rattle.tc_stmt.specs.OperandForms.{register_of, fits, wrap};
 
 use crate::form_index::{ABS, B, BOL, SBR, form_index};
-use crate::row_fields::{NO_RELOC, RowFields};
+use crate::row_fields::{NO_RELOC, RowFields, break_rule};
+use crate::row_wants::wants;
 use crate::shape_numbers::{ABSENT, HIGH, HUGE, LOW, NUMBER, SUM, WORD, shape_index};
 use crate::source_rules::{FAR_TARGET, NO_RULE, ODD_DISPLACEMENT, WIDE_NUMBER, WRONG_REGISTER};
-use crate::symbols::{break_rule, misplace, with_symbol};
+use crate::symbols::{misplace, with_symbol};
 use crate::want::{Field, Want};
 use tc_isa::{ABS24, Fields, Form, HI16, LO16, OFFSET16, REL15, REL24, Row, bounds_of};
 use tc_lex::{Operand, Shape, Value, is_text};
@@ -62,7 +64,7 @@ fn bank_of(c: u8) -> u8
 
 // The number of a register: 0 to 15 for d0 to d15, 16 to 31 for a0 to a15, and `NO_REGISTER` or
 // more for any other name.
-#[tactic(auto, unfolding(crate::specs::Values::register_of, tc_lex::specs::Bytes::is_digit))]
+#[tactic(auto, unfolding(crate::specs::OperandForms::register_of, tc_lex::specs::Bytes::is_digit))]
 fn register_of(name: &[u8]) -> u8
     ensures value { result ≡ register_of name.now }
 {
@@ -96,7 +98,7 @@ fn put_register(bank: bool, field: Field, name: &[u8], acc: &mut RowFields<'_>)
     }
 }
 
-#[tactic(auto, unfolding(crate::specs::Values::fits))]
+#[tactic(auto, unfolding(crate::specs::OperandForms::fits))]
 fn fits(signed: bool, bound: u32, minus: bool, size: u128) -> bool
     ensures value { result ≡ fits signed bound minus size }
     ensures within { result ≡ true → size ≤ bound }
@@ -460,4 +462,25 @@ pub(crate) fn fill<'a>(row: &Row, want: Want, o: &Operand<'a>, acc: &mut RowFiel
         Want::Absolute => fill_absolute(row, &o.value, acc),
         Want::Memory(_, _) => false,
     }
+}
+
+// Fills the fields of all operands. Returns false if their forms aren't those that the row wants.
+pub(crate) fn fill_all<'a>(
+    row: &Row,
+    wants: &[Want],
+    os: &[Operand<'a>],
+    acc: &mut RowFields<'a>,
+) -> bool
+    ensures { Fills result acc.new
+        (fill_all (row_of row.now) wants.now (map operand_of os.now) (row_fields_of acc.old)) }
+{
+    if wants.len() != os.len() {
+        return false;
+    }
+    for i in 0..wants.len() {
+        if !fill(row, wants[i], &os[i], acc) {
+            return false;
+        }
+    }
+    true
 }

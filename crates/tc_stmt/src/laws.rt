@@ -1,6 +1,6 @@
 // Public laws of numbers and statements.
 ghost use Rattle.tc_lex.specs.Numbers.{NumberLaw};
-ghost use Rattle.tc_stmt.specs.Stated.{StatedLaw};
+ghost use Rattle.tc_stmt.specs.StatedRows.{StatedLaw};
 
 /// A token's number is what its digits spell, if that is below 2^128.
 ///

@@ -7,10 +7,9 @@ ghost use Rattle.tc_isa.specs.Rows.{row_of, listed};
 ghost use Rattle.tc_stmt.specs.StatementRow.{statement as statement_of};
 ghost use Rattle.tc_lex.specs.Pieces.{piece_of, text_at as text_in_pieces};
 ghost use Rattle.tc_lex.specs.Operands.{operand_of, operands as operands_in};
-ghost use Rattle.tc_stmt.specs.Items.{item_of, label, section, global, code};
-ghost use Rattle.tc_stmt.specs.RowFields.{reference_of};
-ghost use Rattle.tc_stmt.specs.DataDirectives.{value_item, space_rule as space_rule_of, space_item as space_item_of};
-ghost use Rattle.tc_stmt.specs.Lines.{line_data, Adds, behind, named_line, is_word_operand, word_of, space_line, values_rule, values_line, size_of_name, stated_line, line_from, line_with_label, pieces_line, has_label, label_of, label_before, line_in, code_line};
+ghost use Rattle.tc_stmt.specs.Items.{item_of, label, section, global, code, reference_of};
+ghost use Rattle.tc_stmt.specs.DataDirectives.{value_item, space_rule as space_rule_of, space_item as space_item_of, values_rule};
+ghost use Rattle.tc_stmt.specs.Lines.{line_data, Adds, behind, named_line, is_word_operand, word_of, space_line, values_line, size_of_name, stated_line, line_from, line_with_label, pieces_line, has_label, label_of, label_before, line_in, code_line};
 
 use crate::data::{space_item, space_rule, value_item, value_rule};
 use crate::item::Item;
@@ -111,7 +110,7 @@ fn count_rule(os: &[Operand<'_>]) -> u8
 }
 
 // Adds the items of these values, and returns the least rule that they break.
-#[tactic(auto, unfolding(crate::specs::Lines::values_rule))]
+#[tactic(auto, unfolding(crate::specs::DataDirectives::values_rule))]
 fn add_values<'a>(
     width: u8,
     os: &[Operand<'a>],

@@ -1,8 +1,9 @@
 // The fields of a row, as its operands fill them.
-ghost use Rattle.std.specs.Prelude.{◌≡◌};
-ghost use Rattle.tc_stmt.specs.RowFields.{reference_of};
-ghost use Rattle.tc_stmt.specs.Items.{reference_to};
+ghost use Rattle.std.specs.Prelude.{◌≡◌, ◌<◌};
+ghost use Rattle.tc_stmt.specs.Items.{reference_of, reference_to};
+ghost use Rattle.tc_stmt.specs.RowFields.{row_fields_of, no_fields, with_rule};
 
+use crate::source_rules::NO_RULE;
 use tc_isa::Fields;
 
 /// The kind of a reference whose address is used at once, without a relocation.
@@ -44,4 +45,27 @@ pub struct RowFields<'a> {
     pub fields: Fields,
     /// The least rule that is broken, or `NO_RULE`.
     pub rule: u8,
+}
+
+pub(crate) fn no_fields<'a>() -> RowFields<'a>
+    ensures { row_fields_of result ≡ no_fields }
+{
+    RowFields {
+        fields: Fields {
+            c: 0,
+            s1: 0,
+            s2: 0,
+            n: 0,
+            k: 0,
+        },
+        rule: NO_RULE,
+        reference: None,
+    }
+}
+
+/// Notes that a rule is broken. The least one counts.
+pub(crate) fn break_rule(rule: u8, acc: &mut RowFields<'_>)
+    ensures { row_fields_of acc.new ≡ with_rule rule (row_fields_of acc.old) }
+{
+    acc.rule = acc.rule.min(rule);
 }

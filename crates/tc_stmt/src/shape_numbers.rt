@@ -1,6 +1,6 @@
 // Numbers for the forms of values.
 ghost use Rattle.std.specs.Prelude.{◌≡◌};
-ghost use Rattle.tc_stmt.specs.Values.{shape_index};
+ghost use Rattle.tc_stmt.specs.OperandForms.{shape_index};
 
 use tc_lex::Shape;
 
@@ -29,7 +29,7 @@ const BAD: u8 = 6;
 pub(crate) const HUGE: u8 = 7;
 
 /// A number for each form of values, so that forms can be compared.
-#[tactic(auto, unfolding(crate::specs::Values::shape_index))]
+#[tactic(auto, unfolding(crate::specs::OperandForms::shape_index))]
 pub fn shape_index(shape: Shape) -> u8
     ensures { result ≡ shape_index shape }
 {

@@ -1,56 +1,23 @@
 // Finds the row of a statement.
 ghost use Rattle.std.specs.Prelude.{◌≡◌, ◌<◌, map, length, true};
 ghost use Rattle.std.specs.Str.{bytes_eq};
-ghost use Rattle.tc_isa.specs.Rows.{row_of, listed};
+ghost use Rattle.tc_isa.specs.Rows.{row_of};
 ghost use Rattle.tc_stmt.specs.Wants.{wants_of, now_of};
 ghost use Rattle.tc_lex.specs.Operands.{operand_of};
-ghost use Rattle.tc_stmt.specs.RowFields.{Fills, row_fields_of, no_fields};
-ghost use Rattle.tc_stmt.specs.Filling.{fill_all, kept_apart, fields_of_row};
+ghost use Rattle.tc_stmt.specs.RowFields.{row_fields_of, no_fields};
+ghost use Rattle.tc_stmt.specs.Filling.{Fills, fill_all, kept_apart, fields_of_row};
 ghost use Rattle.tc_stmt.specs.StatementRow.{start, after_row, outcome, Steps, Judges, statement, rule_of};
 ghost use Rattle.tc_stmt.specs.RowIndex.{are_first, are_next};
 
-use crate::fill_fields::fill;
-use crate::row_fields::RowFields;
+use crate::fill_fields::fill_all;
+use crate::row_fields::{RowFields, break_rule, no_fields};
 use crate::row_index::{first_row, first_rows, next_row, next_rows};
 use crate::row_wants::wants;
-use crate::source_rules::{EQUAL_REGISTERS, NO_RULE, UNKNOWN_STATEMENT, WRONG_OPERANDS};
-use crate::symbols::break_rule;
-use crate::tally::Tally;
+use crate::source_rules::{EQUAL_REGISTERS, NO_RULE};
+use crate::tally::{Tally, rule_of};
 use crate::want::Want;
-use tc_isa::{Fields, Row, parts_differ, rows};
+use tc_isa::{Row, parts_differ, rows};
 use tc_lex::{Operand, is_same};
-
-fn no_fields<'a>() -> RowFields<'a>
-    ensures { row_fields_of result ≡ no_fields }
-{
-    RowFields {
-        fields: Fields {
-            c: 0,
-            s1: 0,
-            s2: 0,
-            n: 0,
-            k: 0,
-        },
-        rule: NO_RULE,
-        reference: None,
-    }
-}
-
-// Fills the fields of all operands. Returns false if their forms aren't those that the row wants.
-fn fill_all<'a>(row: &Row, wants: &[Want], os: &[Operand<'a>], acc: &mut RowFields<'a>) -> bool
-    ensures { Fills result acc.new
-        (fill_all (row_of row.now) wants.now (map operand_of os.now) (row_fields_of acc.old)) }
-{
-    if wants.len() != os.len() {
-        return false;
-    }
-    for i in 0..wants.len() {
-        if !fill(row, wants[i], &os[i], acc) {
-            return false;
-        }
-    }
-    true
-}
 
 fn keep_apart(row: &Row, f: &mut RowFields<'_>)
     ensures { row_fields_of f.new ≡ kept_apart (row_of row.now) (row_fields_of f.old) }
@@ -160,16 +127,6 @@ fn judge<'a>(
         i = next_row(rows, next, i, name);
     }
     Err(rule_of(so_far))
-}
-
-fn rule_of(t: Tally) -> u8
-    ensures { result ≡ rule_of t }
-{
-    if t.named {
-        if t.fits { t.least } else { WRONG_OPERANDS }
-    } else {
-        UNKNOWN_STATEMENT
-    }
 }
 
 /// The row of a statement in the instruction table with its fields, or the least rule that the

@@ -1,12 +1,12 @@
 // Names, and symbols as values of operands.
-ghost use Rattle.std.specs.Prelude.{◌≡◌, ◌<◌, ◌^◌, true};
+ghost use Rattle.std.specs.Prelude.{◌≡◌, ◌<◌, ◌^◌};
 ghost use Rattle.tc_stmt.specs.Names.{is_name};
 ghost use Rattle.tc_stmt.specs.SourceRules.{no_rule};
 ghost use Rattle.tc_lex.specs.Operands.{value_of};
-ghost use Rattle.tc_stmt.specs.RowFields.{row_fields_of, with_rule};
+ghost use Rattle.tc_stmt.specs.RowFields.{row_fields_of};
 ghost use Rattle.tc_stmt.specs.Filling.{symbol_rule, with_symbol, with_misplaced};
 
-use crate::row_fields::{Reference, RowFields};
+use crate::row_fields::{Reference, RowFields, break_rule};
 use crate::source_rules::{BAD_NAME, MISPLACED_SYMBOL, NO_RULE, WIDE_NUMBER};
 use tc_lex::{Value, is_text};
 use tcd_base::{are_name_bytes, is_name_first};
@@ -36,13 +36,6 @@ pub fn symbol_rule(v: &Value<'_>) -> u8
     } else {
         BAD_NAME
     }
-}
-
-/// Notes that a rule is broken. The least one counts.
-pub(crate) fn break_rule(rule: u8, acc: &mut RowFields<'_>)
-    ensures { row_fields_of acc.new ≡ with_rule rule (row_fields_of acc.old) }
-{
-    acc.rule = acc.rule.min(rule);
 }
 
 /// Notes a symbol in a place that takes one.

@@ -1,8 +1,7 @@
 -- Counts of failures.
 use Rattle.std.proofs.Common.{◌-◌, ◌^◌, ◌<◌, ◌≤◌, ℕ, ◌⊎◌, inl, inr, arith}
 use Rattle.std.proofs.lemmas.Bool.{cases_lt}
-use Rattle.tcd_base.specs.Files.{FaultCounted}
-use Rattle.tcd_base.specs.FailingCalls.{one_more}
+use Rattle.tcd_base.specs.FailingCalls.{FaultCounted, one_more}
 
 -- a failure that was counted in a part of a call was counted in the call
 pub counted_within : (a b c d : ℕ) → a ≤ b → b ≤ c → FaultCounted b c → c ≤ d → FaultCounted a d

@@ -1,5 +1,5 @@
 -- Counts of calls and of failures, and the calls that fail by their number.
-use Rattle.std.specs.Prelude.{◌+◌, ◌-◌, ◌^◌, ℕ, min, List, Bool, ◌==◌}
+use Rattle.std.specs.Prelude.{◌+◌, ◌-◌, ◌^◌, ℕ, min, List, Bool, ◌==◌, ◌≡◌, ◌<◌, ◌⊎◌}
 use Rattle.std.specs.List.{list_any}
 
 -- one more, up to the last value of 64 bits
@@ -9,3 +9,8 @@ one_more n = min (n + 1) (2 ^ 64 - 1)
 -- the call of this number is one of those that fail
 abbrev pub is_listed : List ℕ → ℕ → Bool
 is_listed failing call = list_any (λ n. n == call) failing
+
+-- a failure was counted between two counts: the later one is greater, or it is the last value of 64
+-- bits
+abbrev pub FaultCounted : ℕ → ℕ → Type 0
+FaultCounted before now = (before < now) ⊎ (now ≡ 2 ^ 64 - 1)

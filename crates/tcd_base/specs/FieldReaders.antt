@@ -1,19 +1,16 @@
 -- Readers of fields from left to right: the value and the place after it, or the first fault.
-use Rattle.std.specs.Prelude.{◌≡◌, ◌+◌, ℕ, zero, suc, List, [], ◌∷◌, ◌++◌, length, take, drop, slice_index, nat_le, if◌then◌else◌, Result, Ok, Err}
+use Rattle.std.specs.Prelude.{◌≡◌, ◌+◌, ℕ, zero, suc, List, ◌∷◌, ◌++◌, length, take, drop, slice_index, nat_le, if◌then◌else◌, Result, Ok, Err, []}
 use Rattle.tcd_base.specs.Bytes.{half_at, word_at}
 use Rattle.tcd_base.specs.Place.{Place}
 use Rattle.tcd_base.specs.declared.errors.FormErr.{FormErr}
 use Rattle.tcd_base.specs.declared.errors.TheConstants.{SHORT}
+use Rattle.tcd_base.specs.Refusing.{fault_at}
 
 -- a reader after another: the first fault ends both
 infixl 10 ◌>>=◌
 abbrev pub ◌>>=◌ : {A B : Type 0} → Result A FormErr → (A → Result B FormErr) → Result B FormErr
 (Ok x) >>= f = f x
 (Err e) >>= f = Err e
-
--- a fault of this kind at the place
-abbrev pub fault_at : {A : Type 0} → ℕ → Place → Result A FormErr
-fault_at kind p = Err (record { kind = kind; at = p.place })
 
 -- a field of one byte, and the place after it; if the bytes end before, the fault is SHORT at the
 -- field's first byte

@@ -4,10 +4,10 @@ use Rattle.elf_image.specs.Images.{ImageData, IsImage}
 use Rattle.tcd_plan.specs.PlanData.{PlanData, IsPlan}
 use Rattle.tc_machine.specs.Safe.{Safe}
 use Rattle.depth_cert.specs.Certs.{CertData}
-use Rattle.cfg_recover.specs.Accepting.{Accepts, certified_need}
+use Rattle.cfg_recover.specs.RulesHoldOrFail.{Accepts, certified_need}
 use Rattle.depth_check.proofs.FirstLaws.{fails_refutes}
 use Rattle.tc_boot.specs.Sequence.{boot_events}
-use Rattle.tc_boot.specs.Reset.{HasBoot}
+use Rattle.tc_boot.specs.Judging.{HasBoot}
 use Rattle.tc_boot.proofs.BootWhole.{safe_boots}
 use Rattle.tc_boot.proofs.JudgeOne.{not_both}
 use Rattle.tcd_reading.specs.Reports.{IsReportStatus, Report, says}

@@ -9,10 +9,10 @@ use Rattle.depth_cert.specs.Grammar.{certificate_of}
 use Rattle.depth_cert.specs.Spelling.{bytes_of}
 use Rattle.depth_cert.proofs.BackLaws.{written_is_read}
 use Rattle.depth_cert.proofs.SizeLaws.{cert_most}
-use Rattle.cfg_recover.specs.Accepting.{Accepts, certified_need}
+use Rattle.cfg_recover.specs.RulesHoldOrFail.{Accepts, certified_need}
 use Rattle.depth_check.proofs.Held as held
-use Rattle.depth_maker.specs.Made.{IsMade}
-use Rattle.depth_maker.specs.Answers.{AreMade, IsRefused}
+use Rattle.depth_maker.specs.LeastCertMade.{IsMade, AreMade}
+use Rattle.depth_maker.specs.Answers.{IsRefused}
 use Rattle.depth_maker.specs.declared.answering.MakeErr.{MakeErr}
 use Rattle.depth_maker.specs.declared.answering.MakeErr.TheVariants as making
 use Rattle.value_cells.specs.declared.cells.Cell.{Cell}

@@ -5,7 +5,7 @@ use Rattle.tcd_plan.specs.PlanData.{PlanData, IsPlan}
 use Rattle.tc_machine.specs.Safe.{Safe}
 use Rattle.depth_cert.specs.Certs.{CertData, IsCert}
 use Rattle.depth_cert.specs.declared.keys.Key.{Key}
-use Rattle.cfg_recover.specs.Accepting.{Accepts, certified_need}
+use Rattle.cfg_recover.specs.RulesHoldOrFail.{Accepts, certified_need}
 use Rattle.depth_check.proofs.FirstLaws.{fails_refutes}
 use Rattle.depth_check.proofs.Held as held
 use Rattle.value_cells.specs.declared.cells.Cell.{Cell}
@@ -15,7 +15,7 @@ use Rattle.value_cells.proofs.CellPlan.{IsPlan-with_cells}
 use Rattle.value_cells.proofs.CellSafe.{cells_keep}
 use Rattle.value_cells.proofs.ReadOne.{reads_one}
 use Rattle.tcd_reading.specs.Reports.{IsReportStatus, Report, says}
-use Rattle.tcd_driver.specs.Forms.{cells_form}
+use Rattle.tcd_driver.specs.CellAndTaskForms.{cells_form}
 use Rattle.tcd_forms.specs.Lines.{certified_cells_line}
 use Rattle.tcd_driver.specs.Cells.{IsCellsVerdict, refused, broken, certified}
 use Rattle.tcd_reading.specs.declared.status.Status.TheVariants.{Done, Refused}

@@ -6,10 +6,10 @@ use Rattle.tcd_plan.specs.PlanData.{PlanData}
 use Rattle.tc_machine.specs.Safe.{Safe}
 use Rattle.tc_machine.specs.declared.state.Machine.{Machine}
 use Rattle.depth_cert.specs.Certs.{CertData}
-use Rattle.cfg_recover.specs.Accepting.{Accepts, certified_need}
+use Rattle.cfg_recover.specs.RulesHoldOrFail.{Accepts, certified_need}
 use Rattle.depth_check.proofs.FirstLaws.{fails_refutes}
 use Rattle.tc_script.specs.declared.driving.Peak.{Peak}
-use Rattle.tc_script.specs.Runs.{peak_of}
+use Rattle.tc_script.specs.DrivenRuns.{peak_of}
 use Rattle.tc_script.specs.ScriptRuns.{script_events, IsScriptRun}
 use Rattle.tc_script.specs.ScriptData.{ScriptData}
 use Rattle.tc_object.specs.Objects.{ObjectData}

@@ -7,7 +7,7 @@ use Rattle.std.proofs.lemmas.Bool.{or_cases}
 use Rattle.std.proofs.lemmas.Grind.{get_or-set_at}
 use Rattle.std.proofs.lemmas.Slice.Eq.{bytes_eq-Decides}
 use Rattle.tcd_driver.specs.Commands.{are_different}
-use Rattle.tcd_driver.specs.Marks.{mark_of}
+use Rattle.tcd_driver.specs.NameMarks.{mark_of}
 
 and_false : (b c : Bool) → c ≡ false → (b && c) ≡ false
 and_false true c e = e

@@ -1,7 +1,7 @@
 -- The reports of `gen`.
 use Rattle.std.proofs.Common.{◌≡◌, ◌≢◌, ◌≤◌, ◌-◌, ◌^◌, ℕ, List, [], length, Result, Ok, sym, ap, subst, ◌∙◌, arith, inl, inr}
 use Rattle.elf_image.specs.Images.{ImageData}
-use Rattle.elf_image.specs.Elf.{image_of}
+use Rattle.elf_image.specs.ReadElf.{image_of}
 use Rattle.elf_image.specs.declared.errors.ImageErr.{ImageErr}
 use Rattle.tcd_plan.specs.PlanData.{PlanData}
 use Rattle.tcd_plan.specs.Plans.{Gives}
@@ -17,14 +17,15 @@ use Rattle.tcd_driver.specs.declared.command.Command.TheVariants as held
 use Rattle.tcd_forms.proofs.FormLaws.{plan_lawful}
 use Rattle.tc_machine.specs.Safe.{Safe}
 use Rattle.depth_cert.specs.declared.keys.Key.{Key}
-use Rattle.depth_cert.specs.Certs.{CertData, IsCert, count_points}
+use Rattle.depth_cert.specs.Certs.{CertData, IsCert}
+use Rattle.depth_cert.specs.Nodes.{count_points}
 use Rattle.depth_cert.specs.Grammar.{certificate_of}
 use Rattle.depth_cert.proofs.BackLaws.{written_is_read}
 use Rattle.depth_cert.proofs.SizeLaws.{cert_most}
 use Rattle.tcd_base.specs.declared.errors.FormErr.{FormErr}
-use Rattle.cfg_recover.specs.Accepting.{certified_need}
-use Rattle.depth_maker.specs.Made.{IsMade}
-use Rattle.depth_maker.specs.Answers.{AreMade, IsRefused}
+use Rattle.cfg_recover.specs.RulesHoldOrFail.{certified_need}
+use Rattle.depth_maker.specs.LeastCertMade.{IsMade, AreMade}
+use Rattle.depth_maker.specs.Answers.{IsRefused}
 use Rattle.depth_maker.specs.declared.answering.MakeErr.{MakeErr}
 use Rattle.depth_maker.specs.declared.answering.MakeErr.TheVariants as make
 use Rattle.tcd_reading.specs.Reports.{IsReportStatus, Report, says}

@@ -11,9 +11,9 @@ use Rattle.depth_check.proofs.Held.{edges_are_owed}
 use Rattle.tcd_report.specs.Graphs.{IsGraph}
 use Rattle.tcd_report.proofs.GraphLemmas.EdgeProofs.{edges_stand}
 use Rattle.tcd_reading.specs.Reports.{IsReportStatus, Report, says}
-use Rattle.tcd_driver.specs.BestCert.{IsCertified, SpellBest}
+use Rattle.tcd_driver.specs.BestCert.{IsCertified, SpellBest, SpellOne}
 use Rattle.tcd_driver.specs.Cfg as cfg
-use Rattle.tcd_driver.specs.Cfg.{IsDrawn, IsDrawing, SpellOne}
+use Rattle.tcd_driver.specs.Cfg.{IsDrawn, IsDrawing}
 use Rattle.tcd_driver.specs.Reporting as reporting
 use Rattle.tcd_driver.specs.Reporting.{IsReporting}
 use Rattle.tcd_reading.specs.declared.status.Status.TheVariants.{Done, Refused}

@@ -8,29 +8,29 @@ pub mod Texts
 use Rattle.std.proofs.Common.{◌≡◌, ◌≢◌, ◌<◌, ◌≤◌, ◌-◌, ◌+◌, ◌^◌, ◌⊎◌, inl, inr, ℕ, Bool, true, false, cond, List, [], ◌∷◌, ◌++◌, length, Option, Some, None, Ok, refl, sym, ap, subst, ◌∙◌}
 use Rattle.std.specs.Prelude.{codes, IsSomeAnd}
 use Rattle.std.specs.Fmt.{decimal}
-use Rattle.std.specs.FinMap.{get, insert}
-use Rattle.std.specs.FinMap.{get-insert}
+use Rattle.std.specs.FinMap.{get, insert, get-insert}
 use Rattle.std.specs.Cmp.Lexicographic.{nat_list_cmp_total}
 use Rattle.std.specs.Str.{bytes_eq}
 use Rattle.std.proofs.lemmas.Map.Text.{is_eq-slice_cmp}
 use Rattle.std.proofs.lemmas.Slice.Eq.{bytes_eq-Decides}
 use Rattle.elf_image.specs.Images.{ImageData}
-use Rattle.elf_image.specs.Written.{file_of}
+use Rattle.elf_image.specs.WrittenElf.{file_of}
 use Rattle.tcd_plan.specs.PlanData.{PlanData}
 use Rattle.tc_machine.specs.declared.state.Machine.{Machine}
 use Rattle.tc_machine.specs.Stepping.{run}
 use Rattle.tc_script.specs.ScriptData.{ScriptData}
-use Rattle.tc_script.specs.Runs.{peak_of}
+use Rattle.tc_script.specs.DrivenRuns.{peak_of}
 use Rattle.tc_script.specs.ScriptRuns.{script_events}
 use Rattle.depth_cert.specs.declared.keys.Key.{Key}
-use Rattle.depth_cert.specs.Nodes.{NodeData}
+use Rattle.depth_cert.specs.Nodes.{NodeData, need_of}
 use Rattle.depth_cert.specs.Certs.{CertData, IsCert, find_node}
 use Rattle.depth_cert.specs.Spelling.{bytes_of}
 use Rattle.depth_cert.proofs.BackLaws.{written_is_read}
 use Rattle.cfg_recover.specs.Entries.{start_key, start_state}
-use Rattle.cfg_recover.specs.Accepting.{HasPoint, Accepts, IsFirstFault, need_of, certified_need}
+use Rattle.cfg_recover.specs.RulesHoldOrFail.{HasPoint, Accepts, IsFirstFault, certified_need}
 use Rattle.cfg_recover.proofs.FaultLaws.{fails_refutes}
-use Rattle.depth_maker.specs.Made.{IsMade, NoneAccepted}
+use Rattle.depth_maker.specs.LeastCertMade.{IsMade}
+use Rattle.depth_maker.specs.Answers.{NoneAccepted}
 use Rattle.tc_link.specs.Layouts.{LayoutData}
 use Rattle.tcd_base.specs.Files.{Map}
 use Rattle.tcd_reading.specs.Reports.{Report, Written, says, with_written}
@@ -40,18 +40,19 @@ use Rattle.tcd_reading.specs.declared.status.Status.{Status}
 use Rattle.tcd_reading.specs.declared.status.Status.TheVariants.{Done, Refused, BadInput}
 use Rattle.tcd_reading.proofs.Decided.{status_is}
 use Rattle.tcd_forms.specs.Forms.{SourceData, elf_form, plan_form, cert_form, script_form, layout_form, placed_source_form}
-use Rattle.tcd_forms.specs.Lines.{certified_line, run_line, end_text, refused_line, key_line, kind_text}
+use Rattle.tcd_forms.specs.Lines.{certified_line, run_line, end_text, refused_line, key_line, kind_text, certified_words}
 use Rattle.tcd_driver.specs.Check as verdict
 use Rattle.tcd_driver.specs.Check.{CheckNames, IsVerdict, check_reading}
 use Rattle.tcd_driver.specs.Cert as certifying
 use Rattle.tcd_driver.specs.Cert.{CertNames, IsCertifying, cert_reading}
 use Rattle.tcd_driver.specs.BestCert as made
-use Rattle.tcd_driver.specs.BestCert.{IsBest, IsCertified, AreNone}
+use Rattle.tcd_driver.specs.BestCert.{IsBest, IsCertified, AreNone, IsLeastOfItsVersion, NoneIsAccepted}
 use Rattle.tcd_driver.specs.Ship as shipping
 use Rattle.tcd_driver.specs.Ship.{ShipNames, IsShipping, IsShipped, IsImageOf, ship_reading}
 use Rattle.tcd_driver.specs.Run as runs
 use Rattle.tcd_driver.specs.Run.{RunNames, IsRun, run_reading}
-use Rattle.tcd_driver.specs.Headlines.{HoldsFile, IsBadFile, too_long, faulty, HoldsImage, HoldsPlan, HoldsCert, HoldsLayout, HoldEach, AreFirmwareFiles, AreCheckFiles, IsWritten, IsAcceptedWith, IsLeastOfItsVersion, IsBestWith, NoneIsAccepted, certified_words, frame_words, refused_words, HeadlineOfCheck, RefusalByCheck, HeadlineOfCert, RefusalByCert, IsSourceText, IsImageOfFiles, HeadlineOfShip, RefusalByShip, HeadlineOfRun}
+use Rattle.tcd_driver.specs.Headlines.{HoldsFile, IsBadFile, too_long, faulty, HoldsImage, HoldsPlan, HoldsCert, HoldsLayout, HoldEach, AreFirmwareFiles, AreCheckFiles, IsWritten, IsAcceptedWith, IsBestWith, frame_words, refused_words, HeadlineOfCheck, RefusalByCheck, HeadlineOfCert, RefusalByCert, IsSourceText, HeadlineOfRun}
+use Rattle.tcd_driver.specs.Headlines.Builds.{IsImageOfFiles, HeadlineOfShip, RefusalByShip}
 
 -- ---- the files after a report
 -- after the files of a report were written, this holds for the files and the report's text

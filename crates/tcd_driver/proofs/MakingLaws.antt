@@ -9,13 +9,13 @@ use Rattle.depth_cert.proofs.BackLaws.{written_is_read}
 use Rattle.depth_cert.proofs.SizeLaws.{cert_most}
 use Rattle.tcd_base.specs.declared.errors.FormErr.{FormErr}
 use Rattle.tc_machine.specs.Safe.{Safe}
-use Rattle.cfg_recover.specs.Accepting.{Accepts, IsFirstFault, certified_need}
+use Rattle.cfg_recover.specs.RulesHoldOrFail.{Accepts, IsFirstFault, certified_need}
 use Rattle.cfg_recover.proofs.FaultLaws.{fails_refutes}
 use Rattle.depth_cert.specs.declared.keys.Key.{Key}
-use Rattle.depth_maker.specs.Made.{NoneAccepted}
+use Rattle.depth_maker.specs.LeastCertMade.{AreMade}
+use Rattle.depth_maker.specs.Answers.{NoneAccepted}
 use Rattle.tcd_reading.specs.Reports.{IsReportStatus, Report, writes_file}
 use Rattle.tcd_forms.specs.Lines.{certified_line}
-use Rattle.depth_maker.specs.Answers.{AreMade}
 use Rattle.tcd_driver.specs.BestCert.{IsBest, first, second, SpellBest, SpellCertified}
 use Rattle.tcd_driver.specs.Cert as made
 use Rattle.tcd_driver.specs.Cert.{IsCertifying}

@@ -3,12 +3,12 @@ use Rattle.std.proofs.Common.{◌≡◌, ◌≢◌, ◌≤◌, ◌+◌, ◌-◌,
 use Rattle.std.specs.Prelude.{IfOk, IfSome, IsOkAnd, slice_get}
 use Rattle.std.proofs.lemmas.List.{length-append}
 use Rattle.elf_image.specs.Images.{ImageData}
-use Rattle.elf_image.specs.Elf.{image_of}
-use Rattle.elf_image.specs.Written.{file_of}
+use Rattle.elf_image.specs.ReadElf.{image_of}
+use Rattle.elf_image.specs.WrittenElf.{file_of}
 use Rattle.elf_image.specs.declared.errors.ImageErr.{ImageErr}
 use Rattle.tcd_plan.specs.PlanData.{PlanData}
 use Rattle.depth_cert.specs.Spelling.{bytes_of}
-use Rattle.cfg_recover.specs.Accepting.{certified_need}
+use Rattle.cfg_recover.specs.RulesHoldOrFail.{certified_need}
 use Rattle.tc_object.specs.Objects.{ObjectData}
 use Rattle.tc_link.specs.Layouts.{LayoutData, IsLayout}
 use Rattle.tc_link.specs.Linked.{image_of_objects}
@@ -16,7 +16,7 @@ use Rattle.tc_link.specs.Refusals.{Refusal}
 use Rattle.tc_link.specs.Errors.{refusal_of}
 use Rattle.tc_link.specs.declared.errors.LinkErr.{LinkErr}
 use Rattle.tc_link.specs.declared.errors.LinkErr.TheVariants as error
-use Rattle.tc_program.specs.Laws.{AreAssembled}
+use Rattle.tc_program.specs.PlacementLaws.{AreAssembled}
 use Rattle.tc_program.proofs.Whole.{placed_law}
 use Rattle.tcd_base.specs.Files.{FilesSeen, LeavesFiles}
 use Rattle.tcd_reading.specs.Reports.{IsReportStatus, Report, Written, says, writes_two}

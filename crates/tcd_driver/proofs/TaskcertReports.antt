@@ -12,27 +12,27 @@ use Rattle.tcd_base.specs.declared.errors.FormErr.{FormErr}
 use Rattle.tc_machine.specs.Safe.{Safe}
 use Rattle.depth_cert.specs.declared.keys.Key.{Key}
 use Rattle.depth_cert.specs.Keys.{number_of_key}
-use Rattle.depth_cert.specs.Nodes.{NodeData, IsNode}
+use Rattle.depth_cert.specs.Nodes.{NodeData, IsNode, need_of}
 use Rattle.depth_cert.specs.Certs.{CertData, IsCert, find_node}
 use Rattle.depth_cert.specs.Spelling.{bytes_of}
 use Rattle.depth_cert.specs.Grammar.{certificate_of}
 use Rattle.depth_cert.proofs.BackLaws.{written_is_read}
 use Rattle.depth_cert.proofs.SizeLaws.{cert_most}
 use Rattle.depth_cert.proofs.KeyLaws.{found_in}
-use Rattle.cfg_recover.specs.Accepting.{certified_need, need_of}
+use Rattle.cfg_recover.specs.RulesHoldOrFail.{certified_need}
 use Rattle.cfg_recover.specs.Entries.{start_key}
-use Rattle.depth_maker.specs.Made.{IsMade, needs_in}
-use Rattle.depth_maker.specs.Answers.{AreMade, IsRefused}
+use Rattle.depth_maker.specs.LeastCertMade.{IsMade, needs_in, AreMade}
+use Rattle.depth_maker.specs.Answers.{IsRefused}
 use Rattle.depth_maker.specs.declared.answering.MakeErr.{MakeErr}
 use Rattle.depth_maker.specs.declared.answering.MakeErr.TheVariants as make_err
 use Rattle.depth_maker.proofs.Accepted.{find_agrees}
 use Rattle.task_chains.specs.Tasks.{TasksData, AreTasks, count}
-use Rattle.task_chains.specs.Routine.{HasRoutine}
+use Rattle.task_chains.specs.SwitchRoutine.{HasRoutine}
 use Rattle.task_chains.specs.Views.{FitPlan, view_image_of, view_plan_of}
-use Rattle.task_chains.specs.Apart.{KeepsApart, FailsApart, IsTaskFault}
+use Rattle.task_chains.specs.Rule17.{KeepsApart, FailsApart, IsTaskFault}
 use Rattle.task_chains.proofs.GrowthLaws.{task_faults_grow, task_faults_refute}
 use Rattle.task_chains.proofs.Together.{tasks_are_safe}
-use Rattle.tcd_reading.specs.Reports.{IsReportStatus, Report, Written, says}
+use Rattle.tcd_reading.specs.Reports.{IsReportStatus, Report, Written, says, writes_files}
 use Rattle.tcd_base.specs.Files.{FilesSeen}
 use Rattle.task_chains.specs.declared.task_lists.TasksErr.TheVariants.{Count}
 use Rattle.tcd_reading.specs.Inputs.{answer}
@@ -42,9 +42,10 @@ use Rattle.tcd_reading.proofs.Told.{comes_told}
 use Rattle.tcd_forms.specs.Lines.{certified_tasks_line, sum_line}
 use Rattle.tcd_driver.specs.BadInputLines.{tasks_line}
 use Rattle.tcd_driver.specs.Tasks.{cert_of, needs_of, sum_of_needs, AreJudged, with_a_name_each}
-use Rattle.tcd_driver.specs.Taskcert.{IsTaskMade, NoneApart, IsUncertified, unaccepted, not_apart, AreTasksMade, IsFirstUncertified, cert_files, IsTaskcerting, no_switch, refused, above, certified, SpellApart, MakesApart, SpellTask, MakesTask, AreFiles, writes_files}
-use Rattle.tcd_driver.specs.declared.making.Making.{Making}
-use Rattle.tcd_driver.specs.declared.making.Making.TheVariants as making
+use Rattle.tcd_driver.specs.Taskcert.{NoneApart, IsUncertified, unaccepted, not_apart, AreTasksMade, IsFirstUncertified, cert_files, IsTaskcerting, no_switch, refused, above, certified, SpellApart, MakesApart, MakesTask, AreFiles}
+use Rattle.tcd_driver.specs.Headlines.Tasks.{IsTaskMade, SpellTask}
+use Rattle.tcd_driver.specs.declared.cert_making.Making.{Making}
+use Rattle.tcd_driver.specs.declared.cert_making.Making.TheVariants as making
 use Rattle.tcd_reading.specs.declared.status.Status.TheVariants.{Done, Refused, BadInput}
 use Rattle.tcd_reading.proofs.Decided.{AreAlike, IsDecided, decided_answer, status_is, writes_are}
 use Rattle.tcd_driver.proofs.TasksReports.{judged_well, decided_each_named, sum_next, as_many, not_as_many}

@@ -11,14 +11,14 @@ use Rattle.tcd_text.specs.Lines.{lines_of}
 use Rattle.tc_machine.specs.Safe.{Safe}
 use Rattle.depth_cert.specs.Certs.{CertData, IsCert}
 use Rattle.depth_cert.specs.declared.keys.Key.{Key}
-use Rattle.cfg_recover.specs.Accepting.{Accepts, IsFirstFault, certified_need}
+use Rattle.cfg_recover.specs.RulesHoldOrFail.{Accepts, IsFirstFault, certified_need}
 use Rattle.depth_check.proofs.FirstLaws.{fails_refutes}
 use Rattle.depth_check.proofs.Held as held
 use Rattle.task_chains.specs.Tasks.{TasksData, AreTasks, count}
-use Rattle.task_chains.specs.Routine.{HasRoutine}
+use Rattle.task_chains.specs.SwitchRoutine.{HasRoutine}
 use Rattle.task_chains.specs.Views.{FitPlan, view_image_of, view_plan_of}
-use Rattle.task_chains.specs.Apart.{KeepsApart, IsTaskFault}
-use Rattle.task_chains.specs.Safe.{IsJudged}
+use Rattle.task_chains.specs.Rule17.{KeepsApart, IsTaskFault}
+use Rattle.task_chains.specs.SafeTasks.{IsJudged}
 use Rattle.task_chains.proofs.GrowthLaws.{task_faults_refute}
 use Rattle.task_chains.proofs.ReadOne.{reads_one}
 use Rattle.task_chains.proofs.Together.{tasks_are_safe}
@@ -26,7 +26,7 @@ use Rattle.task_chains.proofs.ViewPlan.{view_is_plan}
 use Rattle.tcd_reading.specs.Reports.{IsReportStatus, Report, says}
 use Rattle.tcd_reading.specs.Inputs.{Reading}
 use Rattle.tcd_forms.specs.Forms.{cert_form}
-use Rattle.tcd_driver.specs.Forms.{tasks_form}
+use Rattle.tcd_driver.specs.CellAndTaskForms.{tasks_form}
 use Rattle.tcd_forms.specs.Lines.{certified_tasks_line, sum_line}
 use Rattle.tcd_driver.specs.Tasks.{cert_of, IsTaskRefused, unaccepted, not_apart, needs_of, sum_of_needs, AreJudged, IsTasksVerdict, no_switch, refused, above, certified, if_as_many, with_a_name_each, certs_reading}
 use Rattle.tcd_reading.specs.declared.status.Status.{Status}

@@ -1,14 +1,19 @@
 -- The printed lines for words that are no command, and on faults of boot sequences, of files of
 -- cells, and of files of tasks.
-use Rattle.std.specs.Prelude.{ℕ, List, [], ◌∷◌, ◌++◌, codes}
+use Rattle.std.specs.Prelude.{ℕ, List, ◌∷◌, ◌++◌, codes, ◌≡◌, Err, []}
 use Rattle.tc_boot.specs.declared.judging.BootErr.{BootErr}
 use Rattle.tc_boot.specs.declared.judging.BootErr.TheVariants as boot
-use Rattle.value_cells.specs.declared.errors.CellsErr.{CellsErr}
-use Rattle.value_cells.specs.declared.errors.CellsErr.TheVariants as cells
-use Rattle.task_chains.specs.declared.task_lists.TasksErr.{TasksErr}
-use Rattle.task_chains.specs.declared.task_lists.TasksErr.TheVariants as tasks
 use Rattle.tcd_text.specs.Digits.{hex_word}
-use Rattle.tcd_forms.specs.Lines.{at_one}
+use Rattle.std.specs.Fmt.{decimal}
+use Rattle.tc_object.specs.Grammar.{object_of}
+use Rattle.tc_link.specs.LayoutFaults.{layout_of}
+use Rattle.tc_link.specs.declared.layout_errors.LayoutErr.{LayoutErr}
+use Rattle.tcd_base.specs.declared.errors.FormErr.{FormErr}
+use Rattle.tcd_forms.specs.Lines.{layout_line, at_one}
+use Rattle.value_cells.specs.declared.errors.CellsErr.{CellsErr}
+use Rattle.task_chains.specs.declared.task_lists.TasksErr.{TasksErr}
+use Rattle.value_cells.specs.declared.errors.CellsErr.TheVariants as cells
+use Rattle.task_chains.specs.declared.task_lists.TasksErr.TheVariants as tasks
 
 -- the line for words that are no command
 unfoldable pub bad_words_line : List ℕ
@@ -21,6 +26,17 @@ unbooted_line boot.Enabled = codes "refused boot 1" ++ 10 ∷ []
 unbooted_line boot.Odd = codes "refused boot 2" ++ 10 ∷ []
 unbooted_line boot.Outside = codes "refused boot 3" ++ 10 ∷ []
 unbooted_line (boot.Differs p) = codes "refused boot 4 at " ++ (hex_word p ++ 10 ∷ [])
+
+-- the bytes are no layout, and this is the line of their first fault
+abbrev pub IsNoLayout : List ℕ → List ℕ → Type 0
+IsNoLayout bytes line = (e : LayoutErr) × (layout_of bytes ≡ Err e) × (line ≡ layout_line e)
+
+-- the bytes are no object; the line has the number of the first fault, the place of the object
+-- among the words, and the offset of the fault
+abbrev pub IsNoObject : ℕ → List ℕ → List ℕ → Type 0
+IsNoObject place bytes line =
+    (e : FormErr) × (object_of bytes ≡ Err e)
+    × (line ≡ codes "bad object " ++ (decimal e.kind ++ (codes " at " ++ (decimal place ++ (codes " " ++ (decimal e.at ++ 10 ∷ []))))))
 
 -- why a file isn't in the form of cells: the number of the fault, and its line
 unfoldable pub cells_line : CellsErr → List ℕ

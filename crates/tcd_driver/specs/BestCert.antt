@@ -1,16 +1,18 @@
 -- The certificate that is made for an image and a plan, and why there is none.
-use Rattle.std.specs.Prelude.{◌≡◌, ℕ, List}
+use Rattle.std.specs.Prelude.{◌≡◌, ℕ, List, ◌≤◌}
 use Rattle.elf_image.specs.Images.{ImageData}
 use Rattle.tcd_plan.specs.PlanData.{PlanData}
 use Rattle.tc_machine.specs.Safe.{Safe}
 use Rattle.depth_cert.specs.declared.keys.Key.{Key}
 use Rattle.depth_cert.specs.Certs.{CertData, IsCert}
 use Rattle.depth_cert.specs.Spelling.{bytes_of}
-use Rattle.cfg_recover.specs.Accepting.{Accepts, certified_need}
-use Rattle.cfg_recover.specs.Refusals.{IsRefusal}
-use Rattle.depth_maker.specs.Made.{IsMade, NoneAccepted}
-use Rattle.tcd_driver.specs.declared.making.Making.{Making}
-use Rattle.tcd_driver.specs.declared.making.Making.TheVariants as making
+use Rattle.cfg_recover.specs.RulesHoldOrFail.{Accepts, certified_need}
+use Rattle.cfg_recover.specs.CertRefusals.{IsRefusal}
+use Rattle.depth_maker.specs.LeastCertMade.{IsMade, needs_in}
+use Rattle.depth_maker.specs.Answers.{NoneAccepted}
+use Rattle.tcd_driver.specs.declared.cert_making.Making.{Making}
+use Rattle.tcd_driver.specs.declared.cert_making.Making.TheVariants as making
+use Rattle.cfg_recover.specs.Assignments.{IsBelowAt, known_in}
 
 -- the best certificate: the least of version 1, or the least of version 2 if none of version 1 is
 -- accepted
@@ -51,3 +53,23 @@ abbrev pub Makes : ImageData → PlanData → Making → Type 0
 Makes image plan (making.Certified bytes need) = SpellCertified image plan bytes.items need
 Makes image plan (making.Refused rule key addr) = AreNone image plan rule key addr
 Makes image plan making.NoMemory = Unit {0}
+
+-- each certificate of this version is refused
+abbrev pub EachIsRefused : ImageData → PlanData → ℕ → Type 0
+EachIsRefused image plan version = (other : CertData) → IsCert other → other.version ≡ version → Accepts image plan other → ⊥
+
+-- no certificate of its version that is accepted states a lesser need of a frame, or less of what
+-- is known at a point
+pub record IsLeastOfItsVersion (image : ImageData) (plan : PlanData) (cert : CertData) : Type 0 where
+  pub is_cert : IsCert cert
+  pub needs : (other : CertData) (frame : Key) → IsCert other → other.version ≡ cert.version → Accepts image plan other → needs_in cert frame ≤ needs_in other frame
+  pub states : (other : CertData) → IsCert other → other.version ≡ cert.version → Accepts image plan other → IsBelowAt (known_in cert) (known_in other)
+
+-- no certificate of either version is accepted, and this is why none of version 2 is
+pub record NoneIsAccepted (image : ImageData) (plan : PlanData) (rule : ℕ) (frame : Key) (address : ℕ) : Type 0 where
+  pub each : (cert : CertData) → IsCert cert → Accepts image plan cert → ⊥
+  pub why : IsRefusal image plan 2 rule frame address
+
+-- the bytes spell the best certificate, which has some need
+abbrev pub SpellOne : ImageData → PlanData → List ℕ → Type 0
+SpellOne image plan bytes = (need : ℕ) × SpellCertified image plan bytes need

@@ -4,12 +4,12 @@ use Rattle.elf_image.specs.Images.{ImageData}
 use Rattle.tcd_plan.specs.PlanData.{PlanData}
 use Rattle.depth_cert.specs.Certs.{CertData}
 use Rattle.depth_cert.specs.declared.keys.Key.{Key}
-use Rattle.cfg_recover.specs.Accepting.{Accepts, IsFirstFault, certified_need}
+use Rattle.cfg_recover.specs.RulesHoldOrFail.{Accepts, IsFirstFault, certified_need}
 use Rattle.tc_disasm.specs.Listing.{listing_of}
 use Rattle.tc_boot.specs.declared.judging.BootErr.{BootErr}
 use Rattle.tc_boot.specs.Sequence.{boot_events, boot_image_of}
-use Rattle.tc_boot.specs.Reset.{HasBoot, BootsSafely}
-use Rattle.tc_boot.specs.Judging.{Judges}
+use Rattle.tc_boot.specs.Reset.{BootsSafely}
+use Rattle.tc_boot.specs.Judging.{HasBoot, Judges}
 use Rattle.tcd_reading.specs.Reports.{Report, says, writes_file}
 use Rattle.tcd_reading.specs.Inputs.{Reading, input, answer}
 use Rattle.tcd_forms.specs.Forms.{elf_form, plan_form, cert_form}

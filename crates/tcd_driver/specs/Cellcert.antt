@@ -5,16 +5,17 @@ use Rattle.tcd_plan.specs.PlanData.{PlanData}
 use Rattle.depth_cert.specs.Certs.{CertData, IsCert}
 use Rattle.depth_cert.specs.declared.keys.Key.{Key}
 use Rattle.depth_cert.specs.Spelling.{bytes_of}
-use Rattle.cfg_recover.specs.Accepting.{Accepts, certified_need}
-use Rattle.cfg_recover.specs.Refusals.{IsRefusal}
-use Rattle.depth_maker.specs.Made.{IsMade, NoneAccepted}
+use Rattle.cfg_recover.specs.RulesHoldOrFail.{Accepts, certified_need}
+use Rattle.cfg_recover.specs.CertRefusals.{IsRefusal}
+use Rattle.depth_maker.specs.LeastCertMade.{IsMade}
+use Rattle.depth_maker.specs.Answers.{NoneAccepted}
 use Rattle.value_cells.specs.declared.cells.Cell.{Cell}
 use Rattle.value_cells.specs.Cells.{with_cells}
 use Rattle.value_cells.specs.Keeping.{KeepsCells, IsFirstBreak}
 use Rattle.value_cells.specs.Safe.{SafeWithCells}
 use Rattle.tcd_reading.specs.Reports.{Report, says, writes_file}
 use Rattle.tcd_reading.specs.Inputs.{Reading, input, answer}
-use Rattle.tcd_driver.specs.Forms.{cells_form}
+use Rattle.tcd_driver.specs.CellAndTaskForms.{cells_form}
 use Rattle.tcd_forms.specs.Forms.{elf_form, plan_form}
 use Rattle.tcd_forms.specs.Lines.{certified_cells_line, refused_line}
 use Rattle.tcd_reading.specs.declared.status.Status.TheVariants.{Refused}

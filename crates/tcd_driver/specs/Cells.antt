@@ -4,14 +4,14 @@ use Rattle.elf_image.specs.Images.{ImageData}
 use Rattle.tcd_plan.specs.PlanData.{PlanData}
 use Rattle.depth_cert.specs.Certs.{CertData}
 use Rattle.depth_cert.specs.declared.keys.Key.{Key}
-use Rattle.cfg_recover.specs.Accepting.{Accepts, IsFirstFault, certified_need}
+use Rattle.cfg_recover.specs.RulesHoldOrFail.{Accepts, IsFirstFault, certified_need}
 use Rattle.value_cells.specs.declared.cells.Cell.{Cell}
 use Rattle.value_cells.specs.Cells.{with_cells}
 use Rattle.value_cells.specs.Keeping.{KeepsCells, IsFirstBreak}
 use Rattle.value_cells.specs.Safe.{SafeWithCells}
 use Rattle.tcd_reading.specs.Reports.{Report, says}
 use Rattle.tcd_reading.specs.Inputs.{Reading, input, answer}
-use Rattle.tcd_driver.specs.Forms.{cells_form}
+use Rattle.tcd_driver.specs.CellAndTaskForms.{cells_form}
 use Rattle.tcd_forms.specs.Forms.{elf_form, plan_form, cert_form}
 use Rattle.tcd_forms.specs.Lines.{certified_cells_line, refused_line}
 use Rattle.tcd_reading.specs.declared.status.Status.TheVariants.{Done, Refused}

@@ -10,7 +10,7 @@ use Rattle.tcd_reading.specs.Reports.{Report, says}
 use Rattle.tcd_reading.specs.Inputs.{Reading, input, answer}
 use Rattle.tcd_forms.specs.Forms.{elf_form, plan_form}
 use Rattle.tcd_forms.specs.Lines.{refused_line}
-use Rattle.tcd_driver.specs.BestCert.{IsCertified, AreNone, SpellCertified}
+use Rattle.tcd_driver.specs.BestCert.{IsCertified, AreNone}
 use Rattle.tcd_reading.specs.declared.status.Status.TheVariants.{Done, Refused}
 
 -- the names of the files that `cfg` reads
@@ -35,8 +35,3 @@ pub data IsDrawing (image : ImageData) (plan : PlanData) (told : Report) : Type 
 -- an executable and a plan are read; then the graph is reported
 abbrev pub cfg_reading : CfgNames → Reading
 cfg_reading names = input ImageData elf_form names.elf (λ image. input PlanData plan_form names.plan (λ plan. answer (IsDrawing image plan)))
-
--- ---- the same, by the values in the code
--- the bytes spell the best certificate, which has some need
-abbrev pub SpellOne : ImageData → PlanData → List ℕ → Type 0
-SpellOne image plan bytes = (need : ℕ) × SpellCertified image plan bytes need

@@ -1,5 +1,5 @@
 -- What `gen` reports.
-use Rattle.std.specs.Prelude.{◌≡◌, ◌-◌, ◌&&◌, nat_le, ℕ, List, length, Option}
+use Rattle.std.specs.Prelude.{◌≡◌, ◌-◌, ◌&&◌, nat_le, ℕ, List, length, Option, ◌≤◌, Some}
 use Rattle.std.specs.Bool.{then_some}
 use Rattle.std.specs.Option.{option_and_then}
 use Rattle.elf_image.specs.Images.{ImageData}
@@ -7,10 +7,12 @@ use Rattle.tcd_plan.specs.PlanData.{PlanData}
 use Rattle.tc_machine.specs.Safe.{Safe}
 use Rattle.tc_script.specs.Numbers.{number_of}
 use Rattle.depth_cert.specs.declared.keys.Key.{Key}
-use Rattle.depth_cert.specs.Certs.{CertData, IsCert, count_points}
-use Rattle.cfg_recover.specs.Accepting.{certified_need}
-use Rattle.cfg_recover.specs.Refusals.{IsRefusal}
-use Rattle.depth_maker.specs.Made.{IsMade, NoneAccepted}
+use Rattle.depth_cert.specs.Certs.{CertData, IsCert}
+use Rattle.depth_cert.specs.Nodes.{count_points}
+use Rattle.cfg_recover.specs.RulesHoldOrFail.{certified_need}
+use Rattle.cfg_recover.specs.CertRefusals.{IsRefusal}
+use Rattle.depth_maker.specs.LeastCertMade.{IsMade}
+use Rattle.depth_maker.specs.Answers.{NoneAccepted}
 use Rattle.tcd_report.specs.Generated.{generated_image}
 use Rattle.tcd_report.specs.Generated.Planned.{generated_plan}
 use Rattle.tcd_reading.specs.Reports.{Report, says}
@@ -40,3 +42,9 @@ pub data IsSummary (functions : ℕ) (image : ImageData) (plan : PlanData) (repo
 -- certificate is made
 abbrev pub gen_reading : ℕ → Reading
 gen_reading functions = answer (IsSummary functions (generated_image functions) generated_plan)
+
+-- the word is this number of functions, 1 to 500
+pub record IsCount (word : List ℕ) (functions : ℕ) : Type 0 where
+  pub is : number_of word ≡ Some functions
+  pub some : 1 ≤ functions
+  pub few : functions ≤ 500

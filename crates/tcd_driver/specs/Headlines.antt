@@ -5,13 +5,12 @@ pub mod Boots
 pub mod Builds
 pub mod Cells
 pub mod Tasks
-pub mod Texts
-use Rattle.std.specs.Prelude.{◌≡◌, ◌≢◌, ◌<◌, ◌≤◌, ◌-◌, ◌^◌, ◌==◌, ◌⊎◌, ℕ, List, [], ◌∷◌, ◌++◌, codes, length, map, Ok, Some, if◌then◌else◌}
+pub mod Reports
+use Rattle.std.specs.Prelude.{◌≡◌, ◌≢◌, ◌<◌, ◌≤◌, ◌-◌, ◌^◌, ◌⊎◌, ℕ, List, ◌∷◌, ◌++◌, codes, length, Ok, Some, if◌then◌else◌, []}
 use Rattle.std.specs.Fmt.{decimal}
 use Rattle.std.specs.FinMap.{get}
 use Rattle.elf_image.specs.Images.{ImageData}
-use Rattle.elf_image.specs.Elf.{image_of}
-use Rattle.elf_image.specs.Written.{file_of}
+use Rattle.elf_image.specs.ReadElf.{image_of}
 use Rattle.tcd_plan.specs.PlanData.{PlanData}
 use Rattle.tcd_plan.specs.Plans.{Gives}
 use Rattle.tc_machine.specs.declared.events.Event.{Event}
@@ -20,28 +19,24 @@ use Rattle.tc_machine.specs.Stepping.{run}
 use Rattle.tc_machine.specs.Safe.{Starts, Safe}
 use Rattle.tc_machine.specs.Starting.{StartsInZeros}
 use Rattle.tc_script.specs.ScriptData.{ScriptData}
-use Rattle.tc_script.specs.Reading.{script_of}
-use Rattle.tc_script.specs.Runs.{peak_of}
+use Rattle.tc_script.specs.ScriptText.{script_of}
+use Rattle.tc_script.specs.DrivenRuns.{peak_of}
 use Rattle.tc_script.specs.ScriptRuns.{script_events}
 use Rattle.tcd_text.specs.Digits.{hex_word}
 use Rattle.depth_cert.specs.declared.keys.Key.{Key}
-use Rattle.depth_cert.specs.Keys.{start_kind, call_kind, irq_kind, sys_kind}
 use Rattle.depth_cert.specs.Nodes.{NodeData}
-use Rattle.depth_cert.specs.Certs.{CertData, IsCert, find_node}
+use Rattle.depth_cert.specs.Certs.{CertData, find_node}
 use Rattle.depth_cert.specs.Grammar.{certificate_of}
 use Rattle.depth_cert.specs.Spelling.{bytes_of}
 use Rattle.cfg_recover.specs.Entries.{start_key}
-use Rattle.cfg_recover.specs.Accepting.{Accepts, IsFirstFault}
-use Rattle.cfg_recover.specs.Assignments.{IsBelowAt, known_in}
-use Rattle.cfg_recover.specs.Refusals.{IsRefusal}
-use Rattle.depth_maker.specs.Made.{needs_in}
+use Rattle.cfg_recover.specs.RulesHoldOrFail.{Accepts, IsFirstFault}
 use Rattle.tc_link.specs.Layouts.{LayoutData}
 use Rattle.tc_link.specs.LayoutFaults.{layout_of}
-use Rattle.tc_link.specs.Linked.{image_of_objects}
-use Rattle.tc_program.specs.Placed.{Placed}
 use Rattle.tcd_base.specs.Files.{Map}
 use Rattle.tcd_forms.specs.Forms.{SourceData, IsSource}
-use Rattle.tcd_forms.specs.Lines.{end_text}
+use Rattle.tcd_forms.specs.Lines.{end_text, certified_words}
+use Rattle.tcd_report.specs.Texts.{kind_words}
+use Rattle.tcd_driver.specs.BestCert.{EachIsRefused, IsLeastOfItsVersion, NoneIsAccepted}
 
 -- ---- files
 -- the name was held, and its bytes are at most `most` and of this form
@@ -103,17 +98,6 @@ pub record IsAcceptedWith (image : ImageData) (plan : PlanData) (cert : CertData
   pub start_is : find_node (start_key image plan) cert.nodes ≡ Some start
   pub need_is : need ≡ start.need
 
--- each certificate of this version is refused
-abbrev pub EachIsRefused : ImageData → PlanData → ℕ → Type 0
-EachIsRefused image plan version = (other : CertData) → IsCert other → other.version ≡ version → Accepts image plan other → ⊥
-
--- no certificate of its version that is accepted states a lesser need of a frame, or less of what
--- is known at a point
-pub record IsLeastOfItsVersion (image : ImageData) (plan : PlanData) (cert : CertData) : Type 0 where
-  pub is_cert : IsCert cert
-  pub needs : (other : CertData) (frame : Key) → IsCert other → other.version ≡ cert.version → Accepts image plan other → needs_in cert frame ≤ needs_in other frame
-  pub states : (other : CertData) → IsCert other → other.version ≡ cert.version → Accepts image plan other → IsBelowAt (known_in cert) (known_in other)
-
 -- The certificate that is made: it is accepted, so that every run is safe with its need, and no
 -- other of its version is better. It is of version 2 only if each of version 1 is refused. Its
 -- bytes read back as it.
@@ -124,25 +108,7 @@ pub record IsBestWith (image : ImageData) (plan : PlanData) (cert : CertData) (n
   pub least : IsLeastOfItsVersion image plan cert
   pub reads : certificate_of (bytes_of cert) ≡ Ok cert
 
--- no certificate of either version is accepted, and this is why none of version 2 is
-pub record NoneIsAccepted (image : ImageData) (plan : PlanData) (rule : ℕ) (frame : Key) (address : ℕ) : Type 0 where
-  pub each : (cert : CertData) → IsCert cert → Accepts image plan cert → ⊥
-  pub why : IsRefusal image plan 2 rule frame address
-
 -- ---- lines
--- the line of `check`: the need, and the areas without the reserve
-abbrev pub certified_words : ℕ → ℕ → List ℕ
-certified_words need areas = codes "certified " ++ (decimal need ++ (codes " of " ++ (decimal areas ++ (codes " areas" ++ 10 ∷ []))))
-
--- how a frame is entered: at the start, or by a call, an interrupt, a system call, or a misaligned
--- access
-abbrev pub kind_words : ℕ → List ℕ
-kind_words kind =
-    if kind == start_kind then codes "start "
-    else if kind == call_kind then codes "call "
-    else if kind == irq_kind then codes "irq "
-    else if kind == sys_kind then codes "sys "
-    else codes "aln "
 
 -- a frame: its kind, its entry, its interrupt priority, and whether it runs on the interrupt stack
 abbrev pub frame_words : Key → List ℕ
@@ -211,46 +177,6 @@ pub record RefusalByCert (elf_name plan_name : List ℕ) (before after : Map) (p
 pub record IsSourceText (bytes : List ℕ) (source : SourceData) : Type 0 where
   pub text : source.text ≡ bytes
   pub object : IsSource bytes source.object
-
--- a plan, a layout and sources: the objects of the sources are linked to the image by the layout,
--- and each of their statements has its bytes in the image
-pub record IsImageOfFiles (before : Map) (plan_name layout_name : List ℕ) (source_names : List (List ℕ)) (plan : PlanData) (image : ImageData) : Type 0 where
-  pub layout : LayoutData
-  pub sources : List SourceData
-  pub plan_file : HoldsPlan before plan_name plan
-  pub layout_file : HoldsLayout before layout_name layout
-  pub source_files : HoldEach before (2 ^ 24) IsSourceText source_names sources
-  pub linked : image_of_objects (map (λ source. source.object) sources) layout ≡ Ok image
-  pub placed : Placed (map (λ source. source.text) sources) layout image
-
--- `ship` is done: ELF and CERT are different names. ELF now holds the image of the sources, and its
--- bytes read back as it. CERT now holds the best certificate for this image. Each other name holds
--- what it held.
-pub record HeadlineOfShip (plan_name layout_name elf_name cert_name : List ℕ) (source_names : List (List ℕ)) (before after : Map) (printed : List ℕ) : Type 0 where
-  pub plan : PlanData
-  pub image : ImageData
-  pub cert : CertData
-  pub need : ℕ
-  pub apart : elf_name ≢ cert_name
-  pub image_is : IsImageOfFiles before plan_name layout_name source_names plan image
-  pub image_reads : image_of (file_of image) ≡ Ok image
-  pub best : IsBestWith image plan cert need
-  pub elf_written : get after elf_name ≡ Some (file_of image)
-  pub cert_written : get after cert_name ≡ Some (bytes_of cert)
-  pub others : (other : List ℕ) → other ≢ elf_name → other ≢ cert_name → get after other ≡ get before other
-  pub prints : printed ≡ certified_words need (plan.areas - plan.reserve)
-
--- `ship` refuses: no certificate is accepted for the image of the sources.
-pub record RefusalByShip (plan_name layout_name : List ℕ) (source_names : List (List ℕ)) (before after : Map) (printed : List ℕ) : Type 0 where
-  pub plan : PlanData
-  pub image : ImageData
-  pub rule : ℕ
-  pub frame : Key
-  pub address : ℕ
-  pub image_is : IsImageOfFiles before plan_name layout_name source_names plan image
-  pub none : NoneIsAccepted image plan rule frame address
-  pub prints : printed ≡ refused_words rule frame address
-  pub stays : after ≡ before
 
 -- ---- run
 -- `run` is done: the script's events were run from a start state in which everything that the plan

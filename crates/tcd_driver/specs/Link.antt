@@ -1,7 +1,7 @@
 -- What `link` reads, reports and writes.
 use Rattle.std.specs.Prelude.{◌≡◌, ℕ, List, length, Ok, Err}
 use Rattle.elf_image.specs.Images.{ImageData}
-use Rattle.elf_image.specs.Written.{file_of}
+use Rattle.elf_image.specs.WrittenElf.{file_of}
 use Rattle.tc_object.specs.Objects.{ObjectData}
 use Rattle.tc_link.specs.Layouts.{LayoutData}
 use Rattle.tc_link.specs.Linked.{image_of_objects}

@@ -6,7 +6,7 @@ use Rattle.tc_machine.specs.declared.state.Machine.{Machine}
 use Rattle.tc_machine.specs.Starting.{StartsInZeros}
 use Rattle.tc_machine.specs.Stepping as stepping
 use Rattle.tc_script.specs.ScriptData.{ScriptData}
-use Rattle.tc_script.specs.Runs.{peak_of}
+use Rattle.tc_script.specs.DrivenRuns.{peak_of}
 use Rattle.tc_script.specs.ScriptRuns.{script_events}
 use Rattle.tcd_reading.specs.Reports.{Report, says}
 use Rattle.tcd_reading.specs.Inputs.{Reading, input, answer}

@@ -1,19 +1,19 @@
 -- What `ship` reads, reports and writes.
 use Rattle.std.specs.Prelude.{◌≡◌, ◌-◌, ℕ, List, map, string_bytes, Ok, Err}
 use Rattle.elf_image.specs.Images.{ImageData}
-use Rattle.elf_image.specs.Elf.{image_of}
-use Rattle.elf_image.specs.Written.{file_of}
+use Rattle.elf_image.specs.ReadElf.{image_of}
+use Rattle.elf_image.specs.WrittenElf.{file_of}
 use Rattle.tcd_plan.specs.PlanData.{PlanData}
 use Rattle.tc_object.specs.Objects.{ObjectData}
 use Rattle.tc_link.specs.Layouts.{LayoutData}
 use Rattle.tc_link.specs.Linked.{image_of_objects}
 use Rattle.tc_link.specs.Refusals.{Refusal}
-use Rattle.tc_program.specs.Laws.{AreAssembled}
+use Rattle.tc_program.specs.PlacementLaws.{AreAssembled}
 use Rattle.tc_program.specs.Placed.{Placed}
 use Rattle.depth_cert.specs.declared.keys.Key.{Key}
 use Rattle.depth_cert.specs.Certs.{CertData}
 use Rattle.depth_cert.specs.Spelling.{bytes_of}
-use Rattle.cfg_recover.specs.Accepting.{certified_need}
+use Rattle.cfg_recover.specs.RulesHoldOrFail.{certified_need}
 use Rattle.tcd_reading.specs.Reports.{Report, says, writes_two}
 use Rattle.tcd_reading.specs.Inputs.{Reading, input, each, answer}
 use Rattle.tcd_forms.specs.Forms.{SourceData, plan_form, layout_form, placed_source_form}

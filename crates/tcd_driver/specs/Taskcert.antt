@@ -1,30 +1,32 @@
 -- What `taskcert` reads, prints and writes.
-use Rattle.std.specs.Prelude.{◌≡◌, ◌-◌, ◌<◌, ◌≤◌, ℕ, List, [], ◌∷◌, length}
+use Rattle.std.specs.Prelude.{◌≡◌, ◌-◌, ◌<◌, ◌≤◌, ℕ, List, ◌∷◌, length, []}
 use Rattle.elf_image.specs.Images.{ImageData}
 use Rattle.tcd_plan.specs.PlanData.{PlanData}
 use Rattle.depth_cert.specs.Certs.{CertData, IsCert}
 use Rattle.depth_cert.specs.Spelling.{bytes_of}
 use Rattle.depth_cert.specs.declared.keys.Key.{Key}
 use Rattle.tc_machine.specs.Safe.{Safe}
-use Rattle.cfg_recover.specs.Accepting.{Accepts, certified_need}
-use Rattle.cfg_recover.specs.Refusals.{IsRefusal}
-use Rattle.depth_maker.specs.Made.{IsMade, NoneAccepted}
+use Rattle.cfg_recover.specs.RulesHoldOrFail.{Accepts, certified_need}
+use Rattle.cfg_recover.specs.CertRefusals.{IsRefusal}
+use Rattle.depth_maker.specs.LeastCertMade.{IsMade}
+use Rattle.depth_maker.specs.Answers.{NoneAccepted}
 use Rattle.task_chains.specs.Tasks.{TasksData, count}
-use Rattle.task_chains.specs.Routine.{HasRoutine, IsRoutineFault}
+use Rattle.task_chains.specs.SwitchRoutine.{HasRoutine, IsRoutineFault}
 use Rattle.task_chains.specs.Views.{view_image_of, view_plan_of}
-use Rattle.task_chains.specs.Apart.{KeepsApart, IsTaskFault}
-use Rattle.task_chains.specs.Safe.{SafeTasks, IsJudged}
-use Rattle.tcd_reading.specs.Reports.{Report, Written, says}
+use Rattle.task_chains.specs.Rule17.{KeepsApart, IsTaskFault}
+use Rattle.task_chains.specs.SafeTasks.{SafeTasks}
+use Rattle.tcd_reading.specs.Reports.{Report, Written, says, writes_files}
 use Rattle.tcd_reading.specs.Inputs.{Reading, input, answer}
-use Rattle.tcd_driver.specs.Forms.{tasks_form}
+use Rattle.tcd_driver.specs.CellAndTaskForms.{tasks_form}
 use Rattle.tcd_forms.specs.Forms.{elf_form, plan_form}
 use Rattle.tcd_forms.specs.Lines.{switch_line, refused_task_line, sum_line, certified_tasks_line}
 use Rattle.tcd_driver.specs.Tasks.{cert_of, needs_of, sum_of_needs, with_a_name_each}
-use Rattle.tcd_driver.specs.declared.making.Making.{Making}
-use Rattle.tcd_driver.specs.declared.making.Making.TheVariants as making
+use Rattle.tcd_driver.specs.declared.cert_making.Making.{Making}
+use Rattle.tcd_driver.specs.declared.cert_making.Making.TheVariants as making
 use Rattle.tcd_driver.specs.declared.commands.taskcert.TasksMaking.{TasksMaking}
 use Rattle.tcd_driver.specs.declared.commands.taskcert.TasksMaking.TheVariants as all
-use Rattle.tcd_reading.specs.declared.status.Status.TheVariants.{Done, Refused}
+use Rattle.tcd_reading.specs.declared.status.Status.TheVariants.{Refused}
+use Rattle.tcd_driver.specs.Headlines.Tasks.{IsTaskMade, SpellTask}
 
 -- the names of the files that `taskcert` reads, and of the certificates that it writes
 pub record TaskcertNames : Type 0 where
@@ -34,11 +36,6 @@ pub record TaskcertNames : Type 0 where
   pub certs : List (List ℕ)
 
 -- ---- one task
--- this is the least certificate of version 2 that is accepted for the task's view, and it is judged
--- well
-pub record IsTaskMade (image : ImageData) (plan : PlanData) (tasks : TasksData) (u : ℕ) (cert : CertData) : Type 0 where
-  pub made : IsMade (view_image_of image tasks u) (view_plan_of plan tasks u) 2 cert
-  pub judged : IsJudged image plan tasks cert u
 
 -- each certificate of version 2 that is accepted for a view fails rule 17
 abbrev pub NoneApart : ImageData → PlanData → TasksData → Type 0
@@ -63,10 +60,6 @@ pub record IsFirstUncertified (image : ImageData) (plan : PlanData) (tasks : Tas
   pub task : u < count tasks
   pub before : (w : ℕ) → w < u → (cert : CertData) × IsTaskMade image plan tasks w cert
   pub uncertified : IsUncertified (view_image_of image tasks u) (view_plan_of plan tasks u) tasks rule key addr
-
--- several files to write, one after another, and the text on them
-abbrev pub writes_files : List Written → List ℕ → Report
-writes_files writes text = record { status = Done; text = text; writes = writes }
 
 -- a file for each certificate, under its name
 unfoldable pub cert_files : List (List ℕ) → List CertData → List Written
@@ -116,13 +109,6 @@ abbrev pub MakesApart : ImageData → PlanData → TasksData → Making → Type
 MakesApart view plan tasks (making.Certified bytes need) = SpellApart view plan tasks bytes.items need
 MakesApart view plan tasks (making.Refused rule key addr) = IsUncertified view plan tasks rule key addr
 MakesApart view plan tasks making.NoMemory = Unit {0}
-
--- the bytes spell the certificate of task u, with this need
-pub record SpellTask (image : ImageData) (plan : PlanData) (tasks : TasksData) (u : ℕ) (bytes : List ℕ) (need : ℕ) : Type 0 where
-  pub cert : CertData
-  pub spell : bytes ≡ bytes_of cert
-  pub made : IsTaskMade image plan tasks u cert
-  pub need_is : need ≡ certified_need (view_image_of image tasks u) (view_plan_of plan tasks u) cert
 
 -- the result of making a certificate for task u
 abbrev pub MakesTask : ImageData → PlanData → TasksData → ℕ → Making → Type 0

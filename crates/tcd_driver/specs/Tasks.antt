@@ -5,18 +5,18 @@ use Rattle.elf_image.specs.Images.{ImageData}
 use Rattle.tcd_plan.specs.PlanData.{PlanData}
 use Rattle.depth_cert.specs.Certs.{CertData}
 use Rattle.depth_cert.specs.declared.keys.Key.{Key}
-use Rattle.cfg_recover.specs.Accepting.{Accepts, IsFirstFault, certified_need}
+use Rattle.cfg_recover.specs.RulesHoldOrFail.{Accepts, IsFirstFault, certified_need}
 use Rattle.depth_check.specs.declared.verdicts.Verdict.{Verdict}
 use Rattle.depth_check.specs.declared.verdicts.Verdict.TheVariants.{Yes, No}
 use Rattle.task_chains.specs.declared.task_lists.TasksErr.TheVariants.{Count}
 use Rattle.task_chains.specs.Tasks.{TasksData, count}
-use Rattle.task_chains.specs.Routine.{HasRoutine, IsRoutineFault}
+use Rattle.task_chains.specs.SwitchRoutine.{HasRoutine, IsRoutineFault}
 use Rattle.task_chains.specs.Views.{view_image_of, view_plan_of}
-use Rattle.task_chains.specs.Apart.{IsTaskFault}
-use Rattle.task_chains.specs.Safe.{SafeTasks, IsJudged, need_of_task}
+use Rattle.task_chains.specs.Rule17.{IsTaskFault}
+use Rattle.task_chains.specs.SafeTasks.{SafeTasks, IsJudged, need_of_task}
 use Rattle.tcd_reading.specs.Reports.{Report, says}
 use Rattle.tcd_reading.specs.Inputs.{Reading, input, each, answer}
-use Rattle.tcd_driver.specs.Forms.{tasks_form}
+use Rattle.tcd_driver.specs.CellAndTaskForms.{tasks_form}
 use Rattle.tcd_forms.specs.Forms.{elf_form, plan_form, cert_form}
 use Rattle.tcd_forms.specs.Lines.{switch_line, refused_task_line, sum_line, certified_tasks_line}
 use Rattle.tcd_driver.specs.BadInputLines.{tasks_line}

@@ -6,12 +6,12 @@ use Rattle.tcd_reading.specs.Endings.{Prints}
 use Rattle.tcd_reading.specs.declared.status.Status.{Status}
 use Rattle.tcd_reading.specs.declared.status.Status.TheVariants.{Done, Refused, BadInput, BadWords}
 use Rattle.tcd_driver.specs.BadInputLines.{bad_words_line}
-use Rattle.tcd_driver.specs.Headlines.{HeadlineOfCheck, RefusalByCheck, HeadlineOfCert, RefusalByCert, HeadlineOfShip, RefusalByShip, HeadlineOfRun}
+use Rattle.tcd_driver.specs.Headlines.{HeadlineOfCheck, RefusalByCheck, HeadlineOfCert, RefusalByCert, HeadlineOfRun}
+use Rattle.tcd_driver.specs.Headlines.Builds.{HeadlineOfShip, RefusalByShip, HeadlineOfAsm, RefusalByAsm, HeadlineOfLink, RefusalByLink, RefusalByGen}
 use Rattle.tcd_driver.specs.Headlines.Boots.{HeadlineOfBoot, RefusalByBoot, HeadlineOfBootgen}
-use Rattle.tcd_driver.specs.Headlines.Builds.{HeadlineOfAsm, RefusalByAsm, HeadlineOfLink, RefusalByLink}
 use Rattle.tcd_driver.specs.Headlines.Cells.{HeadlineOfCells, RefusalByCells, HeadlineOfCellcert, RefusalByCellcert}
 use Rattle.tcd_driver.specs.Headlines.Tasks.{HeadlineOfTasks, RefusalByTasks, HeadlineOfTaskcert, RefusalByTaskcert}
-use Rattle.tcd_driver.specs.Headlines.Texts.{HeadlineOfCfg, HeadlineOfReport, HeadlineOfDis, RefusalByDis, HeadlineOfGen, RefusalByGen}
+use Rattle.tcd_driver.specs.Headlines.Reports.{HeadlineOfCfg, HeadlineOfReport, HeadlineOfDis, RefusalByDis, HeadlineOfGen}
 
 -- How words that are no command end: the files stay, and `bad words` is printed, or the sink failed
 -- within this text. A sink with room doesn't fail.

@@ -17,7 +17,7 @@ pub(crate) struct CellsFile<'a> {
 
 impl<'a> Form for CellsFile<'a> {
     ghost use Rattle.value_cells.specs.Cells.{AreCells};
-    ghost use Rattle.tcd_driver.specs.Forms.{cells_form};
+    ghost use Rattle.tcd_driver.specs.CellAndTaskForms.{cells_form};
 
     type Out = Cells;
 
@@ -50,7 +50,7 @@ pub(crate) struct TasksFile<'a> {
 
 impl<'a> Form for TasksFile<'a> {
     ghost use Rattle.task_chains.specs.Views.{FitPlan};
-    ghost use Rattle.tcd_driver.specs.Forms.{tasks_form};
+    ghost use Rattle.tcd_driver.specs.CellAndTaskForms.{tasks_form};
 
     type Out = Tasks;
 

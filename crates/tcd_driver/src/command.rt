@@ -22,7 +22,7 @@ use crate::commands::run::run_files;
 use crate::commands::ship::{Shipment, ship_files};
 use crate::commands::taskcert::certify_tasks;
 use crate::commands::tasks::check_tasks;
-use crate::different::are_different;
+use crate::distinct_names::are_different;
 use std::alloc::Global;
 use tcd_base::Files;
 use tcd_reading::Outcome;

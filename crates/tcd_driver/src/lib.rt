@@ -2,11 +2,11 @@
 #![tactic(auto)]
 
 mod cell_and_task_files;
+mod cert_making;
 mod command;
 mod commands;
-mod different;
+mod distinct_names;
 mod lines;
-mod making;
 mod own_output;
 mod tools;
 

@@ -1,15 +1,14 @@
 // The printed lines for words that are no command, and on faults of boot sequences, of files of
 // cells, and of files of tasks.
-ghost use Rattle.std.specs.Prelude.{◌≡◌, ◌++◌, ◌∷◌, [], codes, IfOk};
-ghost use Rattle.tcd_text.specs.Digits.{hex_word};
+ghost use Rattle.std.specs.Prelude.{◌≡◌, IfOk};
 ghost use Rattle.tcd_driver.specs.BadInputLines.{bad_words_line, unbooted_line, cells_line, tasks_line};
 
+use crate::distinct_names::differing_line;
 use std::alloc::Global;
 use task_chains::TasksErr;
 use tc_boot::BootErr;
 use tcd_base::NoMemory;
-use tcd_forms::{append, line_of};
-use tcd_text::hex_word;
+use tcd_forms::line_of;
 use value_cells::CellsErr;
 
 // The line for words that are no command.
@@ -18,17 +17,6 @@ pub(crate) fn bad_words_line() -> &'static [u8]
     ensures { result.now ≡ bad_words_line }
 {
     b"bad words\n"
-}
-
-// The line on a byte that differs from the boot sequence, with its address.
-fn differing_line(alloc: Global, addr: u32) -> Result<Vec<u8>, NoMemory>
-    ensures { IfOk result
-        (λ line. line.items ≡ codes "refused boot 4 at " ++ (hex_word addr ++ 10 ∷ [])) }
-{
-    let mut line = line_of(alloc, b"refused boot 4 at ")?;
-    append(&mut line, &hex_word(addr))?;
-    append(&mut line, b"\n")?;
-    Ok(line)
 }
 
 // The line on a boot sequence that is refused.

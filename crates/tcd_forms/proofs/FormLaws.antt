@@ -2,16 +2,16 @@
 use Rattle.std.proofs.Common.{◌≡◌, ℕ, List, [], length, Option, Some, Result, Ok, Err, refl, sym, ap, ◌∙◌}
 use Rattle.serde_json.specs.Data.{Data}
 use Rattle.serde_json.specs.Read.{read}
-use Rattle.elf_image.specs.Elf.{image_of}
+use Rattle.elf_image.specs.ReadElf.{image_of}
 use Rattle.tcd_plan.specs.PlanData.{PlanData}
 use Rattle.tcd_plan.specs.Plans.{Gives, Answers, plan_of}
 use Rattle.tcd_plan.specs.declared.plans.PlanErr.{PlanErr}
 use Rattle.tcd_plan.specs.declared.plans.PlanErr.TheVariants as plan
 use Rattle.depth_cert.specs.Grammar.{certificate_of}
-use Rattle.tc_script.specs.Reading.{script_of}
+use Rattle.tc_script.specs.ScriptText.{script_of}
 use Rattle.tc_object.specs.Grammar as grammar
 use Rattle.tc_stmt.specs.Lines.{LineData, lines_in}
-use Rattle.tc_asm.specs.Sources.{KeepsRules, IsLeast}
+use Rattle.tc_asm.specs.DraftedSources.{KeepsRules, IsLeast}
 use Rattle.tc_link.specs.LayoutFaults.{layout_of}
 use Rattle.tcd_forms.specs.Forms.{elf_form, plan_form, cert_form, script_form, source_form, placed_source_form, layout_form, object_form}
 use Rattle.tcd_reading.proofs.Decided.{IsLawful}

@@ -2,7 +2,7 @@
 use Rattle.std.specs.Prelude.{◌≡◌, ◌≢◌, ◌^◌, ℕ, List, length, Ok, Err}
 use Rattle.tcd_base.specs.declared.errors.FormErr.{FormErr}
 use Rattle.elf_image.specs.Images.{ImageData}
-use Rattle.elf_image.specs.Elf.{image_of}
+use Rattle.elf_image.specs.ReadElf.{image_of}
 use Rattle.elf_image.specs.declared.errors.ImageErr.{ImageErr}
 use Rattle.tcd_plan.specs.PlanData.{PlanData}
 use Rattle.tcd_plan.specs.Plans.{Gives, Answers}
@@ -11,13 +11,14 @@ use Rattle.tcd_plan.specs.declared.plans.PlanErr.TheVariants as plan
 use Rattle.depth_cert.specs.Certs.{CertData}
 use Rattle.depth_cert.specs.Grammar.{certificate_of}
 use Rattle.tc_script.specs.ScriptData.{ScriptData}
-use Rattle.tc_script.specs.Reading.{script_of}
+use Rattle.tc_script.specs.ScriptText.{script_of}
 use Rattle.tc_script.specs.declared.errors.ScriptErr.{ScriptErr}
 use Rattle.tc_object.specs.Objects.{ObjectData}
 use Rattle.tc_object.specs.Grammar as grammar
 use Rattle.tc_stmt.specs.Lines.{lines_in}
 use Rattle.tc_asm.specs.Objects.{object_of}
-use Rattle.tc_asm.specs.Sources.{drafted, symbols_of, KeepsRules, IsLeast}
+use Rattle.tc_asm.specs.DraftedSources.{symbols_of, KeepsRules, IsLeast}
+use Rattle.tc_asm.specs.Drafts.{drafted}
 use Rattle.tc_link.specs.Layouts.{LayoutData}
 use Rattle.tc_link.specs.LayoutFaults.{layout_of}
 use Rattle.tc_link.specs.declared.layout_errors.LayoutErr.{LayoutErr}

@@ -23,6 +23,7 @@ use Rattle.tcd_plan.specs.Keys.{key_texts}
 use Rattle.tcd_plan.specs.declared.plans.PlanKey.{PlanKey}
 use Rattle.tcd_plan.specs.declared.plans.PlanErr.{PlanErr}
 use Rattle.tcd_plan.specs.declared.plans.PlanErr.TheVariants as plan
+use Rattle.tc_lex.specs.Cut.{at_name}
 
 -- the kind of a key: the start (0), a call, an interrupt, a system call or a misaligned access
 unfoldable pub kind_text : ℕ → List ℕ
@@ -44,10 +45,6 @@ at_one i = codes " at " ++ (decimal i ++ 10 ∷ [])
 -- two numbers
 unfoldable pub at_two : ℕ → ℕ → List ℕ
 at_two i j = codes " at " ++ (decimal i ++ (codes " " ++ (decimal j ++ 10 ∷ [])))
-
--- a name
-unfoldable pub at_name : List ℕ → List ℕ
-at_name name = codes " name " ++ (name ++ 10 ∷ [])
 
 -- a key of the plan
 unfoldable pub at_key : PlanKey → List ℕ
@@ -237,3 +234,16 @@ generated_line functions nodes points need areas =
     ++ (decimal nodes
     ++ (codes " points "
     ++ (decimal points ++ (codes " certified " ++ (decimal need ++ (codes " of " ++ (decimal areas ++ (codes " areas" ++ 10 ∷ []))))))))))
+
+-- the line of `tasks`: the needs together, the areas without the reserve, and the number of tasks
+abbrev pub tasks_words : ℕ → ℕ → ℕ → List ℕ
+tasks_words sum areas n =
+    codes "certified " ++ (decimal sum ++ (codes " of " ++ (decimal areas ++ (codes " areas in " ++ (decimal n ++ (codes " tasks" ++ 10 ∷ []))))))
+
+-- the line of needs that are together above the areas
+abbrev pub sum_words : ℕ → ℕ → List ℕ
+sum_words sum areas = codes "refused sum " ++ (decimal sum ++ (codes " of " ++ (decimal areas ++ (codes " areas" ++ 10 ∷ []))))
+
+-- the line of `check`: the need, and the areas without the reserve
+abbrev pub certified_words : ℕ → ℕ → List ℕ
+certified_words need areas = codes "certified " ++ (decimal need ++ (codes " of " ++ (decimal areas ++ (codes " areas" ++ 10 ∷ []))))

@@ -1,13 +1,13 @@
 // The printed lines on inputs that are refused, and on rules that fail.
 ghost use Rattle.std.specs.Prelude.{◌≡◌, ◌<◌, ◌++◌, ◌∷◌, [], if◌then◌else◌, length, codes, IsErr, IfOk, IfSome, OnOk};
 ghost use Rattle.std.specs.Fmt.{decimal};
-ghost use Rattle.tcd_forms.specs.Lines.{long_elf_line, long_plan_line, long_cert_line, long_script_line, long_source_line, kind_text, key_line, at_key, elf_line, plan_line, cert_line, script_line, source_line, long_layout_line, long_cells_line, long_tasks_line, layout_line, long_object_line, object_line, at_name, field_fault, link_line, refused_line, switch_line, of_task, refused_task_line, sum_line};
-ghost use Rattle.tcd_text.specs.Digits.{hex_word};
+ghost use Rattle.tcd_forms.specs.Lines.{long_elf_line, long_plan_line, long_cert_line, long_script_line, long_source_line, kind_text, at_key, elf_line, plan_line, cert_line, script_line, source_line, long_layout_line, long_cells_line, long_tasks_line, layout_line, long_object_line, object_line, field_fault, link_line};
+ghost use Rattle.tc_lex.specs.Cut.{at_name};
 ghost use Rattle.tcd_plan.specs.Plans.{HasText};
 ghost use Rattle.tc_link.specs.Errors.{refusal_of};
 ghost use Rattle.tcd_plan.specs.Keys.{key_texts};
 
-use depth_cert::{CALL, IRQ, Key, START, SYS};
+use depth_cert::{CALL, IRQ, START, SYS};
 use elf_image::ImageErr;
 use std::alloc::Global;
 use tc_link::{LayoutErr, LinkErr};
@@ -15,7 +15,6 @@ use tc_reloc::RelocErr;
 use tc_script::ScriptErr;
 use tcd_base::{FormErr, NoMemory};
 use tcd_plan::{PlanErr, PlanKey, key_text};
-use tcd_text::hex_word;
 
 /// Appends bytes to a line.
 pub fn append(line: &mut Vec<u8>, bytes: &[u8]) -> Result<(), NoMemory>
@@ -27,7 +26,7 @@ pub fn append(line: &mut Vec<u8>, bytes: &[u8]) -> Result<(), NoMemory>
 
 // Appends the kind of a key and a blank.
 #[tactic(auto, unfolding(crate::specs::Lines::kind_text))]
-fn append_kind(line: &mut Vec<u8>, kind: u8) -> Result<(), NoMemory>
+pub(crate) fn append_kind(line: &mut Vec<u8>, kind: u8) -> Result<(), NoMemory>
     ensures { OnOk result (line.new.items ≡ line.old.items ++ kind_text kind) }
 {
     match kind {
@@ -40,7 +39,7 @@ fn append_kind(line: &mut Vec<u8>, kind: u8) -> Result<(), NoMemory>
 }
 
 // The digit for the interrupt stack (1: in use), and the line feed.
-fn stack_text(is: bool) -> &'static [u8]
+pub(crate) fn stack_text(is: bool) -> &'static [u8]
     ensures { result.now ≡ (if is then 49 else 48) ∷ 10 ∷ [] }
 {
     if is { b"1\n" } else { b"0\n" }
@@ -167,43 +166,11 @@ pub fn cert_line(alloc: Global, e: FormErr) -> Result<Vec<u8>, NoMemory>
     Ok(format!(in alloc; "bad cert {kind} at {at}\n")?.into_bytes())
 }
 
-// The start of a line on a rule that fails.
-fn refused_front(alloc: Global, rule: u8) -> Result<Vec<u8>, NoMemory>
-    ensures { IfOk result
-        (λ line. line.items ≡ codes "refused K" ++ (decimal rule ++ codes " at ")) }
-{
-    Ok(format!(in alloc; "refused K{rule} at ")?.into_bytes())
-}
-
 // The priority in a key.
-fn prio_text(alloc: Global, prio: u8) -> Result<Vec<u8>, NoMemory>
+pub(crate) fn prio_text(alloc: Global, prio: u8) -> Result<Vec<u8>, NoMemory>
     ensures { IfOk result (λ text. text.items ≡ codes " prio " ++ (decimal prio ++ codes " is ")) }
 {
     Ok(format!(in alloc; " prio {prio} is ")?.into_bytes())
-}
-
-// Appends a key and the line feed.
-#[tactic(auto, unfolding(crate::specs::Lines::key_line))]
-fn append_key(alloc: Global, line: &mut Vec<u8>, key: Key) -> Result<(), NoMemory>
-    ensures { OnOk result (line.new.items ≡ line.old.items ++ key_line key) }
-{
-    append_kind(line, key.kind)?;
-    append(line, &hex_word(key.entry))?;
-    let prio = prio_text(alloc, key.prio)?;
-    append(line, &prio)?;
-    append(line, stack_text(key.is))
-}
-
-/// The line on a rule that fails, with the address and the key.
-#[tactic(auto, unfolding(crate::specs::Lines::refused_line))]
-pub fn refused_line(alloc: Global, rule: u8, key: Key, addr: u32) -> Result<Vec<u8>, NoMemory>
-    ensures { IfOk result (λ line. line.items ≡ refused_line rule key addr) }
-{
-    let mut line = refused_front(alloc, rule)?;
-    append(&mut line, &hex_word(addr))?;
-    append(&mut line, b" in ")?;
-    append_key(alloc, &mut line, key)?;
-    Ok(line)
 }
 
 /// The line that says why a file is no script.
@@ -272,7 +239,7 @@ pub fn object_line(alloc: Global, place: u32, e: FormErr) -> Result<Vec<u8>, NoM
 }
 
 // The line of a refusal to link that names a symbol or a section.
-#[tactic(auto, unfolding(crate::specs::Lines::at_name))]
+#[tactic(auto, unfolding(tc_lex::specs::Cut::at_name))]
 fn name_line(alloc: Global, front: &str, name: &str) -> Result<Vec<u8>, NoMemory>
     ensures { IfOk result (λ line. line.items ≡ front.now ++ at_name name.now) }
 {
@@ -318,47 +285,10 @@ pub fn link_line(alloc: Global, e: LinkErr) -> Result<Vec<u8>, NoMemory>
     }
 }
 
-/// The line for an image without the switch routine at this address.
-#[tactic(auto, unfolding(crate::specs::Lines::switch_line))]
-pub fn switch_line(alloc: Global, addr: u32) -> Result<Vec<u8>, NoMemory>
-    ensures { IfOk result (λ line. line.items ≡ switch_line addr) }
-{
-    let mut line = line_of(alloc, b"refused switch at ")?;
-    append(&mut line, &hex_word(addr))?;
-    append(&mut line, b"\n")?;
-    Ok(line)
-}
-
 // The number of a task, and the line feed.
-fn task_text(alloc: Global, u: usize) -> Result<Vec<u8>, NoMemory>
+pub(crate) fn task_text(alloc: Global, u: usize) -> Result<Vec<u8>, NoMemory>
     ensures { IfOk result
         (λ line. line.items ≡ codes " of task " ++ (decimal u ++ 10 ∷ [])) }
 {
     Ok(format!(in alloc; " of task {u}\n")?.into_bytes())
-}
-
-/// The line on a rule that fails in a task's certificate.
-#[tactic(auto, unfolding(crate::specs::Lines::of_task))]
-pub fn refused_task_line(
-    alloc: Global,
-    rule: u8,
-    key: Key,
-    addr: u32,
-    u: usize,
-) -> Result<Vec<u8>, NoMemory>
-    ensures { IfOk result (λ line. line.items ≡ refused_task_line rule key addr u) }
-{
-    let mut line = refused_line(alloc, rule, key, addr)?;
-    let _end = line.pop();
-    let text = task_text(alloc, u)?;
-    append(&mut line, &text)?;
-    Ok(line)
-}
-
-/// The line for tasks whose needs together exceed the CSAs of the plan.
-#[tactic(auto, unfolding(crate::specs::Lines::sum_line))]
-pub fn sum_line(alloc: Global, sum: u64, areas: u32) -> Result<Vec<u8>, NoMemory>
-    ensures { IfOk result (λ line. line.items ≡ sum_line sum areas) }
-{
-    Ok(format!(in alloc; "refused sum {sum} of {areas} areas\n")?.into_bytes())
 }

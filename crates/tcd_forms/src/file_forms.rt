@@ -120,7 +120,7 @@ pub struct ScriptFile<'a> {
 }
 
 impl<'a> Form for ScriptFile<'a> {
-    ghost use Rattle.tc_script.specs.Fitting.{FitsPlan};
+    ghost use Rattle.tc_script.specs.ScriptsFitPlans.{FitsPlan};
     ghost use Rattle.tcd_forms.specs.Forms.{script_form};
 
     type Out = Script;

@@ -1,11 +1,12 @@
 // The printed lines on success: runs, files that were written, and certified needs.
 ghost use Rattle.std.specs.Prelude.{◌≡◌, ◌++◌, ◌∷◌, [], length, codes, IfOk, ◌<◌, OnOk};
 ghost use Rattle.std.specs.Fmt.{decimal};
-ghost use Rattle.depth_cert.specs.Certs.{count_points};
-ghost use Rattle.tcd_forms.specs.Lines.{boots_line, generated_boot_line, certified_cells_line, certified_tasks_line, generated_line, assembled_line, linked_line, cause_text, end_text, run_line, certified_line};
+ghost use Rattle.depth_cert.specs.Nodes.{count_points};
+ghost use Rattle.tcd_forms.specs.Lines.{boots_line, generated_boot_line, certified_cells_line, certified_tasks_line, generated_line, assembled_line, linked_line, cause_text, end_text, run_line, certified_line, key_line, refused_line, switch_line, of_task, refused_task_line, sum_line};
 ghost use Rattle.tcd_text.specs.Digits.{hex_word};
 
-use crate::error_lines::append;
+use crate::error_lines::{append, append_kind, line_of, prio_text, stack_text, task_text};
+use depth_cert::Key;
 use packed_cert::PackedCert;
 use std::alloc::Global;
 use tc_machine::{Cause, End, Machine};
@@ -160,4 +161,73 @@ pub fn linked_line(alloc: Global, bytes: &[u8]) -> Result<Vec<u8>, NoMemory>
 {
     let size = bytes.len();
     Ok(format!(in alloc; "image {size} bytes\n")?.into_bytes())
+}
+
+// The start of a line on a rule that fails.
+fn refused_front(alloc: Global, rule: u8) -> Result<Vec<u8>, NoMemory>
+    ensures { IfOk result
+        (λ line. line.items ≡ codes "refused K" ++ (decimal rule ++ codes " at ")) }
+{
+    Ok(format!(in alloc; "refused K{rule} at ")?.into_bytes())
+}
+
+// Appends a key and the line feed.
+#[tactic(auto, unfolding(crate::specs::Lines::key_line))]
+fn append_key(alloc: Global, line: &mut Vec<u8>, key: Key) -> Result<(), NoMemory>
+    ensures { OnOk result (line.new.items ≡ line.old.items ++ key_line key) }
+{
+    append_kind(line, key.kind)?;
+    append(line, &hex_word(key.entry))?;
+    let prio = prio_text(alloc, key.prio)?;
+    append(line, &prio)?;
+    append(line, stack_text(key.is))
+}
+
+/// The line on a rule that fails, with the address and the key.
+#[tactic(auto, unfolding(crate::specs::Lines::refused_line))]
+pub fn refused_line(alloc: Global, rule: u8, key: Key, addr: u32) -> Result<Vec<u8>, NoMemory>
+    ensures { IfOk result (λ line. line.items ≡ refused_line rule key addr) }
+{
+    let mut line = refused_front(alloc, rule)?;
+    append(&mut line, &hex_word(addr))?;
+    append(&mut line, b" in ")?;
+    append_key(alloc, &mut line, key)?;
+    Ok(line)
+}
+
+/// The line for an image without the switch routine at this address.
+#[tactic(auto, unfolding(crate::specs::Lines::switch_line))]
+pub fn switch_line(alloc: Global, addr: u32) -> Result<Vec<u8>, NoMemory>
+    ensures { IfOk result (λ line. line.items ≡ switch_line addr) }
+{
+    let mut line = line_of(alloc, b"refused switch at ")?;
+    append(&mut line, &hex_word(addr))?;
+    append(&mut line, b"\n")?;
+    Ok(line)
+}
+
+/// The line on a rule that fails in a task's certificate.
+#[tactic(auto, unfolding(crate::specs::Lines::of_task))]
+pub fn refused_task_line(
+    alloc: Global,
+    rule: u8,
+    key: Key,
+    addr: u32,
+    u: usize,
+) -> Result<Vec<u8>, NoMemory>
+    ensures { IfOk result (λ line. line.items ≡ refused_task_line rule key addr u) }
+{
+    let mut line = refused_line(alloc, rule, key, addr)?;
+    let _end = line.pop();
+    let text = task_text(alloc, u)?;
+    append(&mut line, &text)?;
+    Ok(line)
+}
+
+/// The line for tasks whose needs together exceed the CSAs of the plan.
+#[tactic(auto, unfolding(crate::specs::Lines::sum_line))]
+pub fn sum_line(alloc: Global, sum: u64, areas: u32) -> Result<Vec<u8>, NoMemory>
+    ensures { IfOk result (λ line. line.items ≡ sum_line sum areas) }
+{
+    Ok(format!(in alloc; "refused sum {sum} of {areas} areas\n")?.into_bytes())
 }

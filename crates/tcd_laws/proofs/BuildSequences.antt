@@ -8,7 +8,7 @@ use Rattle.std.proofs.lemmas.Bool.{and_parts}
 use Rattle.std.proofs.lemmas.Slice.Eq.{bytes_eq-Decides}
 use Rattle.std.proofs.lemmas.List.Elements.{All-nil, All-cons, All-head, All-tail}
 use Rattle.elf_image.specs.Images.{IsImage}
-use Rattle.elf_image.specs.Written.{file_of}
+use Rattle.elf_image.specs.WrittenElf.{file_of}
 use Rattle.elf_image.proofs.Again.{image_of-file_of}
 use Rattle.tc_object.specs.Spelling.{bytes_of}
 use Rattle.tc_object.proofs.BackLaws.{object_of-bytes_of}
@@ -19,10 +19,10 @@ use Rattle.tcd_reading.specs.declared.status.Status.TheVariants.{Done}
 use Rattle.tcd_reading.specs.Inputs.{FormSeen, HoldsInput}
 use Rattle.tcd_forms.specs.Forms.{source_form, object_form, layout_form, elf_form}
 use Rattle.tcd_driver.specs.Commands.{Command, link, dis, are_different}
-use Rattle.tcd_laws.specs.Images.{IsObjectOfBytes}
+use Rattle.tcd_laws.specs.LimitsKept.{IsObjectOfBytes}
 use Rattle.tcd_laws.specs.Sequences.{AreSureInSequence}
-use Rattle.tcd_laws.specs.Handing.{HoldEach}
-use Rattle.tcd_laws.specs.Builds.{PartData, BuildData, object_names, objects_of, asm_command, asm_report, build_commands, build_reports, IsPart, IsBuild, BuildsReport, BuildsEnd}
+use Rattle.tcd_laws.specs.HandedFiles.{HoldEach}
+use Rattle.tcd_laws.specs.BuildSequences.{PartData, BuildData, object_names, objects_of, asm_command, asm_report, build_commands, build_reports, IsPart, IsBuild, BuildsReport, BuildsEnd}
 use Rattle.tcd_laws.proofs.LinkedImages.{links_give_images}
 use Rattle.tcd_laws.proofs.LayoutTexts.{texts_give_layouts}
 use Rattle.tcd_laws.proofs.HeldFiles.{nothing_told, input_same, input_other}

@@ -16,7 +16,7 @@ use Rattle.depth_cert.specs.declared.keys.Key.{Key}
 use Rattle.depth_cert.specs.declared.points.Point.{Point}
 use Rattle.depth_cert.specs.Nodes.{NodeData}
 use Rattle.depth_cert.specs.Certs.{CertData, IsCert}
-use Rattle.cfg_recover.specs.Edges.{Way, to, call, irq, sys, aln, ret, rfe}
+use Rattle.cfg_recover.specs.StepEdges.{Way, to, call, irq, sys, aln, ret, rfe}
 use Rattle.depth_check.proofs.Sound.{accepted_is_safe}
 use Rattle.depth_check.proofs.Held.{edges_are_owed}
 use Rattle.tcd_text.specs.Digits.{hex_digit, hex_byte, hex_word}
@@ -24,7 +24,7 @@ use Rattle.tcd_report.specs.Texts.{kind_text, key_text}
 use Rattle.tcd_report.specs.Graphs.{Arrow, goes, back, line_front, end_to, way_end, arrow_end, line_text, ArePointLines, AreParts, AreJoined, AreNodeLines, AreGraphLines}
 use Rattle.tcd_report.specs.Graphs.EdgeLaws.{EdgesStand}
 use Rattle.tcd_report.proofs.GraphLemmas.EdgeProofs.{edges_stand}
-use Rattle.tcd_laws.specs.Edges.{printed_lines, AcceptedEdgesStand}
+use Rattle.tcd_laws.specs.EdgesOnLines.{printed_lines, AcceptedEdgesStand}
 
 -- ---- texts without a line feed
 abbrev passes : ℕ → Bool

@@ -5,7 +5,7 @@ use Rattle.std.specs.FinMap.{get, insert}
 use Rattle.std.specs.List.{flat_map}
 use Rattle.std.proofs.lemmas.List.Elements.{All-nil, All-cons, All-head, All-tail}
 use Rattle.elf_image.specs.Images.{IsImage}
-use Rattle.elf_image.specs.Written.{file_of}
+use Rattle.elf_image.specs.WrittenElf.{file_of}
 use Rattle.elf_image.proofs.Again.{image_of-file_of}
 use Rattle.tcd_base.specs.Bytes.{bytes_of_word}
 use Rattle.tc_object.specs.Objects.{SectionData, ObjectData}
@@ -26,8 +26,8 @@ use Rattle.tcd_forms.specs.Forms.{IsSource, object_form, layout_form, elf_form}
 use Rattle.tcd_forms.proofs.FormLaws.{object_lawful, elf_lawful}
 use Rattle.tcd_driver.specs.Asm.{AsmNames, asm_reading}
 use Rattle.tcd_driver.specs.Link.{LinkNames, IsLinked, refused, image, link_reading}
-use Rattle.tcd_laws.specs.Images.{IsByte, HoldsBytes, IsObjectOfBytes}
-use Rattle.tcd_laws.specs.Handing.{IsExactly, HoldEach, HoldBytes, IsAssembled, AsmHandsOver, IsLinkedTo, LinkHandsOver}
+use Rattle.tcd_laws.specs.LimitsKept.{IsByte, HoldsBytes, IsObjectOfBytes}
+use Rattle.tcd_laws.specs.HandedFiles.{IsExactly, HoldEach, HoldBytes, IsAssembled, AsmHandsOver, IsLinkedTo, LinkHandsOver}
 use Rattle.tcd_laws.proofs.SourceBytes.{sources_give_objects}
 use Rattle.tcd_laws.proofs.LinkedImages.{links_give_images}
 use Rattle.tcd_laws.proofs.LayoutTexts.{texts_give_layouts}

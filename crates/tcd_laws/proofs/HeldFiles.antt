@@ -12,7 +12,7 @@ use Rattle.tcd_reading.specs.Inputs.{FormSeen, HoldsInput, Reading, input, each,
 use Rattle.tcd_reading.specs.declared.status.Status.TheVariants.{Done}
 use Rattle.tcd_reading.proofs.Decided.{IsLawful, one_value, never_both}
 use Rattle.tcd_laws.specs.Sequences.{IsSure}
-use Rattle.tcd_laws.specs.Handing.{IsExactly, HoldEach}
+use Rattle.tcd_laws.specs.HandedFiles.{IsExactly, HoldEach}
 
 -- files that tell nothing tell no map
 pub nothing_told : IsSome {T = Map} None → ⊥

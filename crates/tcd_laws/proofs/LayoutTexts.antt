@@ -10,17 +10,18 @@ use Rattle.std.proofs.lemmas.Bool.{and_parts, eqb-true, ltb-true, leb-true, leb-
 use Rattle.std.proofs.lemmas.Int.Digits.{digits_value-lt}
 use Rattle.std.proofs.lemmas.List.Elements.{All-nil, All-head, All-push, filter_map-append}
 use Rattle.tcd_text.specs.Lines.{words_of, lines_of}
-use Rattle.tcd_text.specs.HexNumbers.{is_upper_hex, hex_number_of}
+use Rattle.tcd_text.specs.HexNumbers.{hex_number_of}
+use Rattle.tcd_text.specs.Digits.{is_upper_hex}
 use Rattle.tc_object.specs.Names.{is_length, is_name, name_of}
 use Rattle.tc_object.specs.Objects.{InTurn}
 use Rattle.tc_link.specs.Layouts.{PlaceData, LayoutData, IsPlace, IsPlaceAfter, IsLayout, shares, is_placed}
-use Rattle.tc_link.specs.LayoutLines.{LineData, blank, entry, place, place_of_words, line_in, line_of, entry_in, region_in, entries_of, places_of}
+use Rattle.tc_link.specs.LayoutLines.{LineData, blank, entry, place, place_of_words, line_in, line_of, entry_in, region_in, entries_of, places_of, IsGood}
 use Rattle.tcd_base.specs.Refusing.{unless}
-use Rattle.tc_link.specs.LayoutFaults.{fault_of, first_fault, with_entry}
-use Rattle.tc_link.specs.LayoutDrafts.{DraftData, IsDraft, IsGood, with_line}
+use Rattle.tc_link.specs.LayoutFaults.{fault_of, first_fault}
+use Rattle.tc_link.specs.LayoutDrafts.{with_entry, DraftData, IsDraft, with_line}
 use Rattle.tc_link.specs.declared.layout_errors.LayoutErr.{LayoutErr}
 use Rattle.tc_link.proofs.TurnLaws.{turn_push}
-use Rattle.tcd_laws.specs.Images.{TextsGiveLayouts}
+use Rattle.tcd_laws.specs.LimitsKept.{TextsGiveLayouts}
 
 -- ---- numbers and names
 all_digits : (cs : List ℕ) → list_all is_upper_hex cs ≡ true → AllDigits 16 cs

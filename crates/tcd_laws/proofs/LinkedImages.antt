@@ -11,17 +11,16 @@ use Rattle.elf_image.specs.Images.{SegmentData, AreBytes, IsImage}
 use Rattle.tc_object.specs.declared.relocs.Reloc.{Reloc}
 use Rattle.tc_object.specs.Objects.{SectionData, SymbolData, ObjectData}
 use Rattle.tc_link.specs.Layouts.{PlaceData}
-use Rattle.tc_link.specs.Placing.{GlobalData, PlacedData, is_global, global_data, globals_of, global_address, bases_after, placed_after}
+use Rattle.tc_link.specs.Placing.{PlacedData, bases_after, placed_after, placed_of}
+use Rattle.tc_link.specs.Names.{GlobalData, is_global, global_data, globals_of, global_address}
 use Rattle.tc_link.specs.PlaceSizes.{round_up}
-use Rattle.tc_reloc.specs.Fields.{content_of, spread_of, rest_of}
-use Rattle.tc_reloc.specs.Applied.{with_field}
-use Rattle.tc_link.specs.Relocated.{field_place, value_of, field_at, with_relocation, with_reloc, relocated_sections}
+use Rattle.tc_reloc.specs.Fields.{content_of, spread_of, rest_of, field_at, with_field}
+use Rattle.tc_link.specs.Relocated.{field_place, value_of, with_relocation, with_reloc, relocated_sections, contents_of}
 use Rattle.tc_link.specs.Segments.{with_padding, with_section, joined_sections, segment_of, segments_of}
-use Rattle.tc_link.specs.Linked.{placed_of, contents_of}
 use Rattle.tc_link.proofs.ImageLaws.{image_of_bytes}
 use Rattle.tc_link.proofs.LinkLaws.{linked_image}
 use Rattle.tc_program.proofs.Laws.{parts_of}
-use Rattle.tcd_laws.specs.Images.{IsByte, HoldsBytes, IsObjectOfBytes, LinksGiveImages}
+use Rattle.tcd_laws.specs.LimitsKept.{IsByte, HoldsBytes, IsObjectOfBytes, LinksGiveImages}
 use Rattle.tcd_laws.proofs.ObjectBytes.{word_small}
 
 -- ---- relocations

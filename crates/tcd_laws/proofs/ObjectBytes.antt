@@ -11,7 +11,7 @@ use Rattle.tc_object.specs.Names.{IsName}
 use Rattle.tc_object.specs.Objects.{SectionData, SymbolData, ObjectData, InTurn, IsSection, IsSymbol, IsReloc, is_section_name, is_symbol_name}
 use Rattle.tc_object.specs.Spelling.{bytes_of_name, bytes_of_section, bytes_of_symbol, bytes_of_reloc, bytes_of_header, bytes_of}
 use Rattle.tc_asm.proofs.ListLaws.{all_from_each}
-use Rattle.tcd_laws.specs.Images.{IsByte, HoldsBytes, ObjectsSpellBytes}
+use Rattle.tcd_laws.specs.LimitsKept.{IsByte, HoldsBytes, ObjectsSpellBytes}
 
 -- ---- numbers
 half_small : (x : ℕ) → All IsByte (bytes_of_half x)

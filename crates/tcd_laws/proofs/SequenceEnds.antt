@@ -3,15 +3,15 @@ use Rattle.std.proofs.Common.{◌≡◌, ◌≤◌, ◌-◌, ◌⊎◌, inl, inr
 use Rattle.std.specs.Prelude.{IsTrue, IsSomeAnd}
 use Rattle.std.specs.Option.{option_map}
 use Rattle.tcd_base.specs.Files.{Map, FilesSeen, with_file}
-use Rattle.tcd_base.specs.Sink.{SinkSeen, with_appended, HasRoomFor}
-use Rattle.tcd_reading.specs.Reports.{Report, Written, with_written}
-use Rattle.tcd_reading.specs.Endings.{Stopped, IsPrinted, Prints, whole, cut, IsReported, HasRoom, HasEnded, Ends}
+use Rattle.tcd_base.specs.Sink.{SinkSeen, with_appended, HasRoomFor, IsPrinted}
+use Rattle.tcd_reading.specs.Reports.{Report, Written, with_written, all_text}
+use Rattle.tcd_reading.specs.Endings.{Stopped, Prints, whole, cut, IsReported, HasRoom, HasEnded, Ends}
 use Rattle.tcd_reading.specs.Inputs.{Reading, Says, AreSureOf}
 use Rattle.tcd_reading.specs.Endings as ending
 use Rattle.tcd_reading.specs.declared.status.Status.{Status}
 use Rattle.tcd_reading.specs.declared.status.Status.TheVariants.{Done, Fault, NoMemory}
 use Rattle.tcd_driver.specs.Commands.{reading_of}
-use Rattle.tcd_laws.specs.Sequences.{EndInSequence, IsSure, AreSureInSequence, all_writes, all_text, IsWhole, RanOut, EndsSurely, SureSequencesEnd}
+use Rattle.tcd_laws.specs.Sequences.{EndInSequence, IsSure, AreSureInSequence, all_writes, IsWhole, RanOut, EndsSurely, SureSequencesEnd}
 
 -- ---- one command
 -- its report was written and printed

@@ -8,33 +8,34 @@ use Rattle.std.proofs.lemmas.List.Elements.{All-nil, All-cons, All-append, All-r
 use Rattle.tc_lex.specs.declared.kinds.Token.{Token}
 use Rattle.tc_lex.specs.Cut.{tokens_of}
 use Rattle.tc_isa.specs.declared.fields.Fields.{Fields}
-use Rattle.tc_isa.specs.Rows.{RowData, listed}
+use Rattle.tc_isa.specs.Rows.{RowData, listed, is_long}
 use Rattle.tc_isa.specs.Forms.{bounds}
-use Rattle.tc_isa.specs.ValidRows.{IsRow, is_long}
-use Rattle.tc_isa.specs.Spelling.{word_of, spelling_of, spelling, four_bytes, two_bytes}
+use Rattle.tc_isa.specs.ValidRows.{IsRow}
+use Rattle.tc_isa.specs.Spelling.{word_of, spelling_of, spelling}
+use Rattle.tcd_base.specs.Bytes.{four_bytes, two_bytes}
 use Rattle.tc_isa.proofs.TableFacts.{row_at}
 use Rattle.tc_encode.proofs.Bytes.{word-lt, short-lt}
 use Rattle.tc_encode.specs.Decoding.{do_fit}
 use Rattle.tc_encode.proofs.Spelled.{below_from}
 use Rattle.tc_lex.specs.Pieces.{PieceData, text_at}
 use Rattle.tc_lex.specs.Operands.{OperandData, operands}
-use Rattle.tc_stmt.specs.RowFields.{ReferenceData, RowFieldsData}
+use Rattle.tc_stmt.specs.RowFields.{RowFieldsData}
+use Rattle.tc_stmt.specs.Items.{ReferenceData, ItemData, label, section, global, code, bytes, zeros}
 use Rattle.tc_stmt.specs.Filling.{symbol_rule, reference}
-use Rattle.tc_stmt.specs.Values.{shape_index, is_symbol, is_half, wrap, fits_width}
+use Rattle.tc_stmt.specs.OperandForms.{shape_index, is_symbol, is_half, wrap, fits_width}
 use Rattle.tc_stmt.specs.StatementRow.{statement}
-use Rattle.tc_stmt.specs.Items.{ItemData, label, section, global, code, bytes, zeros}
 use Rattle.tc_stmt.specs.DataDirectives.{value_rule, value_item, space_item}
 use Rattle.tc_stmt.specs.Lines.{LineData, line_data, word_of as name_operand, named_line, space_line, values_line, code_line, stated_line, line_from, has_label, line_with_label, pieces_line, piece_in, label_of, label_before, cut_line, line_in, lines_in, items_in}
 use Rattle.tc_asm.specs.Symbols.{SymbolData}
 use Rattle.tc_asm.specs.Drafts.{PartData, DraftData, start, has_section, has_room, spelled_code, resolved, code_bytes, stepped}
-use Rattle.tc_asm.specs.Sources.{symbols_of, draft_in}
+use Rattle.tc_asm.specs.DraftedSources.{symbols_of, draft_in}
 use Rattle.tc_asm.specs.Objects.{section_of}
 use Rattle.tc_asm.specs.DraftInvariants.{Each}
 use Rattle.tc_asm.specs.Statements.{StatementData, content_of, standing, statements_from, section_bytes, bytes_at}
 use Rattle.tc_asm.proofs.LaidLaws.{drafted-bytes}
 use Rattle.tc_asm.proofs.ListLaws.{all_from_each}
 use Rattle.tc_asm.proofs.SourceDrafts.{source_object}
-use Rattle.tcd_laws.specs.Images.{IsByte, HoldsBytes, SourcesGiveObjects}
+use Rattle.tcd_laws.specs.LimitsKept.{IsByte, HoldsBytes, SourcesGiveObjects}
 
 -- ---- numbers as bytes
 four_small : (w : ℕ) → w < 2 ^ 32 → All IsByte (four_bytes w)

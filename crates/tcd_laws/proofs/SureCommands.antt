@@ -1,7 +1,7 @@
 -- `asm`, `link` and `dis` with what they read.
 use Rattle.std.proofs.Common.{◌≡◌, ℕ, List, length, Some, Result, Ok, refl, ap, ◌∙◌}
 use Rattle.elf_image.specs.Images.{ImageData}
-use Rattle.elf_image.specs.Written.{file_of}
+use Rattle.elf_image.specs.WrittenElf.{file_of}
 use Rattle.tc_object.specs.Objects.{ObjectData}
 use Rattle.tc_object.specs.Spelling.{bytes_of}
 use Rattle.tc_link.specs.Layouts.{LayoutData}
@@ -19,7 +19,7 @@ use Rattle.tcd_driver.specs.Asm.{AsmNames, WritesObject, asm_reading}
 use Rattle.tcd_driver.specs.Link.{LinkNames, IsLinked, refused, image, link_reading}
 use Rattle.tcd_driver.specs.Dis.{IsListing, dis_reading}
 use Rattle.tcd_laws.specs.Sequences.{IsSure}
-use Rattle.tcd_laws.specs.Handing.{HoldEach}
+use Rattle.tcd_laws.specs.HandedFiles.{HoldEach}
 use Rattle.tcd_laws.proofs.HeldFiles.{sure_input, sure_each, sure_answer}
 
 abbrev pub object_report : List ℕ → ObjectData → Report

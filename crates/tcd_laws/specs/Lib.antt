@@ -1,5 +1,5 @@
-pub mod Builds
-pub mod Edges
-pub mod Handing
-pub mod Images
+pub mod BuildSequences
+pub mod EdgesOnLines
+pub mod HandedFiles
+pub mod LimitsKept
 pub mod Sequences

@@ -1,11 +1,11 @@
 -- Commands that are called one after another, each on the files and the sink that the one before it
 -- left.
-use Rattle.std.specs.Prelude.{◌≡◌, ◌≢◌, ◌-◌, ◌⊎◌, ℕ, List, [], ◌∷◌, ◌++◌, length, Option, IsTrue}
+use Rattle.std.specs.Prelude.{◌≡◌, ◌≢◌, ◌-◌, ◌⊎◌, List, ◌∷◌, ◌++◌, length, Option, IsTrue, []}
 use Rattle.std.specs.List.{flat_map}
 use Rattle.std.specs.Option.{option_map}
 use Rattle.tcd_base.specs.Files.{Map, FilesSeen}
 use Rattle.tcd_base.specs.Sink.{SinkSeen, with_appended, HasRoomFor}
-use Rattle.tcd_reading.specs.Reports.{Report, Written, with_written}
+use Rattle.tcd_reading.specs.Reports.{Report, Written, with_written, all_text}
 use Rattle.tcd_reading.specs.Endings.{Stopped, IsQuiet, Ends}
 use Rattle.tcd_reading.specs.Inputs.{Reading, Says, HoldsAsked}
 use Rattle.tcd_reading.specs.declared.status.Status.{Status}
@@ -49,10 +49,6 @@ AreSureInSequence (c ∷ cs) held (q ∷ qs) = IsSure (reading_of c) held q × A
 -- all files that they write, one after another
 abbrev pub all_writes : List Report → List Written
 all_writes reports = flat_map (λ q. q.writes) reports
-
--- all texts that they print, one behind the other
-abbrev pub all_text : List Report → List ℕ
-all_text reports = flat_map (λ q. q.text) reports
 
 -- ---- the law
 -- all was written and printed, and the room is less by all texts

@@ -1,8 +1,8 @@
 // Laws of what the libraries below give together.
-ghost use Rattle.tcd_laws.specs.Builds.{BuildsEnd, BuildsReport};
-ghost use Rattle.tcd_laws.specs.Edges.{AcceptedEdgesStand};
-ghost use Rattle.tcd_laws.specs.Handing.{AsmHandsOver, LinkHandsOver};
-ghost use Rattle.tcd_laws.specs.Images.{LinksGiveImages, ObjectsSpellBytes, SourcesGiveObjects, TextsGiveLayouts};
+ghost use Rattle.tcd_laws.specs.BuildSequences.{BuildsEnd, BuildsReport};
+ghost use Rattle.tcd_laws.specs.EdgesOnLines.{AcceptedEdgesStand};
+ghost use Rattle.tcd_laws.specs.HandedFiles.{AsmHandsOver, LinkHandsOver};
+ghost use Rattle.tcd_laws.specs.LimitsKept.{LinksGiveImages, ObjectsSpellBytes, SourcesGiveObjects, TextsGiveLayouts};
 ghost use Rattle.tcd_laws.specs.Sequences.{SureSequencesEnd};
 
 /// Each edge of each step of each run that starts as the plan says stands on a line of the graph of

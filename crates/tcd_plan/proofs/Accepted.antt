@@ -4,9 +4,8 @@ use Rattle.std.proofs.lemmas.Bool.{and_parts, leb-true, ltb-true, eqb-true}
 use Rattle.std.proofs.lemmas.List.{length-map}
 use Rattle.serde_json.specs.Data.{Data}
 use Rattle.tcd_plan.specs.Objects.{objects_of, places_of}
-use Rattle.tcd_plan.specs.PlanData.{PlanData}
+use Rattle.tcd_plan.specs.PlanData.{PlanData, AreFew, are_areas, are_few, has_areas, has_vectors, too_many_of}
 use Rattle.tcd_plan.specs.Plans.{device_of, irq_of, range_of, refusal_of, refusals, plan_in}
-use Rattle.tcd_plan.specs.PlanLimits.{AreFew, are_areas, are_few, has_areas, has_vectors, too_many_of}
 use Rattle.tcd_plan.specs.Regions.{overlap_of}
 use Rattle.tcd_plan.specs.KeyFaults.{bad_value_of, numbered}
 use Rattle.tcd_plan.specs.JsonValues.{word_in}

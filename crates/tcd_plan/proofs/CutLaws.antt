@@ -7,10 +7,10 @@ use Rattle.std.proofs.lemmas.List.Sums.{sum_by-append}
 use Rattle.std.specs.List.{list_all}
 use Rattle.std.specs.Prelude.{sum_by}
 use Rattle.tcd_base.specs.declared.range.Range.{Range}
-use Rattle.tcd_base.specs.Ranges.{IsWithin, IsInOne}
+use Rattle.tcd_base.specs.Ranges.{IsWithin, IsInOne, between}
 use Rattle.tcd_base.proofs.RangeLaws.{IsInOne-front, IsInOne-behind}
 use Rattle.tcd_plan.specs.PlanData.{is_range, ranges_apart, all_apart}
-use Rattle.tcd_plan.specs.Cutting.{between, without, ranges_without}
+use Rattle.tcd_plan.specs.Cutting.{without, ranges_without}
 use Rattle.tcd_plan.proofs.ApartLaws.{range_parts, is_range-from, HaveBytes-ranges, all_apart-before, all_apart-append}
 
 -- what is inside one of two lists of ranges

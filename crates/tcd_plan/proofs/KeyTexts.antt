@@ -8,9 +8,8 @@ use Rattle.tcd_base.specs.declared.range.Range.{Range}
 use Rattle.tcd_plan.specs.KeyRows.{KeyRow, holder_key, holders, key_rows}
 use Rattle.tcd_plan.specs.Objects.{objects_of}
 use Rattle.tcd_plan.specs.KeyFaults.{has_unknown, is_bad, lacks, bad_value_of, first_key, missing_of, numbered, unknown_of}
-use Rattle.tcd_plan.specs.PlanData.{PlanData, all_ranges, ranges_apart}
+use Rattle.tcd_plan.specs.PlanData.{PlanData, all_ranges, ranges_apart, are_few, has_areas, has_vectors, too_many_of}
 use Rattle.tcd_plan.specs.Plans.{HasText, refusal_of, plan_in, refusal_if}
-use Rattle.tcd_plan.specs.PlanLimits.{are_few, has_areas, has_vectors, too_many_of}
 use Rattle.tcd_plan.specs.Regions.{overlap_from, overlap_of}
 use Rattle.tcd_plan.specs.JsonValues.{is_object}
 use Rattle.tcd_plan.specs.declared.plans.PlanErr.{PlanErr}

@@ -9,9 +9,8 @@ use Rattle.serde_json.specs.Find.{get}
 use Rattle.tcd_base.specs.declared.range.Range.{Range}
 use Rattle.tcd_plan.specs.Objects.{objects_of, places_of}
 use Rattle.tcd_plan.specs.ValueForms.{ascend_above, has_form}
-use Rattle.tcd_plan.specs.PlanData.{AreAreas, AreIrqs, AreRanges, AreWords, IsPlan, PlanData, all_apart, all_ranges, ranges_apart}
+use Rattle.tcd_plan.specs.PlanData.{AreAreas, AreIrqs, AreRanges, AreWords, IsPlan, PlanData, all_apart, all_ranges, ranges_apart, are_few, has_areas, has_vectors}
 use Rattle.tcd_plan.specs.Plans.{range_of, refusal_of, plan_in}
-use Rattle.tcd_plan.specs.PlanLimits.{are_few, has_areas, has_vectors}
 use Rattle.tcd_plan.specs.Regions.{overlap_from, overlap_of}
 use Rattle.tcd_plan.specs.KeyFaults.{bad_value_of}
 use Rattle.tcd_plan.specs.JsonValues.{places_at, word_at, word_in}

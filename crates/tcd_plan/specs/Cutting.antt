@@ -1,10 +1,7 @@
 -- Ranges without a block of bytes.
-use Rattle.std.specs.Prelude.{◌+◌, ◌-◌, ℕ, nat_lt, min, max, if◌then◌else◌, List, [], ◌∷◌, ◌++◌, flat_map}
+use Rattle.std.specs.Prelude.{◌+◌, ℕ, min, max, List, ◌++◌, flat_map}
 use Rattle.tcd_base.specs.declared.range.Range.{Range}
-
--- the range from one address up to another; none if it has no byte
-abbrev pub between : ℕ → ℕ → List Range
-between from upto = if nat_lt from upto then record { at = from; len = upto - from } ∷ [] else []
+use Rattle.tcd_base.specs.Ranges.{between}
 
 -- the parts of a range below and above the n bytes from x on
 abbrev pub without : ℕ → ℕ → Range → List Range

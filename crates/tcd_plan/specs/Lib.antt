@@ -9,4 +9,3 @@ pub mod Regions
 pub mod Cutting
 pub mod ValueForms
 pub mod KeyFaults
-pub mod PlanLimits

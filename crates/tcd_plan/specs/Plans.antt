@@ -12,14 +12,13 @@ use Rattle.tcd_plan.specs.Keys.{key_texts}
 use Rattle.tcd_plan.specs.Objects.{objects_of, places_of}
 use Rattle.tcd_plan.specs.KeyFaults.{bad_value_of, missing_of, unknown_of}
 use Rattle.tcd_plan.specs.ValueForms.{passes}
-use Rattle.tcd_plan.specs.PlanData.{PlanData}
+use Rattle.tcd_plan.specs.PlanData.{PlanData, has_areas, has_vectors, too_many_of}
 use Rattle.tcd_plan.specs.JsonValues.{is_object, is_text, number_of, word_at, word_in}
 use Rattle.tcd_plan.specs.declared.plans.Device.{Device}
 use Rattle.tcd_plan.specs.declared.plans.PlanErr.{PlanErr}
 use Rattle.tcd_plan.specs.declared.plans.PlanErr.TheVariants.{NotJson, Missing, Unknown, BadValue, TooMany, BadCsa, BadVector, Overlap, NoMemory}
 use Rattle.tcd_plan.specs.declared.key_table.Holder.TheVariants.{Rom, Ram, Devices}
 use Rattle.tcd_plan.specs.Regions.{overlap_of}
-use Rattle.tcd_plan.specs.PlanLimits.{has_areas, has_vectors, too_many_of}
 
 -- the range in an object
 abbrev pub range_of : Data → Range

@@ -1,7 +1,8 @@
 // Cuts a block of bytes out of ranges.
 ghost use Rattle.std.specs.Prelude.{◌≡◌, ◌≤◌, ◌<◌, ◌+◌, ◌^◌, ◌++◌, length, All};
 ghost use Rattle.tcd_plan.specs.Cutting as cutting;
-ghost use Rattle.tcd_plan.specs.Cutting.{between, without};
+ghost use Rattle.tcd_plan.specs.Cutting.{without};
+ghost use Rattle.tcd_base.specs.Ranges.{between};
 
 use arrayvec::ArrayVec;
 use tcd_base::Range;

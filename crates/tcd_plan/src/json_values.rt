@@ -1,9 +1,10 @@
 // Reads the values of a JSON document: arrays, texts, and numbers of 32 bits.
-ghost use Rattle.std.specs.Prelude.{◌≡◌, ◌<◌, ◌≤◌, ◌^◌, Some, None, length, map, is_some, option_map, if◌then◌else◌};
-ghost use Rattle.std.specs.List.{list_all};
+ghost use Rattle.std.specs.Prelude.{◌≡◌, ◌<◌, ◌≤◌, ◌^◌, Some, None, length, map, is_some, option_map, if◌then◌else◌, []};
+ghost use Rattle.std.specs.List.{list_all, list_any};
 ghost use Rattle.std.specs.Str.Parse.{digits_value};
 ghost use Rattle.serde_json.specs.View.{view};
 ghost use Rattle.tcd_plan.specs.JsonValues.{is_hex, is_text, number_of, number_at, places_at, text_word, word_at, word_in};
+ghost use Rattle.tcd_plan.specs.Objects.{places_of};
 
 use serde_json::Value;
 
@@ -84,4 +85,26 @@ fn hex_digits(digits: &[u8]) -> Option<u32>
         value = value * 16 + digit;
     }
     Some(value)
+}
+
+/// Returns the elements of the array with this key in the document.
+pub fn places_of<'a>(value: &'a Value, name: &str) -> &'a [Value]
+    ensures { map view result.now ≡ places_of name.now (view value.now) }
+{
+    places_at(value, name).unwrap_or(&[])
+}
+
+/// Returns true if one of the elements is this text.
+pub fn lists(places: &[Value], text: &str) -> bool
+    ensures { result ≡ list_any (is_text text.now) (map view places.now) }
+{
+    places.iter().any(|place| is_text(place, text))
+}
+
+/// Reads a number below 256 at a key of an object in the document.
+pub fn byte_in(value: &Value, outer: &str, name: &str) -> u8
+    requires { word_in outer.now name.now (view value.now) < 2 ^ 8 }
+    ensures { result ≡ word_in outer.now name.now (view value.now) }
+{
+    word_in(value, outer, name) as u8
 }

@@ -1,16 +1,15 @@
 // Refusals by keys: each is checked over the whole document.
-ghost use Rattle.std.specs.Prelude.{◌≡◌, map, not, option_map, string_bytes};
+ghost use Rattle.std.specs.Prelude.{◌≡◌, map, option_map, string_bytes};
 ghost use Rattle.std.specs.List.{find, list_all, list_any};
 ghost use Rattle.std.specs.BTreeMap.{keys};
 ghost use Rattle.serde_json.specs.View.{view};
-ghost use Rattle.tcd_plan.specs.KeyRows.{holder_key, key_rows, row_of};
+ghost use Rattle.tcd_plan.specs.KeyRows.{holder_key, row_of, may_be_absent};
 ghost use Rattle.tcd_plan.specs.Objects.{objects_of};
 ghost use Rattle.tcd_plan.specs.KeyFaults.{has_unknown, is_bad, is_known, is_named, lacks, bad_value_of, missing_of, numbered, unknown_of};
 ghost use Rattle.tcd_plan.specs.ValueForms.{has_form};
-ghost use Rattle.tcd_plan.specs.JsonValues.{names_in};
 
 use crate::PlanKey;
-use crate::key_table::{Holder, Row, holder_key, holders, rows};
+use crate::key_table::{Form, Holder, Row, holder_key, holders, is_named, rows};
 use crate::object_forms::{has_form, lacks, objects_of};
 use serde_json::{Map, Value};
 
@@ -94,8 +93,8 @@ fn is_known(holder: Holder, name: &str) -> bool
     rows().iter().any(|row| is_named(row, holder, name))
 }
 
-fn is_named(row: &Row, holder: Holder, name: &str) -> bool
-    ensures { result ≡ is_named holder name.now (row_of row.now) }
+pub(crate) fn may_be_absent(form: Form) -> bool
+    ensures { result ≡ may_be_absent form }
 {
-    holder_key(row.holder) == holder_key(holder) && row.name == name
+    matches!(form, Form::CoreText)
 }

@@ -2,6 +2,7 @@
 ghost use Rattle.std.specs.Prelude.{◌≡◌, map, true};
 ghost use Rattle.std.specs.List.{list_all, range_with_len};
 ghost use Rattle.tcd_plan.specs.KeyRows.{holder_key, holders, is_printed, key_rows, row_of};
+ghost use Rattle.tcd_plan.specs.KeyFaults.{is_named};
 
 /// The number of the key `root`, which is the whole document.
 const ROOT: u8 = 0;
@@ -306,4 +307,10 @@ pub fn holder_key(holder: Holder) -> u8
         Holder::Start => START,
         Holder::Globals => GLOBALS,
     }
+}
+
+pub(crate) fn is_named(row: &Row, holder: Holder, name: &str) -> bool
+    ensures { result ≡ is_named holder name.now (row_of row.now) }
+{
+    holder_key(row.holder) == holder_key(holder) && row.name == name
 }

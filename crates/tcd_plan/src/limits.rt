@@ -1,22 +1,21 @@
 // Refusals by values: arrays that are too long, save areas, vectors, and ranges that overlap.
 ghost use Rattle.std.specs.Prelude.{◌≡◌, ◌<◌, ◌≤◌, ◌+◌, IfSome, None, length, map, not, position, sum_by, true};
 ghost use Rattle.serde_json.specs.View.{view};
-ghost use Rattle.tcd_plan.specs.PlanData.{areas_range, ranges_apart};
+ghost use Rattle.tcd_plan.specs.PlanData.{areas_range, ranges_apart, AreFew, are_areas, are_few, has_areas, has_vectors, too_many_of};
 ghost use Rattle.tcd_plan.specs.Plans.{range_of, plan_in};
-ghost use Rattle.tcd_plan.specs.PlanLimits.{AreFew, are_areas, are_few, has_areas, has_vectors, too_many_of};
 ghost use Rattle.tcd_plan.specs.Regions.{overlap_from, overlap_of};
 
-use crate::json_values::{word_at, word_in};
+use crate::json_values::{places_of, word_at, word_in};
 use crate::key_table::{DEVICES, Holder, IRQS, RAM, ROM};
 use crate::object_forms::objects_of;
-use crate::plan_parts::{places_of, push_ranges};
+use crate::plan_parts::push_ranges;
 use crate::{PlanErr, PlanKey};
 use arrayvec::ArrayVec;
 use serde_json::Value;
 use tcd_base::Range;
 
 /// Returns the first array with too many elements, or with too many bytes in its ranges.
-#[tactic(auto, unfolding(crate::specs::Plans::plan_in, crate::specs::PlanLimits::too_many_of))]
+#[tactic(auto, unfolding(crate::specs::Plans::plan_in, crate::specs::PlanData::too_many_of))]
 pub fn too_many(value: &Value) -> Option<PlanKey>
     ensures { result ≡ too_many_of (plan_in (view value.now)) }
 {
@@ -55,7 +54,7 @@ fn total_len(objects: &[Value]) -> u64
 }
 
 /// Returns true if the save areas are within their limits.
-#[tactic(auto, unfolding(crate::specs::Plans::plan_in, crate::specs::PlanLimits::has_areas))]
+#[tactic(auto, unfolding(crate::specs::Plans::plan_in, crate::specs::PlanData::has_areas))]
 pub fn has_areas(value: &Value) -> bool
     ensures { result ≡ has_areas (plan_in (view value.now)) }
 {
@@ -82,7 +81,7 @@ fn are_areas(at: u32, areas: u32, reserve: u32) -> bool
 }
 
 /// Returns true if BIV and BTV are even.
-#[tactic(auto, unfolding(crate::specs::Plans::plan_in, crate::specs::PlanLimits::has_vectors))]
+#[tactic(auto, unfolding(crate::specs::Plans::plan_in, crate::specs::PlanData::has_vectors))]
 pub fn has_vectors(value: &Value) -> bool
     ensures { result ≡ has_vectors (plan_in (view value.now)) }
 {

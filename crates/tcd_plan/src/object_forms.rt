@@ -1,15 +1,16 @@
 // The objects of a document, and the tests of their values.
-ghost use Rattle.std.specs.Prelude.{◌≡◌, [], map, count_by, option_map, unwrap_or};
+ghost use Rattle.std.specs.Prelude.{◌≡◌, [], map, count_by, option_map};
 ghost use Rattle.std.specs.List.{list_all};
 ghost use Rattle.serde_json.specs.View.{view};
 ghost use Rattle.tcd_plan.specs.KeyRows.{row_of, may_be_absent};
 ghost use Rattle.tcd_plan.specs.Objects.{objects_at, object_at, objects_of};
-ghost use Rattle.tcd_plan.specs.KeyFaults.{is_known, lacks};
+ghost use Rattle.tcd_plan.specs.KeyFaults.{lacks};
 ghost use Rattle.tcd_plan.specs.ValueForms.{are_traps, ascend_above, has_form, is_core, is_len, is_trap};
 ghost use Rattle.tcd_plan.specs.JsonValues.{is_object, is_text, number_of};
 
 use crate::json_values::{is_text, number_at, number_of, places_at, word_at};
-use crate::key_table::{Form, Holder, Row, holder_key, rows};
+use crate::key_refusals::may_be_absent;
+use crate::key_table::{Form, Holder, Row};
 use serde_json::Value;
 use std::slice;
 
@@ -58,12 +59,6 @@ pub fn lacks(row: &Row, object: &Value) -> bool
     ensures { result ≡ lacks (row_of row.now) (view object.now) }
 {
     !may_be_absent(row.form) && object.get(row.name).is_none()
-}
-
-fn may_be_absent(form: Form) -> bool
-    ensures { result ≡ may_be_absent form }
-{
-    matches!(form, Form::CoreText)
 }
 
 /// Returns true if the value of a key in an object has the form.

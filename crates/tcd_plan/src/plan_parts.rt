@@ -1,14 +1,11 @@
 // Reads the parts of a plan from its document.
-ghost use Rattle.std.specs.Prelude.{◌≡◌, ◌<◌, ◌≤◌, ◌+◌, ◌^◌, ◌++◌, [], codes, All, length, map, if◌then◌else◌};
-ghost use Rattle.std.specs.List.{list_all, list_any};
-ghost use Rattle.arrayvec.specs.ArrayVec.{array_vec_len};
+ghost use Rattle.std.specs.Prelude.{◌≡◌, ◌<◌, ◌≤◌, ◌+◌, ◌^◌, ◌++◌, All, length, map};
 ghost use Rattle.serde_json.specs.View.{view};
 ghost use Rattle.tcd_plan.specs.Plans.{core_of, device_of, globals_of, irq_of, range_of};
-ghost use Rattle.tcd_plan.specs.Objects.{places_of};
 ghost use Rattle.tcd_plan.specs.JsonValues.{is_text, word_in};
 
 use crate::Device;
-use crate::json_values::{is_text, number_of, places_at, word_at, word_in};
+use crate::json_values::{is_text, number_of, word_at, word_in};
 use arrayvec::ArrayVec;
 use serde_json::Value;
 use tcd_base::{Core, Range};
@@ -65,13 +62,6 @@ pub fn devices_of(objects: &[Value]) -> ArrayVec<Device, 16>
     devices
 }
 
-/// Returns the elements of the array with this key in the document.
-pub fn places_of<'a>(value: &'a Value, name: &str) -> &'a [Value]
-    ensures { map view result.now ≡ places_of name.now (view value.now) }
-{
-    places_at(value, name).unwrap_or(&[])
-}
-
 /// Reads the priorities of the interrupts.
 pub fn irqs_of(places: &[Value]) -> ArrayVec<u8, 32>
     requires few { length places.now ≤ 32 }
@@ -83,21 +73,6 @@ pub fn irqs_of(places: &[Value]) -> ArrayVec<u8, 32>
         irqs.push(number_of(place).unwrap_or(0) as u8);
     }
     irqs
-}
-
-/// Returns true if one of the elements is this text.
-pub fn lists(places: &[Value], text: &str) -> bool
-    ensures { result ≡ list_any (is_text text.now) (map view places.now) }
-{
-    places.iter().any(|place| is_text(place, text))
-}
-
-/// Reads a number below 256 at a key of an object in the document.
-pub fn byte_in(value: &Value, outer: &str, name: &str) -> u8
-    requires { word_in outer.now name.now (view value.now) < 2 ^ 8 }
-    ensures { result ≡ word_in outer.now name.now (view value.now) }
-{
-    word_in(value, outer, name) as u8
 }
 
 /// Reads the version of the core, which is `V13` if the key is absent.

@@ -4,14 +4,12 @@ ghost use Rattle.serde_json.specs.Errors.{IsMemory};
 ghost use Rattle.serde_json.specs.View.{view};
 ghost use Rattle.tcd_plan.specs.Plans.{Answers, HasText, plan_of, refusal_of, plan_in};
 
-use crate::json_values::{word_at, word_in};
+use crate::json_values::{byte_in, lists, places_of, word_at, word_in};
 use crate::key_refusals::{bad_value, missing, unknown};
 use crate::key_table::Holder;
 use crate::limits::{has_areas, has_vectors, overlap, too_many};
 use crate::object_forms::objects_of;
-use crate::plan_parts::{
-    byte_in, core_of, devices_of, globals_of, irqs_of, lists, places_of, ranges_of,
-};
+use crate::plan_parts::{core_of, devices_of, globals_of, irqs_of, ranges_of};
 use crate::{Plan, PlanErr};
 use serde_json::{Error, Value};
 use std::alloc::Global;

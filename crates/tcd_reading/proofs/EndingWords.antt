@@ -10,16 +10,16 @@ use Rattle.std.proofs.lemmas.Map.Text.{is_eq-slice_cmp}
 use Rattle.std.proofs.lemmas.Slice.Eq.{bytes_eq-Decides}
 use Rattle.tcd_base.specs.Files.{Map, FilesSeen, OthersStay}
 use Rattle.tcd_base.specs.Sink.{SinkSeen, HasRoomFor}
-use Rattle.tcd_reading.specs.Reports.{Written, Report, IsReportStatus, with_written, IsLineOf}
+use Rattle.tcd_reading.specs.Reports.{Written, Report, IsReportStatus, with_written, IsLineOf, Refuses}
 use Rattle.tcd_reading.specs.Endings.{Stopped, whole, cut, IsReported, printed, unwritten, no_memory, HasEnded, Ends}
-use Rattle.tcd_reading.specs.Inputs.{FormSeen, HoldsInput, IsRefusal, Refuses, Reading, answer, input, Says, HoldsAsked, AreSureOf}
+use Rattle.tcd_reading.specs.Inputs.{FormSeen, HoldsInput, IsRefusal, Reading, answer, input, Says, HoldsAsked, AreSureOf, IsHeldAs, IsHeldBad}
 use Rattle.tcd_reading.specs.Inputs as inputs
 use Rattle.tcd_reading.proofs.Decided.{never_fault}
 use Rattle.tcd_reading.specs.Endings as ending
-use Rattle.tcd_reading.specs.EndingLaws.{HoldsLast, BreaksOff, HasEndedSo, EndsSo, EndsSay, HasRisen, EndsAnyhow, EndsAnyhowSay}
-use Rattle.tcd_reading.specs.ReportLaws.{IsHeldAs, IsHeldBad, IsSaidOfTwo, first_bad, second_bad, both, SaysSay, AsksSay}
+use Rattle.tcd_reading.specs.EndingLaws.{HoldsLast, BreaksOff, HasEndedSo, EndsSo, EndsSay, EndsAnyhow, EndsAnyhowSay}
+use Rattle.tcd_base.specs.FailingCalls.{FaultCounted}
+use Rattle.tcd_reading.specs.ReportLaws.{IsSaidOfTwo, first_bad, second_bad, both, SaysSay, AsksSay}
 use Rattle.tcd_reading.specs.EndingLaws as so
-use Rattle.tcd_reading.specs.ReportLaws as checked
 use Rattle.tcd_reading.specs.declared.status.Status.{Status}
 use Rattle.tcd_reading.specs.declared.status.Status.TheVariants.{Fault, NoMemory}
 
@@ -203,7 +203,7 @@ module _ (reading : Reading) (files files' : FilesSeen) (sink sink' : SinkSeen) 
   status_of (ending.no_memory e held quiet) fault memory = absurd (memory e)
 
   fault_of : ((report : Report) → Says reading files.held report → IsReportStatus report.status) → HasEnded reading files files' sink sink' result → result ≡ Fault
-      → HasRisen files.faults files'.faults ⊎ HasRisen sink.faults sink'.faults
+      → FaultCounted files.faults files'.faults ⊎ FaultCounted sink.faults sink'.faults
   fault_of statuses (ending.reported report says (printed is (whole e p))) f = absurd (never_fault report.status (statuses report says) (sym e ∙ f))
   fault_of statuses (ending.reported report says (printed is (cut e front counted full))) f = inr counted
   fault_of statuses (ending.reported report says (unwritten e quiet stopped counted unsteady)) f = inl counted
@@ -257,8 +257,8 @@ long_of None limit h = absurd h
 long_of (Some bytes) limit h = (bytes, refl, h)
 
 held_bad : {A : Type 0} (form : FormSeen A) (m : Map) (name line : List ℕ) → IsRefusal form (Some m) name line → IsHeldBad form m name line
-held_bad form m name line (inputs.long too is) = let l = long_of (get m name) form.limit too in checked.long l.0 l.1 l.2 is
-held_bad form m name line (inputs.bad bytes reads short is) = checked.bad bytes reads short is
+held_bad form m name line (inputs.long too is) = let l = long_of (get m name) form.limit too in inputs.above_limit l.0 l.1 l.2 is
+held_bad form m name line (inputs.bad bytes reads short is) = inputs.without_value bytes reads short is
 
 line_of : {A : Type 0} (form : FormSeen A) (m : Map) (name : List ℕ) (report : Report) → Refuses (IsRefusal form (Some m) name) report → IsLineOf (IsHeldBad form m name) report
 line_of form m name report h = record { status = h.status; line = held_bad form m name report.text h.line; writes = h.nothing }

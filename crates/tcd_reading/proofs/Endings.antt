@@ -5,8 +5,8 @@ use Rattle.tcd_base.specs.Files.{Map, FilesSeen, LeavesFaults}
 use Rattle.tcd_base.specs.Sink.{SinkSeen}
 use Rattle.tcd_reading.specs.Reports.{Written, Report, with_written}
 use Rattle.tcd_reading.specs.Endings.{Stopped, IsQuiet, whole, cut, IsReported, printed, unwritten, no_memory, Finishes, HasRoom, Ends}
-use Rattle.tcd_reading.specs.Inputs.{Reading, Says, AreSureOf}
-use Rattle.tcd_reading.specs.Outcomes.{Comes, HasNotRead}
+use Rattle.tcd_reading.specs.Inputs.{Reading, Says, AreSureOf, HasNotRead}
+use Rattle.tcd_reading.specs.Outcomes.{Comes}
 use Rattle.tcd_reading.specs.Endings as ending
 use Rattle.tcd_reading.specs.declared.status.Status.{Status}
 use Rattle.tcd_reading.specs.declared.status.Status.TheVariants.{Done, Refused, BadInput, Fault, NoMemory, BadWords}

@@ -1,10 +1,11 @@
 -- The outcome of a command, from the results of its parts.
 use Rattle.std.proofs.Common.{◌≡◌, ◌≤◌, inl, inr, ℕ, List, length, Option, Result, Ok, Err, refl, sym, subst, ◌∙◌, arith}
 use Rattle.std.specs.Prelude.{IfErr, IsTrue}
-use Rattle.tcd_base.specs.Files.{Map, FilesSeen, FaultCounted, LeavesFiles, IsTooLong, Reads}
-use Rattle.tcd_reading.specs.Reports.{Report}
-use Rattle.tcd_reading.specs.Inputs.{FormSeen, HoldsInput, IsRefusal, long, bad, Refuses, Reading, answer, input, Says, HoldsAsked, AreSureOf}
-use Rattle.tcd_reading.specs.Outcomes.{IsTold, Stops, HasFailed, HasNotRead, Comes}
+use Rattle.tcd_base.specs.Files.{Map, FilesSeen, LeavesFiles, IsTooLong, Reads}
+use Rattle.tcd_base.specs.FailingCalls.{FaultCounted}
+use Rattle.tcd_reading.specs.Reports.{Report, Refuses}
+use Rattle.tcd_reading.specs.Inputs.{FormSeen, HoldsInput, IsRefusal, long, bad, Reading, answer, input, Says, HoldsAsked, AreSureOf, HasNotRead}
+use Rattle.tcd_reading.specs.Outcomes.{IsTold, Stops, HasFailed, Comes}
 use Rattle.tcd_reading.specs.declared.outcome.Outcome.{Outcome}
 use Rattle.tcd_reading.specs.declared.outcome.Outcome.TheVariants as outcome
 

@@ -1,6 +1,6 @@
 -- Consequences of how a command ends, in plain equations.
 -- These are the statements of the guard laws: if the definition said less, a law would fail.
-use Rattle.std.specs.Prelude.{◌≡◌, ◌≢◌, ◌-◌, ◌<◌, ◌≤◌, ◌^◌, ◌⊎◌, ℕ, true, false, List, ◌∷◌, ◌++◌, length, slice_get, Some, None, []}
+use Rattle.std.specs.Prelude.{◌≡◌, ◌≢◌, ◌-◌, ◌<◌, ◌≤◌, ◌⊎◌, ℕ, true, false, List, ◌∷◌, ◌++◌, length, slice_get, Some, None, []}
 use Rattle.std.specs.FinMap.{get}
 use Rattle.tcd_base.specs.Files.{Map, FilesSeen}
 use Rattle.tcd_base.specs.Sink.{SinkSeen}
@@ -9,6 +9,7 @@ use Rattle.tcd_reading.specs.Inputs.{Reading, Says, HoldsAsked}
 use Rattle.tcd_reading.specs.Endings.{Ends}
 use Rattle.tcd_reading.specs.declared.status.Status.{Status}
 use Rattle.tcd_reading.specs.declared.status.Status.TheVariants.{Done, Refused, BadInput, Fault, NoMemory, BadWords}
+use Rattle.tcd_base.specs.FailingCalls.{FaultCounted}
 
 -- ---- files and faults
 -- A name holds the bytes of the last of these files with that name. If no file has it, it holds
@@ -27,10 +28,6 @@ pub record BreaksOff (old new : Map) (writes : List Written) : Type 0 where
   pub behind : List Written
   pub are : writes ≡ front ++ at ∷ behind
   pub others : (name : List ℕ) → name ≢ at.name → HoldsLast old new front name
-
--- a count of faults, of 64 bits, rose or is at its greatest value
-abbrev pub HasRisen : ℕ → ℕ → Type 0
-HasRisen before now = (before < now) ⊎ (now ≡ 2 ^ 64 - 1)
 
 -- each name holds what it held
 abbrev pub AllStay : Map → Map → Type 0
@@ -53,16 +50,16 @@ pub data HasEndedSo (reading : Reading) (files files' : FilesSeen) (sink sink' :
       → HasEndedSo reading files files' sink sink' m m' text text' result
   cut :
       (report : Report) → Says reading (Some m) report → result ≡ Fault → ((name : List ℕ) → HoldsLast m m' report.writes name)
-      → (front rest : List ℕ) → report.text ≡ front ++ rest → text' ≡ text ++ front → HasRisen sink.faults sink'.faults
+      → (front rest : List ℕ) → report.text ≡ front ++ rest → text' ≡ text ++ front → FaultCounted sink.faults sink'.faults
       → ((n : ℕ) → sink.room ≡ Some n → n < length report.text) → HasEndedSo reading files files' sink sink' m m' text text' result
   unwritten :
       (report : Report) → Says reading (Some m) report → result ≡ Fault → BreaksOff m m' report.writes → text' ≡ text
-      → HasRisen files.faults files'.faults → files.steady ≡ false → HasEndedSo reading files files' sink sink' m m' text text' result
+      → FaultCounted files.faults files'.faults → files.steady ≡ false → HasEndedSo reading files files' sink sink' m m' text text' result
   unfinished :
       (report : Report) → Says reading (Some m) report → result ≡ NoMemory → BreaksOff m m' report.writes → text' ≡ text
       → HasEndedSo reading files files' sink sink' m m' text text' result
   unread :
-      result ≡ Fault → AllStay m m' → text' ≡ text → HasRisen files.faults files'.faults → (files.steady ≡ true → HoldsAsked reading (Some m) → ⊥)
+      result ≡ Fault → AllStay m m' → text' ≡ text → FaultCounted files.faults files'.faults → (files.steady ≡ true → HoldsAsked reading (Some m) → ⊥)
       → HasEndedSo reading files files' sink sink' m m' text text' result
   no_memory : result ≡ NoMemory → AllStay m m' → text' ≡ text → HasEndedSo reading files files' sink sink' m m' text text' result
 
@@ -101,7 +98,7 @@ pub record EndsAnyhow (reading : Reading) (files files' : FilesSeen) (sink sink'
   pub status : result ≢ Fault → result ≢ NoMemory → (report : Report) × Says reading files.held report × (result ≡ report.status)
   pub fault :
       result ≡ Fault
-      → HasRisen files.faults files'.faults ⊎ HasRisen sink.faults sink'.faults
+      → FaultCounted files.faults files'.faults ⊎ FaultCounted sink.faults sink'.faults
   pub untold : files.held ≡ None → files'.held ≡ None
   pub unseen : sink.written ≡ None → sink'.written ≡ None
   pub only_done : (report : Report) → Says reading files.held report → report.status ≢ Done → report.writes ≡ []

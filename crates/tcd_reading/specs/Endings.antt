@@ -1,12 +1,12 @@
 -- How a command ends, in terms of the views of the files and of the sink.
-use Rattle.std.specs.Prelude.{◌≡◌, ◌≢◌, ◌⊎◌, Option, ◌≤◌, ◌-◌, ℕ, List, length, IsTrue, ◌∷◌, ◌++◌, []}
-use Rattle.tcd_base.specs.Files.{Map, FilesSeen, FaultCounted, LeavesFaults, OthersStay}
-use Rattle.tcd_base.specs.Sink.{SinkSeen, HasRoomFor, with_appended, AppendsFront}
+use Rattle.std.specs.Prelude.{◌≡◌, ◌≢◌, ◌⊎◌, Option, ◌≤◌, ℕ, List, IsTrue, ◌∷◌, ◌++◌, []}
+use Rattle.tcd_base.specs.Files.{Map, FilesSeen, LeavesFaults, OthersStay}
+use Rattle.tcd_base.specs.FailingCalls.{FaultCounted}
+use Rattle.tcd_base.specs.Sink.{SinkSeen, HasRoomFor, AppendsFront, IsPrinted}
 use Rattle.tcd_reading.specs.Reports.{Report, IsReportStatus, with_written, Written}
 use Rattle.tcd_reading.specs.Inputs.{Reading, Says, AreSureOf}
 use Rattle.tcd_reading.specs.declared.status.Status.{Status}
 use Rattle.tcd_reading.specs.declared.status.Status.TheVariants.{Done, Refused, BadInput, Fault, NoMemory, BadWords}
-use Rattle.std.specs.Option.{option_map}
 use Rattle.tcd_reading.specs.declared.outcome.Outcome.{Outcome}
 use Rattle.tcd_reading.specs.declared.status.Status.TheVariants as status
 use Rattle.tcd_reading.specs.declared.outcome.Outcome.TheVariants as outcome
@@ -14,13 +14,6 @@ use Rattle.tcd_reading.specs.declared.outcome.Outcome.TheVariants as outcome
 -- the sink has room for the text of each report
 abbrev pub HasRoom : Reading → Option Map → SinkSeen → Type 0
 HasRoom reading held sink = (report : Report) → Says reading held report → HasRoomFor sink report.text
-
--- the text is printed whole; if the sink surely has room, no fault is counted, and the room shrinks
--- by the text
-pub record IsPrinted (text : List ℕ) (old new : SinkSeen) : Type 0 where
-  pub written : new.written ≡ with_appended old.written text
-  pub faults : HasRoomFor old text → new.faults ≡ old.faults
-  pub room : HasRoomFor old text → new.room ≡ option_map (λ n. n - length text) old.room
 
 -- the text is printed whole, and its status returned; or the sink, which lacks room for it, failed
 -- within it

@@ -1,8 +1,9 @@
 -- The inputs of a command, in the order in which they are read.
-use Rattle.std.specs.Prelude.{◌≡◌, ◌≤◌, ◌+◌, ◌⊎◌, ℕ, List, [], ◌∷◌, length, Option, IsTrue}
+use Rattle.std.specs.Prelude.{◌≡◌, ◌≤◌, ◌+◌, ◌⊎◌, ℕ, List, ◌∷◌, length, Option, IsTrue, ◌<◌, Some, []}
 use Rattle.tcd_base.specs.Files.{Map, FilesSeen, Reads, IsTooLong, Holds}
-use Rattle.tcd_reading.specs.Reports.{Report}
-use Rattle.tcd_reading.specs.declared.status.Status.TheVariants.{BadInput}
+use Rattle.tcd_reading.specs.Reports.{Report, Refuses}
+use Rattle.std.specs.FinMap.{get}
+use Rattle.tcd_base.specs.FailingCalls.{FaultCounted}
 
 -- ---- one input
 -- A form of input files: the most bytes, the line for a larger file, the value of bytes, and the
@@ -17,17 +18,23 @@ pub record FormSeen (A : Type 0) : Type 1 where
 abbrev pub HoldsInput : {A : Type 0} → FormSeen A → Option Map → List ℕ → A → Type 0
 HoldsInput form held name x = (bytes : List ℕ) × Reads held name bytes × (length bytes ≤ form.limit) × form.Is bytes x
 
+-- The bytes of a file are within its form's limit, and have this value.
+pub record IsHeldAs {A : Type 0} (form : FormSeen A) (m : Map) (name : List ℕ) (x : A) : Type 0 where
+  pub bytes : List ℕ
+  pub held : get m name ≡ Some bytes
+  pub short : length bytes ≤ form.limit
+  pub is : form.Is bytes x
+
+-- The bytes of a file are above its form's limit, with this line; or within the limit but without a
+-- value, with one of the lines for that.
+pub data IsHeldBad {A : Type 0} (form : FormSeen A) (m : Map) (name line : List ℕ) : Type 0 where
+  above_limit : (bytes : List ℕ) → get m name ≡ Some bytes → form.limit < length bytes → line ≡ form.long_line → IsHeldBad form m name line
+  without_value : (bytes : List ℕ) → get m name ≡ Some bytes → length bytes ≤ form.limit → form.IsBad bytes line → IsHeldBad form m name line
+
 -- the line for a file that is above the limit or isn't in its form
 pub data IsRefusal {A : Type 0} (form : FormSeen A) (held : Option Map) (name text : List ℕ) : Type 0 where
   long : IsTooLong held name form.limit → text ≡ form.long_line → IsRefusal form held name text
   bad : (bytes : List ℕ) → Reads held name bytes → length bytes ≤ form.limit → form.IsBad bytes text → IsRefusal form held name text
-
--- a report on an input that isn't in its form: one of these lines with status BadInput, and nothing
--- to write
-pub record Refuses (IsLine : List ℕ → Type 0) (report : Report) : Type 0 where
-  pub status : report.status ≡ BadInput
-  pub line : IsLine report.text
-  pub nothing : report.writes ≡ []
 
 -- ---- the inputs of a command
 -- the inputs of a command, each in its form, and its report after all of them
@@ -57,3 +64,8 @@ HoldsAsked (input A form name next) held = Holds held name × ((x : A) → Holds
 pub record AreSureOf (reading : Reading) (files : FilesSeen) : Type 0 where
   pub steady : IsTrue files.steady
   pub hold : HoldsAsked reading files.held
+
+-- some input couldn't be read
+pub record HasNotRead (reading : Reading) (old new : FilesSeen) : Type 0 where
+  pub counted : FaultCounted old.faults new.faults
+  pub unsure : AreSureOf reading old → ⊥

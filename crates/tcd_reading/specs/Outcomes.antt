@@ -1,8 +1,9 @@
 -- The outcome of a command.
 use Rattle.std.specs.Prelude.{◌≡◌, ◌≤◌, ℕ, List}
-use Rattle.tcd_base.specs.Files.{FilesSeen, FaultCounted, AreSure}
-use Rattle.tcd_reading.specs.Reports.{Report}
-use Rattle.tcd_reading.specs.Inputs.{Refuses, Reading, Says, AreSureOf}
+use Rattle.tcd_base.specs.Files.{FilesSeen, AreSure}
+use Rattle.tcd_base.specs.FailingCalls.{FaultCounted}
+use Rattle.tcd_reading.specs.Reports.{Report, Refuses}
+use Rattle.tcd_reading.specs.Inputs.{Reading, Says, AreSureOf, HasNotRead}
 use Rattle.tcd_reading.specs.declared.outcome.Outcome.{Outcome}
 use Rattle.tcd_reading.specs.declared.outcome.Outcome.TheVariants as outcome
 
@@ -20,11 +21,6 @@ Stops IsLine MayFail o = IsTold (λ r. Refuses IsLine r) MayFail o
 pub record HasFailed (name : List ℕ) (old new : FilesSeen) : Type 0 where
   pub counted : FaultCounted old.faults new.faults
   pub unsure : AreSure old name → ⊥
-
--- some input couldn't be read
-pub record HasNotRead (reading : Reading) (old new : FilesSeen) : Type 0 where
-  pub counted : FaultCounted old.faults new.faults
-  pub unsure : AreSureOf reading old → ⊥
 
 -- the outcome of a command with this reading, and the files after its inputs were read
 pub record Comes (reading : Reading) (old new : FilesSeen) (o : Outcome) : Type 0 where

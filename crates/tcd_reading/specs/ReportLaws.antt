@@ -1,24 +1,11 @@
 -- The reports and the needed inputs of a command that reads two files, in plain equations: the
-use Rattle.std.specs.Prelude.{◌≡◌, ◌<◌, ◌≤◌, ℕ, List, length, Some}
+use Rattle.std.specs.Prelude.{◌≡◌, ℕ, List, Some}
 use Rattle.std.specs.FinMap.{get}
 use Rattle.tcd_base.specs.Files.{Map}
 use Rattle.tcd_reading.specs.Reports.{Report, IsLineOf}
-use Rattle.tcd_reading.specs.Inputs.{FormSeen, answer, input, Says, HoldsAsked}
+use Rattle.tcd_reading.specs.Inputs.{FormSeen, answer, input, Says, HoldsAsked, IsHeldAs, IsHeldBad}
 
 -- statements of guard laws.
-
--- The bytes of a file are within its form's limit, and have this value.
-pub record IsHeldAs {A : Type 0} (form : FormSeen A) (m : Map) (name : List ℕ) (x : A) : Type 0 where
-  pub bytes : List ℕ
-  pub held : get m name ≡ Some bytes
-  pub short : length bytes ≤ form.limit
-  pub is : form.Is bytes x
-
--- The bytes of a file are above its form's limit, with this line; or within the limit but without a
--- value, with one of the lines for that.
-pub data IsHeldBad {A : Type 0} (form : FormSeen A) (m : Map) (name line : List ℕ) : Type 0 where
-  long : (bytes : List ℕ) → get m name ≡ Some bytes → form.limit < length bytes → line ≡ form.long_line → IsHeldBad form m name line
-  bad : (bytes : List ℕ) → get m name ≡ Some bytes → length bytes ≤ form.limit → form.IsBad bytes line → IsHeldBad form m name line
 
 -- The reports of a command that reads two files in turn. The first is bad; or it has a value, and
 -- the second is bad; or both have values, and this is reported of them.

@@ -3,6 +3,7 @@ use Rattle.std.specs.Prelude.{ℕ, List, ◌∷◌, ◌≡◌, ◌⊎◌, Option
 use Rattle.tcd_base.specs.Files.{Map, with_file}
 use Rattle.tcd_reading.specs.declared.status.Status.{Status}
 use Rattle.tcd_reading.specs.declared.status.Status.TheVariants.{Done, Refused, BadInput}
+use Rattle.std.specs.List.{flat_map}
 
 -- a file to write: its name and its bytes
 pub record Written : Type 0 where
@@ -41,3 +42,18 @@ pub record IsLineOf (IsLine : List ℕ → Type 0) (report : Report) : Type 0 wh
   pub status : report.status ≡ BadInput
   pub line : IsLine report.text
   pub writes : report.writes ≡ []
+
+-- several files to write, one after another, and the text on them
+abbrev pub writes_files : List Written → List ℕ → Report
+writes_files writes text = record { status = Done; text = text; writes = writes }
+
+-- all texts that they print, one behind the other
+abbrev pub all_text : List Report → List ℕ
+all_text reports = flat_map (λ q. q.text) reports
+
+-- a report on an input that isn't in its form: one of these lines with status BadInput, and nothing
+-- to write
+pub record Refuses (IsLine : List ℕ → Type 0) (report : Report) : Type 0 where
+  pub status : report.status ≡ BadInput
+  pub line : IsLine report.text
+  pub nothing : report.writes ≡ []

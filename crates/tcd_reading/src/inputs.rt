@@ -1,11 +1,10 @@
 // Reads the input files of commands, and turns each into a value.
-ghost use Rattle.std.specs.Prelude.{◌≡◌, ◌≤◌, length, IfOk, IfErr, IsOkAnd};
+ghost use Rattle.std.specs.Prelude.{◌≡◌, ◌≤◌, length, IfOk, IfErr};
 ghost use Rattle.tcd_base.specs.Files.{LeavesFiles};
 ghost use Rattle.tcd_reading.specs.Inputs.{FormSeen, HoldsInput, IsRefusal};
 ghost use Rattle.tcd_reading.specs.Outcomes.{HasFailed, Stops};
 
-use crate::outcome::Outcome;
-use crate::status::Status;
+use crate::outcome::{Outcome, bad_input};
 use std::alloc::Global;
 use tcd_base::{FileErr, Files, NoMemory};
 
@@ -35,20 +34,6 @@ pub trait Form {
         ensures found { IfOk result ((form self.now).Is bytes.items) }
         ensures fits { IfOk result (Fits self.now) }
         ensures stops { IfErr result (Stops ((form self.now).IsBad bytes.items) ⊥) };
-}
-
-/// The outcome for an input that isn't in its form, with the line that is printed.
-pub fn bad_input(alloc: Global, line: Result<Vec<u8>, NoMemory>) -> Outcome
-    ensures { Stops (λ t. IsOkAnd line (λ l. t ≡ l.items)) ⊥ result }
-{
-    match line {
-        Ok(text) => Outcome::Report {
-            status: Status::BadInput,
-            text,
-            writes: Vec::new(alloc),
-        },
-        Err(_) => Outcome::NoMemory,
-    }
 }
 
 // The outcome for a file that wasn't read: it is too large, or reading failed.

@@ -6,7 +6,7 @@ mod laws;
 mod outcome;
 mod status;
 
-pub use inputs::{Form, bad_input, read_input};
+pub use inputs::{Form, read_input};
 pub use laws::{AnyCommand, AnyTwo, endings_in_words, readings_in_words};
-pub use outcome::{Outcome, Write, finish, print, report, report_file, report_two};
-pub use status::Status;
+pub use outcome::{Outcome, Write, bad_input, finish, report, report_file, report_two};
+pub use status::{Status, print};

@@ -1,11 +1,12 @@
 // The outcome of a command, and the end of a command with this outcome.
 ghost use Rattle.std.specs.Prelude.{◌≡◌, ◌≢◌, ◌≤◌, ◌∷◌, [], IsTrue, IfOk, OnOk, IfErr, IsOkAnd};
-ghost use Rattle.tcd_base.specs.Files.{FaultCounted, LeavesFaults};
+ghost use Rattle.tcd_base.specs.Files.{LeavesFaults};
+ghost use Rattle.tcd_base.specs.FailingCalls.{FaultCounted};
 ghost use Rattle.tcd_reading.specs.Reports.{says, writes_file, writes_two, with_written};
-ghost use Rattle.tcd_reading.specs.Endings.{Stopped, Prints, Finishes};
-ghost use Rattle.tcd_reading.specs.Outcomes.{IsTold};
+ghost use Rattle.tcd_reading.specs.Endings.{Stopped, Finishes};
+ghost use Rattle.tcd_reading.specs.Outcomes.{IsTold, Stops};
 
-use crate::status::Status;
+use crate::status::{Status, print, status_of_failure};
 use std::alloc::Global;
 use std::marker::Model;
 use tcd_base::{FileErr, Files, NoMemory, Sink};
@@ -152,28 +153,6 @@ fn write_all<F: Files>(alloc: Global, writes: &[Write], files: &mut F) -> Result
     Ok(())
 }
 
-/// Prints a text and returns its status. It allocates no memory.
-pub fn print<S: Sink>(out: &mut S, text: &[u8], status: Status) -> Status
-    ensures { Prints status text.now (S.seen out.old) (S.seen out.new) result }
-{
-    match out.write(text) {
-        Ok(()) => status,
-        Err(_) => Status::Fault,
-    }
-}
-
-// The status after a write that failed.
-fn status_of_failure(e: FileErr) -> Status
-    ensures memory { e ≡ FileErr.NoMemory → result ≡ Status.NoMemory }
-    ensures fault { e ≢ FileErr.NoMemory → result ≡ Status.Fault }
-{
-    match e {
-        FileErr::NoMemory => Status::NoMemory,
-        FileErr::Failed => Status::Fault,
-        FileErr::TooLong => Status::Fault,
-    }
-}
-
 /// Writes the files of an outcome, and then prints its text. After the first file, memory is only
 /// allocated for writing the next files.
 pub fn finish<F: Files, S: Sink>(
@@ -196,5 +175,19 @@ pub fn finish<F: Files, S: Sink>(
         },
         Outcome::Unread => Status::Fault,
         Outcome::NoMemory => Status::NoMemory,
+    }
+}
+
+/// The outcome for an input that isn't in its form, with the line that is printed.
+pub fn bad_input(alloc: Global, line: Result<Vec<u8>, NoMemory>) -> Outcome
+    ensures { Stops (λ t. IsOkAnd line (λ l. t ≡ l.items)) ⊥ result }
+{
+    match line {
+        Ok(text) => Outcome::Report {
+            status: Status::BadInput,
+            text,
+            writes: Vec::new(alloc),
+        },
+        Err(_) => Outcome::NoMemory,
     }
 }

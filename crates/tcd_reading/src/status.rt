@@ -1,4 +1,9 @@
 // The statuses with which commands end.
+ghost use Rattle.std.specs.Prelude.{◌≡◌, ◌≢◌};
+ghost use Rattle.tcd_reading.specs.Endings.{Prints};
+
+use std::marker::Model;
+use tcd_base::{FileErr, NoMemory, Sink};
 
 /// How a command ended. The exit status of the program is the number of the variant, from 0.
 #[derive(Clone, Copy, Debug, PartialEq, Eq)]
@@ -33,5 +38,27 @@ impl From<Status> for u8 {
             Status::NoMemory => 4,
             Status::BadWords => 5,
         }
+    }
+}
+
+/// Prints a text and returns its status. It allocates no memory.
+pub fn print<S: Sink>(out: &mut S, text: &[u8], status: Status) -> Status
+    ensures { Prints status text.now (S.seen out.old) (S.seen out.new) result }
+{
+    match out.write(text) {
+        Ok(()) => status,
+        Err(_) => Status::Fault,
+    }
+}
+
+// The status after a write that failed.
+pub(crate) fn status_of_failure(e: FileErr) -> Status
+    ensures memory { e ≡ FileErr.NoMemory → result ≡ Status.NoMemory }
+    ensures fault { e ≢ FileErr.NoMemory → result ≡ Status.Fault }
+{
+    match e {
+        FileErr::NoMemory => Status::NoMemory,
+        FileErr::Failed => Status::Fault,
+        FileErr::TooLong => Status::Fault,
     }
 }

@@ -9,7 +9,7 @@ use Rattle.depth_cert.specs.declared.points.Point.{Point}
 use Rattle.depth_cert.specs.Nodes.{NodeData}
 use Rattle.depth_cert.specs.Certs.{CertData}
 use Rattle.cfg_recover.specs.LocalFaults.{IsFaultless}
-use Rattle.cfg_recover.specs.Accepting.{limits_in, RuleHolds, HoldsAtNode, Accepts}
+use Rattle.cfg_recover.specs.RulesHoldOrFail.{limits_in, RuleHolds, HoldsAtNode, Accepts}
 
 module _ (image : ImageData) (plan : PlanData) (cert : CertData) (accepted : Accepts image plan cert) (node : NodeData) (stands : Contains cert.nodes node) (point : Point) (there : Contains node.points point) where
   pub all_rules : (r : ℕ) → RuleHolds image plan cert node point r

@@ -2,11 +2,11 @@
 -- calls. It has the handlers of sixteen nested interrupts and of system calls. The functions call
 -- each other as the places of a binary heap.
 pub mod Planned
-use Rattle.std.specs.Prelude.{ℕ, ◌+◌, ◌-◌, ◌*◌, ◌/◌, ◌%◌, ◌^◌, List, [], ◌∷◌, ◌++◌, codes, length, replicate, nat_lt, if◌then◌else◌}
+use Rattle.std.specs.Prelude.{ℕ, ◌+◌, ◌-◌, ◌*◌, ◌/◌, ◌%◌, ◌^◌, List, ◌∷◌, ◌++◌, codes, nat_lt, if◌then◌else◌, []}
 use Rattle.std.specs.List.{find, flat_map, range_with_len}
 use Rattle.std.specs.Option.{option_map_or}
 use Rattle.std.specs.Str.{bytes_eq}
-use Rattle.tcd_base.specs.Bytes.{bytes_of_word}
+use Rattle.tcd_base.specs.Bytes.{bytes_of_word, filled}
 use Rattle.tc_isa.specs.declared.fields.Fields.{Fields}
 use Rattle.tc_isa.specs.Forms.{fields}
 use Rattle.tc_isa.specs.Rows.{listed}
@@ -53,10 +53,6 @@ unfoldable pub handler : ℕ → ℕ → List ℕ
 handler n p =
     code (codes "bisr16") (fields 0 0 0 0 p)
     ++ (call_from (handler_at p + 2) (function_at (n - 1)) ++ (code (codes "rslcx") (fields 0 0 0 0 0) ++ code (codes "rfe16") (fields 0 0 0 0 0)))
-
--- bytes, with zeros up to a length
-abbrev pub filled : ℕ → List ℕ → List ℕ
-filled size bytes = bytes ++ replicate (size - length bytes) 0
 
 -- the handlers of the interrupts 10, 20 .. 160; their addresses are 320 bytes apart
 unfoldable pub vectors : ℕ → List ℕ

@@ -1,9 +1,8 @@
 -- The graph of a certificate: one line for each way on from a point, in the order of keys and
 -- addresses.
-pub mod Edges
 pub mod EdgeLaws
-use Rattle.std.specs.Prelude.{◌≡◌, ◌==◌, ℕ, false, not, List, [], ◌∷◌, ◌++◌, map, filter, codes, is_some, if◌then◌else◌}
-use Rattle.std.specs.List.{flat_map}
+use Rattle.std.specs.Prelude.{◌≡◌, ◌==◌, ℕ, false, not, List, ◌∷◌, ◌++◌, map, filter, codes, is_some, if◌then◌else◌, unwrap_or, []}
+use Rattle.std.specs.List.{flat_map, list_any}
 use Rattle.std.specs.Option.{option_map_or}
 use Rattle.elf_image.specs.Images.{ImageData}
 use Rattle.tcd_plan.specs.PlanData.{PlanData}
@@ -15,11 +14,18 @@ use Rattle.depth_cert.specs.declared.points.Point.{Point}
 use Rattle.depth_cert.specs.Nodes.{NodeData}
 use Rattle.depth_cert.specs.Certs.{CertData, find_node}
 use Rattle.cfg_recover.specs.Code.{IsCode}
-use Rattle.cfg_recover.specs.Duties.{Duty, jump, enter, resume, Owed, duties_of}
-use Rattle.cfg_recover.specs.Accepting.{limits_in}
-use Rattle.cfg_recover.specs.Edges.{Way, to, call, irq, sys, aln, ret, rfe}
+use Rattle.cfg_recover.specs.Duties.{Duty, jump, enter, resume, Owed, duties_of, system_call_rule, entries_of, successors_of}
+use Rattle.cfg_recover.specs.RulesHoldOrFail.{limits_in}
+use Rattle.cfg_recover.specs.StepEdges.{Way, to, call, irq, sys, aln, ret, rfe}
 use Rattle.tcd_text.specs.Digits.{hex_word}
 use Rattle.tcd_report.specs.Texts.{key_text}
+use Rattle.tc_isa.specs.declared.shapes.Shape.TheVariants.{Call, Ret, Rfe, Syscall}
+use Rattle.value_domain.specs.declared.states.State.{State}
+use Rattle.cfg_recover.specs.Entries.{sys_key}
+use Rattle.cfg_recover.specs.LocalRules.{targets_of}
+use Rattle.tcd_report.specs.declared.graphs.edges.Edges.{Edges}
+use Rattle.cfg_recover.specs.declared.local_rules.Located.{Located}
+use Rattle.tcd_report.specs.declared.judged.Judged.{Judged}
 
 -- ---- lines
 -- what a line says: the way of a step, or the address where a point goes on after an entered frame
@@ -80,9 +86,6 @@ misaligned_rule = 10
 
 abbrev pub interrupt_rule : ℕ
 interrupt_rule = 11
-
-abbrev pub system_call_rule : ℕ
-system_call_rule = 12
 
 -- the entries that the duties of a rule ask for, in their order
 abbrev pub entries_in : ℕ → List Owed → List ℕ
@@ -174,3 +177,63 @@ pub record IsGraph (image : ImageData) (plan : PlanData) (cert : CertData) (text
   pub lines : List (List ℕ)
   pub are : AreGraphLines image plan cert lines
   pub text_is : text ≡ flat_map (λ l. l) lines
+
+-- a list with one number more at its end, unless the number is in the list
+abbrev pub once_more : List ℕ → ℕ → List ℕ
+once_more xs x = if list_any (λ y. y == x) xs then xs else xs ++ x ∷ []
+
+-- the addresses in the frame that duties lead to, in their order
+abbrev pub jumped_in : List Owed → List ℕ
+jumped_in ds = flat_map (λ d. jump_by d.duty) ds
+
+-- the address where the frame goes on after an entered frame returns, once for each entered node
+-- with an exit
+abbrev pub returned_in : CertData → List Owed → List ℕ
+returned_in cert ds = flat_map (λ d. back_by cert d.duty) ds
+
+-- the functions that an instruction of this shape calls
+abbrev pub called_of : PlanData → State → ℕ → Shape → List ℕ
+called_of plan s p (Call target) = unwrap_or (targets_of plan s p target) []
+called_of plan s p _ = []
+
+-- the entry of the handler of system calls, if the instruction is a system call
+abbrev pub systems_of : PlanData → Key → Shape → List ℕ
+systems_of plan key (Syscall tin) = (sys_key plan key).entry ∷ []
+systems_of plan key _ = []
+
+-- the lists are those of a point's duties
+pub record AreEdges (cert : CertData) (ds : List Owed) (w : Edges) : Type 0 where
+  pub to : w.to.items ≡ jumps_in ds
+  pub call : w.call.items ≡ calls_in ds
+  pub back : w.back.items ≡ backs_in cert ds
+  pub sys : w.sys.items ≡ systems_in ds
+  pub aln : w.aln.items ≡ misaligned_in ds
+  pub irq : w.irq.items ≡ interrupts_in ds
+
+-- one line with this word for each address
+abbrev pub lines_to : Key → ℕ → List ℕ → List ℕ → List ℕ
+lines_to key p word targets = flat_map (line_to key p word) targets
+
+-- the lines of a point, except that of its own return
+abbrev pub ways_text : Key → ℕ → Edges → List ℕ
+ways_text key p w =
+    lines_to key p (codes "to ") w.to.items
+    ++ (lines_to key p (codes "call ") w.call.items
+    ++ (lines_to key p (codes "back ") w.back.items
+    ++ (lines_to key p (codes "sys ") w.sys.items
+    ++ (lines_to key p (codes "aln ") w.aln.items
+    ++ lines_to key p (codes "irq ") w.irq.items))))
+
+-- the line of a return, if the instruction is one
+abbrev pub leaving_text : Key → ℕ → Shape → List ℕ
+leaving_text key p Ret = line_front key p ++ (codes "ret" ++ 10 ∷ [])
+leaving_text key p Rfe = line_front key p ++ (codes "rfe" ++ 10 ∷ [])
+leaving_text key p _ = []
+
+-- the successors of a point in its frame, by its instruction
+abbrev pub successors_at : Judged → Point → Located → List Owed
+successors_at j point found = successors_of j.bounds.now j.image.now j.plan.now point.addr point.state found.shape found.size
+
+-- the entries and returns of the frames that its instruction enters
+abbrev pub entries_at : Judged → Key → Point → Located → List Owed
+entries_at j key point found = entries_of j.plan.now key point.addr point.state found.shape found.size

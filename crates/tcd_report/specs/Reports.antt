@@ -2,7 +2,7 @@
 pub mod Calls
 pub mod Heights
 pub mod Longest
-use Rattle.std.specs.Prelude.{◌≡◌, ℕ, List, [], ◌∷◌, ◌++◌, length, map, codes, All}
+use Rattle.std.specs.Prelude.{◌≡◌, ℕ, List, ◌∷◌, ◌++◌, length, map, codes, All, []}
 use Rattle.serde_json.specs.Data.{Data, number, unsigned, string, array, object, member, no_members}
 use Rattle.serde_json.specs.View.{items_of}
 use Rattle.serde_json.specs.Written.{compact_text}
@@ -10,10 +10,11 @@ use Rattle.elf_image.specs.Images.{ImageData}
 use Rattle.tcd_plan.specs.PlanData.{PlanData}
 use Rattle.depth_cert.specs.Nodes.{NodeData}
 use Rattle.depth_cert.specs.Certs.{CertData}
-use Rattle.cfg_recover.specs.Accepting.{certified_need}
+use Rattle.cfg_recover.specs.RulesHoldOrFail.{certified_need}
 use Rattle.tcd_report.specs.declared.reports.longest_by_priority.LongestCalls.{LongestCalls}
 use Rattle.tcd_report.specs.Texts.{key_text}
 use Rattle.tcd_report.specs.Reports.Longest.{prios_of, IsLongest}
+use Rattle.depth_cert.specs.declared.keys.Key.{Key}
 
 -- a number of the report
 abbrev pub count : ℕ → Data
@@ -55,3 +56,7 @@ pub record IsReport (image : ImageData) (plan : PlanData) (cert : CertData) (tex
   pub prios : map (λ r. r.prio) rows ≡ prios_of cert.nodes
   pub longest : All (λ r. IsLongest image plan cert r.prio r.longest) rows
   pub is : text ≡ compact_text (report_data image plan cert rows) ++ 10 ∷ []
+
+-- a node's need, and its key
+abbrev pub rank_of : NodeData → ℕ × Key
+rank_of n = (n.need, n.key)

@@ -1,7 +1,63 @@
 // The graph of a certificate: where each of its points goes on.
+ghost use Rattle.std.specs.Prelude.{IfOk, string_bytes};
+ghost use Rattle.cfg_recover.specs.RulesHoldOrFail.{Accepts};
+ghost use Rattle.tcd_report.specs.Graphs.{IsGraph};
+
+use crate::graphs::graph_text::append_node;
+use crate::judged::Judged;
+use cfg_recover::KnownCodes;
+use depth_cert::Cert;
+use elf_image::Image;
+use packed_cert::{PackedCert, PointWalk};
+use std::alloc::Global;
+use tcd_base::NoMemory;
+use tcd_plan::Plan;
+use value_domain::Bounds;
+
 pub(crate) mod addresses;
 pub(crate) mod edges;
 pub(crate) mod entries;
 pub(crate) mod graph_text;
 pub(crate) mod lines;
 pub(crate) mod successors;
+
+/// The graph of an accepted certificate: one line for each way on from each point, in the order of
+/// keys and addresses. The lines of a point are in this order: jumps and calls by ascending
+/// address, returns of callees, system call, misaligned access, interrupts by ascending priority,
+/// its own return. No line is there twice, and each ends with a line feed.
+pub fn graph_packed(
+    alloc: Global,
+    image: &Image,
+    plan: &Plan,
+    cert: &PackedCert,
+) -> Result<String, NoMemory>
+    requires { Accepts image.now plan.now cert.now }
+    ensures { IfOk result (λ text. IsGraph image.now plan.now cert.now (string_bytes text)) }
+{
+    let mut text = String::new(alloc);
+    let bounds = Bounds::of(plan, cert.version());
+    let judged = Judged {
+        bounds: &bounds,
+        image,
+        plan,
+        cert,
+    };
+    let mut codes = KnownCodes::new();
+    let mut walk = PointWalk::none();
+    for i in 0..cert.len() {
+        let Some(node) = cert.get(i) else {
+            unreachable!()
+        };
+        append_node(alloc, &mut text, &judged, &mut codes, &node, &mut walk)?;
+    }
+    Ok(text)
+}
+
+/// The graph of an accepted certificate in memory, by way of the bytes that spell it.
+pub fn graph(alloc: Global, image: &Image, plan: &Plan, cert: &Cert) -> Result<String, NoMemory>
+    requires { Accepts image.now plan.now cert.now }
+    ensures { IfOk result (λ text. IsGraph image.now plan.now cert.now (string_bytes text)) }
+{
+    let cert = PackedCert::of(alloc, cert)?;
+    graph_packed(alloc, image, plan, &cert)
+}

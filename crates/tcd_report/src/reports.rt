@@ -1,5 +1,62 @@
 // The report of a certificate: the needs of its nodes, and the longest call chains.
+ghost use Rattle.std.specs.Prelude.{IfOk, string_bytes};
+ghost use Rattle.cfg_recover.specs.RulesHoldOrFail.{Accepts};
+ghost use Rattle.tcd_report.specs.Reports.{IsReport};
+
+use crate::judged::Judged;
+use crate::reports::heights::heights;
+use crate::reports::longest_by_priority::{longest_by_priority, priority_count, rows_below};
+use crate::reports::report_text::{need_of_start, nodes_value, rows_value, whole_value};
+use crate::texts::append;
+use depth_cert::Cert;
+use elf_image::Image;
+use packed_cert::PackedCert;
+use std::alloc::Global;
+use tcd_base::NoMemory;
+use tcd_plan::Plan;
+use value_domain::Bounds;
+
 pub(crate) mod call_chains;
 pub(crate) mod heights;
 pub(crate) mod longest_by_priority;
 pub(crate) mod report_text;
+
+/// The report of an accepted certificate: one compact JSON object with its keys in byte order, and
+/// a line feed. It has the CSAs, the longest call chain of each priority, the certified need, the
+/// nodes with their needs and numbers of points, and the CSAs that are kept in reserve.
+pub fn report_packed(
+    alloc: Global,
+    image: &Image,
+    plan: &Plan,
+    cert: &PackedCert,
+) -> Result<String, NoMemory>
+    requires { Accepts image.now plan.now cert.now }
+    ensures { IfOk result (λ text. IsReport image.now plan.now cert.now (string_bytes text)) }
+{
+    let bounds = Bounds::of(plan, cert.version());
+    let judged = Judged {
+        bounds: &bounds,
+        image,
+        plan,
+        cert,
+    };
+    let heights = heights(alloc, &judged)?;
+    let known = longest_by_priority(alloc, cert, &heights)?;
+    let rows = rows_below(alloc, &known, priority_count())?;
+    let need = need_of_start(image, plan, cert);
+    let calls = rows_value(alloc, &rows)?;
+    let nodes = nodes_value(alloc, cert)?;
+    let value = whole_value(alloc, plan, need, calls, nodes)?;
+    let mut text = value.to_string(alloc)?;
+    append(&mut text, "\n")?;
+    Ok(text)
+}
+
+/// The report of an accepted certificate in memory, by way of the bytes that spell it.
+pub fn report(alloc: Global, image: &Image, plan: &Plan, cert: &Cert) -> Result<String, NoMemory>
+    requires { Accepts image.now plan.now cert.now }
+    ensures { IfOk result (λ text. IsReport image.now plan.now cert.now (string_bytes text)) }
+{
+    let cert = PackedCert::of(alloc, cert)?;
+    report_packed(alloc, image, plan, &cert)
+}

@@ -1,6 +1,6 @@
 //! Worked scripts, and the machine driven by them.
 ghost use Rattle.std.specs.Prelude.{◌≡◌};
-ghost use Rattle.tc_script.specs.Fitting.{FitsPlan};
+ghost use Rattle.tc_script.specs.ScriptsFitPlans.{FitsPlan};
 
 use crate::asserts::same;
 use crate::boards::{CORE_16, EIGHT_AREAS, ENABLED, Edit, INTERRUPTS, TWO_INTERRUPTS, board};

@@ -1,5 +1,6 @@
 -- Bytes and words as upper-case hex digits.
-use Rattle.std.specs.Prelude.{ℕ, ◌+◌, ◌/◌, ◌%◌, ◌^◌, nat_lt, if◌then◌else◌, List, [], ◌∷◌, ◌++◌}
+use Rattle.std.specs.Prelude.{ℕ, ◌+◌, ◌/◌, ◌%◌, ◌^◌, nat_lt, if◌then◌else◌, List, ◌∷◌, ◌++◌, ◌&&◌, Bool, []}
+use Rattle.std.specs.Char.{digit_value}
 
 -- a hex digit in ASCII, in upper case
 unfoldable pub hex_digit : ℕ → ℕ
@@ -12,3 +13,7 @@ hex_byte b = hex_digit (b / 16) ∷ hex_digit (b % 16) ∷ []
 -- a word as eight hex digits, the highest byte first
 unfoldable pub hex_word : ℕ → List ℕ
 hex_word x = hex_byte (x / 2 ^ 24) ++ (hex_byte (x / 2 ^ 16 % 256) ++ (hex_byte (x / 2 ^ 8 % 256) ++ hex_byte (x % 256)))
+
+-- an upper-case hex digit in ASCII: 0 to 9, A to F
+abbrev pub is_upper_hex : ℕ → Bool
+is_upper_hex c = nat_lt (digit_value c) 16 && nat_lt c 97

@@ -1,5 +1,5 @@
 -- The lines of a text, and the words of a line.
-use Rattle.std.specs.Prelude.{◌≡◌, ◌<◌, ◌==◌, if◌then◌else◌, ℕ, Bool, List, [], ◌∷◌, length}
+use Rattle.std.specs.Prelude.{◌≡◌, ◌<◌, ◌==◌, if◌then◌else◌, ℕ, Bool, List, ◌∷◌, length, true, false, []}
 use Rattle.std.specs.List.{slice_split, onto_first}
 use Rattle.tcd_text.specs.declared.words.Words.{Words}
 use Rattle.tcd_text.specs.declared.words.Words.TheVariants.{One, Two, Three, Four, More}
@@ -25,3 +25,8 @@ AreWords words (Two a b) = words ≡ a.now ∷ b.now ∷ []
 AreWords words (Three a b c) = words ≡ a.now ∷ b.now ∷ c.now ∷ []
 AreWords words (Four a b c d) = words ≡ a.now ∷ b.now ∷ c.now ∷ d.now ∷ []
 AreWords words More = 4 < length words
+
+-- a line that isn't empty
+abbrev pub is_written : List ℕ → Bool
+is_written [] = false
+is_written (c ∷ cs) = true

@@ -4,9 +4,9 @@ ghost use Rattle.std.specs.Bool.{then_some};
 ghost use Rattle.std.specs.Char.{digit_value};
 ghost use Rattle.std.specs.List.{list_all};
 ghost use Rattle.std.specs.Str.Parse.{digits_value};
-ghost use Rattle.tcd_text.specs.HexNumbers.{is_upper_hex, hex_number_of};
+ghost use Rattle.tcd_text.specs.HexNumbers.{hex_number_of};
+ghost use Rattle.tcd_text.specs.Digits.{is_upper_hex, hex_digit, hex_byte, hex_word};
 ghost use Rattle.std.specs.Str.{IsAscii};
-ghost use Rattle.tcd_text.specs.Digits.{hex_digit, hex_byte, hex_word};
 
 use tcd_base::NoMemory;
 

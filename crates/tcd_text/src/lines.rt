@@ -1,9 +1,6 @@
 // Cuts a text into its lines.
-ghost use Rattle.std.specs.Prelude.{◌≡◌, ◌≤◌, ◌<◌, ◌+◌, ◌==◌, ◌∷◌, length, drop, IfSome, position};
+ghost use Rattle.std.specs.Prelude.{◌≡◌, ◌≤◌, ◌<◌, ◌==◌, length, IfSome, position};
 ghost use Rattle.std.specs.List.{position_or_len};
-ghost use Rattle.tcd_text.specs.Lines.{lines_of};
-
-use crate::cuts::{front_of, rest_of};
 
 fn find_feed(text: &[u8]) -> Option<usize>
     ensures value { result ≡ position (λ c. c == 10) text.now }
@@ -13,7 +10,7 @@ fn find_feed(text: &[u8]) -> Option<usize>
 }
 
 // Returns the place of the first line feed, or the length of the text.
-fn line_end(text: &[u8]) -> usize
+pub(crate) fn line_end(text: &[u8]) -> usize
     ensures end { result ≡ position_or_len (λ c. c == 10) text.now }
     ensures within { result ≤ length text.now }
 {
@@ -21,15 +18,4 @@ fn line_end(text: &[u8]) -> usize
         Some(end) => end,
         None => text.len(),
     }
-}
-
-/// Returns the first line of a text that isn't empty, and the text after its line feed.
-pub fn cut_line(text: &[u8]) -> (&[u8], &[u8])
-    requires { 0 < length text.now }
-    ensures lines { lines_of text.now ≡ result.0.now ∷ lines_of result.1.now }
-    ensures rest { result.1.now ≡ drop (length result.0.now + 1) text.now }
-    ensures shorter { length result.1.now < length text.now }
-{
-    let end = line_end(text);
-    (front_of(text, end), rest_of(text, end))
 }

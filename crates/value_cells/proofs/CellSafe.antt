@@ -3,11 +3,11 @@ use Rattle.std.proofs.Common.{◌≡◌, ℕ, suc, ◌+◌, ◌%◌, inl, inr, B
 use Rattle.std.proofs.lemmas.Bool.{eq-eqb, eqb-true}
 use Rattle.std.proofs.lemmas.List.Elements.{All-contains}
 use Rattle.std.specs.Prelude.{IfSome, IsSomeAnd}
-use Rattle.csa_chain.specs.Memory.{Memory}
+use Rattle.csa_chain.specs.MemoryBytes.{Memory}
 use Rattle.elf_image.specs.Images.{ImageData}
 use Rattle.tcd_plan.specs.PlanData.{PlanData, IsPlan}
 use Rattle.tc_isa.specs.Meanings.{shape_of}
-use Rattle.tc_isa.specs.Bounded.{IsShape}
+use Rattle.tc_isa.specs.InBounds.{IsShape}
 use Rattle.tc_isa.specs.declared.shapes.Shape.{Shape}
 use Rattle.tc_isa.specs.declared.shapes.Shape.TheVariants.{Compute, Scaled, Load, Store, Branch, Jump, Call, Ret, Rfe, Svlcx, Rslcx, Bisr, Enable, Disable, Syscall, Mfcr, Mtcr, Nothing}
 use Rattle.tc_isa.proofs.ShapeBounds.{shape_is}
@@ -41,9 +41,9 @@ use Rattle.depth_cert.specs.Nodes.{NodeData, IsNode}
 use Rattle.depth_cert.specs.Certs.{CertData, IsCert, find_node}
 use Rattle.cfg_recover.specs.Code.{IsCode, HasCode}
 use Rattle.cfg_recover.specs.Entries.{start_key}
-use Rattle.cfg_recover.specs.Accepting.{limits_in, RuleHolds, HoldsAtNode, Accepts}
+use Rattle.cfg_recover.specs.RulesHoldOrFail.{limits_in, RuleHolds, HoldsAtNode, Accepts}
 use Rattle.cfg_recover.specs.Frames.{Standing, frames_after, frames_from, HoldFrames}
-use Rattle.cfg_recover.specs.OwedMoves.{InState}
+use Rattle.cfg_recover.specs.MovesAreOwed.{InState}
 use Rattle.cfg_recover.proofs.EntryLaws.{reg_lt}
 use Rattle.depth_cert.proofs.KeyLaws.{found_in}
 use Rattle.cfg_recover.proofs.PointLaws.{limits_are}
@@ -53,7 +53,7 @@ use Rattle.value_cells.specs.Cells.{with_cells, IsCell}
 use Rattle.value_cells.specs.Keeping.{KeepsAll, KeepsCells}
 use Rattle.value_cells.specs.Safe.{IsSafeWithCellsAt}
 use Rattle.value_cells.specs.Laws.{CellsKeepTheirBounds}
-use Rattle.value_cells.specs.Beside.{hidden, heard_in, heard_event, NamesAreas}
+use Rattle.value_cells.specs.BesideCells.{hidden, heard_in, heard_event, NamesAreas}
 use Rattle.value_cells.proofs.WithoutCells.{get-without}
 use Rattle.value_cells.proofs.CellSteps.{address-hidden, status_of_taken, hidden-step}
 use Rattle.value_cells.proofs.CellCode.{fetched-more, chain_there, names_areas}

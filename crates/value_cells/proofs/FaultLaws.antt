@@ -13,7 +13,7 @@ use Rattle.depth_cert.specs.Nodes.{NodeData}
 use Rattle.depth_cert.specs.Certs.{CertData, IsCert}
 use Rattle.tcd_plan.proofs.ApartLaws.{IsInOne-fits}
 use Rattle.cfg_recover.specs.Code.{IsCode, HasCode}
-use Rattle.cfg_recover.specs.Accepting.{limits_in}
+use Rattle.cfg_recover.specs.RulesHoldOrFail.{limits_in}
 use Rattle.cfg_recover.proofs.CodeLaws.{IsCode-one}
 use Rattle.cfg_recover.proofs.FirstFault.{all_done, least_point, in_cert, least_place, address_small}
 use Rattle.value_cells.specs.declared.cells.Cell.{Cell}

@@ -5,7 +5,7 @@ use Rattle.elf_image.specs.Images.{ImageData}
 use Rattle.tcd_plan.specs.PlanData.{PlanData, IsPlan}
 use Rattle.tc_isa.specs.declared.shapes.Shape.{Shape}
 use Rattle.tc_isa.specs.declared.shapes.Shape.TheVariants.{Compute, Scaled, Load, Store, Branch, Jump, Call, Ret, Rfe, Svlcx, Rslcx, Bisr, Enable, Disable, Syscall, Mfcr, Mtcr, Nothing}
-use Rattle.tc_isa.specs.Bounded.{IsShape}
+use Rattle.tc_isa.specs.InBounds.{IsShape}
 use Rattle.value_domain.specs.declared.states.State.{State}
 use Rattle.value_domain.specs.Limits.{Limits}
 use Rattle.value_domain.specs.State.{Covers}
@@ -17,13 +17,13 @@ use Rattle.depth_cert.specs.declared.points.Point.{Point}
 use Rattle.depth_cert.specs.Nodes.{NodeData}
 use Rattle.depth_cert.specs.Certs.{CertData, IsCert}
 use Rattle.cfg_recover.specs.Code.{IsCode}
-use Rattle.cfg_recover.specs.Accepting.{limits_in, Accepts}
+use Rattle.cfg_recover.specs.RulesHoldOrFail.{limits_in, Accepts}
 use Rattle.cfg_recover.specs.Assignments.{known_in, IsBelowAt}
 use Rattle.depth_cert.specs.Known.{state}
 use Rattle.cfg_recover.proofs.CodeLaws.{IsCode-bounded}
 use Rattle.value_cells.specs.declared.cells.Cell.{Cell}
 use Rattle.value_cells.specs.Keeping.{KeepsCellsAt, KeepsCellsAtPoint, KeepsCells, BreaksCells, breaks_at}
-use Rattle.value_cells.specs.Growing.{CellFaultsGrow, LesserKeepsCells}
+use Rattle.value_cells.specs.Rule16Growth.{CellFaultsGrow, LesserKeepsCells}
 use Rattle.value_cells.specs.Laws.{CellFaultsRefute}
 use Rattle.cfg_recover.proofs.AccessGrowth.{value_grows, access_grows}
 use Rattle.cfg_recover.proofs.KnownPlaces.{Above, above, limits_same, setting}

@@ -1,9 +1,9 @@
 -- Bounds of all cells, and of one.
 use Rattle.std.proofs.Common.{zero, suc, ◌≤◌, List, [], ◌∷◌, subst, arith}
 use Rattle.std.specs.Prelude.{All, Contains}
-use Rattle.csa_chain.specs.Memory.{Memory, word_at}
+use Rattle.csa_chain.specs.MemoryBytes.{Memory, word_at}
 use Rattle.value_cells.specs.declared.cells.Cell.{Cell}
-use Rattle.value_cells.specs.Cells.{AreInBounds}
+use Rattle.value_cells.specs.Safe.{AreInBounds}
 
 abbrev pub IsInBounds : Memory → Cell → Type 0
 IsInBounds mem c = (c.lo ≤ word_at mem c.at) × (word_at mem c.at ≤ c.hi)

@@ -16,7 +16,7 @@ use Rattle.value_cells.specs.declared.errors.CellsErr.{CellsErr}
 use Rattle.value_cells.specs.declared.errors.CellsErr.TheVariants.{BadLine}
 use Rattle.tcd_plan.specs.Cutting.{ranges_without}
 use Rattle.value_cells.specs.Cells.{cell_device, ram_without, with_cells, IsCell, AreCells}
-use Rattle.value_cells.specs.Reading.{cell_of, cell_of_words, IsLine, AreRead, HasRoom, IsRefused, IsBadLine, IsFirstBad, TakesLine}
+use Rattle.value_cells.specs.CellListText.{cell_of, cell_of_words, IsLine, AreRead, HasRoom, IsRefused, IsBadLine, IsFirstBad, TakesLine}
 use Rattle.value_cells.proofs.CellPlan.{ram_behind, take_whole}
 
 abbrev no_cell : List Cell

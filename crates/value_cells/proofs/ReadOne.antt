@@ -10,7 +10,7 @@ use Rattle.value_cells.specs.declared.cells.Cell.{Cell}
 use Rattle.value_cells.specs.declared.errors.CellsErr.{CellsErr}
 use Rattle.value_cells.specs.declared.errors.CellsErr.TheVariants.{BadLine, NotRam, Twice, TooMany}
 use Rattle.value_cells.specs.Cells.{with_cells, IsCell, AreCells}
-use Rattle.value_cells.specs.Reading.{cell_of, IsLine, AreRead, HasRoom, IsRefused, IsBadLine, IsFirstBad, ReadsOne}
+use Rattle.value_cells.specs.CellListText.{cell_of, IsLine, AreRead, HasRoom, IsRefused, IsBadLine, IsFirstBad, ReadsOne}
 use Rattle.value_cells.proofs.CellPlan.{take_whole}
 
 -- ---- the first of some cells

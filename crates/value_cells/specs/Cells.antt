@@ -1,7 +1,6 @@
 -- Cells, and the plan in which they are devices. The rules of certificates know devices but no
 -- memory; so they can speak of words of ram.
 use Rattle.std.specs.Prelude.{◌≡◌, ◌≢◌, ◌<◌, ◌≤◌, ◌+◌, ◌%◌, ◌^◌, ◌&&◌, ◌||◌, ℕ, Bool, false, nat_lt, nat_le, List, ◌∷◌, ◌++◌, length, map, take, All, AllPairs, []}
-use Rattle.csa_chain.specs.Memory.{Memory, word_at}
 use Rattle.tcd_base.specs.declared.range.Range.{Range}
 use Rattle.tcd_plan.specs.declared.plans.Device.{Device}
 use Rattle.tcd_plan.specs.PlanData.{PlanData}
@@ -44,8 +43,3 @@ pub record AreCells (plan : PlanData) (cells : List Cell) : Type 0 where
 abbrev pub is_in_cell : List Cell → ℕ → Bool
 is_in_cell [] x = false
 is_in_cell (c ∷ cs) x = (nat_le c.at x && nat_lt x (c.at + 4)) || is_in_cell cs x
-
--- each cell's word, the number in its four bytes, is in the cell's bounds
-abbrev pub AreInBounds : List Cell → Memory → Type 0
-AreInBounds [] mem = Unit {0}
-AreInBounds (c ∷ cs) mem = ((c.lo ≤ word_at mem c.at) × (word_at mem c.at ≤ c.hi)) × AreInBounds cs mem

@@ -16,7 +16,7 @@ use Rattle.depth_cert.specs.Keys.{number_of_key}
 use Rattle.depth_cert.specs.Nodes.{NodeData}
 use Rattle.depth_cert.specs.Certs.{CertData}
 use Rattle.cfg_recover.specs.Code.{IsCode}
-use Rattle.cfg_recover.specs.Accepting.{limits_in}
+use Rattle.cfg_recover.specs.RulesHoldOrFail.{limits_in}
 use Rattle.value_cells.specs.declared.cells.Cell.{Cell}
 
 -- the access from x shares a byte with the cell

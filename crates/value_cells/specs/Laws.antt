@@ -1,6 +1,6 @@
 -- What the definitions of this crate mean, in plain words.
 use Rattle.std.specs.Prelude.{◌≡◌, ◌≤◌, ◌↔◌, ℕ, false, List, All, Contains}
-use Rattle.csa_chain.specs.Memory.{word_at}
+use Rattle.csa_chain.specs.MemoryBytes.{word_at}
 use Rattle.elf_image.specs.Images.{ImageData}
 use Rattle.tcd_plan.specs.PlanData.{PlanData, IsPlan}
 use Rattle.tc_machine.specs.declared.events.Event.{Event}
@@ -12,8 +12,8 @@ use Rattle.value_cells.specs.declared.cells.Cell.{Cell}
 use Rattle.value_cells.specs.Cells.{with_cells, is_in_cell, AreCells}
 use Rattle.value_cells.specs.Safe.{SafeWithCells}
 use Rattle.depth_cert.specs.Certs.{CertData, IsCert}
-use Rattle.cfg_recover.specs.Accepting.{Accepts}
-use Rattle.cfg_recover.specs.Frames.{FramesHeld}
+use Rattle.cfg_recover.specs.RulesHoldOrFail.{Accepts}
+use Rattle.cfg_recover.specs.FrameLaws.{FramesHeld}
 use Rattle.value_cells.specs.Keeping.{KeepsCells, BreaksCells}
 use Rattle.depth_cert.specs.declared.keys.Key.{Key}
 

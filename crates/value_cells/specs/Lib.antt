@@ -1,7 +1,7 @@
-pub mod Beside
+pub mod BesideCells
 pub mod Cells
-pub mod Growing
+pub mod Rule16Growth
 pub mod Keeping
 pub mod Laws
-pub mod Reading
+pub mod CellListText
 pub mod Safe

@@ -37,7 +37,7 @@ impl Model for Cells {
 impl Cells {
     ghost use Rattle.std.specs.Prelude.{◌≡◌, ◌≤◌, ◌^◌, ◌↔◌, [], ◌∷◌, ◌++◌, length, IsTrue, Any, OnOk, IfOk, IfErr, IfSome, IfNone};
     ghost use Rattle.value_cells.specs.Cells.{IsCell, AreCells};
-    ghost use Rattle.value_cells.specs.Reading.{HasRoom, IsSaid, IsRefused, TakesLine, IsBadLine, Reads};
+    ghost use Rattle.value_cells.specs.CellListText.{HasRoom, IsSaid, IsRefused, TakesLine, IsBadLine, Reads};
 
     /// Reads the cells of a plan from a text. Each line is empty or `cell AT LO HI`, where each
     /// number has eight upper-case hex digits. The error is that of the first bad line; if several

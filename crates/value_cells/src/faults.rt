@@ -1,7 +1,7 @@
 // Rule 16 at each point of a certificate in memory.
 ghost use Rattle.std.specs.Prelude.{◌≤◌, ◌+◌, ◌^◌, All, IfNone, IfSome};
 ghost use Rattle.value_domain.specs.State.{AreValues};
-ghost use Rattle.cfg_recover.specs.Accepting.{Accepts};
+ghost use Rattle.cfg_recover.specs.RulesHoldOrFail.{Accepts};
 ghost use Rattle.value_cells.specs.Cells as spec;
 ghost use Rattle.value_cells.specs.Cells.{AreCells};
 ghost use Rattle.value_cells.specs.Keeping.{KeepsCells, KeepsCellsAtPoint, IsFirstBreak, IsNodeBreak};

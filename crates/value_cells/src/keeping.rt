@@ -1,6 +1,6 @@
 // The test of rule 16: stores keep the cells' bounds.
 ghost use Rattle.std.specs.Prelude.{◌≤◌, ◌+◌, ◌^◌, ◌↔◌, ℕ, IsTrue, All};
-ghost use Rattle.tc_isa.specs.Bounded.{IsShape};
+ghost use Rattle.tc_isa.specs.InBounds.{IsShape};
 ghost use Rattle.value_domain.specs.Values.{IsWell, IsMember};
 ghost use Rattle.value_domain.specs.State.{AreValues};
 ghost use Rattle.store_ranges.specs.Accesses.{IsSize};

@@ -1,8 +1,8 @@
 // Laws of plans with cells.
-ghost use Rattle.value_cells.specs.Beside.{StepsBeside};
+ghost use Rattle.value_cells.specs.BesideCells.{StepsBeside};
 ghost use Rattle.value_cells.specs.Laws.{CellsMakeAPlan, RamIsWithoutCells, EachCellStays, CellsKeepTheirBounds, CellFaultsRefute};
-ghost use Rattle.value_cells.specs.Growing.{CellFaultsGrow, LesserKeepsCells};
-ghost use Rattle.value_cells.specs.Reading.{ReadsOne};
+ghost use Rattle.value_cells.specs.Rule16Growth.{CellFaultsGrow, LesserKeepsCells};
+ghost use Rattle.value_cells.specs.CellListText.{ReadsOne};
 
 /// The plan in which the cells are devices is a plan. The machine without the cells' bytes, whose
 /// inputs are the cells' words, takes the same steps as the machine with them. So if the rules

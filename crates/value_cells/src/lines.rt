@@ -1,6 +1,6 @@
 // Lines of a text of cells.
 ghost use Rattle.std.specs.Prelude.{◌≡◌, [], ◌∷◌, IfSome};
-ghost use Rattle.value_cells.specs.Reading.{cell_of, cell_of_words, cell_of_numbers, IsSaid};
+ghost use Rattle.value_cells.specs.CellListText.{cell_of, cell_of_words, cell_of_numbers, IsSaid};
 
 use crate::Cell;
 use tcd_text::{Words, hex_number, words_in};
@@ -18,7 +18,7 @@ fn cell_of_numbers(at: u32, lo: u32, hi: u32) -> Option<Cell>
 }
 
 // Returns the cell of a line's four words, if they have its form.
-#[tactic(auto, unfolding(crate::specs::Reading::cell_of_words))]
+#[tactic(auto, unfolding(crate::specs::CellListText::cell_of_words))]
 fn cell_of_words(word: &[u8], at: &[u8], lo: &[u8], hi: &[u8]) -> Option<Cell>
     ensures cell { result ≡ cell_of_words (word.now ∷ at.now ∷ lo.now ∷ hi.now ∷ []) }
     ensures said { IfSome result IsSaid }
@@ -33,7 +33,7 @@ fn cell_of_words(word: &[u8], at: &[u8], lo: &[u8], hi: &[u8]) -> Option<Cell>
 }
 
 /// Returns the cell of a line, or nothing if the line has another form.
-#[tactic(auto, using(crate::proofs::LineForms::more), unfolding(crate::specs::Reading::cell_of_words))]
+#[tactic(auto, using(crate::proofs::LineForms::more), unfolding(crate::specs::CellListText::cell_of_words))]
 pub(crate) fn cell_in(line: &[u8]) -> Option<Cell>
     ensures cell { result ≡ cell_of line.now }
     ensures said { IfSome result IsSaid }

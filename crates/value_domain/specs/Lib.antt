@@ -9,4 +9,4 @@ pub mod State
 pub mod StateLaws
 pub mod Thresholds
 pub mod Values
-pub mod Versions
+pub mod VersionLimits

@@ -1,5 +1,5 @@
 -- States, their order, and the least state that covers two.
-use Rattle.std.specs.Prelude.{◌<◌, ◌≤◌, ℕ, Bool, ◌&&◌, ◌||◌, ◌==◌, if◌then◌else◌, min, List, [], ◌∷◌, ◌++◌, length, Option, Some, None, IsTrue, slice_index_or, nat_lt, nat_le}
+use Rattle.std.specs.Prelude.{◌<◌, ◌≤◌, ℕ, Bool, ◌&&◌, ◌||◌, ◌==◌, if◌then◌else◌, min, List, ◌∷◌, ◌++◌, length, Option, Some, None, IsTrue, slice_index_or, nat_lt, nat_le, false, []}
 use Rattle.value_domain.specs.declared.values.Val.{Val}
 use Rattle.value_domain.specs.declared.states.State.{State}
 use Rattle.value_domain.specs.Limits.{Limits}
@@ -67,3 +67,11 @@ joined_states b s t = if length s.locals.items == length t.locals.items then Som
 -- the places of the lower registers D0..D7 and A2..A7 in a state
 abbrev pub is_lower_slot : ℕ → Bool
 is_lower_slot i = nat_lt i 8 || (nat_le 16 i && nat_lt i 22)
+
+-- a state that knows nothing
+abbrev pub no_state : State
+no_state = record { regs = []; ie = false; ccpn = 0; lower = false; locals = record { items = [] } }
+
+-- A10 is the value at place 22
+abbrev pub a10_of : State → Val
+a10_of s = slice_index_or s.regs 22 any_val

@@ -2,7 +2,7 @@
 use Rattle.std.specs.Prelude.{◌^◌, ℕ, zero, suc, List, ◌∷◌, ◌++◌, ◌+◌, ◌<◌, []}
 use Rattle.tcd_plan.specs.PlanData.{PlanData, all_ranges}
 use Rattle.value_domain.specs.Limits.{Limits}
-use Rattle.value_domain.specs.Versions.{most_words_of, most_locals_of}
+use Rattle.value_domain.specs.VersionLimits.{most_words_of, most_locals_of}
 use Rattle.tcd_base.specs.declared.range.Range.{Range}
 use Rattle.value_domain.specs.Floors.{floor, above, IsFloor, IsAbove}
 

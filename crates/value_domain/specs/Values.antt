@@ -1,5 +1,5 @@
 -- Values, and the least value that holds a set.
-use Rattle.std.specs.Prelude.{Option, Some, None, ◌≡◌, ◌<◌, ◌≤◌, ◌+◌, ◌-◌, ◌/◌, ◌^◌, ℕ, nat_le, if◌then◌else◌, List, length}
+use Rattle.std.specs.Prelude.{Option, Some, None, ◌≡◌, ◌<◌, ◌≤◌, ◌+◌, ◌-◌, ◌/◌, ◌^◌, ℕ, nat_le, if◌then◌else◌, List, length, ◌==◌, ◌&&◌, Bool, ◌∷◌, []}
 use Rattle.value_domain.specs.declared.values.Val.{Val}
 use Rattle.value_domain.specs.declared.values.Val.TheVariants.{Set, Span}
 use Rattle.value_domain.specs.Sets.{Among, AreWords, distinct, alignment_log2, least, greatest, step_of, multiples}
@@ -72,3 +72,23 @@ any_val = Span 0 4294967295 0
 abbrev pub words_of : Val → Option (List ℕ)
 words_of (Set ws) = Some ws
 words_of (Span lo last step) = None
+
+-- the Span has all words
+abbrev pub is_any : ℕ → ℕ → ℕ → Bool
+is_any lo last step = lo == 0 && last == 4294967295 && step == 0
+
+-- a constant
+abbrev pub word_val : ℕ → Val
+word_val w = Set (w ∷ [])
+
+-- a value's least member
+abbrev pub low : Val → ℕ
+low v = least (members v)
+
+-- a value's greatest member
+abbrev pub high : Val → ℕ
+high v = greatest (members v)
+
+-- a value's step: the greatest up to 2 such that 2 ^ step divides each of its members
+abbrev pub step : Val → ℕ
+step v = step_of (members v)

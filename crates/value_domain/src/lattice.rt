@@ -1,15 +1,17 @@
 // Operations of the lattice of values: order, join, and the least value that holds a set.
-ghost use Rattle.std.specs.Prelude.{◌≡◌, ◌==◌, ◌≤◌, ◌<◌, ◌+◌, ◌-◌, ◌*◌, ◌/◌, ◌^◌, IsTrue, length, min, max, [], ◌∷◌, ◌++◌, List, ℕ, ◌↔◌, IsSome, IsNone, slice_index};
+ghost use Rattle.std.specs.Prelude.{◌≡◌, ◌==◌, ◌≤◌, ◌<◌, ◌+◌, ◌-◌, ◌*◌, ◌/◌, ◌^◌, IsTrue, length, min, max, ◌∷◌, ◌++◌, List, ℕ, ◌↔◌, IsSome, IsNone};
 ghost use Rattle.value_domain.specs.Values as values;
-ghost use Rattle.value_domain.specs.Sets.{AreWords, Among, Within, Rising, least, greatest, step_of};
+ghost use Rattle.value_domain.specs.Sets.{AreWords, Within, Rising, least, greatest, step_of};
 ghost use Rattle.value_domain.specs.Sets as sets;
 ghost use Rattle.value_domain.specs.Floors.{floor, above};
 ghost use Rattle.value_domain.specs.Limits.{AreLimits};
-ghost use Rattle.value_domain.specs.Values.{IsMember, IsWell, IsValue, IsBelow, IsExtent, cover, members, range, count_in, first_in, any_val, words_of};
+ghost use Rattle.value_domain.specs.Values.{IsWell, IsValue, IsBelow, IsExtent, cover, members, range, count_in, words_of};
 ghost use Rattle.value_domain.specs.declared.values.Val.TheVariants.{Set, Span};
 
-use crate::merging::merge;
-use crate::values::{has, set_span, set_word, set_words};
+use crate::merging::{first_from, merge};
+use crate::values::{
+    alignment_log2, count_of, extent_of, has, is_all, is_set, member, set_span, set_word, set_words,
+};
 use crate::{Bounds, Val, Words};
 use arrayvec::ArrayVec;
 
@@ -22,32 +24,7 @@ pub struct Extent {
     pub step: u8,
 }
 
-/// Returns how many times two divides a word, counted up to 2.
-#[tactic(auto, unfolding(crate::specs::Sets::alignment_log2))]
-pub fn alignment_log2(x: u32) -> u8
-    ensures { result ≡ sets.alignment_log2 x }
-{
-    if x % 4 == 0 {
-        2
-    } else if x % 2 == 0 {
-        1
-    } else {
-        0
-    }
-}
-
-/// Returns true if the word is a member of the value.
-pub fn member(x: u32, v: &Val) -> bool
-    requires { IsWell v.now }
-    ensures { IsTrue result ↔ IsMember x v.now }
-{
-    match v {
-        Val::Set(words) => has(words.as_slice(), x),
-        Val::Span { lo, last, step } => *lo <= x && x <= *last && *step <= alignment_log2(x),
-    }
-}
-
-fn set_extent(words: &[u32]) -> Extent
+pub(crate) fn set_extent(words: &[u32]) -> Extent
     requires { AreWords words.now }
     ensures { IsExtent words.now result.least result.greatest result.step }
 {
@@ -76,7 +53,7 @@ fn bits_of(words: &[u32]) -> u32
     bits
 }
 
-fn span_extent(lo: u32, last: u32, step: u8) -> Extent
+pub(crate) fn span_extent(lo: u32, last: u32, step: u8) -> Extent
     requires { IsWell (Span lo last step) }
     ensures { IsExtent (range lo last step) result.least result.greatest result.step }
 {
@@ -85,17 +62,6 @@ fn span_extent(lo: u32, last: u32, step: u8) -> Extent
         least: ((u64::from(lo) + (unit - 1)) / unit * unit) as u32,
         greatest: (u64::from(last) / unit * unit) as u32,
         step,
-    }
-}
-
-/// Returns the extent of a value.
-pub fn extent_of(v: &Val) -> Extent
-    requires { IsWell v.now }
-    ensures { IsExtent (members v.now) result.least result.greatest result.step }
-{
-    match v {
-        Val::Set(words) => set_extent(words.as_slice()),
-        Val::Span { lo, last, step } => span_extent(*lo, *last, *step),
     }
 }
 
@@ -170,21 +136,6 @@ pub fn add_words(b: &Bounds, v: &mut Val, words: &[u32])
     }
 }
 
-/// Returns true if a value is a Set.
-pub fn is_set(v: &Val) -> bool
-    ensures { IsTrue result ↔ IsSome (words_of v.now) }
-{
-    v.words().is_some()
-}
-
-/// Overwrites a value with the one that holds all words.
-#[inline(always)]
-pub fn write_any(out: &mut Val)
-    ensures { out.new ≡ any_val }
-{
-    set_span(out, 0, u32::MAX, 0);
-}
-
 /// Widens a Span to the least value that holds the words too.
 fn widen(b: &Bounds, v: &mut Val, words: &[u32])
     requires span { IsNone (words_of v.old) }
@@ -237,20 +188,7 @@ pub fn write_cover_words(b: &Bounds, words: &[u32], out: &mut Val)
     add_words(b, out, words);
 }
 
-/// Returns true if two values are equal.
-pub(crate) fn are_same(v: &Val, w: &Val) -> bool
-    ensures { IsTrue result ↔ (v.now ≡ w.now) }
-{
-    match v {
-        Val::Set(own) => match w {
-            Val::Set(words) => own.as_slice() == words.as_slice(),
-            Val::Span { .. } => false,
-        },
-        Val::Span { lo, last, step } => is_the_span(w, *lo, *last, *step),
-    }
-}
-
-fn is_the_span(v: &Val, lo: u32, last: u32, step: u8) -> bool
+pub(crate) fn is_the_span(v: &Val, lo: u32, last: u32, step: u8) -> bool
     ensures { IsTrue result ↔ (v.now ≡ Span lo last step) }
 {
     match v {
@@ -371,13 +309,6 @@ fn is_below_span(v: &Val, lo: u32, last: u32, step: u8) -> bool
     is_inside(&e, lo, last, step)
 }
 
-/// Returns true if a Span has all words.
-fn is_all(lo: u32, last: u32, step: u8) -> bool
-    ensures { IsTrue result ↔ ((lo ≡ 0) × (last ≡ 4294967295) × (step ≡ 0)) }
-{
-    lo == 0 && last == u32::MAX && step == 0
-}
-
 fn is_inside(e: &Extent, lo: u32, last: u32, step: u8) -> bool
     ensures { IsTrue result ↔ ((lo ≤ e.now.least) × (e.now.greatest ≤ last) × (step ≤ e.now.step)) }
 {
@@ -398,22 +329,6 @@ fn are_among(own: &[u32], words: &[u32]) -> bool
         }
     }
     true
-}
-
-/// Returns the first place from `k` on whose word is at least `x`, or the number of words if there
-/// is none.
-fn first_from(words: &[u32], k: usize, x: u32) -> usize
-    requires start { k ≤ length words.now }
-    ensures start { k ≤ result }
-    ensures end { result ≤ length words.now }
-    ensures below { (j : ℕ) → k ≤ j → j < result → slice_index words.now j < x }
-    ensures reached { result < length words.now → x ≤ slice_index words.now result }
-{
-    let mut at = k;
-    while at < words.len() && words[at] < x {
-        at += 1;
-    }
-    at
 }
 
 fn is_range_among(lo: u32, last: u32, step: u8, words: &[u32]) -> bool
@@ -457,15 +372,6 @@ fn is_span(b: &Bounds, lo: u32, last: u32, step: u8) -> bool
     }
     let e = span_extent(lo, last, step);
     lo == b.floor(e.least) && u64::from(last) + 1 == b.above(e.greatest)
-}
-
-/// Returns the number of multiples of `2 ^ step` in a range.
-pub fn count_of(lo: u32, last: u32, step: u8) -> u64
-    requires { step ≤ 2 }
-    ensures { result ≡ count_in lo last step }
-{
-    let unit = 1u64 << step;
-    (u64::from(last) / unit + 1).saturating_sub((u64::from(lo) + (unit - 1)) / unit)
 }
 
 /// Returns the least value that holds the multiples of `2 ^ step` in `first..=last`.

@@ -1,12 +1,10 @@
 // Meets: the members of a value that are in a range or among given words.
 ghost use Rattle.std.specs.Prelude.{◌≡◌, ◌==◌, ◌≤◌, List, ℕ, [], ◌∷◌, ◌++◌, filter, IfSome, Some};
-ghost use Rattle.std.specs.List.{list_any};
 ghost use Rattle.value_domain.specs.Values.{IsValue, IsWell, members, range};
-ghost use Rattle.value_domain.specs.Meets as spec;
 ghost use Rattle.value_domain.specs.Meets.{cover_some, value_if, in_span, is_member};
 
-use crate::lattice::{add_word, alignment_log2, count_of, write_cover};
-use crate::values::set_word;
+use crate::lattice::{add_word, write_cover};
+use crate::values::{count_of, is_in, is_member, set_word};
 use crate::{Bounds, Val};
 
 /// Widens a value by a word. If nothing was found before, the value becomes that of the word alone.
@@ -70,12 +68,6 @@ fn words_in(b: &Bounds, words: &[u32], lo: u32, last: u32, step: u8, out: &mut V
     found
 }
 
-fn is_in(lo: u32, last: u32, step: u8, x: u32) -> bool
-    ensures { result ≡ in_span lo last step x }
-{
-    lo <= x && x <= last && step <= alignment_log2(x)
-}
-
 /// Overwrites `out` with the cover of the words that are members of `v`. Returns false if there are
 /// none; then `out` may be any value.
 pub fn write_common(b: &Bounds, words: &[u32], v: &Val, out: &mut Val) -> bool
@@ -92,19 +84,4 @@ pub fn write_common(b: &Bounds, words: &[u32], v: &Val, out: &mut Val) -> bool
         }
     }
     found
-}
-
-fn is_member(x: u32, v: &Val) -> bool
-    ensures { result ≡ spec.is_member x v.now }
-{
-    match v {
-        Val::Set(words) => has(words.as_slice(), x),
-        Val::Span { lo, last, step } => is_in(*lo, *last, *step, x),
-    }
-}
-
-fn has(words: &[u32], x: u32) -> bool
-    ensures { result ≡ list_any (λ w. x == w) words.now }
-{
-    words.iter().any(|w| x == *w)
 }

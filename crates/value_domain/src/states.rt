@@ -3,8 +3,7 @@ ghost use Rattle.std.specs.Prelude.{◌≡◌, ◌≤◌, ◌<◌, ◌↔◌, Is
 ghost use Rattle.value_domain.specs.Values.{IsWell, IsValue, IsBelow, any_val};
 ghost use Rattle.value_domain.specs.State.{Covers, AreWell, AreValues, joined_states, joined_regs, joined_locals, AreBelow, ImpliedBy};
 
-use crate::lattice::are_same;
-use crate::values::{copy_of, copy_to};
+use crate::values::{are_same, copy_of, copy_to};
 use crate::{Bounds, Val, join, leq};
 use arrayvec::ArrayVec;
 

@@ -1,11 +1,16 @@
 // Values: sets of words.
 // A value is a list of at most 128 words, or the multiples of a power of two in a range.
-ghost use Rattle.std.specs.Prelude.{◌≡◌, ◌≤◌, ◌<◌, ◌+◌, ◌-◌, ◌^◌, IsTrue, length, IfSome, IfNone, [], ◌∷◌, List, ℕ, option_map, ◌↔◌, slice_index};
-ghost use Rattle.std.specs.Prelude.{IsSome};
+ghost use Rattle.std.specs.Prelude.{◌≡◌, ◌≤◌, ◌<◌, ◌+◌, ◌-◌, ◌^◌, IsTrue, length, IfSome, IfNone, [], ◌∷◌, List, ℕ, option_map, ◌↔◌, slice_index, IsSome, ◌==◌, ◌*◌, ◌/◌};
+ghost use Rattle.std.specs.List.{list_any};
 ghost use Rattle.std.specs.List.Sorted.{IsStrictlyIncreasing};
-ghost use Rattle.value_domain.specs.Sets.{AreWords, Among, sorted_insert, Rising};
+ghost use Rattle.value_domain.specs.Sets.{AreWords, Among, sorted_insert, Rising, least, greatest};
 ghost use Rattle.value_domain.specs.declared.values.Val.TheVariants.{Set, Span};
+ghost use Rattle.value_domain.specs.Sets as sets;
+ghost use Rattle.value_domain.specs.Values.{IsMember, IsWell, IsExtent, members, range, count_in, any_val, words_of};
+ghost use Rattle.value_domain.specs.Meets as spec;
+ghost use Rattle.value_domain.specs.Meets.{in_span, is_member};
 
+use crate::lattice::{Extent, is_the_span, set_extent, span_extent};
 use arrayvec::ArrayVec;
 use std::marker::Model;
 
@@ -59,17 +64,6 @@ impl Words {
         }
     }
 
-    /// Returns the list of a vector's words, which ascend.
-    pub fn from_ascending(words: ArrayVec<u32, 128>) -> Words
-        requires some { 1 ≤ length words.items }
-        requires few { length words.items ≤ 128 }
-        requires rising { IsStrictlyIncreasing words.items }
-        ensures { result ≡ words.items }
-    {
-        are_words(words.as_slice());
-        Words { words }
-    }
-
     /// Returns the words as a slice.
     pub fn as_slice(&self) -> &[u32]
         ensures items { result.now ≡ self.now }
@@ -120,14 +114,6 @@ impl Words {
         self.words.insert(at, x);
     }
 }
-
-/// Establishes that ascending words make a valid Set.
-fn are_words(words: &[u32])
-    requires some { 1 ≤ length words.now }
-    requires few { length words.now ≤ 128 }
-    requires rising { IsStrictlyIncreasing words.now }
-    ensures { AreWords words.now }
-{}
 
 fn are_ascending(words: &[u32]) -> bool
     ensures { IsTrue result ↔ IsStrictlyIncreasing words.now }
@@ -270,8 +256,8 @@ pub fn set_word(out: &mut Val, x: u32)
     }
 }
 
-// The functions below write all bytes of a value. They are functions of their own, so that their
-// callers need no stack for a value.
+// `one_from_span`, `set_from_span` and `set_from_set` write all bytes of a value. They are functions
+// of their own, so that their callers need no stack for a value.
 
 #[inline(never)]
 fn one_from_span(out: &mut Val, x: u32)
@@ -315,4 +301,105 @@ fn set_from_set(out: &mut Val, lo: u32, last: u32, step: u8)
     ensures { out.new ≡ Span lo last step }
 {
     *out = Val::Span { lo, last, step };
+}
+
+/// Returns how many times two divides a word, counted up to 2.
+#[tactic(auto, unfolding(crate::specs::Sets::alignment_log2))]
+pub fn alignment_log2(x: u32) -> u8
+    ensures { result ≡ sets.alignment_log2 x }
+{
+    if x % 4 == 0 {
+        2
+    } else if x % 2 == 0 {
+        1
+    } else {
+        0
+    }
+}
+
+/// Returns true if the word is a member of the value.
+pub fn member(x: u32, v: &Val) -> bool
+    requires { IsWell v.now }
+    ensures { IsTrue result ↔ IsMember x v.now }
+{
+    match v {
+        Val::Set(words) => has(words.as_slice(), x),
+        Val::Span { lo, last, step } => *lo <= x && x <= *last && *step <= alignment_log2(x),
+    }
+}
+
+/// Returns the extent of a value.
+pub fn extent_of(v: &Val) -> Extent
+    requires { IsWell v.now }
+    ensures { IsExtent (members v.now) result.least result.greatest result.step }
+{
+    match v {
+        Val::Set(words) => set_extent(words.as_slice()),
+        Val::Span { lo, last, step } => span_extent(*lo, *last, *step),
+    }
+}
+
+/// Returns true if a value is a Set.
+pub fn is_set(v: &Val) -> bool
+    ensures { IsTrue result ↔ IsSome (words_of v.now) }
+{
+    v.words().is_some()
+}
+
+/// Overwrites a value with the one that holds all words.
+#[inline(always)]
+pub fn write_any(out: &mut Val)
+    ensures { out.new ≡ any_val }
+{
+    set_span(out, 0, u32::MAX, 0);
+}
+
+/// Returns true if two values are equal.
+pub(crate) fn are_same(v: &Val, w: &Val) -> bool
+    ensures { IsTrue result ↔ (v.now ≡ w.now) }
+{
+    match v {
+        Val::Set(own) => match w {
+            Val::Set(words) => own.as_slice() == words.as_slice(),
+            Val::Span { .. } => false,
+        },
+        Val::Span { lo, last, step } => is_the_span(w, *lo, *last, *step),
+    }
+}
+
+/// Returns true if a Span has all words.
+pub(crate) fn is_all(lo: u32, last: u32, step: u8) -> bool
+    ensures { IsTrue result ↔ ((lo ≡ 0) × (last ≡ 4294967295) × (step ≡ 0)) }
+{
+    lo == 0 && last == u32::MAX && step == 0
+}
+
+/// Returns the number of multiples of `2 ^ step` in a range.
+pub fn count_of(lo: u32, last: u32, step: u8) -> u64
+    requires { step ≤ 2 }
+    ensures { result ≡ count_in lo last step }
+{
+    let unit = 1u64 << step;
+    (u64::from(last) / unit + 1).saturating_sub((u64::from(lo) + (unit - 1)) / unit)
+}
+
+pub(crate) fn is_in(lo: u32, last: u32, step: u8, x: u32) -> bool
+    ensures { result ≡ in_span lo last step x }
+{
+    lo <= x && x <= last && step <= alignment_log2(x)
+}
+
+fn is_one_of(words: &[u32], x: u32) -> bool
+    ensures { result ≡ list_any (λ w. x == w) words.now }
+{
+    words.iter().any(|w| x == *w)
+}
+
+pub(crate) fn is_member(x: u32, v: &Val) -> bool
+    ensures { result ≡ spec.is_member x v.now }
+{
+    match v {
+        Val::Set(words) => is_one_of(words.as_slice(), x),
+        Val::Span { lo, last, step } => is_in(*lo, *last, *step, x),
+    }
 }

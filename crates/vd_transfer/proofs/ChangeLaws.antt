@@ -14,10 +14,9 @@ use Rattle.vd_transfer.specs.declared.change.Base.{Base}
 use Rattle.vd_transfer.specs.declared.change.Base.TheVariants.{Same, Forgotten, Any}
 use Rattle.vd_transfer.specs.declared.change.Put.{Put}
 use Rattle.vd_transfer.specs.declared.change.Change.{Change}
-use Rattle.vd_transfer.specs.Registers.{slot, set_at, set_reg, write_reg, is_lower}
+use Rattle.vd_transfer.specs.Registers.{slot, set_at, set_reg, write_reg, is_lower, set_arg, arg_slot}
 use Rattle.vd_transfer.specs.EffectsOnStates.{forgotten_from}
-use Rattle.vd_transfer.specs.Branches.{set_arg}
-use Rattle.vd_transfer.specs.Changes.{base_of, value_put, put_in, state_after, reg_put, arg_slot, kept_in}
+use Rattle.vd_transfer.specs.Changes.{base_of, value_put, put_in, state_after, reg_put, kept_in}
 use Rattle.vd_transfer.proofs.HoldLaws.{set_values_at}
 use Rattle.vd_transfer.proofs.RegisterLaws.{length-forgotten, get_or-forgotten}
 

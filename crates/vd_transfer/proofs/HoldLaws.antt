@@ -12,23 +12,23 @@ use Rattle.tc_isa.specs.declared.shapes.Cond.{Cond}
 use Rattle.tc_isa.specs.declared.shapes.Op.TheVariants.{Add, Sub, Sh}
 use Rattle.tc_isa.specs.declared.shapes.Shape.TheVariants.{Compute, Scaled, Load, Store, Svlcx, Bisr, Enable, Disable, Mfcr, Mtcr, Nothing}
 use Rattle.tc_isa.specs.Arithmetic.{alu_of, taken_of, shift_by}
-use Rattle.tc_isa.specs.Bounded.{IsArg}
+use Rattle.tc_isa.specs.InBounds.{IsArg}
 use Rattle.value_domain.specs.declared.values.Val.{Val}
 use Rattle.value_domain.specs.declared.states.State.{State}
 use Rattle.value_domain.specs.Limits.{Limits, AreLimits}
 use Rattle.value_domain.specs.Sets.{Among}
-use Rattle.value_domain.specs.Values.{IsMember, IsValue, any_val, members}
+use Rattle.value_domain.specs.Values.{IsMember, IsValue, any_val, members, word_val}
 use Rattle.value_domain.specs.State.{AreValues, is_lower_slot}
 use Rattle.value_domain.proofs.CoverLaws.{among_member, has_step, cover_holds}
 use Rattle.value_domain.proofs.RangeLaws.{one_value, cover_value, members_below}
 use Rattle.vd_transfer.specs.Operations.{value_of}
 use Rattle.vd_transfer.specs.Refinement.{kept_left, kept_right, kept_both, holds}
 use Rattle.value_domain.specs.Meets.{cover_some}
-use Rattle.vd_transfer.specs.Registers.{slot, reg_of, arg_of, value_at, fixed_of, set_at, set_reg, write_reg, word_val, is_lower, HasValue}
-use Rattle.vd_transfer.specs.EffectsOnStates.{with_base, access_of, saved_lower, restored_lower, transfer_of, address_of}
-use Rattle.vd_transfer.specs.Branches.{is_reg, set_arg, with_one, with_two, state_on_side, with_lowered_counter, refine_of}
+use Rattle.vd_transfer.specs.Registers.{slot, reg_of, arg_of, value_at, fixed_of, set_at, set_reg, write_reg, is_lower, HasValue, set_arg}
+use Rattle.vd_transfer.specs.EffectsOnStates.{with_base, access_of, saved_lower, restored_lower, transfer_of, address_of, ie_after}
+use Rattle.vd_transfer.specs.Branches.{is_reg, with_one, with_two, state_on_side, with_lowered_counter, refine_of}
 use Rattle.vd_transfer.specs.Holding.{Holds, HasBaseValue}
-use Rattle.vd_transfer.specs.EffectsOnWords.{set_word, word_of, access_word, with_base_word, words_after, ie_after, ccpn_after}
+use Rattle.vd_transfer.specs.EffectsOnWords.{set_word, word_of, access_word, with_base_word, words_after, ccpn_after}
 use Rattle.vd_transfer.specs.Soundness.{IsSetting, TransferHolds, RestoreHolds, BranchHolds, AddressHolds}
 use Rattle.value_domain.proofs.MeetLaws.{filter_has, among_any, among_filter}
 use Rattle.vd_transfer.proofs.OpLaws.{sound}

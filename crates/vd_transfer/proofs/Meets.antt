@@ -10,7 +10,8 @@ use Rattle.value_domain.specs.Meets.{cover_some, in_span}
 use Rattle.value_domain.proofs.CoverLaws.{range_among, among_range}
 use Rattle.value_domain.proofs.ExtentLaws.{append_left, append_right, among_append}
 use Rattle.value_domain.proofs.MeetLaws.{cover_some-same, among_filter, filter_has, in_span_parts, in_span_from, any_among, among_any}
-use Rattle.vd_transfer.specs.Relations.{is_related, Reaches, kept_by, IsIn}
+use Rattle.vd_transfer.specs.Relations.{is_related, Reaches, kept_by}
+use Rattle.vd_transfer.specs.Intervals.{IsIn}
 use Rattle.vd_transfer.specs.declared.refinement.Relation.{Relation}
 use Rattle.vd_transfer.specs.declared.refinement.Relation.TheVariants.{Same, Other, Less, AtLeast, More, AtMost}
 use Rattle.vd_transfer.specs.declared.refinement.Interval.{Interval}

@@ -12,7 +12,7 @@ use Rattle.value_domain.specs.declared.values.Val.{Val}
 use Rattle.value_domain.specs.declared.values.Val.TheVariants.{Set, Span}
 use Rattle.value_domain.specs.Sets.{Among, Within, Rising}
 use Rattle.value_domain.specs.Limits.{Limits, AreLimits}
-use Rattle.value_domain.specs.Values.{IsMember, IsWell, IsValue, IsBelow, IsExtent, cover, members, range, count_in, first_in}
+use Rattle.value_domain.specs.Values.{IsMember, IsWell, IsValue, IsBelow, IsExtent, cover, members, range, count_in, first_in, low, high, step}
 use Rattle.value_domain.proofs.SetLaws.{length_within}
 use Rattle.value_domain.proofs.CoverLaws.{cover-same, cover_holds, cover_mono, cover_own, cover_step, among_member, member_among, has_step, range_among, among_range, rising_multiples, unit_some, length-multiples}
 use Rattle.value_domain.specs.declared.lattice.Extent.{Extent}
@@ -25,8 +25,9 @@ use Rattle.tc_isa.specs.declared.shapes.Op.{Op}
 use Rattle.tc_isa.specs.declared.shapes.Op.TheVariants.{Second, Add, Sub, And, Nand, Or, Nor, Xor, Xnor, Andn, Orn, Eq, Ne, Lt, LtU, Ge, GeU, Sh, Sha}
 use Rattle.tc_isa.specs.Arithmetic.{alu_of, shift_by, shifted_signed, complement, one_if, signed_place}
 use Rattle.vd_transfer.specs.Operations.{results, row, pairs, gives_truth, value_of, HasMet}
-use Rattle.vd_transfer.specs.Intervals.{low, high, step, whole, all_of, runs, bounds, by_count, Shifts, differences, sums, shifts, signed_shifts, range_of}
-use Rattle.vd_transfer.specs.OperationLaws.{AreSound, AreMonotone}
+use Rattle.vd_transfer.specs.Intervals.{whole, all_of, runs, bounds, by_count, Shifts, differences, sums, shifts, signed_shifts, range_of}
+use Rattle.vd_transfer.specs.OperationLaws.{AreMonotone}
+use Rattle.vd_transfer.specs.Soundness.{AreSound}
 use Rattle.vd_transfer.proofs.Rows.{Lies, sums_have, sums_grow, differences_have, differences_grow, ands_have, ands_grow, shifts_have, shifts_grow, shifts_below}
 
 -- ---- the bounds of a value

@@ -4,15 +4,15 @@ use Rattle.std.specs.Prelude.{IfSome}
 use Rattle.std.specs.List.{list_all}
 use Rattle.std.proofs.lemmas.Bool.{cases_lt, cases_Bool, and_parts, ltb-true}
 use Rattle.std.proofs.Math.ListN.{get_or-eq_default}
-use Rattle.tcd_plan.specs.PlanData.{PlanData}
+use Rattle.tcd_plan.specs.PlanData.{PlanData, global_of}
 use Rattle.value_domain.specs.declared.values.Val.{Val}
 use Rattle.value_domain.specs.declared.states.State.{State}
 use Rattle.value_domain.specs.Limits.{Limits, AreLimits}
-use Rattle.value_domain.specs.Values.{IsValue, any_val}
+use Rattle.value_domain.specs.Values.{IsValue, any_val, word_val}
 use Rattle.value_domain.specs.State.{AreValues, is_lower_slot}
 use Rattle.value_domain.proofs.RangeLaws.{one_value, any_value}
 use Rattle.vd_transfer.specs.EffectsOnStates.{forgotten_from}
-use Rattle.vd_transfer.specs.Registers.{slot, reg_of, value_at, fixed_of, global_of, word_val}
+use Rattle.vd_transfer.specs.Registers.{slot, reg_of, value_at, fixed_of}
 
 -- the plan's words are words
 abbrev pub AreGlobals : PlanData → Type 0

@@ -11,10 +11,11 @@ use Rattle.value_domain.specs.Values.{IsValue, members}
 use Rattle.value_domain.proofs.RangeLaws.{some_members}
 use Rattle.vd_transfer.specs.declared.refinement.Relation.{Relation}
 use Rattle.vd_transfer.specs.declared.refinement.Relation.TheVariants.{Same, Other}
-use Rattle.vd_transfer.specs.Relations.{is_related, kept_by, relation_of, is_signed, converse, self_holds}
+use Rattle.vd_transfer.specs.Relations.{is_related, kept_by, relation_of, converse}
+use Rattle.vd_transfer.specs.Signs.{is_signed, kept_signed}
+use Rattle.vd_transfer.specs.Branches.{self_holds}
 use Rattle.vd_transfer.specs.Refinement.{holds, kept_left, kept_right, kept_both}
 use Rattle.value_domain.specs.Meets.{cover_some}
-use Rattle.vd_transfer.specs.Signs.{kept_signed}
 use Rattle.value_domain.proofs.MeetLaws.{cover_some-some}
 
 not_ltb : (x y : ℕ) → not (ltb x y) ≡ leb y x

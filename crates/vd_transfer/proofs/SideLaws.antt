@@ -10,14 +10,13 @@ use Rattle.tcd_plan.specs.PlanData.{PlanData}
 use Rattle.value_domain.specs.declared.values.Val.{Val}
 use Rattle.value_domain.specs.declared.states.State.{State}
 use Rattle.value_domain.specs.Limits.{Limits}
-use Rattle.value_domain.specs.Values.{cover, members, IsValue, any_val}
+use Rattle.value_domain.specs.Values.{cover, members, IsValue, any_val, word_val}
 use Rattle.value_domain.proofs.ExtentLaws.{some_length}
 use Rattle.value_domain.proofs.Loops.{among_get}
-use Rattle.vd_transfer.specs.Registers.{slot, set_at, set_reg, reg_of, arg_of, value_at, word_val}
+use Rattle.vd_transfer.specs.Registers.{slot, set_at, set_reg, reg_of, arg_of, value_at, set_arg}
 use Rattle.vd_transfer.specs.Refinement.{holds, kept_left, kept_right, kept_both}
 use Rattle.value_domain.specs.Meets.{cover_some}
-use Rattle.vd_transfer.specs.Relations.{self_holds}
-use Rattle.vd_transfer.specs.Branches.{set_arg, possible, with_one, with_two}
+use Rattle.vd_transfer.specs.Branches.{self_holds, possible, with_one, with_two}
 use Rattle.value_domain.proofs.MeetLaws.{among_filter, filter_has, any_among, among_any}
 use Rattle.vd_transfer.proofs.RelationLaws.{both_all, both_none}
 

@@ -11,7 +11,8 @@ use Rattle.value_domain.proofs.CoverLaws.{range_among, among_range, step_cases, 
 use Rattle.value_domain.proofs.ExtentLaws.{among_append, append_left, append_right}
 use Rattle.value_domain.specs.Meets.{cover_some, in_span}
 use Rattle.tc_isa.specs.Arithmetic.{signed_place}
-use Rattle.vd_transfer.specs.Relations.{is_related, Reaches, IsIn}
+use Rattle.vd_transfer.specs.Relations.{is_related, Reaches}
+use Rattle.vd_transfer.specs.Intervals.{IsIn}
 use Rattle.vd_transfer.specs.Signs.{IsSignedRange, kept_signed}
 use Rattle.vd_transfer.specs.declared.refinement.Relation.{Relation}
 use Rattle.vd_transfer.specs.declared.refinement.Relation.TheVariants.{Same, Other, Less, AtLeast, More, AtMost}

@@ -9,13 +9,13 @@ use Rattle.value_domain.specs.declared.values.Val.{Val}
 use Rattle.value_domain.specs.declared.values.Val.TheVariants.{Set, Span}
 use Rattle.value_domain.specs.Sets.{Among}
 use Rattle.value_domain.specs.Limits.{Limits, AreLimits}
-use Rattle.value_domain.specs.Values.{IsWell, IsValue, cover, members}
+use Rattle.value_domain.specs.Values.{IsWell, IsValue, cover, members, low, high, step}
 use Rattle.value_domain.proofs.CoverLaws.{range_among, cover_least}
 use Rattle.value_domain.proofs.ExtentLaws.{append_left, among_append}
 use Rattle.value_domain.proofs.RangeLaws.{members_below, cover_value}
 use Rattle.value_domain.proofs.WordLaws.{among_place}
 use Rattle.vd_transfer.specs.Operations.{results, pairs, row, gives_truth, value_of}
-use Rattle.vd_transfer.specs.Intervals.{runs, bounds, sums, differences, range_of, whole, run, low, high, step}
+use Rattle.vd_transfer.specs.Intervals.{runs, bounds, sums, differences, range_of, whole, run}
 use Rattle.vd_transfer.specs.declared.strided_interval.StridedInterval.{StridedInterval}
 use Rattle.vd_transfer.proofs.OpLaws.{logical, arithmetic, complement_below, and_below, pairs_among, some_results, runs_step, bounds_of, high_below, by_below}
 

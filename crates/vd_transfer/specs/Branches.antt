@@ -1,5 +1,5 @@
 -- What a branch does to a state on each of its sides.
-use Rattle.std.specs.Prelude.{ℕ, Bool, true, false, ◌==◌, if◌then◌else◌, Option, Some, None}
+use Rattle.std.specs.Prelude.{ℕ, Bool, true, false, ◌==◌, if◌then◌else◌, Option, Some, None, not}
 use Rattle.tcd_plan.specs.PlanData.{PlanData}
 use Rattle.tc_isa.specs.declared.shapes.Op.TheVariants.{Sub}
 use Rattle.tc_isa.specs.declared.shapes.Cond.{Cond}
@@ -9,22 +9,18 @@ use Rattle.tc_isa.specs.declared.shapes.Shape.{Shape}
 use Rattle.tc_isa.specs.declared.shapes.Shape.TheVariants.{Branch}
 use Rattle.value_domain.specs.declared.values.Val.{Val}
 use Rattle.value_domain.specs.declared.states.State.{State}
-use Rattle.value_domain.specs.Values.{members}
+use Rattle.value_domain.specs.Values.{members, word_val}
 use Rattle.value_domain.specs.Limits.{Limits}
 use Rattle.vd_transfer.specs.Operations.{value_of}
 use Rattle.vd_transfer.specs.Refinement.{kept_left, kept_right, kept_both}
 use Rattle.value_domain.specs.Meets.{cover_some}
-use Rattle.vd_transfer.specs.Registers.{reg_of, arg_of, set_reg, write_reg, word_val}
+use Rattle.vd_transfer.specs.Registers.{reg_of, arg_of, set_reg, write_reg, set_arg}
+use Rattle.tc_isa.specs.declared.shapes.Cond.TheVariants as cond
 
 -- the operand is this register
 abbrev pub is_reg : ℕ → Arg → Bool
 is_reg x (Reg y) = x == y
 is_reg x (Word w) = false
-
--- the state with an operand's value, if the operand is a register
-abbrev pub set_arg : State → Arg → Val → State
-set_arg s (Reg r) v = set_reg s r v
-set_arg s (Word w) v = s
 
 -- a state, if the side is possible
 abbrev pub possible : Bool → State → Option State
@@ -60,3 +56,12 @@ with_lowered_counter b p x lowers (Some s) = Some (if lowers then write_reg s x 
 unfoldable pub refine_of : Limits → PlanData → Shape → State → Bool → Option State
 refine_of b p (Branch cond x y by lowers) s side = with_lowered_counter b p x lowers (state_on_side b p cond x y s side)
 refine_of b p _ s side = None
+
+-- the condition goes to the side for a word and itself
+unfoldable pub self_holds : Cond → Bool → Bool
+self_holds cond.Eq side = side
+self_holds cond.Ne side = not side
+self_holds cond.Lt side = not side
+self_holds cond.LtU side = not side
+self_holds cond.Ge side = side
+self_holds cond.GeU side = side

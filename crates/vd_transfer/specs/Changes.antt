@@ -1,7 +1,5 @@
 -- Changes: what an instruction changes of a state, and the state afterwards.
 use Rattle.std.specs.Prelude.{ℕ, List, replicate, Option, Some, None, slice_set}
-use Rattle.tc_isa.specs.declared.shapes.Arg.{Arg}
-use Rattle.tc_isa.specs.declared.shapes.Arg.TheVariants.{Reg, Word}
 use Rattle.value_domain.specs.declared.values.Val.{Val}
 use Rattle.value_domain.specs.declared.states.State.{State}
 use Rattle.value_domain.specs.Values.{any_val}
@@ -45,11 +43,6 @@ no_put = record { at = None; value = any_val }
 -- the put of a register's value, if a state has one for it
 abbrev pub reg_put : ℕ → Val → Put
 reg_put r v = record { at = slot r; value = v }
-
--- the place of an operand's value in a state
-abbrev pub arg_slot : Arg → Option ℕ
-arg_slot (Reg r) = slot r
-arg_slot (Word w) = None
 
 -- the change that keeps the whole state
 abbrev pub kept_of : State → Change

@@ -8,10 +8,10 @@ use Rattle.tc_isa.specs.declared.shapes.Shape.{Shape}
 use Rattle.tc_isa.specs.declared.shapes.Shape.TheVariants.{Compute, Scaled, Load, Store, Branch, Jump, Call, Ret, Rfe, Svlcx, Rslcx, Bisr, Enable, Disable, Syscall, Mfcr, Mtcr, Nothing}
 use Rattle.value_domain.specs.declared.values.Val.{Val}
 use Rattle.value_domain.specs.declared.states.State.{State}
-use Rattle.value_domain.specs.Values.{any_val, IsValue}
+use Rattle.value_domain.specs.Values.{any_val, IsValue, word_val}
 use Rattle.value_domain.specs.Limits.{Limits}
 use Rattle.vd_transfer.specs.Operations.{value_of}
-use Rattle.vd_transfer.specs.Registers.{reg_of, arg_of, write_reg, word_val}
+use Rattle.vd_transfer.specs.Registers.{reg_of, arg_of, write_reg}
 use Rattle.value_domain.specs.State.{is_lower_slot}
 
 -- the base register is increased by the offset, if the access does that
@@ -82,3 +82,10 @@ HasRoom b _ s = Unit {0}
 abbrev pub HasLoaded : Limits → Shape → Val → Type 0
 HasLoaded b (Load dst base offset size signed after) loaded = IsValue b loaded
 HasLoaded b _ loaded = Unit {0}
+
+-- interrupts are enabled after the instruction
+unfoldable pub ie_after : Shape → Bool → Bool
+ie_after (Bisr c) ie = true
+ie_after Enable ie = true
+ie_after Disable ie = false
+ie_after _ ie = ie

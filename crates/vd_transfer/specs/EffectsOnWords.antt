@@ -1,9 +1,9 @@
 -- What an instruction does to the words of registers, to IE and to CCPN.
-use Rattle.std.specs.Prelude.{◌+◌, ◌-◌, ◌*◌, ◌%◌, ◌^◌, ℕ, Bool, true, false, ◌==◌, if◌then◌else◌}
+use Rattle.std.specs.Prelude.{◌+◌, ◌-◌, ◌*◌, ◌%◌, ◌^◌, ℕ, Bool, ◌==◌, if◌then◌else◌}
 use Rattle.tc_isa.specs.declared.shapes.Arg.{Arg}
 use Rattle.tc_isa.specs.declared.shapes.Arg.TheVariants.{Reg, Word}
 use Rattle.tc_isa.specs.declared.shapes.Shape.{Shape}
-use Rattle.tc_isa.specs.declared.shapes.Shape.TheVariants.{Compute, Scaled, Load, Store, Branch, Bisr, Enable, Disable, Mfcr}
+use Rattle.tc_isa.specs.declared.shapes.Shape.TheVariants.{Compute, Scaled, Load, Store, Branch, Bisr, Mfcr}
 use Rattle.tc_isa.specs.Arithmetic.{alu_of}
 
 -- the words with another in register r
@@ -34,13 +34,6 @@ words_after (Store src base offset size after) input word = with_base_word word 
 words_after (Branch cond x y by lowers) input word = if lowers then set_word word x ((word x + (2 ^ 32 - 1)) % 2 ^ 32) else word
 words_after (Mfcr dst number) input word = set_word word dst input
 words_after _ input word = word
-
--- interrupts are enabled after the instruction
-unfoldable pub ie_after : Shape → Bool → Bool
-ie_after (Bisr c) ie = true
-ie_after Enable ie = true
-ie_after Disable ie = false
-ie_after _ ie = ie
 
 -- CCPN after the instruction: BISR sets it, and restoring contexts is defined elsewhere (TriCore 1
 -- architecture manual, volume 2, instruction set)

@@ -1,25 +1,14 @@
 -- Strided intervals: the bounds of values, and the words that an operation's interval covers.
-use Rattle.std.specs.Prelude.{◌+◌, ◌-◌, ◌*◌, ◌/◌, ◌%◌, ◌^◌, ℕ, ◌||◌, nat_lt, nat_le, if◌then◌else◌, min, max, List, ◌∷◌, []}
+use Rattle.std.specs.Prelude.{◌+◌, ◌-◌, ◌*◌, ◌/◌, ◌%◌, ◌^◌, ℕ, ◌||◌, nat_lt, nat_le, if◌then◌else◌, min, max, List, ◌∷◌, ◌≤◌, []}
 use Rattle.tc_isa.specs.declared.shapes.Op.{Op}
 use Rattle.tc_isa.specs.declared.shapes.Op.TheVariants.{Second, Add, Sub, And, Nand, Or, Nor, Xor, Xnor, Andn, Orn, Eq, Ne, Lt, LtU, Ge, GeU, Sh, Sha}
 use Rattle.value_domain.specs.declared.values.Val.{Val}
 use Rattle.value_domain.specs.declared.values.Val.TheVariants.{Set, Span}
 use Rattle.value_domain.specs.declared.lattice.Extent.{Extent}
-use Rattle.value_domain.specs.Sets.{least, greatest, step_of}
-use Rattle.value_domain.specs.Values.{members, range}
+use Rattle.value_domain.specs.Sets.{least, greatest}
+use Rattle.value_domain.specs.Values.{range, high, low, step}
 use Rattle.vd_transfer.specs.declared.strided_interval.StridedInterval.{StridedInterval}
-
--- a value's least member
-abbrev pub low : Val → ℕ
-low v = least (members v)
-
--- a value's greatest member
-abbrev pub high : Val → ℕ
-high v = greatest (members v)
-
--- a value's step: the greatest up to 2 such that 2 ^ step divides each of its members
-abbrev pub step : Val → ℕ
-step v = step_of (members v)
+use Rattle.vd_transfer.specs.declared.refinement.Interval.{Interval}
 
 -- the words of a strided interval
 abbrev pub range_of : StridedInterval → List ℕ
@@ -101,3 +90,7 @@ runs Sha e f w = by_count signed_shifts e.least e.greatest e.step w
 -- the bounds of a value
 abbrev pub bounds : Val → Extent
 bounds v = record { least = low v; greatest = high v; step = step v }
+
+-- a word is in an interval
+abbrev pub IsIn : Interval → ℕ → Type 0
+IsIn i x = (i.lo ≤ x) × (x ≤ i.last)

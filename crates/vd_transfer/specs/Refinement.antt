@@ -1,8 +1,12 @@
 -- Refinement of two values by a condition.
-use Rattle.std.specs.Prelude.{ℕ, Bool, not, if◌then◌else◌, List, filter}
+use Rattle.std.specs.Prelude.{ℕ, Bool, not, if◌then◌else◌, List, filter, ◌≡◌, true}
 use Rattle.std.specs.List.{list_any}
 use Rattle.tc_isa.specs.declared.shapes.Cond.{Cond}
-use Rattle.tc_isa.specs.Arithmetic.{taken_of}
+use Rattle.tc_isa.specs.Arithmetic.{taken_of, signed_place}
+use Rattle.value_domain.specs.Sets.{Among, Within}
+use Rattle.vd_transfer.specs.declared.refinement.Relation.{Relation}
+use Rattle.vd_transfer.specs.Relations.{is_related, kept_by}
+use Rattle.vd_transfer.specs.Signs.{kept_signed}
 
 -- the condition goes to a side
 abbrev pub holds : Cond → Bool → ℕ → ℕ → Bool
@@ -19,3 +23,17 @@ kept_right cond side vs ws = filter (λ y. list_any (λ x. holds cond side x y) 
 -- the words that make the condition go to the side if compared with themselves
 unfoldable pub kept_both : Cond → Bool → List ℕ → List ℕ
 kept_both cond side zs = filter (λ z. holds cond side z z) zs
+
+-- Refinement keeps each word for which the relation holds, and it grows with both sets: by the
+-- unsigned order of words, and by the signed one.
+pub record RefinesWell (rel : Relation) : Type 0 where
+  pub sound : (vs ws : List ℕ) (x y : ℕ) → Among x vs → Among y ws → is_related rel x y ≡ true → Among x (kept_by rel vs ws)
+  pub monotone : (vs ws vs2 ws2 : List ℕ) → Within vs vs2 → Within ws ws2 → Within (kept_by rel vs ws) (kept_by rel vs2 ws2)
+  pub signed_sound :
+      (vs ws : List ℕ) (x y : ℕ) → Among x vs → Among y ws → is_related rel (signed_place x) (signed_place y) ≡ true
+      → Among x (kept_signed rel vs ws)
+  pub signed_monotone : (vs ws vs2 ws2 : List ℕ) → Within vs vs2 → Within ws ws2 → Within (kept_signed rel vs ws) (kept_signed rel vs2 ws2)
+
+-- refinement by each relation keeps this law
+abbrev pub AreRefined : Type 0
+AreRefined = (rel : Relation) → RefinesWell rel

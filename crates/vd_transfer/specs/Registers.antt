@@ -1,14 +1,13 @@
 -- The registers of a state: D0..D15, A2..A7, A10 and A12..A15 have a value each.
 -- A0, A1, A8 and A9 are the plan's, and A11 is unknown. Registers are numbered 0 to 15 for D and
 -- 16 to 31 for A.
-use Rattle.std.specs.Prelude.{◌-◌, ℕ, Bool, not, ◌&&◌, ◌||◌, ◌==◌, nat_lt, nat_le, if◌then◌else◌, ◌∷◌, Option, Some, None, slice_index, slice_index_or, slice_set, IsSome, []}
-use Rattle.tcd_plan.specs.PlanData.{PlanData}
+use Rattle.std.specs.Prelude.{◌-◌, ℕ, Bool, not, ◌&&◌, ◌||◌, ◌==◌, nat_lt, nat_le, if◌then◌else◌, Option, Some, None, slice_index_or, slice_set, IsSome}
+use Rattle.tcd_plan.specs.PlanData.{PlanData, global_of}
 use Rattle.tc_isa.specs.declared.shapes.Arg.{Arg}
 use Rattle.tc_isa.specs.declared.shapes.Arg.TheVariants.{Reg, Word}
 use Rattle.value_domain.specs.declared.values.Val.{Val}
-use Rattle.value_domain.specs.declared.values.Val.TheVariants.{Set}
 use Rattle.value_domain.specs.declared.states.State.{State}
-use Rattle.value_domain.specs.Values.{any_val}
+use Rattle.value_domain.specs.Values.{any_val, word_val}
 
 -- the place of a register's value in a state
 unfoldable pub slot : ℕ → Option ℕ
@@ -18,14 +17,6 @@ slot r =
     else if r == 26 then Some 22
     else if nat_le 28 r && nat_le r 31 then Some (r - 5)
     else None
-
--- a constant
-abbrev pub word_val : ℕ → Val
-word_val w = Set (w ∷ [])
-
--- the plan's word of A0, A1, A8 or A9
-abbrev pub global_of : PlanData → ℕ → ℕ
-global_of p r = slice_index p.globals (if r == 16 then 0 else if r == 17 then 1 else if r == 24 then 2 else 3)
 
 -- the value of a register that a state has no place for
 abbrev pub fixed_of : PlanData → ℕ → Val
@@ -65,3 +56,13 @@ write_reg s r v = record (set_reg s r v) { lower = s.lower && not (is_lower r) }
 -- a state has a value for the register: it is none of A0, A1, A8, A9 and A11
 abbrev pub HasValue : ℕ → Type 0
 HasValue r = IsSome (slot r)
+
+-- the state with an operand's value, if the operand is a register
+abbrev pub set_arg : State → Arg → Val → State
+set_arg s (Reg r) v = set_reg s r v
+set_arg s (Word w) v = s
+
+-- the place of an operand's value in a state
+abbrev pub arg_slot : Arg → Option ℕ
+arg_slot (Reg r) = slot r
+arg_slot (Word w) = None

@@ -1,11 +1,10 @@
 -- Conditions as relations, and the words that are in a relation to some word of a set.
-use Rattle.std.specs.Prelude.{Bool, true, false, not, if◌then◌else◌, ◌<◌, ◌≤◌, ℕ, nat_lt, nat_le, ◌==◌, List, ◌⊎◌, filter}
+use Rattle.std.specs.Prelude.{Bool, not, if◌then◌else◌, ◌<◌, ◌≤◌, ℕ, nat_lt, nat_le, ◌==◌, List, ◌⊎◌, filter}
 use Rattle.tc_isa.specs.declared.shapes.Cond.{Cond}
 use Rattle.tc_isa.specs.declared.shapes.Cond.TheVariants as cond
 use Rattle.vd_transfer.specs.declared.refinement.Relation.{Relation}
 use Rattle.vd_transfer.specs.declared.refinement.Relation.TheVariants.{Same, Other, Less, AtLeast, More, AtMost}
 use Rattle.std.specs.List.{list_any}
-use Rattle.vd_transfer.specs.declared.refinement.Interval.{Interval}
 
 -- the relation that the operands are in on a side of a condition
 unfoldable pub relation_of : Cond → Bool → Relation
@@ -16,15 +15,6 @@ relation_of cond.LtU side = if side then Less else AtLeast
 relation_of cond.Ge side = if side then AtLeast else Less
 relation_of cond.GeU side = if side then AtLeast else Less
 
--- the condition is of the signed order
-unfoldable pub is_signed : Cond → Bool
-is_signed cond.Eq = false
-is_signed cond.Ne = false
-is_signed cond.Lt = true
-is_signed cond.LtU = false
-is_signed cond.Ge = true
-is_signed cond.GeU = false
-
 -- the relation with its operands exchanged
 unfoldable pub converse : Relation → Relation
 converse Same = Same
@@ -33,15 +23,6 @@ converse Less = More
 converse AtLeast = AtMost
 converse More = Less
 converse AtMost = AtLeast
-
--- the condition goes to the side for a word and itself
-unfoldable pub self_holds : Cond → Bool → Bool
-self_holds cond.Eq side = side
-self_holds cond.Ne side = not side
-self_holds cond.Lt side = not side
-self_holds cond.LtU side = not side
-self_holds cond.Ge side = side
-self_holds cond.GeU side = side
 
 -- a word is in a relation to another
 unfoldable pub is_related : Relation → ℕ → ℕ → Bool
@@ -55,10 +36,6 @@ is_related AtMost x y = nat_le x y
 -- the words of vs that are in a relation to some word of ws
 unfoldable pub kept_by : Relation → List ℕ → List ℕ → List ℕ
 kept_by rel vs ws = filter (λ x. list_any (λ y. is_related rel x y) ws) vs
-
--- a word is in an interval
-abbrev pub IsIn : Interval → ℕ → Type 0
-IsIn i x = (i.lo ≤ x) × (x ≤ i.last)
 
 -- x is in the relation to low or to high (equality needs more)
 unfoldable pub Reaches : Relation → ℕ → ℕ → ℕ → Type 0

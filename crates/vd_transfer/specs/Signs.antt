@@ -1,10 +1,12 @@
 -- The signed order of words.
-use Rattle.std.specs.Prelude.{◌≤◌, ℕ, List, filter}
+use Rattle.std.specs.Prelude.{◌≤◌, ℕ, List, filter, Bool, true, false}
 use Rattle.std.specs.List.{list_any}
 use Rattle.value_domain.specs.Sets.{Among}
 use Rattle.vd_transfer.specs.declared.refinement.Relation.{Relation}
 use Rattle.tc_isa.specs.Arithmetic.{signed_place}
 use Rattle.vd_transfer.specs.Relations.{is_related}
+use Rattle.tc_isa.specs.declared.shapes.Cond.{Cond}
+use Rattle.tc_isa.specs.declared.shapes.Cond.TheVariants as cond
 
 -- the words of vs that are in a relation to some word of ws in the signed order
 unfoldable pub kept_signed : Relation → List ℕ → List ℕ → List ℕ
@@ -16,3 +18,12 @@ pub record IsSignedRange (ws : List ℕ) (low high : ℕ) : Type 0 where
   pub high_in : Among high ws
   pub low_is : (z : ℕ) → Among z ws → signed_place low ≤ signed_place z
   pub high_is : (z : ℕ) → Among z ws → signed_place z ≤ signed_place high
+
+-- the condition is of the signed order
+unfoldable pub is_signed : Cond → Bool
+is_signed cond.Eq = false
+is_signed cond.Ne = false
+is_signed cond.Lt = true
+is_signed cond.LtU = false
+is_signed cond.Ge = true
+is_signed cond.GeU = false

@@ -4,19 +4,21 @@ use Rattle.tcd_plan.specs.PlanData.{PlanData, IsPlan}
 use Rattle.tc_isa.specs.declared.shapes.Arg.{Arg}
 use Rattle.tc_isa.specs.declared.shapes.Cond.{Cond}
 use Rattle.tc_isa.specs.declared.shapes.Shape.{Shape}
-use Rattle.tc_isa.specs.declared.shapes.Shape.TheVariants.{Load, Store, Branch, Jump, Call, Ret, Rfe, Rslcx, Syscall}
-use Rattle.tc_isa.specs.Arithmetic.{taken_of}
-use Rattle.tc_isa.specs.Bounded.{IsShape, IsArg}
+use Rattle.tc_isa.specs.declared.shapes.Shape.TheVariants.{Load, Store, Branch, Jump, Call, Ret, Rfe, Rslcx, Syscall, Svlcx, Bisr, Mtcr}
+use Rattle.tc_isa.specs.Arithmetic.{taken_of, alu_of}
+use Rattle.tc_isa.specs.InBounds.{IsShape, IsArg}
 use Rattle.value_domain.specs.declared.values.Val.{Val}
 use Rattle.value_domain.specs.declared.states.State.{State}
 use Rattle.value_domain.specs.Limits.{Limits, AreLimits}
-use Rattle.value_domain.specs.Values.{IsMember}
+use Rattle.value_domain.specs.Values.{IsMember, IsValue}
 use Rattle.value_domain.specs.State.{AreValues}
 use Rattle.vd_transfer.specs.Registers.{is_lower}
-use Rattle.vd_transfer.specs.EffectsOnStates.{transfer_of, address_of, restored_lower}
+use Rattle.vd_transfer.specs.EffectsOnStates.{transfer_of, address_of, restored_lower, ie_after}
 use Rattle.vd_transfer.specs.Branches.{refine_of}
 use Rattle.vd_transfer.specs.Holding.{Holds, WritesNoFixedRegister}
-use Rattle.vd_transfer.specs.EffectsOnWords.{word_of, access_word, words_after, ie_after, ccpn_after}
+use Rattle.vd_transfer.specs.EffectsOnWords.{word_of, access_word, words_after, ccpn_after}
+use Rattle.tc_isa.specs.declared.shapes.Op.{Op}
+use Rattle.vd_transfer.specs.Operations.{value_of}
 
 -- limits, a plan, and a state whose 27 registers have values
 pub record IsSetting (b : Limits) (p : PlanData) (s : State) : Type 0 where
@@ -72,3 +74,21 @@ pub record AddressHolds : Type 0 where
       (b : Limits) (p : PlanData) (src : ℕ) (base : Arg) (offset size : ℕ) (after : Bool) (s : State) (word : ℕ → ℕ) (ie : Bool) (ccpn : ℕ)
       → IsSetting b p s → IsArg base → offset < 2 ^ 32 → Holds p word ie ccpn s
       → IsMember (access_word word base offset after) (address_of b p (Store src base offset size after) s)
+
+-- the instruction leaves the frame and its contexts as they are
+abbrev pub StaysInFrame : Shape → Type 0
+StaysInFrame (Call to) = ⊥
+StaysInFrame Ret = ⊥
+StaysInFrame Rfe = ⊥
+StaysInFrame Svlcx = ⊥
+StaysInFrame Rslcx = ⊥
+StaysInFrame (Bisr c) = ⊥
+StaysInFrame (Syscall tin) = ⊥
+StaysInFrame (Mtcr src number) = ⊥
+StaysInFrame _ = Unit {0}
+
+-- each result of an operation on members is a member of its value
+abbrev pub AreSound : Type 0
+AreSound =
+    (b : Limits) (op : Op) (v w : Val) → AreLimits b → IsValue b v → IsValue b w
+    → (x y : ℕ) → IsMember x v → IsMember y w → IsMember (alu_of op x y) (value_of b op v w)

@@ -2,7 +2,7 @@
 ghost use Rattle.std.specs.Prelude.{◌≡◌};
 ghost use Rattle.value_domain.specs.Values.{IsValue};
 ghost use Rattle.value_domain.specs.State.{AreValues};
-ghost use Rattle.tc_isa.specs.Bounded.{IsShape, IsArg};
+ghost use Rattle.tc_isa.specs.InBounds.{IsShape, IsArg};
 ghost use Rattle.vd_transfer.specs.EffectsOnStates.{address_of, access_of};
 
 use crate::operands::{Operation, write_arg};

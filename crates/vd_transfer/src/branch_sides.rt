@@ -1,41 +1,41 @@
 // The change of a state on a side of a branch.
-ghost use Rattle.std.specs.Prelude.{◌≡◌, ◌<◌, ◌∷◌, [], IfSome, Some, None};
-ghost use Rattle.value_domain.specs.Values.{IsValue, members};
+ghost use Rattle.std.specs.Prelude.{◌≡◌, ◌<◌, ◌∷◌, [], Some, None};
+ghost use Rattle.value_domain.specs.Values.{IsValue, members, word_val};
 ghost use Rattle.value_domain.specs.State.{AreValues};
-ghost use Rattle.tc_isa.specs.Bounded.{IsArg, IsShape};
+ghost use Rattle.tc_isa.specs.InBounds.{IsArg, IsShape};
 ghost use Rattle.tc_isa.specs.declared.shapes.Arg.TheVariants.{Word};
 ghost use Rattle.tc_isa.specs.declared.shapes.Op.TheVariants.{Sub};
 ghost use Rattle.vd_transfer.specs.Refinement.{holds, kept_left, kept_right};
-ghost use Rattle.value_domain.specs.Meets.{cover_some, value_if};
-ghost use Rattle.vd_transfer.specs.Relations.{relation_of, is_signed, converse, self_holds};
-ghost use Rattle.vd_transfer.specs.Registers.{reg_of, arg_of, write_reg, word_val};
+ghost use Rattle.value_domain.specs.Meets.{cover_some};
+ghost use Rattle.vd_transfer.specs.Relations.{relation_of};
+ghost use Rattle.vd_transfer.specs.Signs.{is_signed};
+ghost use Rattle.vd_transfer.specs.Branches.{self_holds, is_reg, refine_of, possible, with_one, with_two, state_on_side, with_lowered_counter};
+ghost use Rattle.vd_transfer.specs.Registers.{reg_of, arg_of, write_reg};
 ghost use Rattle.vd_transfer.specs.Operations.{value_of};
-ghost use Rattle.vd_transfer.specs.Branches.{is_reg, refine_of, possible, with_one, with_two, state_on_side, with_lowered_counter};
 ghost use Rattle.vd_transfer.specs.Changes.{state_after};
 
 use crate::change::{Change, write_last};
 use crate::changed_states::changed_reg;
-use crate::operands::{arg, arg_word, constant, operand_slot};
+use crate::operands::{arg, arg_word, constant};
 use crate::operations::{operation, write_word};
-use crate::refinement::{Relation, narrow};
+use crate::refinement::{Relation, narrow_left, narrow_two};
 use crate::registers::{reg_in, reg_value, slot_of};
-use crate::signed_refinement::narrow_signed;
 use tc_isa::{Arg, Cond, Op, Shape, taken};
 use tcd_plan::Plan;
 use value_domain::{Bounds, State, Val};
 
 /// A side of a branch's condition, with the register and the operand that it compares.
 #[derive(Clone, Copy)]
-struct Comparison {
-    cond: Cond,
-    side: bool,
+pub(crate) struct Comparison {
+    pub(crate) cond: Cond,
+    pub(crate) side: bool,
     x: u8,
-    y: Arg,
+    pub(crate) y: Arg,
 }
 
 /// Returns the relation between the operands on a side of a condition.
 #[tactic(auto, unfolding(crate::specs::Relations::relation_of))]
-fn relation(cond: Cond, side: bool) -> Relation
+pub(crate) fn relation(cond: Cond, side: bool) -> Relation
     ensures { result ≡ relation_of cond side }
 {
     match cond {
@@ -71,8 +71,8 @@ fn relation(cond: Cond, side: bool) -> Relation
 }
 
 /// Returns true if a condition is of the signed order.
-#[tactic(auto, unfolding(crate::specs::Relations::is_signed))]
-fn is_signed(cond: Cond) -> bool
+#[tactic(auto, unfolding(crate::specs::Signs::is_signed))]
+pub(crate) fn is_signed(cond: Cond) -> bool
     ensures { result ≡ is_signed cond }
 {
     match cond {
@@ -81,57 +81,8 @@ fn is_signed(cond: Cond) -> bool
     }
 }
 
-/// Returns the relation with its operands exchanged.
-#[tactic(auto, unfolding(crate::specs::Relations::converse))]
-fn converse(rel: Relation) -> Relation
-    ensures { result ≡ converse rel }
-{
-    match rel {
-        Relation::Same => Relation::Same,
-        Relation::Other => Relation::Other,
-        Relation::Less => Relation::More,
-        Relation::AtLeast => Relation::AtMost,
-        Relation::More => Relation::Less,
-        Relation::AtMost => Relation::AtLeast,
-    }
-}
-
-/// Overwrites `out` with the cover of the members of `v` for which some member of `w` makes the
-/// condition go to the side. Returns false if there are none; then `out` may be any value.
-fn narrow_left(b: &Bounds, test: Comparison, v: &Val, w: &Val, out: &mut Val) -> bool
-    requires left { IsValue b.now v.now }
-    requires right { IsValue b.now w.now }
-    ensures kept { value_if result out.new
-        ≡ cover_some b.now (kept_left test.cond test.side (members v.now) (members w.now)) }
-    ensures value { IfSome (value_if result out.new) (IsValue b.now) }
-{
-    let rel = relation(test.cond, test.side);
-    if is_signed(test.cond) {
-        narrow_signed(b, rel, v, w, out)
-    } else {
-        narrow(b, rel, v, w, out)
-    }
-}
-
-/// Overwrites `out` with the cover of the members of `w` for which some member of `v` makes the
-/// condition go to the side. Returns false if there are none; then `out` may be any value.
-fn narrow_right(b: &Bounds, test: Comparison, v: &Val, w: &Val, out: &mut Val) -> bool
-    requires left { IsValue b.now v.now }
-    requires right { IsValue b.now w.now }
-    ensures kept { value_if result out.new
-        ≡ cover_some b.now (kept_right test.cond test.side (members v.now) (members w.now)) }
-    ensures value { IfSome (value_if result out.new) (IsValue b.now) }
-{
-    let rel = converse(relation(test.cond, test.side));
-    if is_signed(test.cond) {
-        narrow_signed(b, rel, w, v, out)
-    } else {
-        narrow(b, rel, w, v, out)
-    }
-}
-
 /// Returns true if a condition goes to the side for a word and itself.
-#[tactic(auto, unfolding(crate::specs::Relations::self_holds))]
+#[tactic(auto, unfolding(crate::specs::Branches::self_holds))]
 fn holds_itself(cond: Cond, side: bool) -> bool
     ensures { result ≡ self_holds cond side }
 {
@@ -164,7 +115,14 @@ pub(crate) fn is_same(x: u8, y: Arg) -> bool
 // The functions below write the change of a side into the caller's `Change`, whatever it held.
 
 /// Narrows the register to the members that are possible. Returns false if there are none.
-fn narrow_one(b: &Bounds, test: Comparison, s: &State, v: &Val, w: &Val, c: &mut Change) -> bool
+pub(crate) fn narrow_one(
+    b: &Bounds,
+    test: Comparison,
+    s: &State,
+    v: &Val,
+    w: &Val,
+    c: &mut Change,
+) -> bool
     requires values { AreValues b.now s.now.regs }
     requires left { IsValue b.now v.now }
     requires right { IsValue b.now w.now }
@@ -179,28 +137,6 @@ fn narrow_one(b: &Bounds, test: Comparison, s: &State, v: &Val, w: &Val, c: &mut
         return false;
     }
     c.first.at = slot_of(test.x);
-    true
-}
-
-/// Narrows both operands to the members that are possible. Returns false if one has none.
-fn narrow_two(b: &Bounds, test: Comparison, s: &State, v: &Val, w: &Val, c: &mut Change) -> bool
-    requires values { AreValues b.now s.now.regs }
-    requires left { IsValue b.now v.now }
-    requires right { IsValue b.now w.now }
-    ensures two { possible result (state_after s.now c.new)
-        ≡ with_two s.now test.x test.y
-        (cover_some b.now (kept_left test.cond test.side (members v.now) (members w.now)))
-        (cover_some b.now (kept_right test.cond test.side (members v.now) (members w.now))) }
-    ensures values { AreValues b.now (state_after s.now c.new).regs }
-    ensures free { c.new.third.at ≡ None }
-{
-    if !narrow_one(b, test, s, v, w, c) {
-        return false;
-    }
-    if !narrow_right(b, test, v, w, &mut c.second.value) {
-        return false;
-    }
-    c.second.at = operand_slot(test.y);
     true
 }
 

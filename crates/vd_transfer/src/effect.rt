@@ -1,12 +1,12 @@
 // The change of a state by each instruction.
 ghost use Rattle.std.specs.Prelude.{◌≡◌, ◌<◌, ◌≤◌, length, true, None};
-ghost use Rattle.value_domain.specs.Values.{IsValue, any_val};
+ghost use Rattle.value_domain.specs.Values.{IsValue, any_val, word_val};
 ghost use Rattle.value_domain.specs.State.{AreValues};
-ghost use Rattle.tc_isa.specs.Bounded.{IsArg, IsShape};
+ghost use Rattle.tc_isa.specs.InBounds.{IsArg};
 ghost use Rattle.tc_isa.specs.declared.shapes.Op.TheVariants.{Add, Sh};
 ghost use Rattle.vd_transfer.specs.Operations.{value_of};
-ghost use Rattle.vd_transfer.specs.Registers.{reg_of, arg_of, write_reg, word_val};
-ghost use Rattle.vd_transfer.specs.EffectsOnStates.{HasRoom, with_base, saved_lower, restored_lower, transfer_of, HasLoaded};
+ghost use Rattle.vd_transfer.specs.Registers.{reg_of, arg_of, write_reg};
+ghost use Rattle.vd_transfer.specs.EffectsOnStates.{with_base, saved_lower, restored_lower};
 ghost use Rattle.vd_transfer.specs.Changes.{state_after};
 
 use crate::access::Addressing;
@@ -14,21 +14,21 @@ use crate::change::{Base, Change, put_for, write_last};
 use crate::operands::Operation;
 use crate::operations::{operate, operation};
 use crate::registers::reg_value;
-use tc_isa::{Arg, Op, Shape};
+use tc_isa::{Arg, Op};
 use tcd_plan::Plan;
 use value_domain::{Bounds, State, write_any};
 
 /// The registers of a scaled address: a base plus an index shifted left by `n`.
 #[derive(Clone, Copy)]
-struct ScaledAddress {
-    base: u8,
-    index: u8,
-    n: u8,
+pub(crate) struct ScaledAddress {
+    pub(crate) base: u8,
+    pub(crate) index: u8,
+    pub(crate) n: u8,
 }
 
 // Each function below writes into the caller's `Change`, which isn't moved.
 
-fn compute(b: &Bounds, plan: &Plan, s: &State, dst: u8, of: Operation, c: &mut Change)
+pub(crate) fn compute(b: &Bounds, plan: &Plan, s: &State, dst: u8, of: Operation, c: &mut Change)
     requires operands { IsArg of.x × IsArg of.y }
     requires values { AreValues b.now s.now.regs }
     ensures write { state_after s.now c.new
@@ -44,7 +44,7 @@ fn compute(b: &Bounds, plan: &Plan, s: &State, dst: u8, of: Operation, c: &mut C
 
 /// Writes a base plus a shifted index to a register.
 #[inline(never)]
-fn scale(b: &Bounds, plan: &Plan, s: &State, dst: u8, at: ScaledAddress, c: &mut Change)
+pub(crate) fn scale(b: &Bounds, plan: &Plan, s: &State, dst: u8, at: ScaledAddress, c: &mut Change)
     requires registers { (at.base < 32) × (at.index < 32) }
     requires values { AreValues b.now s.now.regs }
     ensures write { state_after s.now c.new
@@ -71,7 +71,7 @@ fn scale(b: &Bounds, plan: &Plan, s: &State, dst: u8, at: ScaledAddress, c: &mut
 }
 
 /// Increases the base register by the offset, if the access does that.
-fn increase_base(b: &Bounds, plan: &Plan, s: &State, at: Addressing, c: &mut Change)
+pub(crate) fn increase_base(b: &Bounds, plan: &Plan, s: &State, at: Addressing, c: &mut Change)
     requires base { IsArg at.base }
     requires values { AreValues b.now s.now.regs }
     ensures base { state_after s.now c.new
@@ -95,7 +95,7 @@ fn increase_base(b: &Bounds, plan: &Plan, s: &State, at: Addressing, c: &mut Cha
 }
 
 /// Writes what was loaded, the third value, to a register.
-fn load_into(b: &Bounds, plan: &Plan, s: &State, at: Addressing, dst: u8, c: &mut Change)
+pub(crate) fn load_into(b: &Bounds, plan: &Plan, s: &State, at: Addressing, dst: u8, c: &mut Change)
     requires base { IsArg at.base }
     requires values { AreValues b.now s.now.regs }
     requires loaded { IsValue b.now c.old.third.value }
@@ -109,7 +109,7 @@ fn load_into(b: &Bounds, plan: &Plan, s: &State, at: Addressing, dst: u8, c: &mu
 }
 
 /// Writes the value that holds all words to a register.
-fn put_any(b: &Bounds, s: &State, dst: u8, c: &mut Change)
+pub(crate) fn put_any(b: &Bounds, s: &State, dst: u8, c: &mut Change)
     requires { AreValues b.now s.now.regs }
     ensures write { state_after s.now c.new ≡ write_reg s.now dst any_val }
     ensures values { AreValues b.now (state_after s.now c.new).regs }
@@ -121,7 +121,7 @@ fn put_any(b: &Bounds, s: &State, dst: u8, c: &mut Change)
 }
 
 /// Saves a lower context: the mark that the lower registers are those of the entry becomes a local.
-fn save_lower(s: &State, c: &mut Change)
+pub(crate) fn save_lower(s: &State, c: &mut Change)
     requires { length s.now.locals.items < 8 }
     ensures { state_after s.now c.new ≡ saved_lower s.now }
 {
@@ -129,7 +129,7 @@ fn save_lower(s: &State, c: &mut Change)
     c.locals.push(s.lower);
 }
 
-fn begin_isr(s: &State, number: u8, c: &mut Change)
+pub(crate) fn begin_isr(s: &State, number: u8, c: &mut Change)
     requires { length s.now.locals.items < 8 }
     ensures { state_after s.now c.new ≡ record (saved_lower s.now) { ie = true; ccpn = number } }
 {
@@ -139,7 +139,7 @@ fn begin_isr(s: &State, number: u8, c: &mut Change)
 }
 
 /// Restores the last lower context.
-fn restore_lower(b: &Bounds, s: &State, c: &mut Change)
+pub(crate) fn restore_lower(b: &Bounds, s: &State, c: &mut Change)
     requires some { 1 ≤ length s.now.locals.items }
     requires values { AreValues b.now s.now.regs }
     ensures restored { state_after s.now c.new ≡ restored_lower s.now }
@@ -153,63 +153,9 @@ fn restore_lower(b: &Bounds, s: &State, c: &mut Change)
     c.base = Base::Forgotten;
 }
 
-fn set_enable(s: &State, ie: bool, c: &mut Change)
+pub(crate) fn set_enable(s: &State, ie: bool, c: &mut Change)
     ensures { state_after s.now c.new ≡ record s.now { ie = ie } }
 {
     c.keep(s);
     c.ie = ie;
-}
-
-/// Writes into `c` what an instruction of this shape changes. The instruction stays in its frame
-/// and isn't a branch or a jump.
-/// A load writes the third value of `c` to its register; all else that `c` held is ignored.
-/// An instruction that saves a lower context needs room for a local, one that restores one needs a
-/// local.
-#[tactic(auto, unfolding(crate::specs::EffectsOnStates::transfer_of))]
-pub fn change_of(b: &Bounds, plan: &Plan, shape: Shape, s: &State, c: &mut Change)
-    requires shape { IsShape shape }
-    requires values { AreValues b.now s.now.regs }
-    requires loaded { HasLoaded b.now shape c.old.third.value }
-    requires room { HasRoom b.now shape s.now }
-    ensures change { state_after s.now c.new
-        ≡ transfer_of b.now plan.now shape s.now c.old.third.value }
-    ensures values { AreValues b.now (state_after s.now c.new).regs }
-{
-    let _most_locals = b.most_locals();
-    match shape {
-        Shape::Compute { op, dst, x, y } => compute(b, plan, s, dst, Operation { op, x, y }, c),
-        Shape::Scaled {
-            dst,
-            base,
-            index,
-            n,
-        } => scale(b, plan, s, dst, ScaledAddress { base, index, n }, c),
-        Shape::Load {
-            dst,
-            base,
-            offset,
-            after,
-            ..
-        } => load_into(b, plan, s, Addressing::by(base, offset, after), dst, c),
-        Shape::Store {
-            base,
-            offset,
-            after,
-            ..
-        } => increase_base(b, plan, s, Addressing::by(base, offset, after), c),
-        Shape::Svlcx => save_lower(s, c),
-        Shape::Rslcx => restore_lower(b, s, c),
-        Shape::Bisr { c: number } => begin_isr(s, number, c),
-        Shape::Enable => set_enable(s, true, c),
-        Shape::Disable => set_enable(s, false, c),
-        Shape::Mfcr { dst, .. } => put_any(b, s, dst, c),
-        Shape::Branch { .. } => c.keep(s),
-        Shape::Jump { .. } => c.keep(s),
-        Shape::Call { .. } => c.keep(s),
-        Shape::Ret => c.keep(s),
-        Shape::Rfe => c.keep(s),
-        Shape::Syscall { .. } => c.keep(s),
-        Shape::Mtcr { .. } => c.keep(s),
-        Shape::Nothing => c.keep(s),
-    }
 }

@@ -1,6 +1,7 @@
 // Laws of operations, refinement and effects.
-ghost use Rattle.vd_transfer.specs.Soundness.{AddressHolds, BranchHolds, RestoreHolds, TransferHolds};
-ghost use Rattle.vd_transfer.specs.OperationLaws.{AreSound, AreMonotone, AreRefined};
+ghost use Rattle.vd_transfer.specs.Soundness.{AddressHolds, BranchHolds, RestoreHolds, TransferHolds, AreSound};
+ghost use Rattle.vd_transfer.specs.OperationLaws.{AreMonotone};
+ghost use Rattle.vd_transfer.specs.Refinement.{AreRefined};
 
 /// The laws of operations: each result is a member of the operation's value, and smaller operands
 /// give a smaller value.

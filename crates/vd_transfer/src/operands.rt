@@ -1,10 +1,9 @@
 // Operands: registers of a state, or constants. An operation with its operands.
 ghost use Rattle.std.specs.Prelude.{◌≡◌, ◌<◌, IfSome};
-ghost use Rattle.value_domain.specs.Values.{IsValue};
+ghost use Rattle.value_domain.specs.Values.{IsValue, word_val};
 ghost use Rattle.value_domain.specs.State.{AreValues};
-ghost use Rattle.tc_isa.specs.Bounded.{IsArg};
-ghost use Rattle.vd_transfer.specs.Registers.{arg_of, word_val};
-ghost use Rattle.vd_transfer.specs.Changes.{arg_slot};
+ghost use Rattle.tc_isa.specs.InBounds.{IsArg};
+ghost use Rattle.vd_transfer.specs.Registers.{arg_of, arg_slot};
 
 use crate::operations::operation;
 use crate::registers::{only_word, reg_in, reg_value, slot_of};

@@ -1,11 +1,11 @@
 // The value of an operation on two values, or on two operands.
 ghost use Rattle.std.specs.Prelude.{◌≡◌, ◌≤◌, ◌<◌, ◌+◌, length, ◌++◌, ◌∷◌, map, IsNone};
-ghost use Rattle.value_domain.specs.Values.{IsValue, cover, members, words_of};
+ghost use Rattle.value_domain.specs.Values.{IsValue, cover, members, words_of, word_val};
 ghost use Rattle.tc_isa.specs.Arithmetic.{alu_of};
 ghost use Rattle.vd_transfer.specs.Operations.{results, row, pairs, HasMet, value_of, gives_truth};
-ghost use Rattle.vd_transfer.specs.Registers.{word_val, arg_of};
+ghost use Rattle.vd_transfer.specs.Registers.{arg_of};
 ghost use Rattle.value_domain.specs.State.{AreValues};
-ghost use Rattle.tc_isa.specs.Bounded.{IsArg};
+ghost use Rattle.tc_isa.specs.InBounds.{IsArg};
 
 use crate::operands::{Operation, arg, arg_in, arg_word};
 use crate::strided_interval::interval_of_row;

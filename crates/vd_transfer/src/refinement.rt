@@ -1,12 +1,22 @@
 // Refinement: the members of two values for which a comparison holds.
-ghost use Rattle.std.specs.Prelude.{◌≡◌, ◌==◌, ◌<◌, ◌≤◌, ◌+◌, ◌-◌, ◌^◌, ◌++◌, filter, List, ℕ, IfSome, Some, ◌↔◌, ◌⊎◌, ◌≢◌};
+ghost use Rattle.std.specs.Prelude.{◌≡◌, ◌==◌, ◌<◌, ◌≤◌, ◌+◌, ◌-◌, ◌^◌, ◌++◌, filter, List, ℕ, IfSome, Some, ◌↔◌, ◌⊎◌, ◌≢◌, None};
 ghost use Rattle.value_domain.specs.Values.{IsValue, members};
 ghost use Rattle.value_domain.specs.declared.values.Val.TheVariants.{Set, Span};
 ghost use Rattle.value_domain.specs.Meets.{cover_some, value_if, in_span};
-ghost use Rattle.vd_transfer.specs.Relations.{IsIn, Reaches, kept_by};
+ghost use Rattle.vd_transfer.specs.Relations.{Reaches, kept_by, converse};
+ghost use Rattle.vd_transfer.specs.Intervals.{IsIn};
 ghost use Rattle.vd_transfer.specs.declared.refinement.Relation.TheVariants.{Same};
+ghost use Rattle.value_domain.specs.State.{AreValues};
+ghost use Rattle.vd_transfer.specs.Refinement.{kept_left, kept_right};
+ghost use Rattle.vd_transfer.specs.Signs.{is_signed};
+ghost use Rattle.vd_transfer.specs.Branches.{possible, with_two};
+ghost use Rattle.vd_transfer.specs.Changes.{state_after};
 
-use value_domain::{Bounds, Val, add_value, extent_of, write_common, write_meet};
+use crate::branch_sides::{Comparison, is_signed, narrow_one, relation};
+use crate::change::Change;
+use crate::operands::operand_slot;
+use crate::signed_refinement::narrow_signed;
+use value_domain::{Bounds, State, Val, add_value, extent_of, write_common, write_meet};
 
 /// A relation between two words.
 #[derive(Clone, Copy, PartialEq, Eq)]
@@ -158,4 +168,82 @@ fn common(b: &Bounds, v: &Val, w: &Val, out: &mut Val) -> bool
         Val::Set(words) => write_common(b, words.as_slice(), v, out),
         Val::Span { lo, last, step } => write_meet(b, v, *lo, *last, *step, out),
     }
+}
+
+/// Returns the relation with its operands exchanged.
+#[tactic(auto, unfolding(crate::specs::Relations::converse))]
+fn converse(rel: Relation) -> Relation
+    ensures { result ≡ converse rel }
+{
+    match rel {
+        Relation::Same => Relation::Same,
+        Relation::Other => Relation::Other,
+        Relation::Less => Relation::More,
+        Relation::AtLeast => Relation::AtMost,
+        Relation::More => Relation::Less,
+        Relation::AtMost => Relation::AtLeast,
+    }
+}
+
+/// Overwrites `out` with the cover of the members of `v` for which some member of `w` makes the
+/// condition go to the side. Returns false if there are none; then `out` may be any value.
+pub(crate) fn narrow_left(b: &Bounds, test: Comparison, v: &Val, w: &Val, out: &mut Val) -> bool
+    requires left { IsValue b.now v.now }
+    requires right { IsValue b.now w.now }
+    ensures kept { value_if result out.new
+        ≡ cover_some b.now (kept_left test.cond test.side (members v.now) (members w.now)) }
+    ensures value { IfSome (value_if result out.new) (IsValue b.now) }
+{
+    let rel = relation(test.cond, test.side);
+    if is_signed(test.cond) {
+        narrow_signed(b, rel, v, w, out)
+    } else {
+        narrow(b, rel, v, w, out)
+    }
+}
+
+/// Overwrites `out` with the cover of the members of `w` for which some member of `v` makes the
+/// condition go to the side. Returns false if there are none; then `out` may be any value.
+fn narrow_right(b: &Bounds, test: Comparison, v: &Val, w: &Val, out: &mut Val) -> bool
+    requires left { IsValue b.now v.now }
+    requires right { IsValue b.now w.now }
+    ensures kept { value_if result out.new
+        ≡ cover_some b.now (kept_right test.cond test.side (members v.now) (members w.now)) }
+    ensures value { IfSome (value_if result out.new) (IsValue b.now) }
+{
+    let rel = converse(relation(test.cond, test.side));
+    if is_signed(test.cond) {
+        narrow_signed(b, rel, w, v, out)
+    } else {
+        narrow(b, rel, w, v, out)
+    }
+}
+
+/// Narrows both operands to the members that are possible. Returns false if one has none.
+pub(crate) fn narrow_two(
+    b: &Bounds,
+    test: Comparison,
+    s: &State,
+    v: &Val,
+    w: &Val,
+    c: &mut Change,
+) -> bool
+    requires values { AreValues b.now s.now.regs }
+    requires left { IsValue b.now v.now }
+    requires right { IsValue b.now w.now }
+    ensures two { possible result (state_after s.now c.new)
+        ≡ with_two s.now test.x test.y
+        (cover_some b.now (kept_left test.cond test.side (members v.now) (members w.now)))
+        (cover_some b.now (kept_right test.cond test.side (members v.now) (members w.now))) }
+    ensures values { AreValues b.now (state_after s.now c.new).regs }
+    ensures free { c.new.third.at ≡ None }
+{
+    if !narrow_one(b, test, s, v, w, c) {
+        return false;
+    }
+    if !narrow_right(b, test, v, w, &mut c.second.value) {
+        return false;
+    }
+    c.second.at = operand_slot(test.y);
+    true
 }

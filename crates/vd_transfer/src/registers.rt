@@ -1,8 +1,8 @@
 // Reads the registers of a state.
 ghost use Rattle.std.specs.Prelude.{◌≡◌, ◌<◌, IfSome};
-ghost use Rattle.value_domain.specs.Values.{IsValue};
+ghost use Rattle.value_domain.specs.Values.{IsValue, word_val};
 ghost use Rattle.value_domain.specs.State.{AreValues, is_lower_slot};
-ghost use Rattle.vd_transfer.specs.Registers.{slot, reg_of, fixed_of, word_val};
+ghost use Rattle.vd_transfer.specs.Registers.{slot, reg_of, fixed_of};
 
 use tcd_plan::Plan;
 use value_domain::{A10_SLOT, Bounds, State, Val};

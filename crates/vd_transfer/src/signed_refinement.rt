@@ -4,7 +4,7 @@ ghost use Rattle.value_domain.specs.Values.{IsValue, IsWell, members, range};
 ghost use Rattle.value_domain.specs.declared.values.Val.TheVariants.{Set, Span};
 ghost use Rattle.value_domain.specs.Meets.{cover_some, value_if};
 ghost use Rattle.tc_isa.specs.Arithmetic.{signed_place};
-ghost use Rattle.vd_transfer.specs.Relations.{IsIn};
+ghost use Rattle.vd_transfer.specs.Intervals.{IsIn};
 ghost use Rattle.vd_transfer.specs.Signs.{IsSignedRange, kept_signed};
 ghost use Rattle.vd_transfer.specs.declared.refinement.Relation.TheVariants.{Same};
 

@@ -1,34 +1,10 @@
 // The least needs.
-
-ghost use Rattle.std.specs.Prelude.{Ok, IfOk, IfSome, IsTrue, Some, ℕ, ◌+◌, ◌<◌, ◌≤◌, ◌^◌, Contains, length, slice_index, min, MatchOption, EachIndex};
-ghost use Rattle.frame_places.specs.RowNeeds.{MeetsRow, IsWithin, IsLow, MeetsCapped, PassesRow, PassesRows, LeastNeeds};
+ghost use Rattle.std.specs.Prelude.{Ok, IfOk, IfSome, IsTrue, Some, ℕ, ◌+◌, ◌<◌, ◌≤◌, ◌^◌, Contains, length, slice_index, MatchOption, EachIndex};
+ghost use Rattle.frame_places.specs.RowNeeds.{IsWithin, IsLow, MeetsCapped, PassesRow, PassesRows, LeastNeeds};
 ghost use Rattle.frame_places.specs.declared.needs.row.NeedRow.{NeedRow};
 
-use crate::needs::row::NeedRow;
+use crate::needs::row::{NeedRow, need_of};
 use std::alloc::{AllocError, Global};
-
-/// Returns the need that one row asks for, at most one more than the cap.
-fn need_of(needs: &[u32], row: &NeedRow, cap: u32) -> u32
-    requires cap { cap < 2 ^ 16 }
-    requires held { row.now.held < 2 ^ 8 }
-    requires low { (k : ℕ) → slice_index needs.now k ≤ cap + 1 }
-    requires nodes { length needs.now < 2 ^ 16 }
-    requires into { (t : ℕ) → Contains row.now.into.items t → t < length needs.now }
-    ensures held { min row.now.held (cap + 1) ≤ result }
-    ensures into { (t : ℕ) → Contains row.now.into.items t
-        → min (row.now.held + 1 + slice_index needs.now t) (cap + 1) ≤ result }
-    ensures least { (other : ℕ → ℕ) → MeetsRow other row.now
-        → ((t : ℕ) → t < length needs.now → slice_index needs.now t ≤ other t)
-        → result ≤ other row.now.node }
-    ensures capped { result ≤ cap + 1 }
-{
-    let mut need = u32::from(row.held);
-    for t in &row.into {
-        let asked = u32::from(row.held) + 1 + needs[*t];
-        need = need.max(asked);
-    }
-    need.min(cap + 1)
-}
 
 /// Raises the need of one row's node if it is too low, and returns whether it was.
 fn raise_row(needs: &mut [u32], row: &NeedRow, cap: u32) -> bool

@@ -1,6 +1,7 @@
 // The graph of entries, by the numbers of its nodes: which nodes are reached from which.
 ghost use Rattle.std.specs.Prelude.{◌≡◌, ◌<◌, ◌↔◌, ℕ, IsTrue, IfOk, OnOk, length, slice_index_or, false, Contains, [], ◌∷◌, ◌+◌};
-ghost use Rattle.frame_places.specs.NodeGraph.{AddsEdges, AddsSource, AreBelow, AreBetween, AreEdges, AreReaching, AreReachingBy, AreSources, HasMarkedNext, IsFirstBefore, IsFirstRecurring, IsMarked, IsRecurring, MarksNodes, SettlesMarks};
+ghost use Rattle.frame_places.specs.NodeGraph.{AddsEdges, AddsSource, AreBelow, AreBetween, AreEdges, AreReaching, AreReachingBy, AreSources, HasMarkedNext, IsFirstBefore, IsFirstRecurring, IsRecurring, MarksNodes, SettlesMarks};
+ghost use Rattle.frame_places.specs.Marks.{IsMarked};
 
 use crate::needs::row::NeedRow;
 use indexmap::{IndexMap, IndexSet};

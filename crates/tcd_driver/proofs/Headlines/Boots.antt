@@ -7,7 +7,7 @@ use Rattle.elf_image.specs.Images.{ImageData}
 use Rattle.tcd_plan.specs.PlanData.{PlanData}
 use Rattle.tcd_text.specs.HexNumbers.{hex_number_of}
 use Rattle.depth_cert.specs.Certs.{CertData}
-use Rattle.cfg_recover.specs.Accepting.{certified_need}
+use Rattle.cfg_recover.specs.RulesHoldOrFail.{certified_need}
 use Rattle.tc_disasm.specs.Listing.{listing_of}
 use Rattle.tc_boot.specs.Sequence.{boot_events, boot_image_of}
 use Rattle.tcd_base.specs.Files.{Map}

@@ -3,14 +3,14 @@ use Rattle.std.proofs.Common.{◌≡◌, ◌+◌, ◌^◌, ◌⊎◌, ◌∙◌,
 use Rattle.std.specs.Prelude.{codes}
 use Rattle.std.specs.Fmt.{decimal}
 use Rattle.std.specs.FinMap.{insert}
-use Rattle.elf_image.specs.Written.{file_of}
+use Rattle.elf_image.specs.WrittenElf.{file_of}
 use Rattle.tc_object.specs.Objects.{ObjectData}
 use Rattle.tc_object.specs.Spelling.{bytes_of}
 use Rattle.tc_link.specs.Layouts.{LayoutData}
 use Rattle.tcd_base.specs.Files.{Map}
 use Rattle.tcd_base.specs.declared.errors.FormErr.{FormErr}
-use Rattle.tcd_reading.specs.Reports.{Report}
-use Rattle.tcd_reading.specs.Inputs.{Refuses, IsRefusal, Reading, answer, each, Says}
+use Rattle.tcd_reading.specs.Reports.{Report, Refuses}
+use Rattle.tcd_reading.specs.Inputs.{IsRefusal, Reading, answer, each, Says}
 use Rattle.tcd_reading.specs.declared.status.Status.TheVariants.{Done, BadInput}
 use Rattle.tcd_reading.proofs.Decided.{status_is, writes_are}
 use Rattle.tcd_forms.specs.Forms.{source_form, layout_form, object_form}
@@ -19,7 +19,8 @@ use Rattle.tcd_driver.specs.Asm.{AsmNames, asm_reading}
 use Rattle.tcd_driver.specs.Link as linking
 use Rattle.tcd_driver.specs.Link.{LinkNames, IsLinked, link_reading}
 use Rattle.tcd_driver.specs.Headlines.{HoldsFile, HoldEach}
-use Rattle.tcd_driver.specs.Headlines.Builds.{HeadlineOfAsm, source_words, BreaksRule, RefusalByAsm, IsObjectText, AreLinkFiles, HeadlineOfLink, IsNoObject, IsFirstBadObject, IsLinkFault, bad_layout, bad_object, unlinked, RefusalByLink}
+use Rattle.tcd_driver.specs.Headlines.Builds.{HeadlineOfAsm, source_words, BreaksRule, RefusalByAsm, IsObjectText, AreLinkFiles, HeadlineOfLink, IsFirstBadObject, IsLinkFault, bad_layout, bad_object, unlinked, RefusalByLink}
+use Rattle.tcd_driver.specs.BadInputLines.{IsNoObject}
 use Rattle.tcd_driver.proofs.Headlines.{Leaves, Reports, Tells, bad_undone, read, is_written, layout_held, each_said, text_of, held_of, held_nothing, bad_file, bad_by}
 
 -- ---- asm

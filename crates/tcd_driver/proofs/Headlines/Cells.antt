@@ -7,8 +7,8 @@ use Rattle.depth_cert.specs.declared.keys.Key.{Key}
 use Rattle.depth_cert.specs.Certs.{CertData}
 use Rattle.depth_cert.specs.Spelling.{bytes_of}
 use Rattle.depth_cert.proofs.BackLaws.{written_is_read}
-use Rattle.cfg_recover.specs.Accepting.{Accepts, IsFirstFault, certified_need}
-use Rattle.cfg_recover.specs.Refusals.{IsRefusal}
+use Rattle.cfg_recover.specs.RulesHoldOrFail.{Accepts, IsFirstFault, certified_need}
+use Rattle.cfg_recover.specs.CertRefusals.{IsRefusal}
 use Rattle.value_cells.specs.declared.cells.Cell.{Cell}
 use Rattle.value_cells.specs.Cells.{with_cells}
 use Rattle.value_cells.specs.Keeping.{IsFirstBreak}
@@ -19,12 +19,12 @@ use Rattle.tcd_reading.specs.declared.status.Status.TheVariants.{Done, Refused, 
 use Rattle.tcd_reading.proofs.Decided.{status_is}
 use Rattle.tcd_forms.specs.Forms.{elf_form, plan_form, cert_form}
 use Rattle.tcd_forms.specs.Lines.{refused_line, certified_cells_line}
-use Rattle.tcd_driver.specs.Forms.{cells_form}
+use Rattle.tcd_driver.specs.CellAndTaskForms.{cells_form}
 use Rattle.tcd_driver.specs.Cells as keeping
 use Rattle.tcd_driver.specs.Cells.{CellsNames, IsCellsVerdict, cells_reading}
 use Rattle.tcd_driver.specs.Cellcert as making
 use Rattle.tcd_driver.specs.Cellcert.{CellcertNames, IsCertifyingCells, cellcert_reading}
-use Rattle.tcd_driver.specs.Headlines.{EachIsRefused}
+use Rattle.tcd_driver.specs.BestCert.{EachIsRefused}
 use Rattle.tcd_driver.specs.Headlines.Cells.{AreCellFiles, cells_words, HeadlineOfCells, RefusalByCells, HeadlineOfCellcert, NoneKeeps, RefusalByCellcert}
 use Rattle.tcd_driver.proofs.Headlines.{Leaves, Reports, bad_undone, bad_unrefused, refused_undone, says_refused, read, is_written, cert_held, firmware_files, accepted_of, least_of, text_of, held_of}
 

@@ -15,27 +15,27 @@ use Rattle.depth_cert.specs.Certs.{CertData}
 use Rattle.depth_cert.specs.Grammar.{certificate_of}
 use Rattle.depth_cert.specs.Spelling.{bytes_of}
 use Rattle.depth_cert.proofs.BackLaws.{written_is_read}
-use Rattle.cfg_recover.specs.Accepting.{Accepts, IsFirstFault}
-use Rattle.task_chains.specs.Apart.{IsTaskFault}
+use Rattle.cfg_recover.specs.RulesHoldOrFail.{Accepts, IsFirstFault}
+use Rattle.task_chains.specs.Rule17.{IsTaskFault}
 use Rattle.task_chains.specs.Tasks.{TasksData, count}
-use Rattle.task_chains.specs.Routine.{HasRoutine}
+use Rattle.task_chains.specs.SwitchRoutine.{HasRoutine}
 use Rattle.task_chains.specs.Views.{view_image_of, view_plan_of}
-use Rattle.task_chains.specs.Safe.{SafeTasks, IsJudged, need_of_task}
+use Rattle.task_chains.specs.SafeTasks.{SafeTasks, IsJudged, need_of_task}
 use Rattle.tcd_base.specs.Files.{Map}
 use Rattle.tcd_reading.specs.Reports.{Report, with_written}
 use Rattle.tcd_reading.specs.Inputs.{HoldsInput, Reading, answer, each, Says}
 use Rattle.tcd_reading.specs.declared.status.Status.TheVariants.{Done, Refused, BadInput}
 use Rattle.tcd_reading.proofs.Decided.{status_is, writes_are}
 use Rattle.tcd_forms.specs.Forms.{elf_form, plan_form, cert_form}
-use Rattle.tcd_forms.specs.Lines.{refused_line, key_line, kind_text, certified_tasks_line, switch_line, refused_task_line, of_task, sum_line}
-use Rattle.tcd_driver.specs.Forms.{tasks_form}
+use Rattle.tcd_forms.specs.Lines.{refused_line, key_line, kind_text, certified_tasks_line, switch_line, refused_task_line, of_task, sum_line, tasks_words, sum_words}
+use Rattle.tcd_driver.specs.CellAndTaskForms.{tasks_form}
 use Rattle.tcd_driver.specs.Commands.{are_different}
 use Rattle.tcd_driver.specs.Tasks as judging
 use Rattle.tcd_driver.specs.Tasks.{TasksNames, cert_of, IsTaskRefused, IsFirstRefused, IsTasksVerdict, if_as_many, tasks_reading}
 use Rattle.tcd_driver.specs.Taskcert as making
-use Rattle.tcd_driver.specs.Taskcert.{TaskcertNames, IsTaskMade, AreTasksMade, IsUncertified, IsFirstUncertified, cert_files, IsTaskcerting, taskcert_reading}
+use Rattle.tcd_driver.specs.Taskcert.{TaskcertNames, AreTasksMade, IsUncertified, IsFirstUncertified, cert_files, IsTaskcerting, taskcert_reading}
+use Rattle.tcd_driver.specs.Headlines.Tasks.{IsTaskMade, AreTaskFiles, IsAcceptedForTask, AreSafeTogether, sum_of, switch_words, task_words, HeadlineOfTasks, IsFirstRefusedTask, IsTasksFault, no_switch, refused_task, above, RefusalByTasks, HoldCerts, IsLeastForTask, HeadlineOfTaskcert, IsNoneForTask, unaccepted, not_apart, IsFirstWithout, IsTaskcertFault, switch_missing, without, sum_above, RefusalByTaskcert}
 use Rattle.tcd_driver.specs.Headlines.{HoldEach}
-use Rattle.tcd_driver.specs.Headlines.Tasks.{AreTaskFiles, IsAcceptedForTask, AreSafeTogether, tasks_words, sum_of, switch_words, task_words, sum_words, HeadlineOfTasks, IsFirstRefusedTask, IsTasksFault, no_switch, refused_task, above, RefusalByTasks, HoldCerts, IsLeastForTask, HeadlineOfTaskcert, IsNoneForTask, unaccepted, not_apart, IsFirstWithout, IsTaskcertFault, switch_missing, without, sum_above, RefusalByTaskcert}
 use Rattle.tcd_driver.proofs.Headlines.{Leaves, Reports, Tells, bad_undone, bad_unrefused, refused_undone, held_nothing, read, get_same, get_other, cert_held, firmware_files, each_said, least_of, text_of, held_of}
 
 tasks_is : (sum areas n : ℕ) → certified_tasks_line sum areas n ≡ tasks_words sum areas n

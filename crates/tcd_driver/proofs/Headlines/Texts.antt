@@ -3,8 +3,9 @@ use Rattle.std.proofs.Common.{◌≡◌, ◌-◌, ℕ, List, [], ◌∷◌, ◌+
 use Rattle.std.specs.Prelude.{codes}
 use Rattle.elf_image.specs.Images.{ImageData}
 use Rattle.tcd_plan.specs.PlanData.{PlanData}
-use Rattle.depth_cert.specs.Certs.{CertData, count_points}
-use Rattle.cfg_recover.specs.Accepting.{certified_need}
+use Rattle.depth_cert.specs.Certs.{CertData}
+use Rattle.depth_cert.specs.Nodes.{count_points}
+use Rattle.cfg_recover.specs.RulesHoldOrFail.{certified_need}
 use Rattle.tcd_report.specs.Generated.{generated_image}
 use Rattle.tcd_report.specs.Generated.Planned.{generated_plan}
 use Rattle.tcd_base.specs.Files.{Map}
@@ -20,9 +21,10 @@ use Rattle.tcd_driver.specs.Reporting as reporting
 use Rattle.tcd_driver.specs.Reporting.{ReportNames, IsReporting, report_reading}
 use Rattle.tcd_driver.specs.Dis.{dis_reading}
 use Rattle.tcd_driver.specs.Gen as generating
-use Rattle.tcd_driver.specs.Gen.{IsSummary, gen_reading}
+use Rattle.tcd_driver.specs.Gen.{IsSummary, gen_reading, IsCount}
 use Rattle.tcd_driver.specs.Headlines.{RefusalByCheck, RefusalByCert}
-use Rattle.tcd_driver.specs.Headlines.Texts.{HeadlineOfCfg, HeadlineOfReport, HeadlineOfDis, RefusalByDis, IsCount, gen_words, HeadlineOfGen, RefusalByGen}
+use Rattle.tcd_driver.specs.Headlines.Reports.{HeadlineOfCfg, HeadlineOfReport, HeadlineOfDis, RefusalByDis, gen_words, HeadlineOfGen}
+use Rattle.tcd_driver.specs.Headlines.Builds.{RefusalByGen}
 use Rattle.tcd_driver.proofs.Headlines.{Leaves, Reports, bad_undone, bad_unrefused, refused_undone, read, image_held, firmware_files, check_files, accepted_of, least_of, best_of, text_of, held_of, held_nothing, bad_file, says_refused, refusal_by_check, refusal_by_cert}
 
 -- ---- cfg

@@ -4,12 +4,12 @@ use Rattle.std.specs.Fmt.{decimal}
 use Rattle.elf_image.specs.Images.{ImageData}
 use Rattle.tcd_plan.specs.PlanData.{PlanData}
 use Rattle.depth_cert.specs.Certs.{CertData}
-use Rattle.cfg_recover.specs.Accepting.{Accepts}
+use Rattle.cfg_recover.specs.RulesHoldOrFail.{Accepts}
 use Rattle.tcd_text.specs.HexNumbers.{hex_number_of}
 use Rattle.tc_disasm.specs.Listing.{listing_of}
 use Rattle.tc_boot.specs.declared.judging.BootErr.{BootErr}
-use Rattle.tc_boot.specs.Judging.{Judges}
-use Rattle.tc_boot.specs.Reset.{HasBoot, BootsSafely}
+use Rattle.tc_boot.specs.Judging.{Judges, HasBoot}
+use Rattle.tc_boot.specs.Reset.{BootsSafely}
 use Rattle.tc_boot.specs.Sequence.{boot_image_of}
 use Rattle.tcd_base.specs.Files.{Map}
 use Rattle.tcd_driver.specs.BadInputLines.{unbooted_line}

@@ -1,23 +1,33 @@
 -- What it means that `asm` and `link` are done, or refuse.
-use Rattle.std.specs.Prelude.{◌≡◌, ◌^◌, ℕ, List, [], ◌∷◌, ◌++◌, codes, length, Ok, Err}
+use Rattle.std.specs.Prelude.{◌≡◌, ◌^◌, ℕ, List, ◌∷◌, ◌++◌, codes, length, Ok, Err, ◌≢◌, ◌-◌, map, Some, []}
 use Rattle.std.specs.Fmt.{decimal}
 use Rattle.elf_image.specs.Images.{ImageData}
-use Rattle.elf_image.specs.Written.{file_of}
+use Rattle.elf_image.specs.WrittenElf.{file_of}
 use Rattle.tc_object.specs.Objects.{ObjectData}
 use Rattle.tc_object.specs.Grammar.{object_of}
 use Rattle.tc_object.specs.Spelling.{bytes_of}
 use Rattle.tc_stmt.specs.Lines.{lines_in}
-use Rattle.tc_asm.specs.Sources.{IsLeast}
+use Rattle.tc_asm.specs.DraftedSources.{IsLeast}
 use Rattle.tc_link.specs.Layouts.{LayoutData}
 use Rattle.tc_link.specs.Linked.{image_of_objects}
 use Rattle.tc_link.specs.Refusals.{Refusal}
-use Rattle.tc_link.specs.LayoutFaults.{layout_of}
-use Rattle.tc_link.specs.declared.layout_errors.LayoutErr.{LayoutErr}
 use Rattle.tcd_base.specs.Files.{Map}
-use Rattle.tcd_base.specs.declared.errors.FormErr.{FormErr}
-use Rattle.tcd_forms.specs.Forms.{IsSource}
-use Rattle.tcd_forms.specs.Lines.{layout_line, link_line}
-use Rattle.tcd_driver.specs.Headlines.{HoldsFile, IsBadFile, HoldsLayout, HoldEach, IsWritten}
+use Rattle.tcd_forms.specs.Forms.{IsSource, SourceData}
+use Rattle.tcd_forms.specs.Lines.{link_line, certified_words}
+use Rattle.tcd_driver.specs.Headlines.{HoldsFile, IsBadFile, HoldsLayout, HoldEach, IsWritten, HoldsPlan, IsBestWith, IsSourceText, refused_words}
+use Rattle.std.specs.FinMap.{get}
+use Rattle.elf_image.specs.ReadElf.{image_of}
+use Rattle.tcd_plan.specs.PlanData.{PlanData}
+use Rattle.depth_cert.specs.declared.keys.Key.{Key}
+use Rattle.depth_cert.specs.Certs.{CertData}
+use Rattle.depth_cert.specs.Spelling as certs
+use Rattle.tc_program.specs.Placed.{Placed}
+use Rattle.tcd_driver.specs.BestCert.{NoneIsAccepted, EachIsRefused}
+use Rattle.tcd_driver.specs.BadInputLines.{IsNoLayout, IsNoObject}
+use Rattle.cfg_recover.specs.CertRefusals.{IsRefusal}
+use Rattle.tcd_report.specs.Generated.{generated_image}
+use Rattle.tcd_report.specs.Generated.Planned.{generated_plan}
+use Rattle.tcd_driver.specs.Gen.{IsCount}
 
 -- ---- asm
 -- `asm` is done: the source breaks no rule, and OBJ now holds the bytes of its object.
@@ -63,17 +73,6 @@ pub record HeadlineOfLink (layout_name elf_name : List ℕ) (object_names : List
   pub writes : IsWritten before after elf_name (file_of image)
   pub prints : printed ≡ codes "image " ++ (decimal (length (file_of image)) ++ (codes " bytes" ++ 10 ∷ []))
 
--- the bytes are no layout, and this is the line of their first fault
-abbrev pub IsNoLayout : List ℕ → List ℕ → Type 0
-IsNoLayout bytes line = (e : LayoutErr) × (layout_of bytes ≡ Err e) × (line ≡ layout_line e)
-
--- the bytes are no object; the line has the number of the first fault, the place of the object
--- among the words, and the offset of the fault
-abbrev pub IsNoObject : ℕ → List ℕ → List ℕ → Type 0
-IsNoObject place bytes line =
-    (e : FormErr) × (object_of bytes ≡ Err e)
-    × (line ≡ codes "bad object " ++ (decimal e.kind ++ (codes " at " ++ (decimal place ++ (codes " " ++ (decimal e.at ++ 10 ∷ []))))))
-
 -- the first file among the objects that is bad
 pub record IsFirstBadObject (before : Map) (object_names : List (List ℕ)) (line : List ℕ) : Type 0 where
   pub good_names : List (List ℕ)
@@ -96,4 +95,56 @@ pub data IsLinkFault (before : Map) (layout_name : List ℕ) (object_names : Lis
 -- `link` finds its input bad.
 pub record RefusalByLink (layout_name : List ℕ) (object_names : List (List ℕ)) (before after : Map) (printed : List ℕ) : Type 0 where
   pub fault : IsLinkFault before layout_name object_names printed
+  pub stays : after ≡ before
+
+-- a plan, a layout and sources: the objects of the sources are linked to the image by the layout,
+-- and each of their statements has its bytes in the image
+pub record IsImageOfFiles (before : Map) (plan_name layout_name : List ℕ) (source_names : List (List ℕ)) (plan : PlanData) (image : ImageData) : Type 0 where
+  pub layout : LayoutData
+  pub sources : List SourceData
+  pub plan_file : HoldsPlan before plan_name plan
+  pub layout_file : HoldsLayout before layout_name layout
+  pub source_files : HoldEach before (2 ^ 24) IsSourceText source_names sources
+  pub linked : image_of_objects (map (λ source. source.object) sources) layout ≡ Ok image
+  pub placed : Placed (map (λ source. source.text) sources) layout image
+
+-- `ship` is done: ELF and CERT are different names. ELF now holds the image of the sources, and its
+-- bytes read back as it. CERT now holds the best certificate for this image. Each other name holds
+-- what it held.
+pub record HeadlineOfShip (plan_name layout_name elf_name cert_name : List ℕ) (source_names : List (List ℕ)) (before after : Map) (printed : List ℕ) : Type 0 where
+  pub plan : PlanData
+  pub image : ImageData
+  pub cert : CertData
+  pub need : ℕ
+  pub apart : elf_name ≢ cert_name
+  pub image_is : IsImageOfFiles before plan_name layout_name source_names plan image
+  pub image_reads : image_of (file_of image) ≡ Ok image
+  pub best : IsBestWith image plan cert need
+  pub elf_written : get after elf_name ≡ Some (file_of image)
+  pub cert_written : get after cert_name ≡ Some (certs.bytes_of cert)
+  pub others : (other : List ℕ) → other ≢ elf_name → other ≢ cert_name → get after other ≡ get before other
+  pub prints : printed ≡ certified_words need (plan.areas - plan.reserve)
+
+-- `ship` refuses: no certificate is accepted for the image of the sources.
+pub record RefusalByShip (plan_name layout_name : List ℕ) (source_names : List (List ℕ)) (before after : Map) (printed : List ℕ) : Type 0 where
+  pub plan : PlanData
+  pub image : ImageData
+  pub rule : ℕ
+  pub frame : Key
+  pub address : ℕ
+  pub image_is : IsImageOfFiles before plan_name layout_name source_names plan image
+  pub none : NoneIsAccepted image plan rule frame address
+  pub prints : printed ≡ refused_words rule frame address
+  pub stays : after ≡ before
+
+-- `gen` refuses: no certificate of version 1 is accepted, and this is why.
+pub record RefusalByGen (word : List ℕ) (before after : Map) (printed : List ℕ) : Type 0 where
+  pub functions : ℕ
+  pub rule : ℕ
+  pub frame : Key
+  pub address : ℕ
+  pub counted : IsCount word functions
+  pub none : EachIsRefused (generated_image functions) generated_plan 1
+  pub why : IsRefusal (generated_image functions) generated_plan 1 rule frame address
+  pub prints : printed ≡ refused_words rule frame address
   pub stays : after ≡ before

@@ -7,15 +7,16 @@ use Rattle.depth_cert.specs.declared.keys.Key.{Key}
 use Rattle.depth_cert.specs.Certs.{CertData, IsCert}
 use Rattle.depth_cert.specs.Grammar.{certificate_of}
 use Rattle.depth_cert.specs.Spelling.{bytes_of}
-use Rattle.cfg_recover.specs.Accepting.{Accepts, IsFirstFault}
-use Rattle.cfg_recover.specs.Refusals.{IsRefusal}
+use Rattle.cfg_recover.specs.RulesHoldOrFail.{Accepts, IsFirstFault}
+use Rattle.cfg_recover.specs.CertRefusals.{IsRefusal}
 use Rattle.value_cells.specs.declared.cells.Cell.{Cell}
 use Rattle.value_cells.specs.Cells.{with_cells}
 use Rattle.value_cells.specs.Keeping.{KeepsCells, IsFirstBreak}
-use Rattle.value_cells.specs.Reading.{Reads}
+use Rattle.value_cells.specs.CellListText.{Reads}
 use Rattle.value_cells.specs.Safe.{SafeWithCells}
 use Rattle.tcd_base.specs.Files.{Map}
-use Rattle.tcd_driver.specs.Headlines.{HoldsFile, AreFirmwareFiles, HoldsCert, IsWritten, IsAcceptedWith, EachIsRefused, IsLeastOfItsVersion, refused_words}
+use Rattle.tcd_driver.specs.Headlines.{HoldsFile, AreFirmwareFiles, HoldsCert, IsWritten, IsAcceptedWith, refused_words}
+use Rattle.tcd_driver.specs.BestCert.{EachIsRefused, IsLeastOfItsVersion}
 
 -- an executable, a plan, and its cells
 pub record AreCellFiles (before : Map) (elf_name plan_name cells_name : List ℕ) (image : ImageData) (plan : PlanData) (list : List Cell) : Type 0 where

@@ -1,5 +1,5 @@
 -- What it means that `tasks` and `taskcert` are done.
-use Rattle.std.specs.Prelude.{◌≡◌, ◌≢◌, ◌≤◌, ◌<◌, ◌-◌, ◌^◌, ◌⊎◌, ℕ, List, [], ◌∷◌, ◌++◌, codes, length, take, All, Ok, Some}
+use Rattle.std.specs.Prelude.{◌≡◌, ◌≢◌, ◌≤◌, ◌<◌, ◌-◌, ◌^◌, ◌⊎◌, ℕ, List, ◌∷◌, ◌++◌, codes, length, take, All, Ok, Some, []}
 use Rattle.std.specs.Fmt.{decimal}
 use Rattle.std.specs.FinMap.{get}
 use Rattle.csa_chain.specs.SeveralChains.{sum_below}
@@ -11,17 +11,20 @@ use Rattle.depth_cert.specs.declared.keys.Key.{Key}
 use Rattle.depth_cert.specs.Certs.{CertData, IsCert}
 use Rattle.depth_cert.specs.Grammar.{certificate_of}
 use Rattle.depth_cert.specs.Spelling.{bytes_of}
-use Rattle.cfg_recover.specs.Accepting.{Accepts, IsFirstFault}
-use Rattle.cfg_recover.specs.Refusals.{IsRefusal}
+use Rattle.cfg_recover.specs.RulesHoldOrFail.{Accepts, IsFirstFault, certified_need}
+use Rattle.cfg_recover.specs.CertRefusals.{IsRefusal}
 use Rattle.task_chains.specs.Tasks.{TasksData, count}
-use Rattle.task_chains.specs.Reading.{Reads}
-use Rattle.task_chains.specs.Routine.{HasRoutine, IsRoutineFault}
+use Rattle.task_chains.specs.TaskListText.{Reads}
+use Rattle.task_chains.specs.SwitchRoutine.{HasRoutine, IsRoutineFault}
 use Rattle.task_chains.specs.Views.{view_image_of, view_plan_of}
-use Rattle.task_chains.specs.Apart.{KeepsApart, IsTaskFault}
-use Rattle.task_chains.specs.Safe.{SafeTasks, need_of_task}
+use Rattle.task_chains.specs.Rule17.{KeepsApart, IsTaskFault}
+use Rattle.task_chains.specs.SafeTasks.{SafeTasks, need_of_task, IsJudged}
 use Rattle.tcd_base.specs.Files.{Map}
 use Rattle.tcd_driver.specs.Tasks.{cert_of}
-use Rattle.tcd_driver.specs.Headlines.{HoldsFile, AreFirmwareFiles, HoldEach, EachIsRefused, IsLeastOfItsVersion, refused_words}
+use Rattle.tcd_driver.specs.Headlines.{HoldsFile, AreFirmwareFiles, HoldEach, refused_words}
+use Rattle.tcd_driver.specs.BestCert.{EachIsRefused, IsLeastOfItsVersion}
+use Rattle.tcd_forms.specs.Lines.{sum_words, tasks_words}
+use Rattle.depth_maker.specs.LeastCertMade.{IsMade}
 
 -- an executable, a plan, and its tasks
 pub record AreTaskFiles (before : Map) (elf_name plan_name tasks_name : List ℕ) (image : ImageData) (plan : PlanData) (list : TasksData) : Type 0 where
@@ -45,11 +48,6 @@ pub record AreSafeTogether (image : ImageData) (plan : PlanData) (list : TasksDa
   pub enough : sum_below (count list) needs ≤ plan.areas - plan.reserve
   pub safe : SafeTasks image plan list needs
 
--- the line of `tasks`: the needs together, the areas without the reserve, and the number of tasks
-abbrev pub tasks_words : ℕ → ℕ → ℕ → List ℕ
-tasks_words sum areas n =
-    codes "certified " ++ (decimal sum ++ (codes " of " ++ (decimal areas ++ (codes " areas in " ++ (decimal n ++ (codes " tasks" ++ 10 ∷ []))))))
-
 -- the sum of the certificates' needs
 abbrev pub sum_of : ImageData → PlanData → TasksData → List CertData → ℕ
 sum_of image plan list certs = sum_below (count list) (need_of_task image plan list (cert_of certs))
@@ -62,10 +60,6 @@ switch_words address = codes "refused switch at " ++ (hex_word address ++ 10 ∷
 abbrev pub task_words : ℕ → Key → ℕ → ℕ → List ℕ
 task_words rule frame address u =
     take (length (refused_words rule frame address) - 1) (refused_words rule frame address) ++ (codes " of task " ++ (decimal u ++ 10 ∷ []))
-
--- the line of needs that are together above the areas
-abbrev pub sum_words : ℕ → ℕ → List ℕ
-sum_words sum areas = codes "refused sum " ++ (decimal sum ++ (codes " of " ++ (decimal areas ++ (codes " areas" ++ 10 ∷ []))))
 
 -- `tasks` is done: by the certificates, one for each task, all tasks are safe together.
 pub record HeadlineOfTasks (elf_name plan_name tasks_name : List ℕ) (cert_names : List (List ℕ)) (before after : Map) (printed : List ℕ) : Type 0 where
@@ -182,3 +176,16 @@ pub record RefusalByTaskcert (elf_name plan_name tasks_name : List ℕ) (cert_na
   pub as_many : length cert_names ≡ count list
   pub fault : IsTaskcertFault image plan list printed
   pub stays : after ≡ before
+
+-- this is the least certificate of version 2 that is accepted for the task's view, and it is judged
+-- well
+pub record IsTaskMade (image : ImageData) (plan : PlanData) (tasks : TasksData) (u : ℕ) (cert : CertData) : Type 0 where
+  pub made : IsMade (view_image_of image tasks u) (view_plan_of plan tasks u) 2 cert
+  pub judged : IsJudged image plan tasks cert u
+
+-- the bytes spell the certificate of task u, with this need
+pub record SpellTask (image : ImageData) (plan : PlanData) (tasks : TasksData) (u : ℕ) (bytes : List ℕ) (need : ℕ) : Type 0 where
+  pub cert : CertData
+  pub spell : bytes ≡ bytes_of cert
+  pub made : IsTaskMade image plan tasks u cert
+  pub need_is : need ≡ certified_need (view_image_of image tasks u) (view_plan_of plan tasks u) cert

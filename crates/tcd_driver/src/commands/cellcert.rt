@@ -1,5 +1,5 @@
 // The command `cellcert`.
-ghost use Rattle.depth_maker.specs.Answers.{AreMade};
+ghost use Rattle.depth_maker.specs.LeastCertMade.{AreMade};
 ghost use Rattle.value_cells.specs.Cells as spec;
 ghost use Rattle.value_cells.specs.Cells.{AreCells};
 ghost use Rattle.tcd_driver.specs.Cellcert.{IsCertifyingCells, cellcert_reading};

@@ -2,7 +2,7 @@
 ghost use Rattle.tcd_driver.specs.Cert.{IsCertifying, cert_reading};
 ghost use Rattle.tcd_reading.specs.Outcomes.{Comes, IsTold};
 
-use crate::making::{Making, make_best};
+use crate::cert_making::{Making, make_best};
 use elf_image::Image;
 use std::alloc::Global;
 use tcd_base::Files;

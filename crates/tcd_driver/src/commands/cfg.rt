@@ -1,9 +1,10 @@
 // The command `cfg`.
 ghost use Rattle.std.specs.Prelude.{IfOk};
-ghost use Rattle.tcd_driver.specs.Cfg.{IsDrawing, IsDrawn, SpellOne, cfg_reading};
+ghost use Rattle.tcd_driver.specs.Cfg.{IsDrawing, IsDrawn, cfg_reading};
+ghost use Rattle.tcd_driver.specs.BestCert.{SpellOne};
 ghost use Rattle.tcd_reading.specs.Outcomes.{Comes, IsTold};
 
-use crate::making::{Making, make_best};
+use crate::cert_making::{Making, make_best};
 use depth_cert::CertErr;
 use elf_image::Image;
 use packed_cert::PackedCert;

@@ -1,6 +1,6 @@
 // The command `gen`.
 ghost use Rattle.std.specs.Prelude.{◌≤◌};
-ghost use Rattle.depth_maker.specs.Answers.{AreMade};
+ghost use Rattle.depth_maker.specs.LeastCertMade.{AreMade};
 ghost use Rattle.tcd_report.specs.Generated.{generated_image};
 ghost use Rattle.tcd_report.specs.Generated.Planned.{generated_plan};
 ghost use Rattle.tcd_driver.specs.Gen.{IsSummary};

@@ -1,6 +1,6 @@
 // The command `report`.
 ghost use Rattle.std.specs.Prelude.{IfOk};
-ghost use Rattle.cfg_recover.specs.Accepting.{Accepts};
+ghost use Rattle.cfg_recover.specs.RulesHoldOrFail.{Accepts};
 ghost use Rattle.tcd_report.specs.Reports.{IsReport};
 ghost use Rattle.tcd_driver.specs.Reporting.{IsReporting, report_reading};
 ghost use Rattle.tcd_reading.specs.Outcomes.{Comes, IsTold};

@@ -1,5 +1,5 @@
 // The command `run`.
-ghost use Rattle.tc_script.specs.Fitting.{FitsPlan};
+ghost use Rattle.tc_script.specs.ScriptsFitPlans.{FitsPlan};
 ghost use Rattle.tcd_driver.specs.Run.{IsRun, run_reading};
 ghost use Rattle.tcd_reading.specs.Outcomes.{Comes, IsTold};
 

@@ -5,7 +5,7 @@ ghost use Rattle.tcd_reading.specs.Inputs.{each, answer};
 ghost use Rattle.tcd_reading.specs.Outcomes.{Comes, IsTold};
 ghost use Rattle.tcd_driver.specs.Ship.{AreSourcesOf, IsShipping, SpellImage, shipped_by, ship_names, ship_reading};
 
-use crate::making::{Making, make_best};
+use crate::cert_making::{Making, make_best};
 use crate::own_output::only_image_memory;
 use elf_image::Image;
 use std::alloc::Global;

@@ -1,15 +1,16 @@
 // The command `taskcert`.
 ghost use Rattle.std.specs.Prelude.{◌≡◌, ◌<◌, ◌++◌, ◌∷◌, [], length, map, string_bytes, IsOkAnd, OnOk};
-ghost use Rattle.depth_maker.specs.Answers.{AreMade};
+ghost use Rattle.depth_maker.specs.LeastCertMade.{AreMade};
 ghost use Rattle.task_chains.specs.Tasks.{count};
 ghost use Rattle.task_chains.specs.Views.{FitPlan};
 ghost use Rattle.tcd_reading.specs.Outcomes.{Comes, IsTold};
-ghost use Rattle.tcd_driver.specs.Taskcert.{IsTaskcerting, MakesApart, MakesTask, MakesAll, writes_files, taskcert_reading};
+ghost use Rattle.tcd_driver.specs.Taskcert.{IsTaskcerting, MakesApart, MakesTask, MakesAll, taskcert_reading};
+ghost use Rattle.tcd_reading.specs.Reports.{writes_files};
 
 use crate::cell_and_task_files::TasksFile;
+use crate::cert_making::Making;
 use crate::commands::tasks::need_to_count;
 use crate::lines::tasks_line;
-use crate::making::Making;
 use depth_cert::{CertErr, Key};
 use depth_check::{Verdict, check_packed};
 use depth_maker::{MakeErr, make_bytes};

@@ -19,13 +19,13 @@ use Rattle.depth_cert.specs.declared.keys.Key.{Key}
 use Rattle.depth_cert.specs.declared.points.Exit.{Exit}
 use Rattle.depth_cert.specs.Certs.{CertData}
 use Rattle.depth_cert.specs.Exits.{exit_of}
-use Rattle.cfg_recover.specs.Entries.{aln_entry, aln_key, call_entry, call_key, irq_entry, irq_key, sys_key, irqs_of}
-use Rattle.cfg_recover.specs.Flows.{entered_key}
-use Rattle.cfg_recover.specs.LocalRules.{are_aligned, targets_of}
-use Rattle.cfg_recover.specs.Duties.{Owed, owed, jump, enter, resume, leave, jump_on, jumps_to, loaded_at, next_of, successors_of, entered_and_back, entries_of, misaligned_at, misaligned_entry, misaligned_of, interrupts_of, leavings_of, duties_of}
-use Rattle.tcd_report.specs.Graphs.{jump_by, entry_by, entries_in, back_by, each_once}
-use Rattle.tcd_report.specs.Reports.Calls.{key_by, called_by}
-use Rattle.tcd_report.specs.Graphs.Edges.{jumped_in, returned_in, called_of, systems_of, vectors_in}
+use Rattle.cfg_recover.specs.Entries.{aln_entry, aln_key, call_entry, call_key, irq_entry, irq_key, sys_key, irqs_of, vectors_in}
+use Rattle.cfg_recover.specs.FlowDuties.{entered_key}
+use Rattle.cfg_recover.specs.LocalRules.{targets_of}
+use Rattle.store_ranges.specs.Accesses.{are_aligned}
+use Rattle.cfg_recover.specs.Duties.{Owed, owed, jump, enter, resume, leave, jump_on, jumps_to, loaded_at, next_of, successors_of, entered_and_back, entries_of, misaligned_at, misaligned_entry, misaligned_of, interrupts_of, leavings_of, duties_of, key_by}
+use Rattle.tcd_report.specs.Graphs.{jump_by, entry_by, entries_in, back_by, each_once, jumped_in, returned_in, called_of, systems_of}
+use Rattle.tcd_report.specs.Reports.Calls.{called_by}
 
 -- ---- lists of lists
 flat_flat : {A B X : Type 0} (f : B → List X) (h : A → List B) (g : A → List X) → ((x : A) → flat_map f (h x) ≡ g x) → (xs : List A) → flat_map f (flat_map h xs) ≡ flat_map g xs

@@ -16,7 +16,7 @@ use Rattle.tc_machine.specs.declared.events.Cause.TheVariants.{NoCode}
 use Rattle.tc_machine.specs.declared.events.Event.{Event}
 use Rattle.tc_machine.specs.declared.state.Machine.{Machine}
 use Rattle.tc_machine.specs.Machine.{moved}
-use Rattle.tc_machine.specs.Fetching.{mapped_bytes, shaped, fetched}
+use Rattle.tc_machine.specs.Fetching.{mapped_bytes, shaped, fetched, size_in}
 use Rattle.tc_machine.specs.Stepping.{is_taken, step, run}
 use Rattle.tc_machine.specs.Safe.{IsMachine, AllFit, IsAtCode}
 use Rattle.tc_machine.proofs.Fetched.{mapped_bytes-front}
@@ -30,11 +30,11 @@ use Rattle.depth_cert.specs.Certs.{CertData, IsCert}
 use Rattle.cfg_recover.specs.Code.{IsCode}
 use Rattle.cfg_recover.specs.Entries.{start_key, call_key, handler_key}
 use Rattle.cfg_recover.specs.Duties.{Owed, duties_of}
-use Rattle.cfg_recover.specs.Accepting.{limits_in}
-use Rattle.cfg_recover.specs.OwedMoves.{traps}
-use Rattle.cfg_recover.specs.Frames.{Standing, frames_by, frames_after, frames_from, frames, size_in}
-use Rattle.cfg_recover.specs.OwedEdges.{IsOwed, EdgeOwed}
-use Rattle.cfg_recover.specs.Edges.{Way, to, call, irq, sys, aln, ret, rfe, way_of_shape, way_by, way_in, way_of_step}
+use Rattle.cfg_recover.specs.RulesHoldOrFail.{limits_in}
+use Rattle.tc_machine.specs.Instructions.{traps}
+use Rattle.cfg_recover.specs.Frames.{Standing, frames_by, frames_after, frames_from, frames}
+use Rattle.cfg_recover.specs.EdgesAreOwed.{IsOwed, EdgeOwed}
+use Rattle.cfg_recover.specs.StepEdges.{Way, to, call, irq, sys, aln, ret, rfe, way_of_shape, way_by, way_in, way_of_step}
 use Rattle.cfg_recover.proofs.CodeLaws.{IsCode-one}
 use Rattle.cfg_recover.proofs.Members.{contains_first, contains_map, contains_flat}
 use Rattle.tcd_report.specs.Graphs.{Arrow, goes, line_text, arrows_of, ArePointLines, AreParts, AreJoined, AreNodeLines, AreGraphLines, leaves_by}

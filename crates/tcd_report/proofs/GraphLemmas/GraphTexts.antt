@@ -13,12 +13,11 @@ use Rattle.depth_cert.specs.declared.points.Point.{Point}
 use Rattle.depth_cert.specs.Certs.{CertData}
 use Rattle.cfg_recover.specs.Duties.{Owed, duties_of}
 use Rattle.cfg_recover.specs.Code.{IsCode}
-use Rattle.cfg_recover.specs.Accepting.{limits_in}
-use Rattle.cfg_recover.specs.Edges.{to, call, irq, sys, aln, ret, rfe}
+use Rattle.cfg_recover.specs.RulesHoldOrFail.{limits_in}
+use Rattle.cfg_recover.specs.StepEdges.{to, call, irq, sys, aln, ret, rfe}
 use Rattle.tcd_report.specs.declared.graphs.edges.Edges.{Edges}
-use Rattle.tcd_report.specs.Graphs.{Arrow, goes, back, line_to, line_text, leaves_by, jumps_in, calls_in, backs_in, systems_in, misaligned_in, interrupts_in, arrows_of, ArePointLines}
+use Rattle.tcd_report.specs.Graphs.{Arrow, goes, back, line_to, line_text, leaves_by, jumps_in, calls_in, backs_in, systems_in, misaligned_in, interrupts_in, arrows_of, ArePointLines, AreEdges, lines_to, ways_text, leaving_text}
 use Rattle.tcd_report.specs.Judging.{GrowsBy}
-use Rattle.tcd_report.specs.Graphs.Edges.{AreEdges, lines_to, ways_text, leaving_text}
 
 -- lines that are made of a list, one after another
 lines_joined : {A : Type 0} (f : A → List ℕ) (xs : List A) → flat_map (λ l. l) (map f xs) ≡ flat_map f xs

@@ -1,9 +1,9 @@
 -- The bytes of the generated instructions.
 use Rattle.std.proofs.Common.{◌≡◌, ◌+◌, ◌-◌, ◌*◌, ◌/◌, ◌%◌, ◌^◌, ◌<◌, ℕ, [], ◌∷◌, ◌++◌, codes, refl, sym, ap, ◌∙◌, arith}
-use Rattle.tcd_base.specs.Bytes.{bytes_of_word}
+use Rattle.tcd_base.specs.Bytes.{bytes_of_word, four_bytes}
 use Rattle.tc_isa.specs.declared.table.Form.TheVariants.{B}
-use Rattle.tc_isa.specs.Forms.{fields, word}
-use Rattle.tc_isa.specs.Spelling.{four_bytes}
+use Rattle.tc_isa.specs.Forms.{fields}
+use Rattle.tc_isa.specs.Spelling.{word}
 use Rattle.tcd_report.specs.Generated.{code, call_from, call_if_below, function_at, function_code, handler, handler_at, main_code, system_code}
 
 -- ---- calls

@@ -3,7 +3,8 @@ use Rattle.std.proofs.Common.{◌≡◌, ◌+◌, ◌-◌, ◌*◌, ◌≤◌, �
 use Rattle.std.specs.Prelude.{if◌then◌else◌}
 use Rattle.std.specs.List.{flat_map, range_with_len}
 use Rattle.std.proofs.lemmas.List.{length-replicate}
-use Rattle.tcd_report.specs.Generated.{code, call_from, call_if_below, filled, function_at, function_code, functions, handler, table, vectors}
+use Rattle.tcd_report.specs.Generated.{code, call_from, call_if_below, function_at, function_code, functions, handler, table, vectors}
+use Rattle.tcd_base.specs.Bytes.{filled}
 use Rattle.tcd_report.proofs.ImageLemmas.Instructions.{function_bytes}
 use Rattle.tcd_report.proofs.ImageLemmas.Ranges.{length-pieces}
 

@@ -6,7 +6,7 @@ use Rattle.serde_json.specs.Read.{read}
 use Rattle.serde_json.proofs.OnLiterals.{serde_json_on_literals}
 use Rattle.tcd_plan.specs.KeyRows.{key_rows}
 use Rattle.tcd_plan.specs.Plans.{Gives, plan_of, plan_in, refusal_of}
-use Rattle.tcd_plan.specs.PlanLimits.{too_many_of, has_areas, has_vectors}
+use Rattle.tcd_plan.specs.PlanData.{too_many_of, has_areas, has_vectors}
 use Rattle.tcd_plan.specs.Regions.{overlap_of}
 use Rattle.tcd_plan.specs.KeyFaults.{missing_of, unknown_of, bad_value_of}
 use Rattle.tcd_report.specs.Generated.Planned.{generated_plan, generated_text}

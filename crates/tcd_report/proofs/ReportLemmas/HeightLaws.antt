@@ -15,10 +15,12 @@ use Rattle.depth_cert.specs.declared.keys.Key.{Key}
 use Rattle.depth_cert.specs.declared.points.Point.{Point}
 use Rattle.depth_cert.specs.Nodes.{NodeData, IsNode}
 use Rattle.depth_cert.specs.Certs.{CertData, IsCert, find_node}
-use Rattle.cfg_recover.specs.Accepting.{Accepts}
+use Rattle.cfg_recover.specs.RulesHoldOrFail.{Accepts}
 use Rattle.cfg_recover.proofs.Members.{contains_map}
 use Rattle.tcd_report.specs.Reports.Calls.{CallsAt, Calls, CallsInARow}
-use Rattle.tcd_report.specs.Reports.Heights.{key_eq, rank_of, IsMostOf, HasRowAt, AreLow, IsHeight, IsTold, TellsHeights, HasHeights}
+use Rattle.tcd_report.specs.Reports.Heights.{IsMostOf, HasRowAt, AreLow, IsHeight, IsTold, TellsHeights, HasHeights}
+use Rattle.tcd_report.specs.Reports.{rank_of}
+use Rattle.depth_cert.specs.Keys.{key_eq}
 use Rattle.tcd_report.proofs.ReportLemmas.NodeLaws.{map_contains, node_stands, one_node, callee_needs}
 use Rattle.tcd_report.proofs.ReportLemmas.RankLaws.{stands_before}
 

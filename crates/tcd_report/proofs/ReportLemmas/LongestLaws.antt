@@ -12,8 +12,9 @@ use Rattle.depth_cert.specs.declared.keys.Key.{Key}
 use Rattle.depth_cert.specs.Nodes.{NodeData}
 use Rattle.depth_cert.specs.Certs.{CertData, IsCert}
 use Rattle.cfg_recover.proofs.Members.{contains_first}
-use Rattle.tcd_report.specs.Reports.Longest.{prios_below, IsLongest, AtPrio, greater, row_of, rows_below}
-use Rattle.tcd_report.specs.Reports.Heights.{IsGreatest, key_eq, IsHeight, TellsHeights}
+use Rattle.tcd_report.specs.Reports.Longest.{prios_below, IsLongest, AtPrio, greater, row_of, rows_below, IsGreatest}
+use Rattle.tcd_report.specs.Reports.Heights.{IsHeight, TellsHeights}
+use Rattle.depth_cert.specs.Keys.{key_eq}
 use Rattle.tcd_report.specs.declared.reports.longest_by_priority.LongestCalls.{LongestCalls}
 use Rattle.tcd_report.proofs.ReportLemmas.NodeLaws.{one_node}
 

@@ -16,10 +16,10 @@ use Rattle.depth_cert.specs.Keys.{number_of_key}
 use Rattle.depth_cert.specs.Nodes.{NodeData}
 use Rattle.depth_cert.specs.Certs.{CertData, IsCert, find_node, key_numbers}
 use Rattle.cfg_recover.specs.LocalFaults.{IsFaultless}
-use Rattle.cfg_recover.specs.Duties.{Duty, enter, Owed, owed, duties_of}
-use Rattle.cfg_recover.specs.Accepting.{limits_in, RuleHolds, HasNeed, IsNeedAbove, Accepts}
+use Rattle.cfg_recover.specs.Duties.{Duty, enter, Owed, owed, duties_of, key_by}
+use Rattle.cfg_recover.specs.RulesHoldOrFail.{limits_in, RuleHolds, HasNeed, IsNeedAbove, Accepts}
 use Rattle.cfg_recover.proofs.Members.{contains_first}
-use Rattle.tcd_report.specs.Reports.Calls.{key_by, called_by, Calls}
+use Rattle.tcd_report.specs.Reports.Calls.{called_by, Calls}
 use Rattle.tcd_report.proofs.JudgedPoints.{all_rules}
 
 -- ---- lists

@@ -10,12 +10,12 @@ use Rattle.depth_cert.specs.Certs.{CertData}
 use Rattle.cfg_recover.specs.Duties.{Owed, duties_of}
 use Rattle.cfg_recover.specs.Code.{IsCode}
 use Rattle.depth_cert.specs.Keys.{call_kind}
-use Rattle.cfg_recover.specs.Flows.{entered_key}
-use Rattle.cfg_recover.specs.Accepting.{limits_in}
+use Rattle.cfg_recover.specs.FlowDuties.{entered_key}
+use Rattle.cfg_recover.specs.RulesHoldOrFail.{limits_in}
 use Rattle.cfg_recover.proofs.CodeLaws.{IsCode-one}
 use Rattle.cfg_recover.proofs.Members.{contains_map}
 use Rattle.tcd_report.specs.Reports.Calls.{called_by, CallsAt}
-use Rattle.tcd_report.specs.Graphs.Edges.{called_of}
+use Rattle.tcd_report.specs.Graphs.{called_of}
 use Rattle.tcd_report.specs.Reports.Heights.{IsMost, IsMostOf, HasRow, HasRowAt}
 use Rattle.tcd_report.proofs.GraphLemmas.DutyLists.{keys_told}
 use Rattle.tcd_report.proofs.ReportLemmas.NodeLaws.{map_contains}

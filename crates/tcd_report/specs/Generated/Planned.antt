@@ -1,12 +1,8 @@
 -- The plan of the generated images.
-use Rattle.std.specs.Prelude.{ℕ, List, [], ◌∷◌, codes, true, false}
-use Rattle.tcd_base.specs.declared.range.Range.{Range}
+use Rattle.std.specs.Prelude.{ℕ, List, ◌∷◌, codes, true, false, []}
 use Rattle.tcd_base.specs.declared.core_version.Core.TheVariants.{V13}
 use Rattle.tcd_plan.specs.PlanData.{PlanData}
-
--- len bytes at an address
-abbrev pub range : ℕ → ℕ → Range
-range at len = record { at = at; len = len }
+use Rattle.tcd_base.specs.Ranges.{range}
 
 -- the interrupts: 10, 20 .. 160
 abbrev pub generated_irqs : List ℕ

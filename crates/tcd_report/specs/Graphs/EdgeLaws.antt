@@ -7,10 +7,10 @@ use Rattle.tc_machine.specs.declared.state.Machine.{Machine}
 use Rattle.tc_machine.specs.Stepping.{run}
 use Rattle.tc_machine.specs.Safe.{Starts, Fits, AllFit, Safe}
 use Rattle.depth_cert.specs.Certs.{CertData, IsCert}
-use Rattle.cfg_recover.specs.Accepting.{certified_need}
+use Rattle.cfg_recover.specs.RulesHoldOrFail.{certified_need}
 use Rattle.cfg_recover.specs.Frames.{Standing, frames}
-use Rattle.cfg_recover.specs.OwedEdges.{EdgesOwed}
-use Rattle.cfg_recover.specs.Edges.{edge_of_step}
+use Rattle.cfg_recover.specs.EdgesAreOwed.{EdgesOwed}
+use Rattle.cfg_recover.specs.StepEdges.{edge_of_step}
 use Rattle.tcd_report.specs.Graphs.{AreGraphLines, goes, line_text}
 
 -- one of the lines has the key of the newest frame, the address of a step and the word of its edge

@@ -1,5 +1,5 @@
 -- The calls between the nodes of a certificate, and the longest call chains.
-use Rattle.std.specs.Prelude.{◌==◌, ℕ, zero, suc, List, ◌∷◌, Contains, if◌then◌else◌, []}
+use Rattle.std.specs.Prelude.{◌==◌, ℕ, zero, suc, List, Contains, if◌then◌else◌, []}
 use Rattle.std.specs.List.{flat_map}
 use Rattle.elf_image.specs.Images.{ImageData}
 use Rattle.tcd_plan.specs.PlanData.{PlanData}
@@ -9,14 +9,9 @@ use Rattle.depth_cert.specs.declared.points.Point.{Point}
 use Rattle.depth_cert.specs.Nodes.{NodeData}
 use Rattle.depth_cert.specs.Certs.{CertData}
 use Rattle.cfg_recover.specs.Code.{IsCode}
-use Rattle.cfg_recover.specs.Duties.{Duty, enter, Owed, duties_of}
-use Rattle.cfg_recover.specs.Accepting.{limits_in}
+use Rattle.cfg_recover.specs.Duties.{Owed, duties_of, key_by}
+use Rattle.cfg_recover.specs.RulesHoldOrFail.{limits_in}
 use Rattle.tcd_report.specs.Graphs.{call_rule}
-
--- the key of the node whose entry a duty asks for
-abbrev pub key_by : Duty → List Key
-key_by (enter k t) = k ∷ []
-key_by _ = []
 
 -- the keys of the functions that an instruction calls: rule 5 asks for their entries
 abbrev pub called_by : List Owed → List Key

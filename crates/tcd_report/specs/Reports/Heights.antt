@@ -1,6 +1,5 @@
 -- The length of the longest call chain that begins in each node (its height), in a map by keys.
-use Rattle.std.specs.Prelude.{◌≡◌, ◌≤◌, ◌⊎◌, ℕ, suc, Bool, List, Some, Contains, Option, None}
-use Rattle.std.specs.declared.cmp.Ordering.{Ordering}
+use Rattle.std.specs.Prelude.{◌≡◌, ◌≤◌, ◌⊎◌, ℕ, suc, List, Some, Contains}
 use Rattle.std.specs.HashMap.{HashMap, get}
 use Rattle.elf_image.specs.Images.{ImageData}
 use Rattle.tcd_plan.specs.PlanData.{PlanData}
@@ -8,21 +7,8 @@ use Rattle.depth_cert.specs.declared.keys.Key.{Key}
 use Rattle.depth_cert.specs.declared.points.Point.{Point}
 use Rattle.depth_cert.specs.Nodes.{NodeData}
 use Rattle.depth_cert.specs.Certs.{CertData}
-use Rattle.depth_cert.specs.contracts.keys.KeyPartialEq.TheImpl as block
-use Rattle.depth_cert.specs.contracts.keys.KeyOrd.TheImpl as order_block
 use Rattle.tcd_report.specs.Reports.Calls.{CallsAt, CallsInARow}
-
--- the comparison of keys in maps
-abbrev pub key_eq : Key → Key → Bool
-key_eq = (block.ghosts).eq
-
--- a node's need, and its key
-abbrev pub rank_of : NodeData → ℕ × Key
-rank_of n = (n.need, n.key)
-
--- the order of keys in sorting
-abbrev pub key_cmp : Key → Key → Ordering
-key_cmp = (order_block.ghosts).cmp
+use Rattle.depth_cert.specs.Keys.{key_eq}
 
 -- n is the greatest number with this property, or 0 if there is none
 pub record IsMost (P : ℕ → Type 0) (n : ℕ) : Type 0 where
@@ -64,8 +50,3 @@ TellsHeights image plan cert heights = (k : Key) (h : ℕ) → get key_eq height
 -- the map has a height for each of these keys
 abbrev pub HasHeights : {S : Type 0} → HashMap Key ℕ S → List (ℕ × Key) → Type 0
 HasHeights heights ranks = (r : ℕ × Key) → Contains ranks r → (h : ℕ) × (get key_eq heights r.1 ≡ Some h)
-
--- the greatest number with this property, if there is one
-abbrev pub IsGreatest : (ℕ → Type 0) → Option ℕ → Type 0
-IsGreatest P None = (m : ℕ) → P m → ⊥
-IsGreatest P (Some n) = P n × ((m : ℕ) → P m → m ≤ n)

@@ -3,7 +3,7 @@ use Rattle.std.specs.Prelude.{◌≡◌, ◌≤◌, ℕ, zero, suc, List, ◌∷
 use Rattle.std.specs.HashMap.{HashMap, get}
 use Rattle.depth_cert.specs.declared.keys.Key.{Key}
 use Rattle.depth_cert.specs.Nodes.{NodeData}
-use Rattle.tcd_report.specs.Reports.Heights.{key_eq}
+use Rattle.depth_cert.specs.Keys.{key_eq}
 use Rattle.tcd_report.specs.declared.reports.longest_by_priority.LongestCalls.{LongestCalls}
 use Rattle.elf_image.specs.Images.{ImageData}
 use Rattle.tcd_plan.specs.PlanData.{PlanData}
@@ -50,3 +50,8 @@ priorities = 256
 -- the priorities of the nodes, ascending
 abbrev pub prios_of : List NodeData → List ℕ
 prios_of nodes = prios_below nodes priorities
+
+-- the greatest number with this property, if there is one
+abbrev pub IsGreatest : (ℕ → Type 0) → Option ℕ → Type 0
+IsGreatest P None = (m : ℕ) → P m → ⊥
+IsGreatest P (Some n) = P n × ((m : ℕ) → P m → m ≤ n)

@@ -1,10 +1,11 @@
 // The functions of a generated image.
 ghost use Rattle.std.specs.Prelude.{◌≡◌, ◌≤◌, ◌<◌, ◌+◌, ◌*◌, ◌++◌, OnOk, IfOk, length};
-ghost use Rattle.tcd_report.specs.Generated.{function_at, call_if_below, function_code, filled, functions};
+ghost use Rattle.tcd_report.specs.Generated.{function_at, call_if_below, function_code, functions, main_code, table, handler};
+ghost use Rattle.tcd_base.specs.Bytes.{filled};
 
 use crate::generating::appending::{append, append_call, append_zeros};
 use std::alloc::Global;
-use tcd_base::NoMemory;
+use tcd_base::{NoMemory, put_u32};
 
 /// The bytes of all functions.
 pub(crate) fn functions(alloc: Global, n: u32) -> Result<Vec<u8>, NoMemory>
@@ -69,4 +70,46 @@ fn append_call_if_below(out: &mut Vec<u8>, n: u32, at: u32, i: u32) -> Result<()
         append_call(out, at, function_at(i))?;
     }
     Ok(())
+}
+
+/// The main program.
+#[tactic(auto, using(crate::proofs::ImageLemmas::Instructions::main_bytes))]
+pub(crate) fn main_code() -> [u8; 32]
+    ensures { result ≡ main_code }
+{
+    [
+        0x91, 0x00, 0x00, 0xff, // movh.a a15, 0xF000
+        0x19, 0xff, 0x00, 0x00, // ld.w.l d15, [a15]0
+        0x91, 0x00, 0x00, 0xe8, // movh.a a14, 0x8000
+        0x01, 0xef, 0x02, 0xe6, // addsc.a a14, a14, d15, 2
+        0x99, 0xee, 0x00, 0x40, // ld.a.l a14, [a14]256
+        0x2d, 0x0e, 0x00, 0x00, // calli a14
+        0xad, 0x10, 0x80, 0x00, // syscall 1
+        0x1d, 0xff, 0xf2, 0xff, // j .-28
+    ]
+}
+
+/// The table with the addresses of sixteen functions, from which the main program takes one.
+pub(crate) fn table(alloc: Global, n: u32) -> Result<Vec<u8>, NoMemory>
+    requires some { 1 ≤ n }
+    requires few { n ≤ 500 }
+    ensures { IfOk result (λ v. v.items ≡ table n) }
+{
+    let mut out = Vec::new(alloc);
+    for j in 0..16 {
+        put_u32(&mut out, function_at(j % n))?;
+    }
+    Ok(out)
+}
+
+// Appends the handler of interrupt p: `bisr16 p`, a call of the last function, `rslcx`, `rfe16`.
+#[tactic(auto, using(crate::proofs::ImageLemmas::Instructions::handler_bytes))]
+pub(crate) fn append_handler(out: &mut Vec<u8>, n: u32, p: u8) -> Result<(), NoMemory>
+    requires some { 1 ≤ n }
+    requires few { n ≤ 500 }
+    ensures { OnOk result (out.new.items ≡ out.old.items ++ handler n p) }
+{
+    append(out, &[0xe0, p])?;
+    append_call(out, 0x8000_2002 + 32 * u32::from(p), function_at(n - 1))?;
+    append(out, &[0x0d, 0x00, 0x40, 0x02, 0x00, 0x80])
 }

@@ -1,13 +1,13 @@
 // The files of a generated image and of its plan.
 ghost use Rattle.std.specs.Prelude.{◌≡◌, ◌≤◌, ◌^◌, IfOk, Ok, length};
-ghost use Rattle.elf_image.specs.Elf.{image_of};
-ghost use Rattle.elf_image.specs.Written.{file_of};
+ghost use Rattle.elf_image.specs.ReadElf.{image_of};
+ghost use Rattle.elf_image.specs.WrittenElf.{file_of};
 ghost use Rattle.tcd_plan.specs.Plans.{Gives};
 ghost use Rattle.tcd_report.specs.Generated.{generated_image};
 ghost use Rattle.tcd_report.specs.Generated.Planned.{generated_plan, generated_text};
 
-use crate::generating::functions::functions;
-use crate::generating::program_segments::{main_code, system_code, table, vectors};
+use crate::generating::functions::{functions, main_code, table};
+use crate::generating::program_segments::{system_code, vectors};
 use elf_image::{Image, Segment, read_segments};
 use std::alloc::Global;
 use tcd_base::NoMemory;

@@ -1,28 +1,25 @@
 // The addresses where a point goes on, by the words of its lines.
-ghost use Rattle.std.specs.Prelude.{◌≡◌, ◌++◌, OnOk, IfOk, false, is_some};
-ghost use Rattle.std.specs.List.{flat_map};
+ghost use Rattle.std.specs.Prelude.{◌≡◌, IfOk, false, is_some, ◌++◌, OnOk, string_bytes};
 ghost use Rattle.std.specs.Option.{option_map_or};
-ghost use Rattle.tc_isa.specs.Bounded.{IsShape};
+ghost use Rattle.tc_isa.specs.InBounds.{IsShape};
 ghost use Rattle.value_domain.specs.State.{AreValues};
-ghost use Rattle.depth_cert.specs.Keys.{call_kind};
 ghost use Rattle.depth_cert.specs.Certs.{find_node};
-ghost use Rattle.cfg_recover.specs.Duties.{resume};
-ghost use Rattle.cfg_recover.specs.Flows as flows;
-ghost use Rattle.tcd_report.specs.Graphs.{back_by};
-ghost use Rattle.tcd_report.specs.Judging.{point_of, duties_at, entries_at};
-ghost use Rattle.tcd_report.specs.Graphs.Edges.{returned_in, vectors_in, AreEdges};
+ghost use Rattle.tcd_report.specs.Graphs.{AreEdges, leaving_text};
+ghost use Rattle.tcd_report.specs.Judging.{duties_at};
+ghost use Rattle.depth_cert.specs.Points.{point_of};
 
 use crate::graphs::addresses::{keep_once, sort_once};
-use crate::graphs::entries::{call_targets, misaligned_entries, system_call_entries};
-use crate::graphs::successors::push_successors;
+use crate::graphs::entries::{call_targets, misaligned_entries, system_call_entries, vectors};
+use crate::graphs::lines::append_front;
+use crate::graphs::successors::{add_returns, push_successors};
 use crate::judged::Judged;
-use cfg_recover::{Located, entered_key, interrupts, irq_key, sys_key, targets};
-use depth_cert::{CALL, Key};
+use crate::texts::append;
+use cfg_recover::{Located, interrupts};
+use depth_cert::Key;
 use packed_cert::PackedCert;
 use std::alloc::Global;
 use tc_isa::Shape;
 use tcd_base::NoMemory;
-use tcd_plan::Plan;
 use value_domain::State;
 
 /// The addresses where a point goes on: one list for each word of its lines.
@@ -67,61 +64,8 @@ pub(crate) fn edges_of(
     })
 }
 
-// Appends the address after a call or a system call, once for each entered frame that may return.
-fn add_returns(
-    all: &mut Vec<u32>,
-    judged: &Judged,
-    key: &Key,
-    addr: u32,
-    s: &State,
-    found: &Located,
-) -> Result<(), NoMemory>
-    requires { IsShape found.now.shape }
-    ensures { let j = judged.now in OnOk result (all.new.items ≡ all.old.items
-        ++ returned_in j.cert.now (entries_at j key.now (point_of addr s.now) found.now)) }
-{
-    let back = addr.wrapping_add(found.size);
-    match found.shape {
-        Shape::Call { to } => {
-            let targets = targets(judged.plan, s, addr, to);
-            push_returns(all, judged.cert, key, targets.as_slice(), back)
-        }
-        Shape::Syscall { .. } => push_return(all, judged.cert, &sys_key(judged.plan, key), back),
-        _ => Ok(()),
-    }
-}
-
-// Appends an address, once for each of the called functions whose node has an exit.
-fn push_returns(
-    all: &mut Vec<u32>,
-    cert: &PackedCert,
-    key: &Key,
-    targets: &[u32],
-    back: u32,
-) -> Result<(), NoMemory>
-    ensures { OnOk result (all.new.items ≡ all.old.items
-        ++ flat_map (λ t. back_by cert.now (resume (flows.entered_key key.now call_kind t) back))
-        targets.now) }
-{
-    for target in targets {
-        push_return(all, cert, &entered_key(key, CALL, *target), back)?;
-    }
-    Ok(())
-}
-
-// Appends an address, if the node of this key has an exit.
-fn push_return(all: &mut Vec<u32>, cert: &PackedCert, key: &Key, back: u32) -> Result<(), NoMemory>
-    ensures { OnOk result
-        (all.new.items ≡ all.old.items ++ back_by cert.now (resume key.now back)) }
-{
-    if has_exit(cert, key) {
-        all.push(back)?;
-    }
-    Ok(())
-}
-
 // Whether the node of this key has an exit.
-fn has_exit(cert: &PackedCert, key: &Key) -> bool
+pub(crate) fn has_exit(cert: &PackedCert, key: &Key) -> bool
     ensures { result
         ≡ option_map_or (λ n. is_some n.exit) (find_node key.now cert.now.nodes) false }
 {
@@ -131,13 +75,25 @@ fn has_exit(cert: &PackedCert, key: &Key) -> bool
     }
 }
 
-// The entries of the handlers of these interrupts.
-fn vectors(alloc: Global, plan: &Plan, irqs: &[u8]) -> Result<Vec<u32>, NoMemory>
-    ensures { IfOk result (λ v. v.items ≡ vectors_in plan.now irqs.now) }
+/// Appends the line of a return, if the instruction is one.
+pub(crate) fn append_leaving(
+    text: &mut String,
+    key: &Key,
+    addr: u32,
+    shape: Shape,
+) -> Result<(), NoMemory>
+    ensures { OnOk result (string_bytes text.new
+        ≡ string_bytes text.old ++ leaving_text key.now addr shape) }
 {
-    let mut all = Vec::new(alloc);
-    for irq in irqs {
-        all.push(irq_key(plan, *irq).entry)?;
+    match shape {
+        Shape::Ret => {
+            append_front(text, key, addr)?;
+            append(text, "ret\n")
+        }
+        Shape::Rfe => {
+            append_front(text, key, addr)?;
+            append(text, "rfe\n")
+        }
+        _ => Ok(()),
     }
-    Ok(all)
 }

@@ -1,17 +1,17 @@
 // The entries of the frames that an instruction enters.
 ghost use Rattle.std.specs.Prelude.{◌≡◌, ◌++◌, ◌∷◌, [], OnOk, IfOk, not, if◌then◌else◌};
-ghost use Rattle.tc_isa.specs.Bounded.{IsShape, IsSize};
+ghost use Rattle.tc_isa.specs.InBounds.{IsShape, IsSize};
 ghost use Rattle.value_domain.specs.State.{AreValues};
 ghost use Rattle.vd_transfer.specs.EffectsOnStates.{address_of};
 ghost use Rattle.depth_cert.specs.declared.keys.Key.{Key};
-ghost use Rattle.cfg_recover.specs.LocalRules.{are_aligned};
+ghost use Rattle.store_ranges.specs.Accesses.{are_aligned};
 ghost use Rattle.cfg_recover.specs.Duties.{misaligned_entry, misaligned_of};
-ghost use Rattle.tcd_report.specs.Graphs.{entries_in, misaligned_rule};
-ghost use Rattle.tcd_report.specs.Graphs.Edges.{called_of, systems_of};
+ghost use Rattle.tcd_report.specs.Graphs.{entries_in, misaligned_rule, called_of, systems_of};
+ghost use Rattle.cfg_recover.specs.Entries.{vectors_in};
 
 use crate::judged::Judged;
 use arrayvec::ArrayVec;
-use cfg_recover::{aln_key, is_aligned, sys_key, targets};
+use cfg_recover::{aln_key, interrupts, irq_key, is_aligned, sys_key, targets};
 use depth_cert::Key;
 use std::alloc::Global;
 use tc_isa::Shape;
@@ -95,4 +95,15 @@ fn accesses_misaligned(judged: &Judged, s: &State, shape: Shape, size: u8) -> bo
 {
     let at = address_by(judged.bounds, judged.plan, shape, s);
     !is_aligned(judged.bounds, &at, size)
+}
+
+// The entries of the handlers of these interrupts.
+pub(crate) fn vectors(alloc: Global, plan: &Plan, irqs: &[u8]) -> Result<Vec<u32>, NoMemory>
+    ensures { IfOk result (λ v. v.items ≡ vectors_in plan.now irqs.now) }
+{
+    let mut all = Vec::new(alloc);
+    for irq in irqs {
+        all.push(irq_key(plan, *irq).entry)?;
+    }
+    Ok(all)
 }

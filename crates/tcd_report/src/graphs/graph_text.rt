@@ -1,66 +1,23 @@
 // The graph of a certificate as text.
-ghost use Rattle.std.specs.Prelude.{◌≡◌, Contains, OnOk, IfOk, string_bytes};
+ghost use Rattle.std.specs.Prelude.{Contains, OnOk, string_bytes};
 ghost use Rattle.value_domain.specs.State.{AreValues};
-ghost use Rattle.cfg_recover.specs.Accepting.{Accepts};
 ghost use Rattle.cfg_recover.specs.LocalFaults.{IsFaultless};
-ghost use Rattle.tcd_report.specs.Graphs.{ArePointLines, AreNodeLines, IsGraph};
-ghost use Rattle.tcd_report.specs.Judging.{point_of, IsJudged, GrowsBy};
+ghost use Rattle.tcd_report.specs.Graphs.{ArePointLines, AreNodeLines};
+ghost use Rattle.tcd_report.specs.Judging.{IsJudged, GrowsBy};
+ghost use Rattle.depth_cert.specs.Points.{point_of};
 
-use crate::graphs::edges::edges_of;
-use crate::graphs::lines::{append_edges, append_leaving};
+use crate::graphs::edges::{append_leaving, edges_of};
+use crate::graphs::lines::append_edges;
 use crate::judged::Judged;
 use cfg_recover::KnownCodes;
-use depth_cert::{Cert, Key};
-use elf_image::Image;
-use packed_cert::{PackedCert, PackedNode, PointWalk};
+use depth_cert::Key;
+use packed_cert::{PackedNode, PointWalk};
 use std::alloc::Global;
 use tcd_base::NoMemory;
-use tcd_plan::Plan;
-use value_domain::{Bounds, State};
-
-/// The graph of an accepted certificate: one line for each way on from each point, in the order of
-/// keys and addresses. The lines of a point are in this order: jumps and calls by ascending
-/// address, returns of callees, system call, misaligned access, interrupts by ascending priority,
-/// its own return. No line is there twice, and each ends with a line feed.
-pub fn graph_packed(
-    alloc: Global,
-    image: &Image,
-    plan: &Plan,
-    cert: &PackedCert,
-) -> Result<String, NoMemory>
-    requires { Accepts image.now plan.now cert.now }
-    ensures { IfOk result (λ text. IsGraph image.now plan.now cert.now (string_bytes text)) }
-{
-    let mut text = String::new(alloc);
-    let bounds = Bounds::of(plan, cert.version());
-    let judged = Judged {
-        bounds: &bounds,
-        image,
-        plan,
-        cert,
-    };
-    let mut codes = KnownCodes::new();
-    let mut walk = PointWalk::none();
-    for i in 0..cert.len() {
-        let Some(node) = cert.get(i) else {
-            unreachable!()
-        };
-        append_node(alloc, &mut text, &judged, &mut codes, &node, &mut walk)?;
-    }
-    Ok(text)
-}
-
-/// The graph of an accepted certificate in memory, by way of the bytes that spell it.
-pub fn graph(alloc: Global, image: &Image, plan: &Plan, cert: &Cert) -> Result<String, NoMemory>
-    requires { Accepts image.now plan.now cert.now }
-    ensures { IfOk result (λ text. IsGraph image.now plan.now cert.now (string_bytes text)) }
-{
-    let cert = PackedCert::of(alloc, cert)?;
-    graph_packed(alloc, image, plan, &cert)
-}
+use value_domain::State;
 
 // Appends the lines of a node's points.
-fn append_node<'a>(
+pub(crate) fn append_node<'a>(
     alloc: Global,
     text: &mut String,
     judged: &Judged,

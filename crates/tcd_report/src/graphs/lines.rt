@@ -1,12 +1,10 @@
 // The lines of a point in the graph.
-ghost use Rattle.std.specs.Prelude.{◌≡◌, ◌++◌, ◌∷◌, [], OnOk, string_bytes};
-ghost use Rattle.tcd_report.specs.Graphs.{line_front, line_to};
-ghost use Rattle.tcd_report.specs.Graphs.Edges.{lines_to, ways_text, leaving_text};
+ghost use Rattle.std.specs.Prelude.{◌≡◌, ◌++◌, OnOk, string_bytes};
+ghost use Rattle.tcd_report.specs.Graphs.{line_front, line_to, lines_to, ways_text};
 
 use crate::graphs::edges::Edges;
 use crate::texts::{append, append_key};
 use depth_cert::Key;
-use tc_isa::Shape;
 use tcd_base::NoMemory;
 use tcd_text::append_hex_word;
 
@@ -26,29 +24,6 @@ pub(crate) fn append_edges(
     append_lines(text, key, addr, "sys ", &ways.sys)?;
     append_lines(text, key, addr, "aln ", &ways.aln)?;
     append_lines(text, key, addr, "irq ", &ways.irq)
-}
-
-/// Appends the line of a return, if the instruction is one.
-pub(crate) fn append_leaving(
-    text: &mut String,
-    key: &Key,
-    addr: u32,
-    shape: Shape,
-) -> Result<(), NoMemory>
-    ensures { OnOk result (string_bytes text.new
-        ≡ string_bytes text.old ++ leaving_text key.now addr shape) }
-{
-    match shape {
-        Shape::Ret => {
-            append_front(text, key, addr)?;
-            append(text, "ret\n")
-        }
-        Shape::Rfe => {
-            append_front(text, key, addr)?;
-            append(text, "rfe\n")
-        }
-        _ => Ok(()),
-    }
 }
 
 // Appends one line for each of the addresses.
@@ -80,7 +55,7 @@ fn append_line(text: &mut String, key: &Key, addr: u32, word: &str, to: u32) -> 
 }
 
 // Appends the front of a line: the key and the address of the point.
-fn append_front(text: &mut String, key: &Key, addr: u32) -> Result<(), NoMemory>
+pub(crate) fn append_front(text: &mut String, key: &Key, addr: u32) -> Result<(), NoMemory>
     ensures { OnOk result (string_bytes text.new
         ≡ string_bytes text.old ++ line_front key.now addr) }
 {

@@ -1,15 +1,21 @@
 // The addresses where a point goes on in its frame.
 ghost use Rattle.std.specs.Prelude.{◌≡◌, ◌++◌, [], OnOk, false, is_some, true, unwrap_or};
-ghost use Rattle.tc_isa.specs.Bounded.{IsShape, IsTarget};
+ghost use Rattle.tc_isa.specs.InBounds.{IsShape, IsTarget};
 ghost use Rattle.value_domain.specs.State.{AreValues};
 ghost use Rattle.vd_transfer.specs.Branches.{refine_of};
 ghost use Rattle.cfg_recover.specs.LocalRules.{targets_of};
-ghost use Rattle.cfg_recover.specs.Duties.{jump_on};
-ghost use Rattle.tcd_report.specs.Judging.{point_of, successors_at};
-ghost use Rattle.tcd_report.specs.Graphs.Edges.{jumped_in};
+ghost use Rattle.cfg_recover.specs.Duties.{jump_on, resume};
+ghost use Rattle.tcd_report.specs.Graphs.{successors_at, jumped_in, back_by, entries_at, returned_in};
+ghost use Rattle.depth_cert.specs.Points.{point_of};
+ghost use Rattle.std.specs.List.{flat_map};
+ghost use Rattle.depth_cert.specs.Keys.{call_kind};
+ghost use Rattle.cfg_recover.specs.FlowDuties as flows;
 
+use crate::graphs::edges::has_exit;
 use crate::judged::Judged;
-use cfg_recover::{Located, targets};
+use cfg_recover::{Located, entered_key, sys_key, targets};
+use depth_cert::{CALL, Key};
+use packed_cert::PackedCert;
 use tc_isa::{Shape, Target};
 use tcd_base::NoMemory;
 use tcd_plan::Plan;
@@ -111,5 +117,58 @@ fn push_targets(
 {
     let targets = targets(plan, s, addr, to);
     all.extend_from_slice(targets.as_slice())?;
+    Ok(())
+}
+
+// Appends the address after a call or a system call, once for each entered frame that may return.
+pub(crate) fn add_returns(
+    all: &mut Vec<u32>,
+    judged: &Judged,
+    key: &Key,
+    addr: u32,
+    s: &State,
+    found: &Located,
+) -> Result<(), NoMemory>
+    requires { IsShape found.now.shape }
+    ensures { let j = judged.now in OnOk result (all.new.items ≡ all.old.items
+        ++ returned_in j.cert.now (entries_at j key.now (point_of addr s.now) found.now)) }
+{
+    let back = addr.wrapping_add(found.size);
+    match found.shape {
+        Shape::Call { to } => {
+            let targets = targets(judged.plan, s, addr, to);
+            push_returns(all, judged.cert, key, targets.as_slice(), back)
+        }
+        Shape::Syscall { .. } => push_return(all, judged.cert, &sys_key(judged.plan, key), back),
+        _ => Ok(()),
+    }
+}
+
+// Appends an address, once for each of the called functions whose node has an exit.
+fn push_returns(
+    all: &mut Vec<u32>,
+    cert: &PackedCert,
+    key: &Key,
+    targets: &[u32],
+    back: u32,
+) -> Result<(), NoMemory>
+    ensures { OnOk result (all.new.items ≡ all.old.items
+        ++ flat_map (λ t. back_by cert.now (resume (flows.entered_key key.now call_kind t) back))
+        targets.now) }
+{
+    for target in targets {
+        push_return(all, cert, &entered_key(key, CALL, *target), back)?;
+    }
+    Ok(())
+}
+
+// Appends an address, if the node of this key has an exit.
+fn push_return(all: &mut Vec<u32>, cert: &PackedCert, key: &Key, back: u32) -> Result<(), NoMemory>
+    ensures { OnOk result
+        (all.new.items ≡ all.old.items ++ back_by cert.now (resume key.now back)) }
+{
+    if has_exit(cert, key) {
+        all.push(back)?;
+    }
     Ok(())
 }

@@ -3,12 +3,15 @@ ghost use Rattle.std.specs.Prelude.{◌≡◌, ◌++◌, ℕ, Some, Contains, On
 ghost use Rattle.std.specs.HashMap.{get};
 ghost use Rattle.std.specs.Option.{option_copied};
 ghost use Rattle.depth_cert.specs.Nodes.{NodeData};
-ghost use Rattle.tcd_report.specs.Reports.Heights.{key_eq, IsGreatest};
-ghost use Rattle.tcd_report.specs.Reports.Longest.{priorities, AtPrio, greater, row_of};
+ghost use Rattle.tcd_report.specs.Reports.Longest.{IsGreatest, priorities, AtPrio, greater, row_of};
+ghost use Rattle.depth_cert.specs.Keys.{key_eq};
 ghost use Rattle.tcd_report.specs.Reports.Longest as spec;
+ghost use Rattle.serde_json.specs.View.{view};
+ghost use Rattle.tcd_report.specs.Reports.{row_data};
 
 use depth_cert::Key;
 use packed_cert::PackedCert;
+use serde_json::{Value, json};
 use std::alloc::Global;
 use std::collections::HashMap;
 use tcd_base::NoMemory;
@@ -91,4 +94,12 @@ fn push_row(rows: &mut Vec<LongestCalls>, prio: u16, row: Option<&u32>) -> Resul
         })?;
     }
     Ok(())
+}
+
+// A priority, and its longest call chain.
+pub(crate) fn row_value(alloc: Global, row: &LongestCalls) -> Result<Value, NoMemory>
+    ensures { IfOk result (λ v. view v ≡ row_data row.now) }
+{
+    let value = json!(in alloc; {"longest": row.longest, "prio": row.prio})?;
+    Ok(value)
 }

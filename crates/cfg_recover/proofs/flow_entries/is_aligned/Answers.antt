@@ -1,6 +1,6 @@
 use Rattle.cfg_recover.proofs.LocalLaws.{are_aligned-is}
 use Rattle.cfg_recover.proofs.FlowDuties.{same_test}
-use Rattle.cfg_recover.specs.LocalRules.{are_aligned}
+use Rattle.store_ranges.specs.Accesses.{are_aligned}
 use Rattle.cfg_recover.proofs.flow_entries.is_aligned.Goals as goal
 
 pub returns : goal.returns

@@ -1,7 +1,7 @@
 use Rattle.std.proofs.Common.{List, None, ap, sym, subst, ◌∙◌}
 use Rattle.tcd_plan.specs.PlanData.{PlanData}
 use Rattle.cfg_recover.specs.Duties.{Owed}
-use Rattle.depth_check.specs.Points.{Breaks}
+use Rattle.depth_check.specs.LeastBroken.{Breaks}
 use Rattle.depth_check.proofs.DutyLaws.{nothing_found, untrapped_none}
 use Rattle.depth_check.proofs.entry_rules.broken_by_access.Goals as goal
 

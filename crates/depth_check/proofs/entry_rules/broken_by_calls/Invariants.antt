@@ -1,7 +1,7 @@
 use Rattle.std.proofs.Common.{take}
 use Rattle.vd_transfer.specs.Changes.{state_after}
 use Rattle.depth_check.specs.LeastBroken.{Finds}
-use Rattle.depth_check.specs.DutyTests.{DutiesHold}
+use Rattle.depth_check.specs.DutiesHold.{DutiesHold}
 use Rattle.depth_check.proofs.DutyLaws.{told_to, called}
 use Rattle.depth_check.proofs.entry_rules.broken_by_calls.Given as goal
 

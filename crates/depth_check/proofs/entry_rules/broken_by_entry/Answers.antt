@@ -2,7 +2,7 @@ use Rattle.std.proofs.Common.{sym, ◌==◌}
 use Rattle.vd_transfer.specs.Changes.{state_after}
 use Rattle.depth_cert.specs.Keys.{number_of_key}
 use Rattle.depth_cert.specs.Nodes.{NodeData}
-use Rattle.depth_check.specs.LeastBroken.{IsWellNode}
+use Rattle.depth_cert.specs.Proper.{IsWellNode}
 use Rattle.depth_check.proofs.Deciding.{found_holds}
 use Rattle.depth_check.proofs.DutyLaws.{entry_found, entry_missing}
 use Rattle.depth_check.proofs.RuleLaws.{values_well}

@@ -1,7 +1,7 @@
 use Rattle.std.proofs.Common.{List, None, subst, sym, ◌∙◌}
 use Rattle.std.proofs.lemmas.Bool.{eqb-true}
 use Rattle.cfg_recover.specs.Duties.{Owed}
-use Rattle.depth_check.specs.Points.{Breaks}
+use Rattle.depth_check.specs.LeastBroken.{Breaks}
 use Rattle.depth_check.proofs.DutyLaws.{nothing_found, interrupts_none, disabled_none}
 use Rattle.depth_check.proofs.entry_rules.broken_by_interrupts.Goals as goal
 

@@ -1,8 +1,8 @@
 use Rattle.std.proofs.Common.{◌≡◌, take}
 use Rattle.vd_transfer.specs.Changes.{state_after}
-use Rattle.cfg_recover.specs.Flows.{told_irqs}
+use Rattle.cfg_recover.specs.FlowDuties.{told_irqs}
 use Rattle.depth_check.specs.LeastBroken.{Finds}
-use Rattle.depth_check.specs.DutyTests.{DutiesHold}
+use Rattle.depth_check.specs.DutiesHold.{DutiesHold}
 use Rattle.depth_check.proofs.entry_rules.broken_by_irqs.Given as goal
 
 abbrev pub invariant-loop-p : goal.invariant-loop-p

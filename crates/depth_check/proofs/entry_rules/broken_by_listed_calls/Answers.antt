@@ -4,7 +4,7 @@ use Rattle.vd_transfer.specs.Changes.{state_after}
 use Rattle.cfg_recover.specs.Entries.{call_key}
 use Rattle.cfg_recover.specs.Duties.{entered_and_back}
 use Rattle.depth_check.specs.LeastBroken.{Finds}
-use Rattle.depth_check.specs.DutyTests.{DutiesHold}
+use Rattle.depth_check.specs.DutiesHold.{DutiesHold}
 use Rattle.depth_check.proofs.entry_rules.broken_by_listed_calls.Goals as goal
 
 pub returns : goal.returns

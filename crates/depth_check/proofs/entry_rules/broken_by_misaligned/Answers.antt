@@ -1,7 +1,7 @@
 use Rattle.std.proofs.Common.{◌∙◌, sym, subst, List, None}
 use Rattle.value_domain.specs.declared.values.Val.{Val}
 use Rattle.cfg_recover.specs.Duties.{Owed, misaligned_at}
-use Rattle.depth_check.specs.Points.{Breaks}
+use Rattle.depth_check.specs.LeastBroken.{Breaks}
 use Rattle.depth_check.proofs.DutyLaws.{nothing_found, aligned_none, misaligned_one}
 use Rattle.depth_check.proofs.entry_rules.broken_by_misaligned.Goals as goal
 

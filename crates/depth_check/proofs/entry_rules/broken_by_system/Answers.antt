@@ -5,7 +5,7 @@ use Rattle.depth_cert.specs.Nodes.{NodeData}
 use Rattle.cfg_recover.specs.Entries.{sys_key, sys_entry}
 use Rattle.cfg_recover.specs.Duties.{entered_and_back}
 use Rattle.depth_check.specs.LeastBroken.{Finds}
-use Rattle.depth_check.specs.DutyTests.{DutiesHold}
+use Rattle.depth_check.specs.DutiesHold.{DutiesHold}
 use Rattle.depth_check.proofs.RuleLaws.{values_well}
 use Rattle.depth_check.proofs.entry_rules.broken_by_system.Goals as goal
 

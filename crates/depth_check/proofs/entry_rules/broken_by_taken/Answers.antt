@@ -4,7 +4,7 @@ use Rattle.depth_cert.specs.Nodes.{NodeData}
 use Rattle.cfg_recover.specs.Entries.{irq_entry}
 use Rattle.cfg_recover.specs.Duties.{Owed}
 use Rattle.cfg_recover.proofs.FlowDuties.{told_irqs-is}
-use Rattle.depth_check.specs.Points.{Breaks}
+use Rattle.depth_check.specs.LeastBroken.{Breaks}
 use Rattle.depth_check.proofs.RuleLaws.{values_well}
 use Rattle.depth_check.proofs.entry_rules.broken_by_taken.Goals as goal
 

@@ -4,7 +4,7 @@ use Rattle.depth_cert.specs.declared.keys.Key.{Key}
 use Rattle.depth_cert.specs.Nodes.{NodeData}
 use Rattle.cfg_recover.specs.Entries.{aln_key, aln_entry}
 use Rattle.cfg_recover.specs.Duties.{owed, enter}
-use Rattle.depth_check.specs.Points.{Breaks}
+use Rattle.depth_check.specs.LeastBroken.{Breaks}
 use Rattle.depth_check.proofs.RuleLaws.{values_well}
 use Rattle.depth_check.proofs.entry_rules.broken_by_trap.Goals as goal
 

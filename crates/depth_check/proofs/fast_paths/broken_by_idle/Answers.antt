@@ -1,9 +1,9 @@
 use Rattle.std.proofs.Common.{subst}
 use Rattle.value_domain.specs.Limits.{Limits}
 use Rattle.value_domain.specs.State.{AreValues}
-use Rattle.cfg_recover.specs.Accepting.{limits_in}
+use Rattle.cfg_recover.specs.RulesHoldOrFail.{limits_in}
 use Rattle.depth_check.specs.LeastBroken.{least_of}
-use Rattle.depth_check.specs.Forms.{point_here}
+use Rattle.depth_check.specs.PlainOrPackedCerts.{point_here}
 use Rattle.depth_check.proofs.IdleLaws.{idle_faultless, idle_found}
 use Rattle.depth_check.proofs.RuleLaws.{duties_found}
 use Rattle.depth_check.proofs.fast_paths.broken_by_idle.Goals as goal

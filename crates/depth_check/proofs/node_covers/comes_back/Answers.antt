@@ -2,7 +2,7 @@ use Rattle.std.proofs.Common.{◌≡◌, Some, sym, ap, ◌∙◌}
 use denote.Ref.{Bor}
 use Rattle.depth_cert.specs.Nodes.{NodeData}
 use Rattle.depth_check.specs.declared.any_nodes.NodeForm.{NodeForm}
-use Rattle.depth_check.specs.Forms.{node_data}
+use Rattle.depth_check.specs.PlainOrPackedCerts.{node_data}
 use Rattle.depth_check.proofs.AfterLaws.{after_well}
 use Rattle.depth_check.proofs.node_covers.comes_back.Goals as goal
 

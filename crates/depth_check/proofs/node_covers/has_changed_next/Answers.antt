@@ -2,7 +2,7 @@ use Rattle.std.proofs.Common.{subst, sym}
 use Rattle.value_domain.specs.declared.states.State.{State}
 use Rattle.value_domain.specs.State.{AreWell}
 use Rattle.vd_transfer.specs.Changes.{state_after}
-use Rattle.cfg_recover.specs.Accepting.{HasPoint}
+use Rattle.cfg_recover.specs.RulesHoldOrFail.{HasPoint}
 use Rattle.depth_check.proofs.Deciding.{yes}
 use Rattle.depth_check.proofs.RuleLaws.{values_well}
 use Rattle.depth_check.proofs.node_covers.has_changed_next.Goals as goal

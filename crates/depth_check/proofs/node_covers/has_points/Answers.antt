@@ -1,4 +1,4 @@
-use Rattle.cfg_recover.specs.Accepting.{HasPoint}
+use Rattle.cfg_recover.specs.RulesHoldOrFail.{HasPoint}
 use Rattle.depth_check.proofs.Deciding.{yes, no, refuted, all_done}
 use Rattle.depth_check.proofs.node_covers.has_points.Goals as goal
 

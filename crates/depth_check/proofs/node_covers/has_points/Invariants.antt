@@ -1,5 +1,5 @@
 use Rattle.std.proofs.Common.{take}
-use Rattle.depth_check.specs.DutyTests.{HasPoints}
+use Rattle.depth_check.specs.DutiesHold.{HasPoints}
 use Rattle.depth_check.proofs.node_covers.has_points.Given as goal
 
 abbrev pub invariant-loop-t : goal.invariant-loop-t

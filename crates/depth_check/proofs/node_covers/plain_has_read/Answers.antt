@@ -2,7 +2,7 @@ use Rattle.std.proofs.Common.{subst}
 use Rattle.std.specs.Prelude.{IsTrue, ◌↔◌}
 use Rattle.depth_cert.specs.declared.points.Exit.{Exit}
 use Rattle.depth_cert.specs.Exits.{after_of}
-use Rattle.cfg_recover.specs.Accepting.{HasPoint}
+use Rattle.cfg_recover.specs.RulesHoldOrFail.{HasPoint}
 use Rattle.depth_check.proofs.AfterLaws.{after_well}
 use Rattle.depth_check.proofs.node_covers.plain_has_read.Goals as goal
 

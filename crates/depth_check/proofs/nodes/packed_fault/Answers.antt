@@ -7,13 +7,14 @@ use Rattle.value_domain.specs.declared.states.State.{State}
 use Rattle.value_domain.specs.Limits.{Limits}
 use Rattle.depth_cert.specs.declared.points.Point.{Point}
 use Rattle.depth_cert.specs.Nodes.{NodeData}
-use Rattle.cfg_recover.specs.Accepting.{limits_in, HoldsAtEntry, RuleHolds}
+use Rattle.cfg_recover.specs.RulesHoldOrFail.{limits_in, HoldsAtEntry, RuleHolds}
 use Rattle.value_domain.specs.State.{AreValues}
 use Rattle.value_domain.specs.Values.{IsWell, IsValue, any_val}
 use Rattle.depth_check.specs.declared.nodes.Fault.{Fault}
-use Rattle.depth_check.specs.LeastBroken.{Finds, IsWellNode}
+use Rattle.depth_check.specs.LeastBroken.{Finds}
+use Rattle.depth_cert.specs.Proper.{IsWellNode}
 use Rattle.depth_check.specs.NodeFaults.{IsNodeFault, first_of}
-use Rattle.depth_check.specs.Interrupts.{HoldsWith}
+use Rattle.depth_check.specs.PassingInstructions.{HoldsWith}
 use Rattle.depth_check.proofs.InterruptLaws.{interrupts_at, stack_well, stacks_well}
 use Rattle.depth_check.proofs.CallLaws.{HoldsNext, next_holds, holds_next}
 use Rattle.depth_check.proofs.Deciding.{refuted}

@@ -1,7 +1,7 @@
 use Rattle.std.proofs.Common.{◌≡◌, ◌++◌, ℕ, List, length}
 use Rattle.std.specs.Prelude.{All, IsTrue}
 use Rattle.value_domain.specs.State.{AreValues}
-use Rattle.cfg_recover.specs.Accepting.{limits_in, RuleHolds}
+use Rattle.cfg_recover.specs.RulesHoldOrFail.{limits_in, RuleHolds}
 use Rattle.depth_cert.specs.declared.points.Point.{Point}
 use Rattle.depth_check.specs.Interrupts.{LastInterruptsHold}
 use Rattle.cfg_recover.specs.SetOperations.{HoldsResults}

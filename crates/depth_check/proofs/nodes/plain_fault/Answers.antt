@@ -4,7 +4,7 @@ use Rattle.value_domain.specs.Limits.{Limits}
 use Rattle.depth_cert.specs.declared.points.Point.{Point}
 use Rattle.depth_cert.specs.Points.{ArePoints}
 use Rattle.depth_cert.specs.Nodes.{NodeData}
-use Rattle.cfg_recover.specs.Accepting.{HoldsAtEntry, RuleHolds}
+use Rattle.cfg_recover.specs.RulesHoldOrFail.{HoldsAtEntry, RuleHolds}
 use Rattle.depth_check.specs.declared.nodes.Fault.{Fault}
 use Rattle.depth_check.specs.NodeFaults.{IsNodeFault, first_of}
 use Rattle.depth_check.proofs.Deciding.{all_more, all_done, refuted}

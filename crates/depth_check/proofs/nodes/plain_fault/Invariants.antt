@@ -1,6 +1,6 @@
 use Rattle.std.proofs.Common.{ℕ, take}
 use Rattle.std.specs.Prelude.{All}
-use Rattle.cfg_recover.specs.Accepting.{RuleHolds}
+use Rattle.cfg_recover.specs.RulesHoldOrFail.{RuleHolds}
 use Rattle.depth_cert.specs.declared.points.Point.{Point}
 use Rattle.cfg_recover.specs.SetOperations.{HoldsResults}
 use Rattle.depth_check.proofs.nodes.plain_fault.Given as goal

@@ -3,12 +3,11 @@ use Rattle.value_domain.specs.Limits.{Limits}
 use Rattle.value_domain.specs.State.{AreValues}
 use Rattle.depth_cert.specs.declared.keys.Key.{Key}
 use Rattle.depth_cert.specs.Nodes.{NodeData}
-use Rattle.cfg_recover.specs.Changes.{StandsFaultless}
+use Rattle.cfg_recover.specs.LocalFaults.{StandsFaultless, IsLocalFault}
 use Rattle.cfg_recover.specs.Duties.{duties_of}
-use Rattle.cfg_recover.specs.LocalFaults.{IsLocalFault}
 use Rattle.depth_check.specs.LeastBroken.{Finds}
-use Rattle.depth_check.specs.DutyTests.{DutiesHold}
-use Rattle.depth_check.specs.Forms.{point_here}
+use Rattle.depth_check.specs.DutiesHold.{DutiesHold}
+use Rattle.depth_check.specs.PlainOrPackedCerts.{point_here}
 use Rattle.depth_check.proofs.RuleLaws.{own_broken, duties_found}
 use Rattle.depth_check.proofs.points.broken_by_any.Goals as goal
 

@@ -1,4 +1,4 @@
-use Rattle.depth_check.specs.Forms.{point_here}
+use Rattle.depth_check.specs.PlainOrPackedCerts.{point_here}
 use Rattle.depth_check.proofs.Deciding.{refuted}
 use Rattle.depth_check.proofs.RuleLaws.{values_broken}
 use Rattle.depth_check.proofs.points.broken_by_point.Goals as goal

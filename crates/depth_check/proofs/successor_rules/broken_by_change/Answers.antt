@@ -3,8 +3,7 @@ use Rattle.value_domain.specs.declared.states.State.{State}
 use Rattle.vd_transfer.specs.Changes.{state_after}
 use Rattle.vd_transfer.specs.Branches.{possible}
 use Rattle.cfg_recover.specs.Duties.{jump_on}
-use Rattle.depth_check.specs.LeastBroken.{unless}
-use Rattle.depth_check.specs.Points.{Breaks}
+use Rattle.depth_check.specs.LeastBroken.{unless, Breaks}
 use Rattle.depth_check.proofs.DutyLaws.{nothing_found, point_found}
 use Rattle.depth_check.proofs.RuleLaws.{values_well}
 use Rattle.depth_check.proofs.successor_rules.broken_by_change.Goals as goal

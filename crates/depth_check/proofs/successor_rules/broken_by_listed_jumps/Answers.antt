@@ -5,7 +5,7 @@ use Rattle.cfg_recover.specs.LocalRules.{named_by}
 use Rattle.cfg_recover.specs.Duties.{jumps_to}
 use Rattle.depth_check.specs.CheckedRegisters.{JumpsHold}
 use Rattle.depth_check.specs.LeastBroken.{Finds}
-use Rattle.depth_check.specs.DutyTests.{DutiesHold, HasPoints}
+use Rattle.depth_check.specs.DutiesHold.{DutiesHold, HasPoints}
 use Rattle.cfg_recover.proofs.OperationLaws.{same_word}
 use Rattle.depth_check.proofs.Deciding.{yes}
 use Rattle.depth_check.proofs.DutyLaws.{points_found}

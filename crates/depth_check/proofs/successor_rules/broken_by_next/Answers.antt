@@ -2,7 +2,7 @@ use Rattle.std.proofs.Common.{◌∷◌, [], sym, subst}
 use Rattle.tc_machine.specs.Machine.{moved}
 use Rattle.value_domain.specs.declared.states.State.{State}
 use Rattle.cfg_recover.specs.Duties.{owed, jump, loaded_at}
-use Rattle.depth_check.specs.Points.{Breaks}
+use Rattle.depth_check.specs.LeastBroken.{Breaks}
 use Rattle.depth_check.proofs.successor_rules.broken_by_next.Goals as goal
 
 pub returns-then-keeps_state-clause-found : goal.returns-then-keeps_state-clause-found

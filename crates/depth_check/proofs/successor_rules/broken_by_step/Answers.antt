@@ -3,8 +3,7 @@ use Rattle.value_domain.specs.declared.states.State.{State}
 use Rattle.tc_machine.specs.Machine.{moved}
 use Rattle.vd_transfer.specs.Changes.{state_after}
 use Rattle.cfg_recover.specs.Duties.{owed, jump}
-use Rattle.depth_check.specs.LeastBroken.{unless}
-use Rattle.depth_check.specs.Points.{Breaks}
+use Rattle.depth_check.specs.LeastBroken.{unless, Breaks}
 use Rattle.depth_check.proofs.DutyLaws.{point_found}
 use Rattle.depth_check.proofs.RuleLaws.{values_well}
 use Rattle.depth_check.proofs.successor_rules.broken_by_step.Goals as goal

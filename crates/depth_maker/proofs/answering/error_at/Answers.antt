@@ -1,5 +1,5 @@
 use Rattle.std.proofs.Common.{subst}
-use Rattle.depth_maker.specs.Table.{AnsweredOn}
+use Rattle.depth_maker.specs.Answers.{AnsweredOn}
 use Rattle.frame_places.specs.declared.places.Spot.{Spot}
 use Rattle.frame_places.specs.declared.refusals.Refusal.TheVariants.{Fault}
 use Rattle.depth_maker.proofs.MakeLemmas.{fault_refuses, no_exit_refuses}

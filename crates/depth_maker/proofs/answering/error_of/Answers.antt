@@ -1,5 +1,5 @@
 use Rattle.std.proofs.Common.{subst}
-use Rattle.depth_maker.specs.Table.{AnsweredOn}
+use Rattle.depth_maker.specs.Answers.{AnsweredOn}
 use Rattle.depth_maker.proofs.answering.error_of.Goals as goal
 
 pub error_at-requires : goal.error_at-requires

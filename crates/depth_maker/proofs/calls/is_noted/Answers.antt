@@ -3,7 +3,7 @@ use Rattle.value_domain.specs.declared.states.State.{State}
 use Rattle.depth_cert.specs.Known.{state}
 use Rattle.depth_cert.specs.Proper.{IsProper}
 use Rattle.depth_maker.specs.Covered.{IsCallEntered, IsWithinCall}
-use Rattle.depth_maker.specs.Table.{seen}
+use Rattle.depth_maker.specs.TableView.{seen}
 use Rattle.depth_maker.proofs.Lawful.{lawful}
 use Rattle.depth_maker.proofs.NotedCalls.{enters_already, entry_proper}
 use Rattle.depth_maker.proofs.calls.is_noted.Goals as goal

@@ -6,7 +6,7 @@ use Rattle.frame_places.specs.declared.places.Marked.{Marked}
 use Rattle.frame_places.specs.declared.places.Spot.TheVariants.{Point}
 use Rattle.frame_places.proofs.NearbyLemmas.{had_at, nowhere}
 use Rattle.depth_maker.specs.Covered.{IsCallOf}
-use Rattle.depth_maker.specs.Table.{seen}
+use Rattle.depth_maker.specs.TableView.{seen}
 use Rattle.depth_maker.proofs.NotedCalls.{call_noted}
 use Rattle.depth_maker.proofs.calls.note_call.Goals as goal
 

@@ -1,5 +1,5 @@
 use Rattle.frame_places.specs.Work.{all_work}
-use Rattle.depth_maker.specs.Levels.{level}
+use Rattle.depth_maker.specs.TableLevels.{level}
 use Rattle.depth_maker.proofs.Lawful.{lawful}
 use Rattle.depth_maker.proofs.LevelSteps.{level_falls, level_most, none_queued}
 use Rattle.depth_maker.proofs.JoinLemmas.{cells_proper}

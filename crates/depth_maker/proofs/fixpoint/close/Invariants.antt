@@ -1,6 +1,6 @@
 use Rattle.std.proofs.Common.{◌-◌}
-use Rattle.depth_maker.specs.Levels.{level}
-use Rattle.depth_maker.specs.Table.{FineOn}
+use Rattle.depth_maker.specs.TableLevels.{level}
+use Rattle.depth_maker.specs.TableInvariant.{FineOn}
 use Rattle.depth_maker.specs.Visits.{NoneOpen}
 use Rattle.depth_maker.proofs.LevelSteps.{most_level}
 use Rattle.depth_maker.proofs.fixpoint.close.Given as goal

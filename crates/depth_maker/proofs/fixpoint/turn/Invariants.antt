@@ -1,8 +1,8 @@
 use Rattle.std.proofs.Common.{◌≡◌, ◌<◌, ◌≤◌, ◌+◌, ◌⊎◌, length}
 use Rattle.cfg_recover.specs.SetOperations.{HoldsResults}
 use Rattle.frame_places.specs.Work.{all_work}
-use Rattle.depth_maker.specs.Levels.{level}
-use Rattle.depth_maker.specs.Table.{FineOn}
+use Rattle.depth_maker.specs.TableLevels.{level}
+use Rattle.depth_maker.specs.TableInvariant.{FineOn}
 use Rattle.depth_maker.specs.Visits.{NoneOpen}
 use Rattle.depth_maker.proofs.fixpoint.turn.Given as goal
 

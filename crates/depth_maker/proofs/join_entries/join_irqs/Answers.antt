@@ -6,7 +6,7 @@ use Rattle.vd_transfer.specs.Changes.{state_after}
 use Rattle.depth_cert.specs.declared.keys.Key.{Key}
 use Rattle.cfg_recover.specs.Entries as entries
 use Rattle.cfg_recover.specs.Duties.{owed, enter}
-use Rattle.cfg_recover.specs.Flows.{told_irqs}
+use Rattle.cfg_recover.specs.FlowDuties.{told_irqs}
 use Rattle.depth_maker.specs.VisitDuties.{OwesDuty, JoinedBy}
 use Rattle.depth_maker.proofs.Lawful.{lawful}
 use Rattle.depth_maker.proofs.PartLemmas.{owes_at_map, duties_more_map, duties_none, visited_after}

@@ -1,6 +1,6 @@
 use Rattle.std.proofs.Common.{◌≡◌, take}
 use Rattle.vd_transfer.specs.Changes.{state_after}
-use Rattle.cfg_recover.specs.Flows.{told_irqs}
+use Rattle.cfg_recover.specs.FlowDuties.{told_irqs}
 use Rattle.depth_maker.specs.VisitDuties.{JoinedBy}
 use Rattle.depth_maker.proofs.join_entries.join_irqs.Given as goal
 

@@ -13,7 +13,7 @@ use Rattle.frame_places.proofs.NearbyLemmas.{had_at, nowhere}
 use Rattle.frame_places.specs.Counting.{Passing, frames_after, points_after}
 use Rattle.frame_places.specs.Work.{all_work}
 use Rattle.small_states.specs.Incoming.{incoming_known}
-use Rattle.depth_maker.specs.Table.{seen}
+use Rattle.depth_maker.specs.TableView.{seen}
 use Rattle.depth_maker.proofs.CountedLemmas.{are_few, few_spots, limit_passed}
 use Rattle.depth_maker.proofs.Lawful.{lawful}
 use Rattle.depth_maker.proofs.PartLemmas.{asks_again, raises_again, registered_fine}

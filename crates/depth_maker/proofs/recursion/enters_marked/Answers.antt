@@ -1,8 +1,8 @@
 use Rattle.std.proofs.Common.{◌≡◌, ℕ, Bool, true, false, List, Contains, ap, sym, subst}
 use Rattle.std.specs.Prelude.{IsTrue}
 use Rattle.std.specs.Option.{option_map}
-use Rattle.frame_places.specs.NodeGraph.{IsMarked}
-use Rattle.depth_maker.specs.Table.{seen}
+use Rattle.frame_places.specs.Marks.{IsMarked}
+use Rattle.depth_maker.specs.TableView.{seen}
 use Rattle.depth_maker.proofs.RecursSteps.{none_marked, row_marked}
 use Rattle.depth_maker.proofs.RowSteps.{number_there}
 use Rattle.depth_maker.proofs.recursion.enters_marked.Goals as goal

@@ -1,8 +1,7 @@
 use Rattle.std.proofs.Common.{subst, sym}
-use Rattle.depth_cert.specs.Known.{state}
-use Rattle.small_states.specs.Incoming.{IsStateAt}
+use Rattle.depth_cert.specs.Known.{state, IsStateAt}
 use Rattle.frame_places.specs.declared.places.Spot.TheVariants.{Point}
-use Rattle.depth_maker.specs.Table.{seen}
+use Rattle.depth_maker.specs.TableView.{seen}
 use Rattle.depth_maker.proofs.RowSteps.{all_known, done_proper, known_there, read_there}
 use Rattle.depth_maker.proofs.rows.point_row.Goals as goal
 

@@ -1,6 +1,6 @@
 use Rattle.std.proofs.Common.{ap, sym}
 use Rattle.std.specs.Option.{option_map}
-use Rattle.depth_maker.specs.Table.{seen}
+use Rattle.depth_maker.specs.TableView.{seen}
 use Rattle.small_states.specs.CompactForms.{exit_in}
 use Rattle.depth_maker.proofs.OutLemmas.{exit_there, exit_well, no_exit_there, writes_exit, writes_no_exit}
 use Rattle.depth_maker.proofs.spelling.write_exit_of.Goals as goal

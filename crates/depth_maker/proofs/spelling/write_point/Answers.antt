@@ -2,13 +2,13 @@ use Rattle.std.proofs.Common.{refl, sym, ap, ◌≡◌, ◌∙◌, ◌++◌, ◌
 use Rattle.std.specs.Option.{option_map}
 use Rattle.std.proofs.lemmas.Map.Entries.{length-keys_of}
 use Rattle.tcd_base.specs.Bytes.{bytes_of_word}
-use Rattle.depth_cert.specs.Known.{Known}
-use Rattle.small_states.specs.Incoming.{AddsState, IsStateAt}
+use Rattle.depth_cert.specs.Known.{Known, IsStateAt}
+use Rattle.small_states.specs.Incoming.{AddsState}
 use Rattle.frame_places.specs.PointEntries.{place_at}
 use Rattle.frame_places.specs.Marks.{value_for}
 use Rattle.frame_places.specs.Spots.{spot_address}
 use Rattle.frame_places.specs.declared.places.Spot.TheVariants.{Point}
-use Rattle.depth_maker.specs.Table.{seen}
+use Rattle.depth_maker.specs.TableView.{seen}
 use Rattle.depth_maker.proofs.OutLemmas.{writes_point}
 use Rattle.depth_maker.proofs.PointEntries.{entry_place}
 use Rattle.depth_maker.proofs.RowSteps.{done_proper, done_state, read_there}

@@ -1,6 +1,6 @@
 use Rattle.std.proofs.Common.{refl}
-use Rattle.cfg_recover.specs.Refusals.{derived, own}
-use Rattle.depth_maker.specs.Table.{seen}
+use Rattle.cfg_recover.specs.CertRefusals.{derived, own}
+use Rattle.depth_maker.specs.TableView.{seen}
 use Rattle.depth_maker.proofs.PartLemmas.{duties_all}
 use Rattle.depth_maker.proofs.visit.visit_point.Goals as goal
 

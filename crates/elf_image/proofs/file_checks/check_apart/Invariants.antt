@@ -1,5 +1,5 @@
 use Rattle.std.proofs.Common.{◌≡◌, drop}
-use Rattle.elf_image.specs.Elf.{overlap_refusal}
+use Rattle.elf_image.specs.ReadElf.{overlap_refusal}
 use Rattle.elf_image.proofs.file_checks.check_apart.Given as goal
 
 -- the first pair is in the rest

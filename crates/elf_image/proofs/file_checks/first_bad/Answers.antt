@@ -1,7 +1,7 @@
 use Rattle.std.proofs.Common.{find, Some, sym, ap, ◌∙◌, arith}
 use Rattle.std.specs.Option.{option_map}
 use Rattle.elf_image.specs.declared.headers.Header.{Header}
-use Rattle.elf_image.specs.Elf.{is_bad}
+use Rattle.elf_image.specs.ReadElf.{is_bad}
 use Rattle.elf_image.proofs.Rest.{rest_of, rest_of-start, rest_of-end, number-header_at, find_bad-now, find_bad-later}
 use Rattle.elf_image.proofs.file_checks.first_bad.Goals as goal
 

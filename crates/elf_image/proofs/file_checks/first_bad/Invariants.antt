@@ -1,5 +1,5 @@
 use Rattle.std.proofs.Common.{◌≡◌, find}
-use Rattle.elf_image.specs.Elf.{is_bad, headers_of}
+use Rattle.elf_image.specs.ReadElf.{is_bad, headers_of}
 use Rattle.elf_image.proofs.Rest.{rest_of}
 use Rattle.elf_image.proofs.file_checks.first_bad.Given as goal
 

@@ -1,5 +1,5 @@
 use Rattle.std.proofs.Common.{◌≡◌, find, drop}
-use Rattle.elf_image.specs.Elf.{meets}
+use Rattle.elf_image.specs.ReadElf.{meets}
 use Rattle.elf_image.proofs.file_checks.first_meeting.Given as goal
 
 -- the first header that shares an address is in the rest

@@ -1,6 +1,6 @@
 use Rattle.std.proofs.Common.{◌≡◌, ◌++◌, map, drop}
 use Rattle.elf_image.specs.Images.{segment_data}
-use Rattle.elf_image.specs.Written.{contents}
+use Rattle.elf_image.specs.WrittenElf.{contents}
 use Rattle.elf_image.proofs.file_writer.put_contents.Given as goal
 
 -- the segments so far and those that follow are all

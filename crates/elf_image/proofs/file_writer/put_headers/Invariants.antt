@@ -1,6 +1,6 @@
 use Rattle.std.proofs.Common.{◌≡◌, ◌+◌, ◌≤◌, ◌^◌, ◌++◌, map, drop, sum_by, length}
 use Rattle.elf_image.specs.Images.{segment_data}
-use Rattle.elf_image.specs.Written.{program_headers, contents_place}
+use Rattle.elf_image.specs.WrittenElf.{program_headers, contents_place}
 use Rattle.elf_image.proofs.file_writer.put_headers.Given as goal
 
 -- the segments so far and those that follow are all; those that follow fit

@@ -1,6 +1,6 @@
 use Rattle.std.proofs.Common.{◌≡◌, map, take}
 use Rattle.elf_image.specs.Images.{segment_data}
-use Rattle.elf_image.specs.Elf.{segment_of}
+use Rattle.elf_image.specs.ReadElf.{segment_of}
 use Rattle.elf_image.proofs.segments.segments_of.Given as goal
 
 abbrev pub invariant-loop-load : goal.invariant-loop-load

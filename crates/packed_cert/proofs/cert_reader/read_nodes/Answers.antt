@@ -4,7 +4,7 @@ use Rattle.std.proofs.lemmas.List.Elements.{All-push}
 use Rattle.depth_cert.specs.Grammar.{node_after}
 use Rattle.tcd_base.proofs.ManyLaws.{many_more, many_end}
 use Rattle.depth_cert.proofs.ManyLaws.{many_fault}
-use Rattle.packed_cert.specs.Nodes.{nodes_of, HasPlaces}
+use Rattle.packed_cert.specs.NodesInBytes.{nodes_of, HasPlaces}
 use Rattle.packed_cert.proofs.NodeReads.{nodes_push, count_push}
 use Rattle.packed_cert.proofs.cert_reader.read_nodes.Goals as goal
 

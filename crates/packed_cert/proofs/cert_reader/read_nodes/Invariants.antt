@@ -2,10 +2,10 @@ use Rattle.std.proofs.Common.{◌≡◌, ◌≤◌, ◌-◌, ◌^◌, []}
 use Rattle.std.specs.List.{All}
 use Rattle.tcd_base.specs.FieldReaders.{many_at}
 use Rattle.depth_cert.specs.Grammar.{node_after}
-use Rattle.depth_cert.specs.Certs.{count_points}
+use Rattle.depth_cert.specs.Nodes.{count_points}
 use Rattle.std.specs.Prelude.{IfSome}
-use Rattle.packed_cert.specs.Points.{StandsAt}
-use Rattle.packed_cert.specs.Nodes.{nodes_of, HasPlaces, ExitStands}
+use Rattle.packed_cert.specs.PointsInBytes.{StandsAt}
+use Rattle.packed_cert.specs.NodesInBytes.{nodes_of, HasPlaces, ExitStands}
 use Rattle.packed_cert.proofs.cert_reader.read_nodes.Given as goal
 
 abbrev pub invariant-loop-i : goal.invariant-loop-i

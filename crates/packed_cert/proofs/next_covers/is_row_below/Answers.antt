@@ -5,8 +5,8 @@ use Rattle.value_domain.specs.Values.{IsBelow, any_val}
 use Rattle.value_domain.proofs.RangeLaws.{below_any}
 use Rattle.vd_transfer.specs.Changes.{state_after}
 use Rattle.vd_transfer.proofs.ChangeLaws.{length-changed}
-use Rattle.packed_cert.specs.Standing.{behind}
-use Rattle.packed_cert.specs.Points.{state_in}
+use Rattle.packed_cert.specs.ValuesAtPlaces.{behind}
+use Rattle.packed_cert.specs.PointsInBytes.{state_in}
 use Rattle.packed_cert.specs.ValuesInBytes.{value_in}
 use Rattle.packed_cert.proofs.ValueShapes.{left_first, stands_at}
 use Rattle.packed_cert.proofs.next_covers.is_row_below.Goals as goal

@@ -1,7 +1,7 @@
 use Rattle.std.proofs.Common.{◌≡◌, ◌<◌, ◌≤◌, ◌-◌, ℕ, get_or, drop}
 use Rattle.value_domain.specs.Values.{IsBelow, any_val}
 use Rattle.vd_transfer.specs.Changes.{state_after}
-use Rattle.packed_cert.specs.Points.{state_in}
+use Rattle.packed_cert.specs.PointsInBytes.{state_in}
 use Rattle.packed_cert.specs.ValuesInBytes.{values_in, HaveValues}
 use Rattle.packed_cert.proofs.next_covers.is_row_below.Given as goal
 

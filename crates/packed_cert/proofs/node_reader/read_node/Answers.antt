@@ -2,8 +2,8 @@ use Rattle.std.proofs.Common.{◌∙◌, ap, ℕ, List}
 use Rattle.std.specs.Option.{option_map}
 use Rattle.std.proofs.lemmas.Result.{err_from_is_err_and}
 use Rattle.depth_cert.specs.Grammar.{key_after}
-use Rattle.packed_cert.specs.Points.{points_in}
-use Rattle.packed_cert.specs.Nodes.{exit_in, nodes_of}
+use Rattle.packed_cert.specs.PointsInBytes.{points_in}
+use Rattle.packed_cert.specs.NodesInBytes.{exit_in, nodes_of}
 use Rattle.packed_cert.proofs.NodeReads.{keys_in, node_reads, key_fails, need_fails, exit_fails, points_fail}
 use Rattle.packed_cert.proofs.node_reader.read_node.Goals as goal
 

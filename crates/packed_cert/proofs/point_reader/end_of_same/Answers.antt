@@ -1,5 +1,5 @@
 use Rattle.std.proofs.Common.{◌≡◌, ◌+◌, ◌-◌, ◌≤◌, arith, subst, ℕ}
-use Rattle.packed_cert.specs.Standing.{StandAlike}
+use Rattle.packed_cert.specs.ValuesAtPlaces.{StandAlike}
 use Rattle.packed_cert.proofs.SameBytes.{alike_behind}
 use Rattle.packed_cert.proofs.point_reader.end_of_same.Goals as goal
 

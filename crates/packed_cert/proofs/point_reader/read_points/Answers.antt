@@ -12,7 +12,8 @@ use Rattle.value_domain.specs.declared.states.State.{State}
 use Rattle.std.specs.Prelude.{IsTrue}
 use Rattle.packed_cert.specs.declared.places.ReadState.{ReadState}
 use Rattle.packed_cert.specs.ChangedRows.{ChangesRow}
-use Rattle.packed_cert.specs.Points.{read_or, no_state, state_in, points_in, HasState}
+use Rattle.packed_cert.specs.PointsInBytes.{read_or, state_in, points_in, HasState}
+use Rattle.value_domain.specs.State.{no_state}
 use Rattle.packed_cert.specs.Moves.{StandsBefore, IsMoved}
 use Rattle.packed_cert.proofs.RowLaws.{moves_push, moved_next}
 use Rattle.packed_cert.proofs.PointPlaces.{addresses_in, point_more, points_push}

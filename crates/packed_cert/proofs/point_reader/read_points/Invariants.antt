@@ -5,7 +5,7 @@ use Rattle.std.specs.List.Sorted.{IsStrictlyIncreasing}
 use Rattle.tcd_base.specs.FieldReaders.{many_at}
 use Rattle.depth_cert.specs.Grammar.{point_after}
 use Rattle.packed_cert.specs.declared.places.PackedPoint.{PackedPoint}
-use Rattle.packed_cert.specs.Points.{state_in, points_in, HasState, StandsAt}
+use Rattle.packed_cert.specs.PointsInBytes.{state_in, points_in, HasState, StandsAt}
 use Rattle.packed_cert.specs.Moves.{AreMoves}
 use Rattle.packed_cert.proofs.point_reader.read_points.Given as goal
 

@@ -1,5 +1,5 @@
 use Rattle.std.proofs.Common.{◌≡◌, ◌≤◌, ◌+◌, ◌-◌, ℕ, subst, arith}
-use Rattle.packed_cert.specs.Standing.{StandAlike}
+use Rattle.packed_cert.specs.ValuesAtPlaces.{StandAlike}
 use Rattle.packed_cert.proofs.SameBytes.{alike_fewer}
 use Rattle.packed_cert.proofs.SameWords.{eight_more}
 use Rattle.packed_cert.proofs.repeated_bytes.ends_alike.Goals as goal

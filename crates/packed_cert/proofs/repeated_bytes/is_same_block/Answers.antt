@@ -1,5 +1,5 @@
 use Rattle.std.proofs.Common.{◌≡◌, ◌+◌, subst, arith, ℕ}
-use Rattle.packed_cert.specs.Standing.{StandAlike}
+use Rattle.packed_cert.specs.ValuesAtPlaces.{StandAlike}
 use Rattle.packed_cert.proofs.repeated_bytes.is_same_block.Goals as goal
 
 pub returns : goal.returns

@@ -1,5 +1,5 @@
 use Rattle.std.proofs.Common.{◌≡◌, ◌+◌, subst, ap, arith, ℕ}
-use Rattle.packed_cert.specs.Standing.{StandAlike, eight_at}
+use Rattle.packed_cert.specs.ValuesAtPlaces.{StandAlike, eight_at}
 use Rattle.packed_cert.proofs.SameWords.{eight_more}
 use Rattle.packed_cert.proofs.repeated_bytes.is_same_half.Goals as goal
 

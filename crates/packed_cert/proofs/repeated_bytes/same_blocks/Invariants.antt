@@ -1,5 +1,5 @@
 use Rattle.std.proofs.Common.{◌≤◌, ◌-◌}
-use Rattle.packed_cert.specs.Standing.{StandAlike}
+use Rattle.packed_cert.specs.ValuesAtPlaces.{StandAlike}
 use Rattle.packed_cert.proofs.repeated_bytes.same_blocks.Given as goal
 
 abbrev pub invariant-loop-i : goal.invariant-loop-i

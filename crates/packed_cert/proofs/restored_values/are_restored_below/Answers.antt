@@ -4,7 +4,7 @@ use Rattle.value_domain.specs.Values.{IsBelow, any_val}
 use Rattle.value_domain.proofs.RegLaws.{below_more}
 use Rattle.depth_cert.specs.Exits.{with_lower_from}
 use Rattle.depth_cert.proofs.ExitValues.{with_lower_length}
-use Rattle.packed_cert.specs.Standing.{behind}
+use Rattle.packed_cert.specs.ValuesAtPlaces.{behind}
 use Rattle.packed_cert.specs.ValuesInBytes.{value_in, values_in}
 use Rattle.packed_cert.proofs.ValueShapes.{left_first, length-values_in, stands_at}
 use Rattle.packed_cert.proofs.LowerLaws.{LeftBehind, lower_before, lower_step}

@@ -1,5 +1,5 @@
 use Rattle.std.proofs.Common.{◌≡◌, ℕ, ◌+◌, ◌-◌, ◌<◌, List, [], ◌∷◌, ◌++◌, get_or, Bool, suc, sym, ap, ◌∙◌, arith, eqb, append_assoc}
-use Rattle.packed_cert.specs.Standing.{flags_in}
+use Rattle.packed_cert.specs.ValuesInBytes.{flags_in}
 use Rattle.packed_cert.proofs.states.flags_at.Goals as goal
 
 flags_more : (bytes : List ℕ) (place n i : ℕ) (before all : List Bool) → i < n → before ++ flags_in bytes (place + i) (n - i) ≡ all

@@ -1,5 +1,5 @@
 use Rattle.std.proofs.Common.{◌≡◌, ◌+◌, ◌-◌, ◌++◌, length}
-use Rattle.packed_cert.specs.Standing.{flags_in}
+use Rattle.packed_cert.specs.ValuesInBytes.{flags_in}
 use Rattle.packed_cert.proofs.states.flags_at.Given as goal
 
 abbrev pub invariant-loop-i : goal.invariant-loop-i

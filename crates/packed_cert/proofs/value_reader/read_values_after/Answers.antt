@@ -5,7 +5,7 @@ use Rattle.tcd_base.specs.Place.{Place}
 use Rattle.value_domain.specs.Values.{any_val}
 use Rattle.depth_cert.specs.Grammar.{value_at, values_at}
 use Rattle.tcd_base.proofs.ManyLaws.{many_more, many_fail, many_end}
-use Rattle.packed_cert.specs.Standing.{at, behind, StandAlike}
+use Rattle.packed_cert.specs.ValuesAtPlaces.{at, behind, StandAlike}
 use Rattle.packed_cert.proofs.SameBytes.{stand_next, value_stands, alike_read, alike_behind, all_read}
 use Rattle.packed_cert.proofs.ReadRows.{row_and_more}
 use Rattle.packed_cert.proofs.RowLaws.{place_after-more}

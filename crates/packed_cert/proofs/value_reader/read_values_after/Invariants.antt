@@ -1,8 +1,9 @@
 use Rattle.std.proofs.Common.{◌≡◌, ◌≤◌, ◌+◌, ◌-◌, length, [], take, drop}
 use Rattle.tcd_base.specs.FieldReaders.{many_at}
 use Rattle.depth_cert.specs.Grammar.{value_at}
-use Rattle.packed_cert.specs.Standing.{at, Stand, StandAlike}
-use Rattle.packed_cert.specs.ChangedRows.{ChangesRow, IsFrom, place_after}
+use Rattle.packed_cert.specs.ValuesAtPlaces.{at, Stand, StandAlike}
+use Rattle.packed_cert.specs.ChangedRows.{ChangesRow, IsFrom}
+use Rattle.packed_cert.specs.ValuesInBytes.{place_after}
 use Rattle.packed_cert.proofs.value_reader.read_values_after.Given as goal
 
 abbrev pub invariant-loop-i : goal.invariant-loop-i

@@ -3,7 +3,7 @@ use Rattle.std.proofs.lemmas.Bool.{cases_lt}
 use Rattle.value_domain.specs.declared.values.Val.{Val}
 use Rattle.value_domain.specs.Values.{IsValue, any_val}
 use Rattle.value_domain.proofs.RangeLaws.{any_value}
-use Rattle.packed_cert.specs.Standing.{behind}
+use Rattle.packed_cert.specs.ValuesAtPlaces.{behind}
 use Rattle.packed_cert.specs.ValuesInBytes.{value_in, values_in}
 use Rattle.packed_cert.proofs.ValueShapes.{left_first, length-values_in, stands_at}
 use Rattle.packed_cert.proofs.values_at_places.are_values_at.Goals as goal

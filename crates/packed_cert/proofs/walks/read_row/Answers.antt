@@ -2,8 +2,8 @@ use Rattle.std.proofs.Common.{◌≡◌, ◌∙◌, ◌≤◌, ◌+◌, ℕ, inl
 use Rattle.std.proofs.lemmas.Bool.{cases_lt}
 use Rattle.std.proofs.lemmas.List.{ext_get_or, length-set, get_or-set_same, get_or-set_other}
 use Rattle.value_domain.specs.Values.{any_val}
-use Rattle.packed_cert.specs.Points.{state_in}
-use Rattle.packed_cert.specs.Standing.{behind}
+use Rattle.packed_cert.specs.PointsInBytes.{state_in}
+use Rattle.packed_cert.specs.ValuesAtPlaces.{behind}
 use Rattle.packed_cert.proofs.ValueShapes.{left_first, stands_at}
 use Rattle.packed_cert.proofs.walks.read_row.Goals as goal
 

@@ -1,6 +1,6 @@
 use Rattle.std.proofs.Common.{◌≡◌, ◌<◌, ◌≤◌, ◌-◌, ◌⊎◌, ℕ, get_or, drop, length}
 use Rattle.value_domain.specs.Values.{any_val}
-use Rattle.packed_cert.specs.Points.{state_in}
+use Rattle.packed_cert.specs.PointsInBytes.{state_in}
 use Rattle.packed_cert.specs.ValuesInBytes.{values_in, HaveValues}
 use Rattle.packed_cert.proofs.walks.read_row.Given as goal
 

@@ -4,7 +4,7 @@ use Rattle.depth_cert.specs.declared.keys.Key.{Key}
 use Rattle.depth_cert.specs.declared.points.Point.{Point}
 use Rattle.depth_cert.specs.Nodes.{NodeData}
 use Rattle.depth_cert.specs.Points.{ArePoints}
-use Rattle.task_chains.specs.Apart.{HoldsApartIn}
+use Rattle.task_chains.specs.Rule17.{HoldsApartIn}
 use Rattle.cfg_recover.proofs.FirstFault.{all_more, all_done, broken}
 use Rattle.task_chains.proofs.FaultLaws.{node_fails}
 use Rattle.task_chains.proofs.faults.node_fault.Goals as goal

@@ -1,6 +1,6 @@
 use Rattle.std.proofs.Common.{take}
 use Rattle.std.specs.Prelude.{All}
-use Rattle.task_chains.specs.Apart.{HoldsApartIn}
+use Rattle.task_chains.specs.Rule17.{HoldsApartIn}
 use Rattle.task_chains.proofs.faults.node_fault.Given as goal
 
 -- the rule holds at each point so far

@@ -4,7 +4,7 @@ use Rattle.value_domain.specs.Limits.{Limits}
 use Rattle.value_domain.specs.Thresholds.{limits_for}
 use Rattle.depth_cert.specs.Nodes.{NodeData}
 use Rattle.depth_cert.specs.Certs.{CertData, IsCert}
-use Rattle.task_chains.specs.Apart.{HoldsApart, IsTaskFault, HoldsApartIn, IsNodeFault}
+use Rattle.task_chains.specs.Rule17.{HoldsApart, IsTaskFault, HoldsApartIn, IsNodeFault}
 use Rattle.cfg_recover.proofs.FirstFault.{all_more, item_values}
 use Rattle.task_chains.proofs.FaultLaws.{all_apart, first_fails}
 use Rattle.task_chains.proofs.faults.task_fault.Goals as goal

@@ -1,7 +1,7 @@
 use Rattle.std.proofs.Common.{take}
 use Rattle.std.specs.Prelude.{All}
 use Rattle.depth_cert.specs.Nodes.{NodeData}
-use Rattle.task_chains.specs.Apart.{HoldsApart}
+use Rattle.task_chains.specs.Rule17.{HoldsApart}
 use Rattle.task_chains.proofs.faults.task_fault.Given as goal
 
 -- the rule holds at each point of the nodes so far

@@ -5,7 +5,7 @@ use Rattle.value_domain.specs.declared.states.State.{State}
 use Rattle.depth_cert.specs.declared.keys.Key.{Key}
 use Rattle.depth_cert.specs.declared.points.Point.{Point}
 use Rattle.depth_cert.specs.Nodes.{NodeData}
-use Rattle.task_chains.specs.Apart.{HoldsApartIn}
+use Rattle.task_chains.specs.Rule17.{HoldsApartIn}
 use Rattle.cfg_recover.proofs.FirstFault.{broken}
 use Rattle.task_chains.proofs.FaultLaws.{walked_fails}
 use Rattle.packed_cert.proofs.WalkedPoints.{split_again, split_more, walked, walked_all}

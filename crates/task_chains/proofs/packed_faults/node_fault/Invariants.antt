@@ -1,7 +1,7 @@
 use Rattle.std.proofs.Common.{◌≡◌, ◌++◌, List, length}
 use Rattle.std.specs.Prelude.{All}
 use Rattle.depth_cert.specs.declared.points.Point.{Point}
-use Rattle.task_chains.specs.Apart.{HoldsApartIn}
+use Rattle.task_chains.specs.Rule17.{HoldsApartIn}
 use Rattle.task_chains.proofs.packed_faults.node_fault.Given as goal
 
 -- the rule holds at each point so far

@@ -6,7 +6,7 @@ use Rattle.value_domain.specs.State.{AreValues}
 use Rattle.value_domain.specs.Thresholds.{limits_for}
 use Rattle.depth_cert.specs.declared.points.Point.{Point}
 use Rattle.depth_cert.specs.Nodes.{NodeData}
-use Rattle.task_chains.specs.Apart.{HoldsApart, IsTaskFault, HoldsApartIn, IsNodeFault}
+use Rattle.task_chains.specs.Rule17.{HoldsApart, IsTaskFault, HoldsApartIn, IsNodeFault}
 use Rattle.cfg_recover.proofs.FirstFault.{all_more, accepted_values}
 use Rattle.task_chains.proofs.FaultLaws.{all_apart, first_fails}
 use Rattle.packed_cert.proofs.WalkedPoints.{never_none, got}

@@ -1,6 +1,6 @@
 use Rattle.std.proofs.Common.{◌≡◌, ◌*◌, ◌++◌, length, drop}
 use Rattle.std.specs.List.{flat_map}
-use Rattle.tc_isa.specs.Spelling.{four_bytes}
+use Rattle.tcd_base.specs.Bytes.{four_bytes}
 use Rattle.task_chains.proofs.routine.bytes_of_words.Given as goal
 
 -- the bytes so far, and those of the other words

@@ -1,5 +1,5 @@
 use Rattle.std.proofs.Common.{◌<◌, ◌≤◌, ◌-◌, ℕ}
-use Rattle.task_chains.specs.Routine.{HasRoutineByte}
+use Rattle.task_chains.specs.SwitchRoutine.{HasRoutineByte}
 use Rattle.task_chains.proofs.routine.routine_fault.Given as goal
 
 -- the image has the bytes so far

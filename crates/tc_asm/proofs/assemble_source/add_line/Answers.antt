@@ -1,6 +1,5 @@
 use Rattle.std.proofs.Common.{min, fold, ap, ◌∙◌}
-use Rattle.tc_asm.specs.Drafts.{stepped}
-use Rattle.tc_asm.specs.Sources.{with_line}
+use Rattle.tc_asm.specs.Drafts.{stepped, with_line}
 use Rattle.tc_asm.specs.KnownSymbols.{kept, kept_rule}
 use Rattle.tc_asm.proofs.Passes.{first_things}
 use Rattle.tc_asm.proofs.assemble_source.add_line.Goals as goal

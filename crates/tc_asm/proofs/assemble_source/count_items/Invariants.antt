@@ -1,6 +1,6 @@
 use Rattle.std.proofs.Common.{◌≡◌, ◌&&◌, [], take, drop, map, fold}
 use Rattle.tc_stmt.specs.Items.{item_of}
-use Rattle.tc_asm.specs.Alike.{Alike}
+use Rattle.tc_asm.specs.AlikeDrafts.{Alike}
 use Rattle.tc_asm.specs.Drafts.{stepped}
 use Rattle.tc_asm.specs.KnownSymbols.{are_new}
 use Rattle.tc_asm.proofs.assemble_source.count_items.Given as goal

@@ -3,10 +3,10 @@ use Rattle.std.proofs.lemmas.List.{take_all}
 use Rattle.tc_stmt.specs.declared.item.Item.{Item}
 use Rattle.tc_stmt.specs.declared.source.Line.{Line}
 use Rattle.tc_stmt.specs.Items.{item_of}
-use Rattle.tc_stmt.specs.Readings.{lines_read, lines_of}
+use Rattle.tc_stmt.specs.LinesRead.{lines_read, lines_of}
 use Rattle.tc_asm.specs.KnownSymbols.{kept}
 use Rattle.tc_stmt.specs.Lines.{LineData}
-use Rattle.tc_asm.specs.Sources.{drafted}
+use Rattle.tc_asm.specs.Drafts.{drafted}
 use Rattle.tc_asm.specs.DraftInvariants.{IsDraft}
 use Rattle.tc_asm.proofs.Passes.{drafted_more, kept_more as rules_more, least_here, behind_here, read_here, read_behind}
 use Rattle.tc_asm.proofs.KeptLaws.{IsDraft-start, IsDraft-more}

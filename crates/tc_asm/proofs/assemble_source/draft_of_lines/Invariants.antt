@@ -1,10 +1,11 @@
 use Rattle.std.proofs.Common.{◌≡◌, true, take, drop, map}
 use Rattle.tc_stmt.specs.Items.{item_of}
 use Rattle.tc_stmt.specs.Lines.{items_in}
-use Rattle.tc_asm.specs.Sources.{drafted, KeepsRules}
+use Rattle.tc_asm.specs.DraftedSources.{KeepsRules}
+use Rattle.tc_asm.specs.Drafts.{drafted}
 use Rattle.tc_asm.specs.DraftInvariants.{IsDraft}
 use Rattle.tc_asm.specs.KnownSymbols.{kept, are_new}
-use Rattle.tc_stmt.specs.Readings.{lines_read, lines_of}
+use Rattle.tc_stmt.specs.LinesRead.{lines_read, lines_of}
 use Rattle.tc_asm.proofs.assemble_source.draft_of_lines.Given as goal
 
 abbrev pub invariant-loop-i : goal.invariant-loop-i

@@ -1,5 +1,5 @@
 use Rattle.std.proofs.Common.{arith}
-use Rattle.tc_asm.specs.Views.{use_of}
+use Rattle.tc_asm.specs.DraftViews.{use_of}
 use Rattle.tc_asm.specs.Objects.{reloc_of}
 use Rattle.tc_stmt.proofs.LoopLaws.{pushed_view}
 use Rattle.tc_asm.proofs.emit.add_relocs.Goals as goal

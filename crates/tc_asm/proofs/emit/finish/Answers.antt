@@ -3,7 +3,7 @@ use Rattle.std.specs.Prelude.{All, is_some, true}
 use Rattle.tc_object.specs.Names.{name_of}
 use Rattle.tc_asm.specs.declared.sections.Part.{Part}
 use Rattle.tc_asm.specs.declared.sections.Use.{Use}
-use Rattle.tc_asm.specs.Views.{part_of}
+use Rattle.tc_asm.specs.DraftViews.{part_of}
 use Rattle.tc_asm.specs.Objects.{section_of, relocs_from}
 use Rattle.tc_asm.specs.DraftInvariants.{IsDraft, symbol_names}
 use Rattle.tc_asm.proofs.FinishLaws.{parts_named, symbols_named, symbols_small, offsets_small}

@@ -1,5 +1,5 @@
 use Rattle.std.proofs.Common.{[], arith}
-use Rattle.tc_asm.specs.Views.{part_of}
+use Rattle.tc_asm.specs.DraftViews.{part_of}
 use Rattle.tc_asm.specs.Objects.{section_of}
 use Rattle.tc_stmt.proofs.LoopLaws.{pushed_seen}
 use Rattle.tc_asm.proofs.emit.sections.Goals as goal

@@ -1,8 +1,7 @@
 use Rattle.std.proofs.Common.{cond, sym, ap, ◌∙◌, arith}
 use Rattle.std.specs.Prelude.{slice_get}
 use Rattle.std.specs.Option.{option_map_or}
-use Rattle.tc_isa.specs.Rows.{RowData, listed}
-use Rattle.tc_isa.specs.ValidRows.{is_long}
+use Rattle.tc_isa.specs.Rows.{RowData, listed, is_long}
 use Rattle.tc_asm.proofs.CodeLaws.{row_listed, row_unlisted}
 use Rattle.tc_asm.proofs.AlikeDrafts.{sized}
 use Rattle.tc_asm.proofs.encode.code_size.Goals as goal

@@ -1,7 +1,7 @@
 use Rattle.std.proofs.Common.{◌++◌, ℕ, List, map, replicate, ap, ◌∙◌}
 use Rattle.tc_asm.specs.declared.sections.Part.{Part}
 use Rattle.tc_asm.specs.Drafts.{PartData}
-use Rattle.tc_asm.specs.Views.{part_of, use_of}
+use Rattle.tc_asm.specs.DraftViews.{part_of, use_of}
 use Rattle.tc_asm.proofs.PartLaws.{extended-set, no_zeros}
 use Rattle.tc_asm.proofs.sections.extend_part.Goals as goal
 

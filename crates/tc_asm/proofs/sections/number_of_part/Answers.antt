@@ -3,7 +3,7 @@ use Rattle.std.specs.Prelude.{unwrap_or, position}
 use Rattle.std.proofs.lemmas.List.{length-map}
 use Rattle.std.specs.Str.{bytes_eq}
 use Rattle.tc_asm.specs.declared.sections.Part.{Part}
-use Rattle.tc_asm.specs.Views.{part_of}
+use Rattle.tc_asm.specs.DraftViews.{part_of}
 use Rattle.tc_asm.specs.Drafts.{number_of_part}
 use Rattle.tc_lex.proofs.Mapped.{position-map}
 use Rattle.tc_asm.proofs.sections.number_of_part.Goals as goal

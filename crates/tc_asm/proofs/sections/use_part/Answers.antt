@@ -1,9 +1,9 @@
 use Rattle.std.proofs.Common.{◌++◌, ◌∷◌, [], List, map, ap, ◌∙◌}
 use Rattle.std.proofs.lemmas.List.{map_push}
-use Rattle.tc_stmt.specs.RowFields.{reference_of}
+use Rattle.tc_stmt.specs.Items.{reference_of}
 use Rattle.tc_asm.specs.declared.sections.Part.{Part}
 use Rattle.tc_asm.specs.Drafts.{PartData, UseData}
-use Rattle.tc_asm.specs.Views.{part_of, use_of}
+use Rattle.tc_asm.specs.DraftViews.{part_of, use_of}
 use Rattle.tc_asm.proofs.PartLaws.{used-set}
 use Rattle.tc_asm.proofs.sections.use_part.Goals as goal
 

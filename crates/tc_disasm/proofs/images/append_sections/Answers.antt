@@ -1,7 +1,7 @@
 use Rattle.std.proofs.Common.{◌++◌, ap, ◌∙◌, map}
 use Rattle.std.specs.Prelude.{string_bytes}
 use Rattle.tc_disasm.specs.Listing.{section_text}
-use Rattle.tc_disasm.specs.Views.{lent_data}
+use Rattle.tc_disasm.specs.LentSegments.{lent_data}
 use Rattle.tc_disasm.proofs.Appending.{sections_on, sections_end}
 use Rattle.tc_disasm.proofs.Placing.{ends_at, lent_here, long_lent, past_lent}
 use Rattle.tc_disasm.proofs.images.append_sections.Goals as goal

@@ -1,7 +1,7 @@
 use Rattle.std.proofs.Common.{◌≡◌, ◌++◌, drop, map}
 use Rattle.std.specs.Prelude.{string_bytes}
 use Rattle.tc_disasm.specs.Listing.{sections_from}
-use Rattle.tc_disasm.specs.Views.{lent_data}
+use Rattle.tc_disasm.specs.LentSegments.{lent_data}
 use Rattle.tc_disasm.proofs.images.append_sections.Given as goal
 
 -- the sections so far, and those that are left, are all

@@ -4,7 +4,7 @@ use Rattle.std.specs.Borrow.{Bor}
 use Rattle.elf_image.specs.declared.segments.Segment.{Segment}
 use Rattle.elf_image.specs.Images.{segment_data, is_segment}
 use Rattle.tc_disasm.specs.Listing.{by_address}
-use Rattle.tc_disasm.specs.Views.{lent_data}
+use Rattle.tc_disasm.specs.LentSegments.{lent_data}
 use Rattle.tc_disasm.proofs.Placing.{few_lent, all-by_address}
 use Rattle.tc_disasm.proofs.images.listing.Goals as goal
 

@@ -1,7 +1,8 @@
 use Rattle.std.proofs.Common.{◌≡◌, ◌<◌, ◌++◌, ◌∙◌, ℕ, List, sym, ap, subst, length}
 use Rattle.std.specs.Prelude.{OnOk, string_bytes}
 use Rattle.tc_isa.specs.Rows.{RowData}
-use Rattle.tc_isa.specs.Forms.{IsBelow, bounds, fields}
+use Rattle.tc_isa.specs.Forms.{bounds, fields}
+use Rattle.tc_isa.specs.InBounds.{IsBelow}
 use Rattle.tc_isa.proofs.Made.{inst_within, row_of_inst}
 use Rattle.tc_stmt.proofs.Places.{wants_here}
 use Rattle.tc_disasm.specs.Texts.{text_of}

@@ -1,7 +1,8 @@
 use Rattle.std.proofs.Common.{◌∙◌, sym, ap, subst}
 use Rattle.tc_isa.specs.declared.fields.Fields.{Fields}
 use Rattle.tc_isa.specs.Rows.{row_of}
-use Rattle.tc_isa.specs.Forms.{IsBelow, bounds}
+use Rattle.tc_isa.specs.Forms.{bounds}
+use Rattle.tc_isa.specs.InBounds.{IsBelow}
 use Rattle.tc_isa.specs.Spelling.{word_of}
 use Rattle.tc_isa.proofs.TableFacts.{row_at}
 use Rattle.tc_encode.proofs.Finds.{none_map}

@@ -1,6 +1,7 @@
 use Rattle.std.proofs.Common.{◌<◌, ◌∙◌, sym, ap, subst, length}
 use Rattle.tc_isa.specs.Rows.{RowData}
-use Rattle.tc_isa.specs.Forms.{IsBelow, bounds, fields}
+use Rattle.tc_isa.specs.Forms.{bounds, fields}
+use Rattle.tc_isa.specs.InBounds.{IsBelow}
 use Rattle.tc_isa.specs.Spelling.{word_of}
 use Rattle.tc_isa.proofs.TableFacts.{row_at}
 use Rattle.tc_isa.proofs.Made.{at_listed, inst_within, row_of_inst}

@@ -2,7 +2,8 @@ use Rattle.std.proofs.Common.{subst, ◌∙◌, sym, ap}
 use Rattle.tc_isa.specs.declared.fields.Fields.{Fields}
 use Rattle.std.proofs.lemmas.Bool.{both_ways}
 use Rattle.tc_isa.specs.Rows.{row_of}
-use Rattle.tc_isa.specs.Forms.{IsBelow, bounds}
+use Rattle.tc_isa.specs.Forms.{bounds}
+use Rattle.tc_isa.specs.InBounds.{IsBelow}
 use Rattle.tc_isa.specs.ValidRows.{rest_is_zero, is_apart, uses_of}
 use Rattle.tc_encode.proofs.Gaps.{fields_below}
 use Rattle.tc_encode.proofs.Finds.{stands, makes_of}

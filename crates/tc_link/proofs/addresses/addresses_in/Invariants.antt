@@ -1,7 +1,6 @@
 use Rattle.std.proofs.Common.{◌≡◌, List, take, map}
-use Rattle.tc_link.specs.Placing.{GlobalData}
+use Rattle.tc_link.specs.Names.{GlobalData, AreGlobals}
 use Rattle.tc_link.specs.Relocated.{symbol_address}
-use Rattle.tc_link.specs.Names.{AreGlobals}
 use Rattle.tc_link.proofs.addresses.addresses_in.Given as goal
 
 abbrev pub invariant-loop-symbol : goal.invariant-loop-symbol

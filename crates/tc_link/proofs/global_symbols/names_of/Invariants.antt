@@ -1,6 +1,6 @@
 use Rattle.std.proofs.Common.{◌≡◌, List, take, map}
-use Rattle.tc_link.specs.Placing.{PlacedData, globals_of}
-use Rattle.tc_link.specs.Names.{CountsGlobals, AreGlobals}
+use Rattle.tc_link.specs.Placing.{PlacedData}
+use Rattle.tc_link.specs.Names.{globals_of, CountsGlobals, AreGlobals}
 use Rattle.tc_link.proofs.global_symbols.names_of.Given as goal
 
 abbrev pub invariant-loop-number : goal.invariant-loop-number

@@ -2,8 +2,7 @@ use Rattle.std.proofs.Common.{◌≡◌, ◌∙◌, [], List, length, map, Resul
 use Rattle.std.specs.Prelude.{IfSome, IfOk, IfErr}
 use Rattle.std.proofs.lemmas.Result.{err_from_is_err_and}
 use Rattle.elf_image.specs.Images.{ImageData}
-use Rattle.tc_link.specs.Placing.{PlacedData}
-use Rattle.tc_link.specs.Linked.{placed_of}
+use Rattle.tc_link.specs.Placing.{PlacedData, placed_of}
 use Rattle.tc_link.specs.Refusals.{Refusal}
 use Rattle.tc_link.specs.Errors.{refusal_of}
 use Rattle.tc_link.proofs.ImageLaws.{image_of_bytes}

@@ -2,9 +2,9 @@ use Rattle.std.proofs.Common.{◌≡◌, ◌∙◌, List, Ok, map, sym, ap, subs
 use Rattle.std.proofs.lemmas.Result.{err_from_is_err_and}
 use Rattle.elf_image.specs.Images.{SegmentData, AreBytes, IsImage, segment_data}
 use Rattle.tc_link.specs.Layouts.{PlaceData, LayoutData, IsLayout}
-use Rattle.tc_link.specs.Placing.{globals_of, global_address}
+use Rattle.tc_link.specs.Names.{globals_of, global_address}
 use Rattle.tc_link.specs.Segments.{segments_of}
-use Rattle.tc_link.specs.Linked.{contents_of}
+use Rattle.tc_link.specs.Relocated.{contents_of}
 use Rattle.tc_link.specs.Errors.{refusal_of}
 use Rattle.tc_link.proofs.LinkLaws.{made_reloc, made_no_entry, made_ok}
 use Rattle.tc_link.proofs.link_objects.make.Goals as goal

@@ -3,8 +3,7 @@ use Rattle.std.specs.Prelude.{IfSome, IfOk, IfErr}
 use Rattle.std.proofs.lemmas.Result.{err_from_is_err_and}
 use Rattle.tc_link.specs.Layouts.{PlaceData, LayoutData}
 use Rattle.tc_link.specs.Placing.{sections_of, placed_after}
-use Rattle.tc_link.specs.Linked.{refused_early}
-use Rattle.tc_link.specs.Refusals.{Refusal, no_place_in, no_room_after}
+use Rattle.tc_link.specs.Refusals.{refused_early, Refusal, no_place_in, no_room_after}
 use Rattle.tc_link.specs.Errors.{IsRefusal, refusal_of}
 use Rattle.tc_link.proofs.LinkLaws.{early_none, told_twice, told_missing, told_place, told_room, err_told, ok_told}
 use Rattle.tc_link.proofs.link_objects.place_all.Goals as goal

@@ -1,6 +1,6 @@
 use Rattle.std.proofs.Common.{◌≡◌, List, None, take, map}
 use Rattle.std.specs.List.{fold}
-use Rattle.tc_link.specs.Placing.{GlobalData}
+use Rattle.tc_link.specs.Names.{GlobalData}
 use Rattle.tc_link.specs.Relocated.{symbol_addresses, with_reloc}
 use Rattle.tc_link.specs.Refusals.{first_at, refusal_at}
 use Rattle.tc_link.specs.Shapes.{shape_of}

@@ -1,5 +1,5 @@
 use Rattle.std.proofs.Common.{ap, ◌∙◌}
-use Rattle.csa_chain.specs.Memory.{Memory, with_word}
+use Rattle.csa_chain.specs.MemoryBytes.{Memory, with_word}
 use Rattle.tc_machine.proofs.WholeAccesses.{put_whole, put_none}
 use Rattle.tc_machine.proofs.contexts.put_word.Goals as goal
 

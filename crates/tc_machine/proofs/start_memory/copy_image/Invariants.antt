@@ -1,5 +1,5 @@
 use Rattle.std.proofs.Common.{◌≡◌, drop}
-use Rattle.csa_chain.specs.Memory.{HasBytes}
+use Rattle.csa_chain.specs.MemoryBytes.{HasBytes}
 use Rattle.tc_machine.specs.Starting.{with_images}
 use Rattle.tc_machine.proofs.start_memory.copy_image.Given as goal
 

@@ -1,6 +1,6 @@
 use Rattle.std.proofs.Common.{◌≤◌, drop, length, map}
 use Rattle.elf_image.specs.Images.{segment_data}
-use Rattle.csa_chain.specs.Memory.{HasBytes}
+use Rattle.csa_chain.specs.MemoryBytes.{HasBytes}
 use Rattle.tc_machine.specs.Starting.{IsCopied}
 use Rattle.tc_machine.proofs.start_memory.copy_segments.Given as goal
 

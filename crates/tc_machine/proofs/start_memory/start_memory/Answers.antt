@@ -1,7 +1,7 @@
 -- The ranges are those of the plan, so the memory is made as it says.
 use Rattle.std.proofs.Common.{subst, ◌∙◌}
-use Rattle.tc_mem.specs.Pages.{IsZeros}
-use Rattle.csa_chain.specs.Memory.{HasBytes}
+use Rattle.tc_mem.specs.PlanMemory.{IsZeros}
+use Rattle.csa_chain.specs.MemoryBytes.{HasBytes}
 use Rattle.tc_machine.specs.Starting.{mapped_ranges_of}
 use Rattle.tc_machine.proofs.Zeros.{zeros_bytes}
 use Rattle.tc_machine.proofs.start_memory.start_memory.Goals as goal

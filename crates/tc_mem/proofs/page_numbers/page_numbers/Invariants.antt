@@ -1,5 +1,5 @@
 use Rattle.std.proofs.Common.{◌/◌, ℕ, Contains, IsTrue, take}
-use Rattle.tc_mem.specs.Pages.{is_in}
+use Rattle.tcd_base.specs.Ranges.{is_in}
 use Rattle.tc_mem.proofs.page_numbers.page_numbers.Given as goal
 
 abbrev pub invariant-loop-range : goal.invariant-loop-range

@@ -3,8 +3,8 @@ use Rattle.std.specs.Prelude.{Contains}
 use Rattle.std.proofs.lemmas.List.{drop_all}
 use Rattle.tc_machine.specs.declared.events.End.TheVariants.{Running}
 use Rattle.tc_machine.specs.declared.state.Machine.{Machine}
-use Rattle.tc_script.specs.AreaRows.{EffectHolds}
-use Rattle.tc_script.specs.Runs.{IsEventOf}
+use Rattle.tc_script.specs.AreasInSequence.{EffectHolds}
+use Rattle.tc_script.specs.DrivenRuns.{IsEventOf}
 use Rattle.tc_script.proofs.Events.{fits_event, all_at, drop_at}
 use Rattle.tc_script.proofs.Runs.{one_more, ended}
 use Rattle.tc_script.proofs.driving.drive.Goals as goal

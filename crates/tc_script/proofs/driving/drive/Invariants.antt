@@ -1,5 +1,5 @@
 use Rattle.std.proofs.Common.{All}
-use Rattle.tc_script.specs.AreaRows.{IsCounted}
+use Rattle.tc_script.specs.AreasInSequence.{IsCounted}
 use Rattle.tc_script.specs.KnownWords.{IsKnown}
 use Rattle.tc_script.proofs.Runs.{DrivenSoFar}
 use Rattle.tc_script.proofs.driving.drive.Given as goal

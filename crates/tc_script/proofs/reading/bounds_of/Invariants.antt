@@ -1,5 +1,5 @@
 use Rattle.std.proofs.Common.{◌≡◌, map, take}
-use Rattle.tc_script.specs.Reading.{own_bounds}
+use Rattle.tc_script.specs.Ports.{own_bounds}
 use Rattle.tc_script.proofs.reading.bounds_of.Given as goal
 
 abbrev pub invariant-loop-device : goal.invariant-loop-device

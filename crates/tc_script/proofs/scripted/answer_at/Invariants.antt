@@ -1,5 +1,5 @@
 use Rattle.std.proofs.Common.{◌≡◌, drop}
-use Rattle.tc_script.specs.ScriptRuns.{answer_at}
+use Rattle.tc_script.specs.Ports.{answer_at}
 use Rattle.tc_script.proofs.scripted.answer_at.Given as goal
 
 abbrev pub invariant-loop-i : goal.invariant-loop-i

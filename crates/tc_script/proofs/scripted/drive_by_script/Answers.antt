@@ -3,7 +3,7 @@ use Rattle.std.specs.Borrow.{Bor}
 use Rattle.tcd_plan.specs.declared.plans.Device.{Device}
 use Rattle.tcd_plan.specs.PlanData.{PlanData, IsPlan}
 use Rattle.tc_script.specs.ScriptData.{ScriptData}
-use Rattle.tc_script.specs.ScriptRuns.{answer_at}
+use Rattle.tc_script.specs.Ports.{answer_at}
 use Rattle.tc_script.proofs.Bounded.{bounded_by}
 use Rattle.tc_script.proofs.Only.{script_run}
 use Rattle.tc_script.proofs.scripted.drive_by_script.Goals as goal

@@ -1,9 +1,8 @@
 use Rattle.std.proofs.Common.{◌≡◌, ◌<◌, ◌^◌, List, None, All, rules, sym, subst}
 use Rattle.serde_json.specs.Data.{Data}
 use Rattle.serde_json.specs.View.{view}
-use Rattle.tcd_plan.specs.PlanData.{IsPlan, PlanData}
+use Rattle.tcd_plan.specs.PlanData.{IsPlan, PlanData, AreFew}
 use Rattle.tcd_plan.specs.Plans.{irq_of, refusal_of, plan_in}
-use Rattle.tcd_plan.specs.PlanLimits.{AreFew}
 use Rattle.tcd_plan.proofs.Accepted.{accepted, few_arrays}
 use Rattle.tcd_plan.proofs.Pieces.{irqs_small}
 use Rattle.tcd_plan.proofs.TellsPlan.{ascending, ccpn-lt, tells_plan}

@@ -3,7 +3,7 @@ use Rattle.std.specs.Char.{digit_value}
 use Rattle.std.proofs.lemmas.Int.Digits.{digits_value_more, digits_more}
 use Rattle.std.proofs.lemmas.List.Folds.{list_all_more}
 use Rattle.std.proofs.lemmas.Bool.{ltb-true}
-use Rattle.tcd_text.specs.HexNumbers.{is_upper_hex}
+use Rattle.tcd_text.specs.Digits.{is_upper_hex}
 use Rattle.tcd_base.proofs.HexDigits.{seven}
 use Rattle.tcd_text.proofs.HexLaws.{chosen}
 use Rattle.tcd_text.proofs.hex_numbers.digits_of.Goals as goal

@@ -1,7 +1,7 @@
 use Rattle.std.proofs.Common.{◌≡◌, take, true}
 use Rattle.std.specs.List.{list_all}
 use Rattle.std.specs.Str.Parse.{digits_value, AllDigits}
-use Rattle.tcd_text.specs.HexNumbers.{is_upper_hex}
+use Rattle.tcd_text.specs.Digits.{is_upper_hex}
 use Rattle.tcd_text.proofs.hex_numbers.digits_of.Given as goal
 
 abbrev pub invariant-loop-c : goal.invariant-loop-c

@@ -6,7 +6,7 @@ use Rattle.value_domain.specs.State.{AreValues}
 use Rattle.value_domain.specs.Thresholds.{limits_for}
 use Rattle.depth_cert.specs.declared.points.Point.{Point}
 use Rattle.depth_cert.specs.Nodes.{NodeData}
-use Rattle.cfg_recover.specs.Accepting.{limits_in, Accepts}
+use Rattle.cfg_recover.specs.RulesHoldOrFail.{limits_in, Accepts}
 use Rattle.value_cells.specs.declared.cells.Cell.{Cell}
 use Rattle.value_cells.specs.Cells.{with_cells}
 use Rattle.value_cells.specs.Keeping.{KeepsCells, IsFirstBreak, IsNodeBreak, KeepsCellsAtPoint}

@@ -1,7 +1,7 @@
 use Rattle.std.proofs.Common.{take}
 use Rattle.std.specs.Prelude.{All}
 use Rattle.depth_cert.specs.Nodes.{NodeData}
-use Rattle.cfg_recover.specs.Accepting.{limits_in}
+use Rattle.cfg_recover.specs.RulesHoldOrFail.{limits_in}
 use Rattle.value_cells.specs.Keeping.{KeepsCellsAtPoint}
 use Rattle.value_cells.proofs.packed_faults.cells_fault_packed.Given as goal
 

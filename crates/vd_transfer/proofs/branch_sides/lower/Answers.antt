@@ -5,7 +5,8 @@ use Rattle.value_domain.specs.declared.states.State.{State}
 use Rattle.value_domain.specs.State.{AreValues}
 use Rattle.vd_transfer.specs.Changes.{state_after}
 use Rattle.vd_transfer.specs.Operations.{value_of}
-use Rattle.vd_transfer.specs.Registers.{reg_of, write_reg, word_val}
+use Rattle.vd_transfer.specs.Registers.{reg_of, write_reg}
+use Rattle.value_domain.specs.Values.{word_val}
 use Rattle.vd_transfer.proofs.ChangeLaws.{third-free}
 use Rattle.vd_transfer.proofs.branch_sides.lower.Goals as goal
 

@@ -1,6 +1,7 @@
 use Rattle.std.proofs.Common.{◌≡◌, ◌∙◌, sym}
 use Rattle.tcd_plan.specs.PlanData.{plan_data}
-use Rattle.vd_transfer.specs.Registers.{reg_of, arg_of, word_val}
+use Rattle.vd_transfer.specs.Registers.{reg_of, arg_of}
+use Rattle.value_domain.specs.Values.{word_val}
 use Rattle.vd_transfer.proofs.RegisterLaws.{reg_is_value}
 use Rattle.vd_transfer.proofs.SideLaws.{self_side, words_side, set_reg-own, set_arg-own}
 use Rattle.vd_transfer.proofs.branch_sides.narrow_by.Goals as goal

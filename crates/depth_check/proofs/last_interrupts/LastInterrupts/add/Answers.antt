@@ -1,8 +1,8 @@
 use Rattle.std.proofs.Common.{sym, subst}
 use Rattle.value_domain.specs.declared.values.Val.{Val}
 use Rattle.value_domain.specs.Values.{IsValue}
-use Rattle.cfg_recover.specs.Accepting.{limits_in}
-use Rattle.depth_check.specs.Interrupts.{HoldsWith}
+use Rattle.cfg_recover.specs.RulesHoldOrFail.{limits_in}
+use Rattle.depth_check.specs.PassingInstructions.{HoldsWith}
 use Rattle.depth_check.proofs.InterruptLaws.{below_context}
 use Rattle.depth_check.proofs.last_interrupts.LastInterrupts.add.Goals as goal
 

@@ -1,7 +1,7 @@
 use Rattle.std.proofs.Common.{◌+◌, ◌≤◌, length, map, sym, ap, ◌∙◌, arith}
 use Rattle.std.proofs.lemmas.Result.{err_from_is_err_and}
 use Rattle.std.proofs.lemmas.List.Elements.{All-weaker}
-use Rattle.elf_image.specs.Elf.{overlap_refusal, loads_of, segment_of}
+use Rattle.elf_image.specs.ReadElf.{overlap_refusal, loads_of, segment_of}
 use Rattle.elf_image.proofs.Good.{Good, loads_good}
 use Rattle.elf_image.proofs.Loaded.{loaded_is_image}
 use Rattle.elf_image.proofs.Refusals.{refused_start, refused_segment, refused_loads, refused_overlap, image_of-loaded}

@@ -1,8 +1,8 @@
 use Rattle.std.proofs.Common.{◌≡◌, ◌≤◌, ◌^◌, length, IfOk, Ok, sym, ap, ◌∙◌, List, ℕ, subst, rules}
 use Rattle.std.proofs.lemmas.Result.{IfOk-weaker}
 use Rattle.elf_image.specs.Images.{IsImage}
-use Rattle.elf_image.specs.Elf.{image_of}
-use Rattle.elf_image.specs.Written.{file_of}
+use Rattle.elf_image.specs.ReadElf.{image_of}
+use Rattle.elf_image.specs.WrittenElf.{file_of}
 use Rattle.elf_image.proofs.Again.{length-file_of, image_of-file_of}
 use Rattle.elf_image.proofs.images.Image.write.Goals as goal
 

@@ -2,7 +2,8 @@ use Rattle.std.proofs.Common.{refl, Contains, subst, sym, List, get_or}
 use Rattle.std.specs.List.{list_any}
 use Rattle.indexmap.proofs.CallerLemmas.{Contains-insert_key}
 use Rattle.frame_places.specs.declared.needs.reach.FrameEdge.{FrameEdge}
-use Rattle.frame_places.specs.NodeGraph.{edge_to, edge_eq}
+use Rattle.frame_places.specs.NodeGraph.{edge_to}
+use Rattle.frame_places.specs.Hashed.{edge_eq}
 use Rattle.frame_places.proofs.ReachLemmas.{adds_more, edge_tells}
 use Rattle.frame_places.proofs.needs.reach.add_edges.Goals as goal
 

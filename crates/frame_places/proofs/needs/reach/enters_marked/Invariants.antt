@@ -1,6 +1,6 @@
 use Rattle.std.proofs.Common.{◌≡◌, take, Contains}
 use Rattle.frame_places.specs.declared.needs.reach.FrameEdge.{FrameEdge}
-use Rattle.frame_places.specs.NodeGraph.{IsMarked}
+use Rattle.frame_places.specs.Marks.{IsMarked}
 use Rattle.frame_places.proofs.needs.reach.enters_marked.Given as goal
 
 abbrev pub invariant-loop-edge : goal.invariant-loop-edge

@@ -1,7 +1,7 @@
 use Rattle.std.proofs.Common.{◌≡◌, ◌∙◌, ℕ, List, true, false, Contains, take, get_or, subst, sym, inl, inr}
 use Rattle.std.proofs.lemmas.List.{take_all, take_more}
 use Rattle.std.proofs.lemmas.List.Elements.{Contains-get_or, Contains-push_cases}
-use Rattle.frame_places.specs.NodeGraph.{IsMarked}
+use Rattle.frame_places.specs.Marks.{IsMarked}
 use Rattle.frame_places.proofs.needs.reach.has_marked.Goals as goal
 
 pub returns-then-is_marked : goal.returns-then-is_marked

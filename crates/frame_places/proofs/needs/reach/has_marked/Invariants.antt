@@ -1,5 +1,5 @@
 use Rattle.std.proofs.Common.{ℕ, take, Contains}
-use Rattle.frame_places.specs.NodeGraph.{IsMarked}
+use Rattle.frame_places.specs.Marks.{IsMarked}
 use Rattle.frame_places.proofs.needs.reach.has_marked.Given as goal
 
 abbrev pub invariant-loop-node : goal.invariant-loop-node

@@ -1,5 +1,6 @@
 use Rattle.std.proofs.Common.{◌≤◌, ◌^◌, ◌∙◌, ℕ, List, length, sum_by, sym, ap, subst}
-use Rattle.depth_cert.specs.Certs.{CertData, count_points}
+use Rattle.depth_cert.specs.Certs.{CertData}
+use Rattle.depth_cert.specs.Nodes.{count_points}
 use Rattle.packed_cert.specs.declared.places.NodePlaces.{NodePlaces}
 use Rattle.packed_cert.proofs.NodeReads.{count_in}
 use Rattle.packed_cert.proofs.certs.PackedCert.count_points.Goals as goal

@@ -5,7 +5,7 @@ use Rattle.std.proofs.lemmas.List.{get_or_default}
 use Rattle.depth_cert.specs.Nodes.{NodeData}
 use Rattle.depth_cert.specs.Certs.{CertData, find_node}
 use Rattle.packed_cert.specs.declared.places.NodePlaces.{NodePlaces}
-use Rattle.packed_cert.specs.Nodes.{node_of, nodes_of, HasPlaces}
+use Rattle.packed_cert.specs.NodesInBytes.{node_of, nodes_of, HasPlaces}
 use Rattle.packed_cert.proofs.NodeReads.{keys_in}
 use Rattle.packed_cert.proofs.CertFinds.{Parts, node_found, node_missing, node_past}
 use Rattle.packed_cert.proofs.certs.PackedCert.node.Goals as goal

@@ -1,7 +1,7 @@
 use Rattle.std.proofs.Common.{◌∙◌, sym, ap, arith}
 use Rattle.depth_cert.specs.declared.points.Exit.{Exit}
-use Rattle.packed_cert.specs.Points.{read_or}
-use Rattle.packed_cert.specs.Nodes.{no_exit}
+use Rattle.packed_cert.specs.PointsInBytes.{read_or}
+use Rattle.depth_cert.specs.Exits.{no_exit}
 use Rattle.packed_cert.proofs.StateShapes.{exit_context, exit_values}
 use Rattle.packed_cert.proofs.exits.ExitAt.lower.Goals as goal
 

@@ -1,5 +1,5 @@
 use Rattle.std.proofs.Common.{◌≡◌, ◌≤◌, ◌∙◌, ◌+◌, ℕ, length, ap, arith}
-use Rattle.packed_cert.specs.Standing.{at}
+use Rattle.packed_cert.specs.ValuesAtPlaces.{at}
 use Rattle.packed_cert.proofs.PointPlaces.{took}
 use Rattle.packed_cert.proofs.StateShapes.{exit_context}
 use Rattle.packed_cert.proofs.NodeReads.{whole_exit}

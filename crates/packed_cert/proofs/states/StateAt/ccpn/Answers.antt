@@ -1,6 +1,7 @@
 use Rattle.std.proofs.Common.{◌∙◌, sym, ap, arith}
 use Rattle.value_domain.specs.declared.states.State.{State}
-use Rattle.packed_cert.specs.Points.{read_or, no_state}
+use Rattle.packed_cert.specs.PointsInBytes.{read_or}
+use Rattle.value_domain.specs.State.{no_state}
 use Rattle.packed_cert.proofs.StateShapes.{state_context}
 use Rattle.packed_cert.proofs.states.StateAt.ccpn.Goals as goal
 

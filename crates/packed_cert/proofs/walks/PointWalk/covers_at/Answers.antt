@@ -2,7 +2,7 @@ use Rattle.std.proofs.Common.{◌≡◌, ◌+◌, ◌-◌, ◌∙◌, true, fals
 use Rattle.std.specs.Prelude.{IsTrue, ◌↔◌}
 use Rattle.value_domain.specs.declared.states.State.{State}
 use Rattle.value_domain.specs.State.{Covers}
-use Rattle.packed_cert.specs.Points.{state_in, points_in}
+use Rattle.packed_cert.specs.PointsInBytes.{state_in, points_in}
 use Rattle.packed_cert.specs.Walks.{WalkData, CoversAt}
 use Rattle.packed_cert.proofs.NodeFinds.{point_missing, point_past, covers_same, covered_found, covered_missing}
 use Rattle.packed_cert.proofs.walks.PointWalk.covers_at.Goals as goal

@@ -1,6 +1,6 @@
 use Rattle.std.proofs.Common.{◌-◌, ◌+◌, ◌∙◌, take, drop, sym, ap, subst}
 use Rattle.value_domain.specs.declared.states.State.{State}
-use Rattle.packed_cert.specs.Points.{points_in}
+use Rattle.packed_cert.specs.PointsInBytes.{points_in}
 use Rattle.packed_cert.specs.Walks.{WalkData, KeepsOthers}
 use Rattle.packed_cert.proofs.WalkSteps.{first_left, keeps_others}
 use Rattle.packed_cert.proofs.walks.PointWalk.step.Goals as goal

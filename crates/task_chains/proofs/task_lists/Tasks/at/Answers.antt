@@ -1,5 +1,5 @@
 use Rattle.std.proofs.Common.{sym, subst}
-use Rattle.task_chains.specs.Reading.{AreSaid}
+use Rattle.task_chains.specs.TaskListText.{AreSaid}
 use Rattle.task_chains.proofs.ReadingLaws.{against}
 use Rattle.task_chains.proofs.task_lists.Tasks.at.Goals as goal
 

@@ -1,7 +1,7 @@
 use Rattle.std.proofs.Common.{refl, ap}
 use Rattle.std.specs.Prelude.{option_map}
 use Rattle.tc_isa.specs.Relocations.{is_reloc}
-use Rattle.tc_stmt.specs.RowFields.{reference_of}
+use Rattle.tc_stmt.specs.Items.{reference_of}
 use Rattle.tc_asm.proofs.AlikeDrafts.{data_alike}
 use Rattle.tc_asm.proofs.draft.Draft.count_data.Goals as goal
 

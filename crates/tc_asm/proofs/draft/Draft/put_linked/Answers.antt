@@ -1,5 +1,6 @@
 use Rattle.std.proofs.Common.{◌∙◌}
-use Rattle.tc_stmt.specs.RowFields.{reference_of, row_fields_of}
+use Rattle.tc_stmt.specs.RowFields.{row_fields_of}
+use Rattle.tc_stmt.specs.Items.{reference_of}
 use Rattle.tc_asm.proofs.KnownSymbols.{linked_rule}
 use Rattle.tc_asm.proofs.draft.Draft.put_linked.Goals as goal
 

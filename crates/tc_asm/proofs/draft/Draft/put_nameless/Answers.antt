@@ -1,7 +1,6 @@
 use Rattle.std.proofs.Common.{List, ℕ, [], ◌∷◌, take, None, Some, ap, sym, ◌∙◌}
-use Rattle.tc_stmt.specs.RowFields.{ReferenceData, reference_of}
+use Rattle.tc_stmt.specs.Items.{ReferenceData, reference_of, item_of, bytes}
 use Rattle.tc_stmt.specs.declared.item.Item.{Item}
-use Rattle.tc_stmt.specs.Items.{item_of, bytes}
 use Rattle.tc_asm.specs.Drafts.{stepped}
 use Rattle.tc_asm.specs.Rules.{item_rule}
 use Rattle.tc_asm.specs.KnownSymbols.{nameless}

@@ -1,5 +1,5 @@
 use Rattle.std.proofs.Common.{Some}
-use Rattle.tc_stmt.specs.RowFields.{reference_of}
+use Rattle.tc_stmt.specs.Items.{reference_of}
 use Rattle.tc_asm.proofs.KnownSymbols.{use_bytes}
 use Rattle.tc_asm.proofs.draft.Draft.put_use.Goals as goal
 

@@ -2,7 +2,7 @@ use Rattle.std.proofs.Common.{sym, ap, ◌∙◌, arith}
 use Rattle.std.specs.Prelude.{option_map, slice_get}
 use Rattle.std.specs.Option.{option_map_or}
 use Rattle.tc_isa.specs.Rows.{listed}
-use Rattle.tc_stmt.specs.RowFields.{reference_of}
+use Rattle.tc_stmt.specs.Items.{reference_of}
 use Rattle.tc_asm.specs.Drafts.{targeted, found}
 use Rattle.tc_asm.proofs.CodeLaws.{row_listed, row_unlisted}
 use Rattle.tc_asm.proofs.draft.Draft.resolve.Goals as goal

@@ -1,6 +1,6 @@
 use Rattle.std.proofs.Common.{ap, sym, ◌∙◌}
 use Rattle.std.specs.Prelude.{option_map}
-use Rattle.tc_stmt.specs.RowFields.{reference_of}
+use Rattle.tc_stmt.specs.Items.{reference_of}
 use Rattle.tc_asm.specs.Drafts.{with_reference}
 use Rattle.tc_asm.proofs.AlikeDrafts.{see_named}
 use Rattle.tc_asm.proofs.draft.Draft.see_reference.Goals as goal

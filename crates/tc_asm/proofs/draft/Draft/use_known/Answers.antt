@@ -1,4 +1,4 @@
-use Rattle.tc_stmt.specs.RowFields.{reference_of}
+use Rattle.tc_stmt.specs.Items.{reference_of}
 use Rattle.tc_asm.proofs.KnownSymbols.{use_named, use_unnamed}
 use Rattle.tc_asm.proofs.draft.Draft.use_known.Goals as goal
 

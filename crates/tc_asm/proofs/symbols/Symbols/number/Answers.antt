@@ -1,6 +1,6 @@
 use Rattle.std.proofs.Common.{◌∙◌, ap}
 use Rattle.std.specs.Prelude.{unwrap_or}
-use Rattle.tc_asm.specs.Objects.{number_of}
+use Rattle.tc_asm.specs.Symbols.{number_of}
 use Rattle.tc_asm.proofs.SymbolLaws.{position-known}
 use Rattle.tc_asm.proofs.symbols.Symbols.number.Goals as goal
 

@@ -2,7 +2,7 @@ use Rattle.std.proofs.Common.{◌≡◌, ℕ, ◌+◌, List, length, ap, ◌∙�
 use Rattle.std.proofs.lemmas.Bool.Decides.{nat_tests}
 use Rattle.std.proofs.lemmas.Result.{err_from_is_err_and}
 use Rattle.tcd_text.specs.Lines.{lines_of}
-use Rattle.tc_script.specs.Reading.{begun, lines_read, script_in}
+use Rattle.tc_script.specs.ScriptText.{begun, lines_read, script_in}
 use Rattle.tc_script.proofs.Lines.{taken, refused, all_read}
 use Rattle.tc_script.proofs.Inside.{script_fits}
 use Rattle.tc_script.proofs.scripts.Script.read.Goals as goal

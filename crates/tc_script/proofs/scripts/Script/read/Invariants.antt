@@ -1,6 +1,6 @@
 use Rattle.std.proofs.Common.{◌≡◌, ◌+◌, ◌≤◌, length}
 use Rattle.tcd_text.specs.Lines.{lines_of}
-use Rattle.tc_script.specs.Reading.{begun, lines_read}
+use Rattle.tc_script.specs.ScriptText.{begun, lines_read}
 use Rattle.tc_script.proofs.scripts.Script.read.Given as goal
 
 abbrev pub invariant-lines : goal.invariant-lines

@@ -2,8 +2,8 @@ use Rattle.std.proofs.Common.{List, length, refl, sym, ap, subst, ◌∙◌}
 use Rattle.tcd_plan.specs.PlanData.{PlanData, plan_data}
 use Rattle.depth_cert.specs.Answers.{IsFaultOf}
 use Rattle.depth_cert.specs.Grammar.{certificate_of}
-use Rattle.cfg_recover.specs.Accepting.{IsFirstFault}
-use Rattle.depth_maker.specs.Answers.{AreMade}
+use Rattle.cfg_recover.specs.RulesHoldOrFail.{IsFirstFault}
+use Rattle.depth_maker.specs.LeastCertMade.{AreMade}
 use Rattle.value_cells.specs.declared.cells.Cell.{Cell}
 use Rattle.value_cells.specs.Cells.{with_cells}
 use Rattle.tcd_reading.specs.Reports.{says, writes_file}

@@ -1,7 +1,7 @@
 use Rattle.std.proofs.Common.{◌∙◌, List, length, refl, ap, subst}
 use Rattle.tcd_plan.specs.PlanData.{PlanData, plan_data}
 use Rattle.tc_machine.specs.Safe.{Safe}
-use Rattle.cfg_recover.specs.Accepting.{Accepts, IsFirstFault, certified_need}
+use Rattle.cfg_recover.specs.RulesHoldOrFail.{Accepts, IsFirstFault, certified_need}
 use Rattle.value_cells.specs.declared.cells.Cell.{Cell}
 use Rattle.tcd_reading.specs.Reports.{says}
 use Rattle.tcd_driver.specs.Cells.{refused, broken}

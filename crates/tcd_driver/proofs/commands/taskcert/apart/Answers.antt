@@ -1,7 +1,7 @@
 use Rattle.std.proofs.Common.{refl, sym, subst, ◌∙◌}
 use Rattle.depth_cert.specs.Answers.{IsFaultOf}
 use Rattle.depth_cert.specs.Grammar.{certificate_of}
-use Rattle.depth_maker.specs.Answers.{AreMade}
+use Rattle.depth_maker.specs.LeastCertMade.{AreMade}
 use Rattle.tcd_driver.proofs.MakingLaws.{made_is_read, made_has_no_fault}
 use Rattle.tcd_driver.proofs.TaskcertReports.{made_most, apart_made, apart_fails}
 use Rattle.tcd_driver.proofs.commands.taskcert.apart.Goals as goal

@@ -2,8 +2,8 @@ use Rattle.std.proofs.Common.{arith, length, ap, ◌∙◌}
 use Rattle.std.specs.Prelude.{map, string_bytes}
 use Rattle.tcd_plan.specs.PlanData.{plan_data}
 use Rattle.task_chains.specs.Tasks.{TasksData}
-use Rattle.tcd_reading.specs.Reports.{says}
-use Rattle.tcd_driver.specs.Taskcert.{IsTaskcerting, no_switch, refused, writes_files}
+use Rattle.tcd_reading.specs.Reports.{says, writes_files}
+use Rattle.tcd_driver.specs.Taskcert.{IsTaskcerting, no_switch, refused}
 use Rattle.tcd_reading.specs.declared.status.Status.TheVariants.{Refused}
 use Rattle.tcd_reading.proofs.Told.{told_more}
 use Rattle.tcd_reading.proofs.ReportLaws.{report_is}

@@ -1,6 +1,7 @@
 use Rattle.std.proofs.Common.{◌≡◌, ◌-◌, ◌++◌, ◌∙◌, ap, arith}
 use Rattle.std.specs.List.{flat_map, range_with_len}
-use Rattle.tcd_report.specs.Generated.{filled, function_code, functions}
+use Rattle.tcd_report.specs.Generated.{function_code, functions}
+use Rattle.tcd_base.specs.Bytes.{filled}
 use Rattle.tcd_report.proofs.ImageLemmas.Ranges.{pieces_more}
 use Rattle.tcd_report.proofs.generating.functions.functions.Goals as goal
 

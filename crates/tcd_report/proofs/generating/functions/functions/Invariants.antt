@@ -1,6 +1,7 @@
 use Rattle.std.proofs.Common.{◌≡◌}
 use Rattle.std.specs.List.{flat_map, range_with_len}
-use Rattle.tcd_report.specs.Generated.{filled, function_code}
+use Rattle.tcd_report.specs.Generated.{function_code}
+use Rattle.tcd_base.specs.Bytes.{filled}
 use Rattle.tcd_report.proofs.generating.functions.functions.Given as goal
 
 abbrev pub invariant-loop-i : goal.invariant-loop-i

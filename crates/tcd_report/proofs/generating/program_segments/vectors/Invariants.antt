@@ -1,6 +1,7 @@
 use Rattle.std.proofs.Common.{◌≡◌, ◌+◌, ◌*◌}
 use Rattle.std.specs.List.{flat_map, range_with_len}
-use Rattle.tcd_report.specs.Generated.{filled, handler}
+use Rattle.tcd_report.specs.Generated.{handler}
+use Rattle.tcd_base.specs.Bytes.{filled}
 use Rattle.tcd_report.proofs.generating.program_segments.vectors.Given as goal
 
 abbrev pub invariant-loop-j : goal.invariant-loop-j

@@ -1,8 +1,8 @@
 use Rattle.std.proofs.Common.{◌++◌, ◌∙◌, ap, sym}
 use Rattle.value_domain.specs.Sets.{distinct}
-use Rattle.tcd_report.specs.Graphs.{each_once}
-use Rattle.tcd_report.specs.Judging.{point_of, entries_at, successors_at}
-use Rattle.tcd_report.specs.Graphs.Edges.{jumped_in, returned_in, vectors_in}
+use Rattle.tcd_report.specs.Graphs.{each_once, entries_at, successors_at, jumped_in, returned_in}
+use Rattle.depth_cert.specs.Points.{point_of}
+use Rattle.cfg_recover.specs.Entries.{vectors_in}
 use Rattle.tcd_report.proofs.GraphLemmas.DutyLists.{jumps_told, calls_told, systems_told, misaligned_told, interrupts_told, returns_told, systems_once, misaligned_once}
 use Rattle.tcd_report.proofs.graphs.edges.edges_of.Goals as goal
 

@@ -6,7 +6,8 @@ use Rattle.depth_cert.specs.declared.points.Point.{Point}
 use Rattle.depth_cert.specs.Nodes.{NodeData}
 use Rattle.cfg_recover.specs.LocalFaults.{IsFaultless}
 use Rattle.tcd_report.specs.Graphs.{ArePointLines, AreJoined}
-use Rattle.tcd_report.specs.Judging.{point_of, GrowsBy}
+use Rattle.tcd_report.specs.Judging.{GrowsBy}
+use Rattle.depth_cert.specs.Points.{point_of}
 use Rattle.tcd_report.proofs.GraphLemmas.Joining.{grown_push}
 use Rattle.tcd_report.proofs.JudgedPoints.{point_values, point_faultless}
 use Rattle.packed_cert.proofs.WalkedPoints.{split_more, walked, walked_all}

@@ -1,6 +1,6 @@
 use Rattle.std.proofs.lemmas.Result.{on_ok_weaker}
 use Rattle.std.proofs.Common.{string_bytes, refl}
-use Rattle.tcd_report.specs.Judging.{point_of}
+use Rattle.depth_cert.specs.Points.{point_of}
 use Rattle.tcd_report.proofs.GraphLemmas.GraphTexts.{point_lines}
 use Rattle.tcd_report.proofs.graphs.graph_text.append_point.Goals as goal
 

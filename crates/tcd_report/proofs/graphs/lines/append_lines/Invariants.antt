@@ -1,5 +1,5 @@
 use Rattle.std.proofs.Common.{◌≡◌, ◌++◌, take, string_bytes}
-use Rattle.tcd_report.specs.Graphs.Edges.{lines_to}
+use Rattle.tcd_report.specs.Graphs.{lines_to}
 use Rattle.tcd_report.proofs.graphs.lines.append_lines.Given as goal
 
 abbrev pub invariant-loop-to : goal.invariant-loop-to

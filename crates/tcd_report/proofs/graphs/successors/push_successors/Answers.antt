@@ -1,7 +1,7 @@
 use Rattle.std.proofs.Common.{◌≡◌, ◌∙◌, ◌++◌, ap, subst, sym}
 use Rattle.std.specs.Prelude.{OnOk}
 use Rattle.cfg_recover.proofs.NextLaws.{next_alone}
-use Rattle.tcd_report.specs.Graphs.Edges.{jumped_in}
+use Rattle.tcd_report.specs.Graphs.{jumped_in}
 use Rattle.tcd_report.proofs.GraphLemmas.DutyLists.{jumps_are}
 use Rattle.tcd_report.proofs.graphs.successors.push_successors.Goals as goal
 

@@ -5,7 +5,7 @@ use Rattle.depth_cert.specs.declared.points.Point.{Point}
 use Rattle.depth_cert.specs.Nodes.{NodeData}
 use Rattle.cfg_recover.specs.LocalFaults.{IsFaultless}
 use Rattle.tcd_report.specs.Reports.Heights.{IsMost, IsMostOf, HasRowAt}
-use Rattle.tcd_report.specs.Judging.{point_of}
+use Rattle.depth_cert.specs.Points.{point_of}
 use Rattle.tcd_report.proofs.ReportLemmas.MostLaws.{most_with}
 use Rattle.tcd_report.proofs.JudgedPoints.{point_faultless}
 use Rattle.packed_cert.proofs.WalkedPoints.{split_more, walked, walked_all}

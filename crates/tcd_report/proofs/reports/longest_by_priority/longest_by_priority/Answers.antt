@@ -4,7 +4,7 @@ use Rattle.std.specs.HashMap.{get}
 use Rattle.std.proofs.lemmas.Option.{slice_get_within, get_or_from_slice_get}
 use Rattle.depth_cert.specs.declared.keys.Key.{Key}
 use Rattle.depth_cert.specs.Nodes.{NodeData}
-use Rattle.tcd_report.specs.Reports.Heights.{key_eq}
+use Rattle.depth_cert.specs.Keys.{key_eq}
 use Rattle.tcd_report.specs.Reports.Longest.{greater}
 use Rattle.tcd_report.proofs.ReportLemmas.LongestLaws.{longest_more, longest_all}
 use Rattle.packed_cert.proofs.WalkedPoints.{never_none, got}

@@ -1,8 +1,7 @@
 use Rattle.std.proofs.Common.{ℕ, take}
 use Rattle.std.specs.Prelude.{nat_eq}
 use Rattle.std.specs.HashMap.{get}
-use Rattle.tcd_report.specs.Reports.Longest.{AtPrio}
-use Rattle.tcd_report.specs.Reports.Heights.{IsGreatest}
+use Rattle.tcd_report.specs.Reports.Longest.{AtPrio, IsGreatest}
 use Rattle.tcd_report.proofs.reports.longest_by_priority.longest_by_priority.Given as goal
 
 abbrev pub invariant-loop-i : goal.invariant-loop-i

@@ -1,0 +1,51 @@
+-- What the first fault and the certified need are, in the words of the printed lines: the
+-- statements of the laws that guard these definitions.
+use Rattle.std.specs.Prelude.{◌≡◌, ◌^◌, ◌<◌, ◌≤◌, ◌⊎◌, ℕ, Contains, Some}
+use Rattle.elf_image.specs.Images.{ImageData}
+use Rattle.tcd_plan.specs.PlanData.{PlanData}
+use Rattle.depth_cert.specs.declared.keys.Key.{Key}
+use Rattle.depth_cert.specs.declared.points.Point.{Point}
+use Rattle.depth_cert.specs.Keys.{number_of_key}
+use Rattle.depth_cert.specs.Nodes.{NodeData}
+use Rattle.depth_cert.specs.Certs.{CertData, IsCert, find_node}
+use Rattle.cfg_recover.specs.RulesHoldOrFail.{Accepts, RuleHolds, HoldsAtStart, HoldsAtEntry, IsFirstFault, certified_need, limits_in}
+
+-- The place of a fault: the start's entry for rule 1, the entry of a node for rule 2, or a point of
+-- a node.
+pub data IsPlace (image : ImageData) (plan : PlanData) (cert : CertData) : ℕ → Key → ℕ → Type 0 where
+  start : (HoldsAtStart image plan cert → ⊥) → IsPlace image plan cert 1 (record { kind = 0; entry = image.entry; prio = 0; is = plan.start_is }) image.entry
+  entry : (node : NodeData) → Contains cert.nodes node → (HoldsAtEntry (limits_in plan cert) node → ⊥) → IsPlace image plan cert 2 node.key (node.key).entry
+  point :
+      (node : NodeData) (point : Point) (r : ℕ) → Contains cert.nodes node → Contains node.points point
+      → (RuleHolds image plan cert node point r → ⊥) → IsPlace image plan cert r node.key point.addr
+
+-- One fault comes before another, or is it: by key (by its kind, entry, prio and is), then by
+-- address, then by rule.
+abbrev pub IsBefore : ℕ → Key → ℕ → ℕ → Key → ℕ → Type 0
+IsBefore r k p q j x =
+    (number_of_key k < number_of_key j) ⊎ (number_of_key k ≡ number_of_key j) × ((p < x) ⊎ (p ≡ x) × (r ≤ q))
+
+-- The printed rule is 1 to 14 and the printed address is a word. They name a place where that rule
+-- doesn't hold; rule 1 is at the start. If rule 1 holds, all other faults come later.
+pub record FirstFaultSays (image : ImageData) (plan : PlanData) (cert : CertData) (r : ℕ) (k : Key) (p : ℕ) : Type 0 where
+  pub some : 1 ≤ r
+  pub most : r ≤ 14
+  pub addr : p < 2 ^ 32
+  pub one : r ≡ 1 → (k ≡ record { kind = 0; entry = image.entry; prio = 0; is = plan.start_is }) × (p ≡ image.entry)
+  pub place : IsPlace image plan cert r k p
+  pub start : (r ≡ 1) ⊎ HoldsAtStart image plan cert
+  pub first : (q : ℕ) (j : Key) (x : ℕ) → IsPlace image plan cert q j x → (r ≡ 1) ⊎ IsBefore r k p q j x
+  pub refuted : Accepts image plan cert → ⊥
+
+-- of each first fault of a certificate
+abbrev pub FirstFaultsSay : Type 0
+FirstFaultsSay =
+    (image : ImageData) (plan : PlanData) (cert : CertData) (r : ℕ) (k : Key) (p : ℕ) → image.entry < 2 ^ 32 → IsCert cert
+    → IsFirstFault image plan cert r k p → FirstFaultSays image plan cert r k p
+
+-- the printed need is that of the node of the start
+abbrev pub NeedSays : Type 0
+NeedSays =
+    (image : ImageData) (plan : PlanData) (cert : CertData) (node : NodeData)
+    → find_node (record { kind = 0; entry = image.entry; prio = 0; is = plan.start_is }) cert.nodes ≡ Some node
+    → certified_need image plan cert ≡ node.need

@@ -1,0 +1,124 @@
+-- What a machine at a point does next, against what the point owes: the statements of the laws.
+use Rattle.std.specs.FinMap as map
+use Rattle.std.specs.Prelude.{◌≡◌, ◌≢◌, ◌*◌, ◌^◌, ℕ, true, false, if◌then◌else◌, length, bit_or, IfSome, Contains, []}
+use Rattle.elf_image.specs.Images.{ImageData}
+use Rattle.tcd_plan.specs.PlanData.{PlanData, IsPlan}
+use Rattle.tc_isa.specs.declared.shapes.Shape.{Shape}
+use Rattle.tc_isa.specs.declared.shapes.Shape.TheVariants.{Syscall}
+use Rattle.tc_machine.specs.declared.events.Event.{Event}
+use Rattle.tc_machine.specs.declared.events.End.TheVariants.{Running}
+use Rattle.tc_machine.specs.declared.state.Machine.{Machine}
+use Rattle.tc_machine.specs.Machine.{reg, a11, moved}
+use Rattle.tc_machine.specs.Instructions.{does, traps}
+use Rattle.tc_machine.specs.Stepping.{is_taken, stored}
+use Rattle.tcd_plan.specs.Regions.{IsInAreas, IsStoreInRange}
+use Rattle.tc_machine.specs.Safe.{IsMachine, Fits}
+use Rattle.value_domain.specs.declared.states.State.{State}
+use Rattle.value_domain.specs.Limits.{Limits, AreLimits}
+use Rattle.value_domain.specs.State.{AreValues}
+use Rattle.vd_transfer.specs.Registers.{reg_of, is_lower}
+use Rattle.value_domain.specs.Values.{word_val}
+use Rattle.vd_transfer.specs.Holding.{Holds}
+use Rattle.depth_cert.specs.declared.keys.Key.{Key}
+use Rattle.cfg_recover.specs.Code.{IsCode}
+use Rattle.cfg_recover.specs.Entries.{irq_key, aln_key, irq_entry, aln_entry}
+use Rattle.cfg_recover.specs.LocalRules.{LocalRule}
+use Rattle.cfg_recover.specs.Duties.{owed, jump, enter, resume, duties_of}
+use Rattle.tc_mem.specs.PlanMemory.{HoldsRom, IsPlanMemory}
+use Rattle.vd_transfer.specs.Soundness.{StaysInFrame}
+
+-- the state holds the machine's registers, IE and CCPN
+abbrev pub InState : PlanData → Machine → State → Type 0
+InState plan m s = Holds plan (reg m) m.ie m.ccpn s
+
+-- A running machine at a point. Its memory is the plan's, with the image's bytes in rom. At pc
+-- there is an instruction of this shape and size that breaks no rule by itself. The point's state
+-- holds the machine.
+pub record IsAtPoint (b : Limits) (image : ImageData) (plan : PlanData) (key : Key) (m : Machine) (s : State) (shape : Shape) (n : ℕ) : Type 0 where
+  pub limits : AreLimits b
+  pub is_plan : IsPlan plan
+  pub machine : IsMachine m
+  pub running : m.end ≡ Running
+  pub memory : IsPlanMemory plan m.mem
+  pub rom : HoldsRom image plan m.mem
+  pub code : IsCode image plan m.pc shape n
+  pub own : (r : ℕ) → LocalRule b plan key m.pc s shape r
+  pub regs : length s.regs ≡ 27
+  pub values : AreValues b s.regs
+  pub inside : InState plan m s
+
+-- The machine goes from m to n inside its frame, and its registers from state s to state t. The
+-- save areas, the words of the context list, PSW and A11 stay. If t says that the lower registers
+-- are the entry's, they don't change.
+pub record MovesTo (image : ImageData) (plan : PlanData) (m n : Machine) (s t : State) : Type 0 where
+  pub inside : InState plan n t
+  pub lower : t.lower ≡ true → (s.lower ≡ true) × ((r : ℕ) → is_lower r ≡ true → reg n r ≡ reg m r)
+  pub locals : t.locals.items ≡ s.locals.items
+  pub a11 : a11 n ≡ a11 m
+  pub psw : n.psw ≡ m.psw
+  pub pcxi : n.pcxi ≡ m.pcxi
+  pub fcx : n.fcx ≡ m.fcx
+  pub lcx : n.lcx ≡ m.lcx
+  pub biv : n.biv ≡ m.biv
+  pub btv : n.btv ≡ m.btv
+  pub isp : n.isp ≡ m.isp
+  pub core : n.core ≡ m.core
+  pub end : n.end ≡ Running
+  pub areas : (x : ℕ) → IsInAreas plan x → map.get n.mem x ≡ map.get m.mem x
+  pub rom : HoldsRom image plan n.mem
+  pub memory : IsPlanMemory plan n.mem
+
+-- A step inside a frame goes where the point owes a jump, and the jump's state holds the machine
+-- then.
+pub record Moved (b : Limits) (image : ImageData) (plan : PlanData) (key : Key) (m : Machine) (e : Event) (s : State) (shape : Shape) (n : ℕ) : Type 0 where
+  pub state : State
+  pub owes : Contains (duties_of b image plan key m.pc s shape n) (owed 4 (jump (does m e shape n).pc state))
+  pub moves : MovesTo image plan m (does m e shape n) s state
+
+-- at every point: a step that stays in its frame, without an interrupt or a trap
+abbrev pub MovesInFrame : Type 0
+MovesInFrame =
+    (b : Limits) (image : ImageData) (plan : PlanData) (key : Key) (m : Machine) (e : Event) (s : State) (shape : Shape) (n : ℕ)
+    → IsAtPoint b image plan key m s shape n → Fits plan m e → is_taken m e ≡ false → StaysInFrame shape → traps m e shape ≡ false
+    → Moved b image plan key m e s shape n
+
+-- if an access traps, the point owes the entry of its handler
+abbrev pub TrapsOwed : Type 0
+TrapsOwed =
+    (b : Limits) (image : ImageData) (plan : PlanData) (key : Key) (m : Machine) (e : Event) (s : State) (shape : Shape) (n : ℕ)
+    → IsAtPoint b image plan key m s shape n → traps m e shape ≡ true
+    → Contains (duties_of b image plan key m.pc s shape n) (owed 10 (enter (aln_key plan key) (aln_entry plan key s)))
+
+-- The handler of system calls is entered at BTV with class 6 in bits 7:5. It runs at the priority
+-- of the frame that calls, on the interrupt stack.
+abbrev pub system_handler : PlanData → Key → Key
+system_handler plan key = record { kind = 3; entry = bit_or plan.btv (6 * 2 ^ 5); prio = key.prio; is = true }
+
+-- At a system call, rule 12 asks for the entry of its handler, and rule 4 for the next instruction
+-- after the handler's return. At the entry D15 is the call's number, A10 is the interrupt stack's
+-- pointer (or stays, if that stack is in use), interrupts are off, and there are no locals. All
+-- other registers and CCPN are as they were.
+pub record SystemCallOwed (b : Limits) (image : ImageData) (plan : PlanData) (key : Key) (m : Machine) (s : State) (tin n : ℕ) : Type 0 where
+  pub state : State
+  pub entered : Contains (duties_of b image plan key m.pc s (Syscall tin) n) (owed 12 (enter (system_handler plan key) state))
+  pub back : Contains (duties_of b image plan key m.pc s (Syscall tin) n) (owed 4 (resume (system_handler plan key) (moved m.pc n)))
+  pub number : reg_of plan state 15 ≡ word_val tin
+  pub stack : reg_of plan state 26 ≡ (if key.is then reg_of plan s 26 else word_val plan.isp)
+  pub others : (r : ℕ) → r ≢ 15 → r ≢ 26 → reg_of plan state r ≡ reg_of plan s r
+  pub enabled : state.ie ≡ false
+  pub priority : state.ccpn ≡ s.ccpn
+  pub lower : state.lower ≡ false
+  pub locals : state.locals.items ≡ []
+
+-- if an interrupt is taken, the point owes the entry of its handler
+abbrev pub InterruptsOwed : Type 0
+InterruptsOwed =
+    (b : Limits) (image : ImageData) (plan : PlanData) (key : Key) (m : Machine) (e : Event) (s : State) (shape : Shape) (n : ℕ)
+    → IsAtPoint b image plan key m s shape n → Fits plan m e → is_taken m e ≡ true
+    → Contains (duties_of b image plan key m.pc s shape n) (owed 11 (enter (irq_key plan e.irq) (irq_entry plan key s e.irq)))
+
+-- each store of a step is in range
+abbrev pub StoresHeld : Type 0
+StoresHeld =
+    (b : Limits) (image : ImageData) (plan : PlanData) (key : Key) (m : Machine) (e : Event) (s : State) (shape : Shape) (n : ℕ)
+    → IsAtPoint b image plan key m s shape n → IfSome (stored m e) (IsStoreInRange plan)

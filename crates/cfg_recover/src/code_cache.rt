@@ -1,0 +1,125 @@
+// Instructions that were decoded lately, by their words.
+ghost use Rattle.std.specs.Prelude.{◌≡◌, ◌<◌, ◌^◌, ◌↔◌, ℕ, Some, IsTrue, IfSome, slice_index};
+ghost use Rattle.std.specs.Coded.{Coded-set};
+ghost use Rattle.elf_image.specs.Images.{image_byte};
+ghost use Rattle.tc_isa.specs.InBounds.{IsShape};
+ghost use Rattle.tc_encode.specs.Decoding.{decoded_of};
+ghost use Rattle.cfg_recover.specs.Code.{LocatesCode, located_of, located_in};
+ghost use Rattle.cfg_recover.specs.KnownCodes.{IsKnown};
+
+use crate::decoded_inst::decoded_at;
+use crate::local_rules::Located;
+use crate::rom_code::{byte_at, four_in_rom};
+use elf_image::Image;
+use tc_encode::decode;
+use tc_isa::shape;
+use tcd_plan::Plan;
+
+/// Words of code that were decoded lately, whatever their addresses. The word gives the place, so a
+/// later word replaces an earlier one at its place.
+#[derive(Drop)]
+pub struct KnownCodes {
+    codes: [KnownCode; 256],
+    /// The number of the segment that held the last word or byte.
+    near: usize,
+}
+
+/// A word of code, and the instruction that its bytes begin with.
+#[derive(Clone, Copy)]
+pub(crate) struct KnownCode {
+    word: u32,
+    found: Option<Located>,
+    ghost known: { IsKnown word found } by { Coded-set found-code found (located_in word) },
+}
+
+impl KnownCodes {
+    /// Only the word 0 is known.
+    #[inline(never)]
+    pub fn new() -> KnownCodes {
+        KnownCodes {
+            codes: [known_code(0); 256],
+            near: 0,
+        }
+    }
+
+    /// The instruction at an address. If its word is known, nothing is decoded; else it is decoded,
+    /// and known from then on.
+    #[inline(always)]
+    pub fn located(&mut self, image: &Image, plan: &Plan, addr: u32) -> Option<Located>
+        ensures code { LocatesCode image.now plan.now addr result }
+        ensures shape { IfSome result (λ found. IsShape found.shape) }
+    {
+        if addr % 2 == 1 {
+            return None;
+        }
+        let Some(bytes) = four_in_rom(image, plan, addr, &mut self.near) else {
+            return decoded_at(image, plan, addr);
+        };
+        let word = code_word(bytes);
+        let place = place_of(word);
+        let known = self.codes[place];
+        if known.word == word {
+            return known.found;
+        }
+        let code = known_code(word);
+        self.codes[place] = code;
+        code.found
+    }
+
+    /// The byte of the image at an address. The segment that held the last word or byte is tried
+    /// first.
+    #[inline(always)]
+    pub fn byte(&mut self, image: &Image, addr: u32) -> Option<u8>
+        ensures byte { result ≡ image_byte image.now addr }
+    {
+        byte_at(image, addr, &mut self.near)
+    }
+
+    /// Returns true if the image holds this byte at this address.
+    #[inline(always)]
+    pub fn has_byte(&mut self, image: &Image, addr: u32, byte: u8) -> bool
+        ensures { IsTrue result ↔ (image_byte image.now addr ≡ Some byte) }
+    {
+        self.byte(image, addr) == Some(byte)
+    }
+}
+
+/// Decodes the bytes of a word.
+#[inline(never)]
+fn known_code(word: u32) -> KnownCode
+    ensures { result.word ≡ word }
+{
+    let found = match decode(&word.to_le_bytes()) {
+        Ok(found) => Some(Located {
+            shape: shape(&found.0),
+            size: found.1 as u32,
+        }),
+        Err(_) => None,
+    };
+    KnownCode { word, found }
+}
+
+/// The word of the instruction that four bytes begin with. If the first byte is even, the
+/// instruction has two bytes, and the word is those two alone.
+#[inline(always)]
+fn code_word(bytes: [u8; 4]) -> u32
+    ensures { located_in result ≡ located_of (decoded_of bytes) }
+{
+    are_bytes(&bytes);
+    let word = u32::from_le_bytes(bytes);
+    if word % 2 == 1 { word } else { word % 0x1_0000 }
+}
+
+/// Establishes that bytes are below 256, which their type says.
+fn are_bytes(bytes: &[u8])
+    ensures { (k : ℕ) → slice_index bytes.now k < 2 ^ 8 }
+{}
+
+/// The place of a word: the highest byte of its product with 01010101. Except for carries, this is
+/// the sum of the word's bytes.
+#[inline(always)]
+fn place_of(word: u32) -> usize
+    ensures { result < 256 }
+{
+    (word.wrapping_mul(0x0101_0101) / 0x100_0000) as usize
+}

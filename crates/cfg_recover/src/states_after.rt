@@ -1,0 +1,126 @@
+// States that a change makes of another, and the addresses of accesses.
+ghost use Rattle.std.specs.Prelude.{◌≡◌, IfSome};
+ghost use Rattle.value_domain.specs.Values.{IsValue, word_val};
+ghost use Rattle.value_domain.specs.State.{AreValues};
+ghost use Rattle.tc_isa.specs.InBounds.{IsArg, IsShape};
+ghost use Rattle.tc_isa.specs.Meanings.{shape_of};
+ghost use Rattle.vd_transfer.specs.EffectsOnStates.{HasRoom, access_of, address_of, transfer_of};
+ghost use Rattle.vd_transfer.specs.Branches.{refine_of};
+ghost use Rattle.vd_transfer.specs.Changes.{state_after};
+
+use crate::flow_after::copy_of;
+use tc_isa::{Arg, Inst, Op, Shape, alu, shape};
+use tcd_plan::Plan;
+use value_domain::{Bounds, State, Val};
+use vd_transfer::{Change, address_by, arg_word, change_of, change_on, changed_value, unchanged};
+
+/// The addresses that a load or a store may access.
+pub fn address(b: &Bounds, plan: &Plan, inst: &Inst, s: &State) -> Val
+    requires { AreValues b.now s.now.regs }
+    ensures address { result ≡ address_of b.now plan.now (shape_of inst.now) s.now }
+    ensures value { IsValue b.now result }
+{
+    address_by(b, plan, shape(inst), s)
+}
+
+/// The address of a load or a store, if its base has only one word.
+#[tactic(auto, unfolding(vd_transfer::specs::EffectsOnStates::address_of))]
+pub(crate) fn only_address(b: &Bounds, plan: &Plan, s: &State, shape: Shape) -> Option<u32>
+    requires shape { IsShape shape }
+    requires values { AreValues b.now s.now.regs }
+    ensures { IfSome result (λ x. address_of b.now plan.now shape s.now ≡ word_val x) }
+{
+    match shape {
+        Shape::Load {
+            base,
+            offset,
+            after,
+            ..
+        } => only_access(b, plan, s, base, offset, after),
+        Shape::Store {
+            base,
+            offset,
+            after,
+            ..
+        } => only_access(b, plan, s, base, offset, after),
+        _ => None,
+    }
+}
+
+#[inline(always)]
+fn only_access(
+    b: &Bounds,
+    plan: &Plan,
+    s: &State,
+    base: Arg,
+    offset: u32,
+    after: bool,
+) -> Option<u32>
+    requires base { IsArg base }
+    requires values { AreValues b.now s.now.regs }
+    ensures { IfSome result (λ x. access_of b.now plan.now s.now base offset after ≡ word_val x) }
+{
+    let _most_words = b.most_words();
+    let Some(x) = arg_word(b, plan, s, base) else {
+        return None;
+    };
+    if after {
+        return Some(x);
+    }
+    Some(alu(Op::Add, x, offset))
+}
+
+/// The state on a side of a branch, or `None` if that side isn't possible.
+pub fn refine(b: &Bounds, plan: &Plan, inst: &Inst, s: &State, side: bool) -> Option<State>
+    requires { AreValues b.now s.now.regs }
+    ensures refine { result ≡ refine_of b.now plan.now (shape_of inst.now) s.now side }
+    ensures values { IfSome result (λ t. AreValues b.now t.regs) }
+{
+    let mut c = unchanged(s);
+    if change_on(b, plan, shape(inst), s, side, &mut c) {
+        Some(changed_state(s, &c))
+    } else {
+        None
+    }
+}
+
+/// The state after an instruction that stays in its frame and isn't a branch or a jump. A load
+/// writes `loaded`; other instructions don't use it. If the instruction saves a lower context,
+/// there is room for it; if it restores one, there is one.
+pub fn transfer(b: &Bounds, plan: &Plan, inst: &Inst, s: &State, loaded: &Val) -> State
+    requires values { AreValues b.now s.now.regs }
+    requires loaded { IsValue b.now loaded.now }
+    requires room { HasRoom b.now (shape_of inst.now) s.now }
+    ensures transfer { result ≡ transfer_of b.now plan.now (shape_of inst.now) s.now loaded.now }
+    ensures values { AreValues b.now result.regs }
+{
+    let mut c = unchanged(s);
+    c.third.value = loaded.copy();
+    change_of(b, plan, shape(inst), s, &mut c);
+    changed_state(s, &c)
+}
+
+/// The state that a change makes of another.
+pub fn changed_state(s: &State, c: &Change) -> State
+    ensures { result ≡ state_after s.now c.now }
+{
+    State {
+        regs: changed_regs(s, c),
+        ie: c.ie,
+        ccpn: c.ccpn,
+        lower: c.lower,
+        locals: copy_of(&c.locals),
+    }
+}
+
+fn changed_regs(s: &State, c: &Change) -> [Val; 27]
+    ensures { result ≡ (state_after s.now c.now).regs }
+{
+    let _regs = &s.regs[..];
+    let any = Val::any();
+    let mut out = std::array::from_fn(|_| Val::any());
+    for i in 0..27 {
+        out[i] = changed_value(s, c, &any, i).copy();
+    }
+    out
+}

@@ -1,0 +1,43 @@
+-- The laws of chains: what a save, a restore and a store do to the free list and the used list.
+use Rattle.std.specs.Prelude.{◌≡◌, ℕ, ◌+◌, ◌<◌, ◌≤◌, ◌⊎◌, ◌^◌, List, ◌∷◌, length, slice_index, Some, []}
+use Rattle.std.specs.List.{AllByRecursion}
+use Rattle.csa_chain.specs.MemoryBytes.{Memory, with_words, with_bytes}
+use Rattle.csa_chain.specs.Chain.{link_in, link_address, area_word, chain}
+use Rattle.csa_chain.specs.ContextWordLaws.{ContextsStay}
+use Rattle.csa_chain.specs.SeveralChains.{AreApart}
+use Rattle.csa_chain.specs.MemoryChanges.{AgreeOn}
+
+-- A save: 16 words are written to the first free area, the first of them the old PCXI. The new PCXI
+-- names that area, and the new FCX the area that its word 0 named. So the first link of the free
+-- list moves to the front of the used list.
+abbrev pub SaveMoves : Memory → ℕ → ℕ → ℕ → List ℕ → List ℕ → Type 0
+SaveMoves mem pcxi fcx f free used =
+    chain mem fcx ≡ Some (f ∷ free) → chain mem pcxi ≡ Some used → AreApart used (f ∷ free) → length used < 4096 → pcxi < 2 ^ 32 →
+    (words : List ℕ) (pcxi' fcx' : ℕ) → length words ≡ 16 → slice_index words 0 ≡ pcxi → link_in pcxi' ≡ f → link_in fcx' ≡ link_in (area_word mem f 0) →
+    (chain (with_words mem (link_address f) words) pcxi' ≡ Some (f ∷ used)) × (chain (with_words mem (link_address f) words) fcx' ≡ Some free)
+
+-- A restore: the old FCX is written to word 0 of the first used area. The new FCX names that area,
+-- and the new PCXI is the word 0 that was read. So the first link of the used list moves to the
+-- front of the free list.
+abbrev pub RestoreMoves : Memory → ℕ → ℕ → ℕ → List ℕ → List ℕ → Type 0
+RestoreMoves mem pcxi fcx l used free =
+    chain mem pcxi ≡ Some (l ∷ used) → chain mem fcx ≡ Some free → AreApart free (l ∷ used) → length free < 4096 → fcx < 2 ^ 32 →
+    (fcx' : ℕ) → link_in fcx' ≡ l →
+    (chain (with_words mem (link_address l) (fcx ∷ [])) fcx' ≡ Some (l ∷ free)) × (chain (with_words mem (link_address l) (fcx ∷ [])) (area_word mem l 0) ≡ Some used)
+
+-- the n bytes from x on are in no area of these links
+abbrev pub MissesAreas : ℕ → ℕ → List ℕ → Type 0
+MissesAreas x n links = AllByRecursion (λ l. (x + n ≤ link_address l) ⊎ (link_address l + 64 ≤ x)) links
+
+-- A store of n bytes that doesn't pass 2^32 and misses all areas of both chains leaves the chains
+-- and all contexts as they are.
+abbrev pub StoreMisses : Type 0
+StoreMisses =
+    (mem : Memory) (x w n pcxi fcx : ℕ) (used free : List ℕ) → x + n ≤ 2 ^ 32 →
+    chain mem pcxi ≡ Some used → chain mem fcx ≡ Some free → MissesAreas x n used → MissesAreas x n free →
+    (chain (with_bytes mem x w n) pcxi ≡ Some used) × (chain (with_bytes mem x w n) fcx ≡ Some free)
+    × ContextsStay used mem (with_bytes mem x w n) × ContextsStay free mem (with_bytes mem x w n)
+
+-- A change outside the areas of a chain leaves it as it is.
+abbrev pub StoreLeaves : Memory → Memory → ℕ → List ℕ → Type 0
+StoreLeaves old new word links = chain old word ≡ Some links → AgreeOn links old new → chain new word ≡ Some links

@@ -1,0 +1,19 @@
+-- The answer of a check.
+use Rattle.std.specs.Prelude.{◌≡◌, ◌-◌, ◌≤◌, ℕ}
+use Rattle.elf_image.specs.Images.{ImageData}
+use Rattle.tcd_plan.specs.PlanData.{PlanData}
+use Rattle.depth_cert.specs.Certs.{CertData}
+use Rattle.cfg_recover.specs.RulesHoldOrFail.{Accepts, IsFirstFault, certified_need}
+use Rattle.depth_check.specs.declared.verdicts.Verdict.{Verdict}
+use Rattle.depth_check.specs.declared.verdicts.Verdict.TheVariants.{Yes, No}
+
+-- yes: the rules accept the certificate, and n is the start's need, at most the areas without the
+-- reserve; no: the first fault
+abbrev pub Judges : ImageData → PlanData → CertData → Verdict → Type 0
+Judges image plan cert (Yes n) = Accepts image plan cert × (n ≡ certified_need image plan cert) × (n ≤ plan.areas - plan.reserve)
+Judges image plan cert (No rule key addr) = IsFirstFault image plan cert rule key addr
+
+-- if the answer is yes, the fact holds of its number
+abbrev pub IfYes : Verdict → (ℕ → Type 0) → Type 0
+IfYes (Yes n) P = P n
+IfYes (No rule key addr) P = Unit {0}

@@ -1,0 +1,54 @@
+-- What a rule asks of the duties of a point, and of a node's own need.
+use Rattle.std.specs.Prelude.{◌≡◌, ◌-◌, ◌≤◌, ℕ, List, length, Option, Some, IfSome, IsSomeAnd, All}
+use Rattle.depth_cert.specs.Keys.{sys_kind}
+use Rattle.elf_image.specs.Images.{ImageData}
+use Rattle.tcd_plan.specs.PlanData.{PlanData}
+use Rattle.value_domain.specs.declared.states.State.{State}
+use Rattle.depth_cert.specs.declared.points.Point.{Point}
+use Rattle.depth_cert.specs.Points.{find_point}
+use Rattle.depth_cert.specs.Nodes.{NodeData}
+use Rattle.depth_cert.specs.Certs.{CertData}
+use Rattle.cfg_recover.specs.declared.flows.Leave.{Leave}
+use Rattle.cfg_recover.specs.declared.flows.Leave.TheVariants.{Stays, Ret, Rfe}
+use Rattle.cfg_recover.specs.Entries.{start_key}
+use Rattle.depth_cert.specs.Exits.{exit_of, after_of, ExitCovers}
+use Rattle.cfg_recover.specs.Duties.{Owed}
+use Rattle.cfg_recover.specs.RulesHoldOrFail.{HasPoint, IsMet, IsNeedAbove}
+
+-- what rule q asks of a duty: that it is met, and that the need has room for the entered node
+pub record DutyHolds (cert : CertData) (node : NodeData) (s : State) (q : ℕ) (d : Owed) : Type 0 where
+  pub met : d.rule ≡ q → IsMet cert node s d.duty
+  pub need : q ≡ 14 → IsNeedAbove cert node s d.duty
+
+-- the node has a point at this address, with this state
+abbrev pub StandsAt : NodeData → ℕ → State → Type 0
+StandsAt node a s = find_point a node.points ≡ Some (record { addr = a; state = s })
+
+-- what rule q asks of each of these duties
+abbrev pub DutiesHold : CertData → NodeData → State → List Owed → ℕ → Type 0
+DutiesHold cert node s duties q = All (DutyHolds cert node s q) duties
+
+-- the node has points at all these addresses that cover the state
+abbrev pub HasPoints : NodeData → State → List ℕ → Type 0
+HasPoints node s targets = All (λ t. HasPoint node t s) targets
+
+-- the node goes on where a frame of the entered node returns
+abbrev pub GoesOn : NodeData → State → NodeData → ℕ → Option ℕ → Type 0
+GoesOn node s entered kind back = IfSome back (λ q. IfSome entered.exit (λ x. HasPoint node q (after_of s x kind)))
+
+-- the node has an exit that covers the exit of the state
+abbrev pub HasExit : NodeData → State → Type 0
+HasExit node s = IsSomeAnd node.exit (λ y. ExitCovers y (exit_of s))
+
+-- what rule q asks of an instruction that leaves the node: rule 6 of RET, rule 7 of RFE in the
+-- handler of system calls
+abbrev pub LeavingHolds : NodeData → State → Leave → ℕ → Type 0
+LeavingHolds node s Stays q = Unit {0}
+LeavingHolds node s Ret q = 6 ≡ q → HasExit node s
+LeavingHolds node s Rfe q = (node.key).kind ≡ sys_kind → 7 ≡ q → HasExit node s
+
+-- what rule 14 asks of the node itself: room for the locals and, at the start's entry, that the
+-- reserve stays free
+pub record HasOwnNeed (image : ImageData) (plan : PlanData) (node : NodeData) (point : Point) : Type 0 where
+  pub locals : length (point.state).locals.items ≤ node.need
+  pub start : node.key ≡ start_key image plan → point.addr ≡ image.entry → node.need ≤ plan.areas - plan.reserve

@@ -1,0 +1,30 @@
+-- A point that is checked, and the least rule that some of its duties break.
+use Rattle.std.specs.Prelude.{◌≡◌, ℕ, IsTrue, IfSome, All}
+use Rattle.value_domain.specs.State.{AreValues}
+use Rattle.value_domain.specs.declared.states.State.{State}
+use Rattle.depth_cert.specs.Nodes.{NodeData}
+use Rattle.packed_cert.specs.Walks.{WalkData, CoversNext}
+use Rattle.cfg_recover.specs.RulesHoldOrFail.{limits_in, HasPoint}
+use Rattle.depth_check.specs.declared.points.PointCheck.{PointCheck}
+use Rattle.depth_cert.specs.Proper.{IsWellNode}
+use Rattle.depth_check.specs.DutiesHold.{StandsAt}
+use Rattle.depth_check.specs.Interrupts.{InterruptsHold}
+
+-- the walk is over the node's points and at this state, and if its next point covers a state, the
+-- node has a point there that covers it
+pub record LooksAhead (node : NodeData) (s : State) (w : WalkData) : Type 0 where
+  pub points : w.points ≡ node.points
+  pub current : w.current ≡ s
+  pub ahead : (addr : ℕ) (t : State) → CoversNext w addr t → HasPoint node addr t
+
+-- the limits are the certificate's, all its values are well-formed, those of the point are values
+-- of the plan, and the facts for the fast paths hold: the entries of its interrupts hold if this is
+-- known, the node has its state at the next address, and the walk is at the point
+pub record IsPointCheck (at : PointCheck) : Type 0 where
+  pub limits : at.bounds.now ≡ limits_in at.plan.now at.cert.now
+  pub nodes : All IsWellNode (at.cert.now).nodes
+  pub node : IsWellNode at.node.now
+  pub values : AreValues at.bounds.now (at.point.state.now).regs
+  pub again : IsTrue at.point.again → InterruptsHold at.plan.now at.cert.now at.node.now at.point.state.now
+  pub next : IfSome at.point.next (λ a. StandsAt at.node.now a at.point.state.now)
+  pub walk : IfSome at.point.walk (λ w. LooksAhead at.node.now at.point.state.now w.now)

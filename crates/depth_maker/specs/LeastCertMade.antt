@@ -1,0 +1,72 @@
+-- What the maker makes: the certificate of the least assignment with the least needs, or why there
+-- is none.
+use Rattle.std.specs.Prelude.{◌≡◌, ◌≤◌, ◌-◌, ℕ, IsSome, Some, Contains, find, List}
+use Rattle.elf_image.specs.Images.{ImageData}
+use Rattle.tcd_plan.specs.PlanData.{PlanData}
+use Rattle.value_domain.specs.declared.states.State.{State}
+use Rattle.value_domain.specs.State.{Covers}
+use Rattle.value_domain.specs.Thresholds.{limits_for}
+use Rattle.depth_cert.specs.declared.keys.Key.{Key}
+use Rattle.depth_cert.specs.declared.points.Exit.{Exit}
+use Rattle.depth_cert.specs.Exits.{ExitCovers}
+use Rattle.depth_cert.specs.Known.{state, leaving}
+use Rattle.depth_cert.specs.Points.{find_point}
+use Rattle.depth_cert.specs.Nodes.{NodeData, need_of}
+use Rattle.depth_cert.specs.Certs.{CertData, IsCert}
+use Rattle.cfg_recover.specs.Entries.{start_key}
+use Rattle.cfg_recover.specs.RulesHoldOrFail.{Accepts}
+use Rattle.depth_cert.specs.Keys.{same_key}
+use Rattle.cfg_recover.specs.Assignments.{Derived, Closed, IsBelowAt, known_in, point, exit, AllFaultless}
+use Rattle.cfg_recover.specs.CertRefusals.{AreLeastNeeds, IsLeast}
+use Rattle.depth_cert.specs.Spelling.{bytes_of}
+
+-- the needs that a certificate states; a frame without a node needs nothing
+abbrev pub needs_in : CertData → Key → ℕ
+needs_in cert k = need_of (find (λ n. same_key n.key k) cert.nodes)
+
+-- the other certificate covers what this one says, and has no lesser need of a frame
+pub record IsNoWorse (image : ImageData) (plan : PlanData) (cert other : CertData) : Type 0 where
+  pub below : IsBelowAt (known_in cert) (known_in other)
+  pub needs : (k : Key) → needs_in cert k ≤ needs_in other k
+
+-- the certificate that is made: accepted, and the least of its version
+pub record IsMade (image : ImageData) (plan : PlanData) (version : ℕ) (cert : CertData) : Type 0 where
+  pub of_version : cert.version ≡ version
+  pub accepted : Accepts image plan cert
+  pub least : IsLeast (limits_for plan version) image plan (known_in cert)
+  pub needs : AreLeastNeeds (limits_for plan version) image plan (known_in cert) (needs_in cert)
+  pub best : (other : CertData) → IsCert other → other.version ≡ version → Accepts image plan other → IsNoWorse image plan cert other
+
+-- A made certificate in plain words. It is accepted, and each accepted certificate of its version
+-- has no lesser need of a frame, at each of its points a state that covers its own, and at each of
+-- its exits an exit that covers its own.
+pub record IsLeastAccepted (image : ImageData) (plan : PlanData) (version : ℕ) (cert : CertData) : Type 0 where
+  pub its_version : cert.version ≡ version
+  pub accepts : Accepts image plan cert
+  pub frames :
+      (other : CertData) (k : Key) → IsCert other → other.version ≡ version → Accepts image plan other
+      → need_of (find (λ n. same_key n.key k) cert.nodes) ≤ need_of (find (λ n. same_key n.key k) other.nodes)
+  pub points :
+      (other : CertData) (k : Key) (p : ℕ) (s : State) → IsCert other → other.version ≡ version → Accepts image plan other
+      → known_in cert (point k p) ≡ Some (state s) → (t : State) × (known_in other (point k p) ≡ Some (state t)) × Covers t s
+  pub exits :
+      (other : CertData) (k : Key) (x : Exit) → IsCert other → other.version ≡ version → Accepts image plan other
+      → known_in cert (exit k) ≡ Some (leaving x) → (y : Exit) × (known_in other (exit k) ≡ Some (leaving y)) × ExitCovers y x
+
+-- what the maker shows of the certificate that it writes
+pub record IsWritten (image : ImageData) (plan : PlanData) (version : ℕ) (cert : CertData) : Type 0 where
+  pub is_cert : IsCert cert
+  pub of_version : cert.version ≡ version
+  pub entries : (n : NodeData) → Contains cert.nodes n → IsSome (find_point (n.key).entry n.points)
+  pub derived : Derived (limits_for plan version) image plan (known_in cert)
+  pub closed : Closed (limits_for plan version) image plan (known_in cert)
+  pub faultless : AllFaultless (limits_for plan version) image plan (known_in cert)
+  pub needs : AreLeastNeeds (limits_for plan version) image plan (known_in cert) (needs_in cert)
+  pub start : needs_in cert (start_key image plan) ≤ plan.areas - plan.reserve
+
+-- the bytes spell the certificate that is to be made
+pub record AreMade (image : ImageData) (plan : PlanData) (version : ℕ) (bytes : List ℕ) : Type 0 where
+  pub cert : CertData
+  pub spell : bytes ≡ bytes_of cert
+  pub is_cert : IsCert cert
+  pub made : IsMade image plan version cert

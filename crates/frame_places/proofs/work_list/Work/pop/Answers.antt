@@ -1,0 +1,25 @@
+use Rattle.std.proofs.Common.{◌∙◌, ap, sym, subst}
+use Rattle.frame_places.specs.Work.{HasNoNext, Lists}
+use Rattle.frame_places.proofs.WorkLemmas.{begun_empty, begun_none, begun_some, takes_round}
+use Rattle.frame_places.proofs.work_list.Work.pop.Goals as goal
+
+pub returns-in-Some-pop_round-clause-some : goal.returns-in-Some-pop_round-clause-some
+returns-in-Some-pop_round-clause-some c = takes_round c.args.self.now c.pop_next.new.self c.pop_round.new.self c.in-Some-pop_round.number c.in_default.ensures.none c.in-Some-pop_round.ensures.some
+
+pub returns-clause-some : goal.returns-clause-some
+returns-clause-some c =
+    let left = c.in_default-pop_round.ensures.none in
+    let has = subst (λ (w : Lists). HasNoNext c.args.self.now w) (sym left.1) c.in_default.ensures.none in
+    begun_some c.args.self.now c.pop_round.new.self c.begin_round.new.self c.pop_round-2.new.self c.pop_round-2.result has (ap (λ (w : Lists). w.round) left.1 ∙ left.0) c.begin_round.ensures c.pop_round-2.ensures.some
+
+pub returns-clause-none : goal.returns-clause-none
+returns-clause-none c =
+    let left = c.in_default-pop_round.ensures.none in
+    let has = subst (λ (w : Lists). HasNoNext c.args.self.now w) (sym left.1) c.in_default.ensures.none in
+    begun_none c.args.self.now c.pop_round.new.self c.begin_round.new.self c.pop_round-2.new.self c.pop_round-2.result has (ap (λ (w : Lists). w.round) left.1 ∙ left.0) c.begin_round.ensures c.pop_round-2.ensures.none
+
+pub returns-clause-empty : goal.returns-clause-empty
+returns-clause-empty c =
+    let left = c.in_default-pop_round.ensures.none in
+    let has = subst (λ (w : Lists). HasNoNext c.args.self.now w) (sym left.1) c.in_default.ensures.none in
+    begun_empty c.args.self.now c.pop_round.new.self c.begin_round.new.self c.pop_round-2.new.self c.pop_round-2.result has (ap (λ (w : Lists). w.round) left.1 ∙ left.0) c.begin_round.ensures c.pop_round-2.ensures.none

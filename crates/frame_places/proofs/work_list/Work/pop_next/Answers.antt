@@ -1,0 +1,25 @@
+use Rattle.frame_places.proofs.WorkLemmas.{last_none, last_some, takes_first, turned_none, turned_some}
+use Rattle.frame_places.proofs.work_list.Work.pop_next.Goals as goal
+
+pub returns-in-Some-clause-some : goal.returns-in-Some-clause-some
+returns-in-Some-clause-some c = takes_first c.args.self.now c.pop_first.new.self c.in-Some.number c.in-Some.ensures.some
+
+pub returns-then-len-gt1-clause-some : goal.returns-then-len-gt1-clause-some
+returns-then-len-gt1-clause-some c =
+    let left = c.in_default.ensures.none in
+    turned_some c.args.self.now c.pop_first.new.self c.turn.new.self c.pop_first-then-len-gt1.new.self c.pop_first-then-len-gt1.result left.1 left.0 c.turn.ensures c.pop_first-then-len-gt1.ensures.some
+
+pub returns-then-len-gt1-clause-none : goal.returns-then-len-gt1-clause-none
+returns-then-len-gt1-clause-none c =
+    let left = c.in_default.ensures.none in
+    turned_none c.args.self.now c.pop_first.new.self c.turn.new.self c.pop_first-then-len-gt1.new.self c.pop_first-then-len-gt1.result left.1 left.0 c.turn.ensures c.pop_first-then-len-gt1.ensures.none
+
+pub returns-clause-some : goal.returns-clause-some
+returns-clause-some c =
+    let left = c.in_default.ensures.none in
+    last_some c.args.self.now c.pop_first.new.self c.pop_last.new.self c.pop_last.result left.1 left.0 c.pop_last.ensures.some
+
+pub returns-clause-none : goal.returns-clause-none
+returns-clause-none c =
+    let left = c.in_default.ensures.none in
+    last_none c.args.self.now c.pop_first.new.self c.pop_last.new.self c.pop_last.result left.1 left.0 c.pop_last.ensures.none

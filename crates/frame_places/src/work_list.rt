@@ -1,0 +1,197 @@
+// The work list.
+ghost use Rattle.std.specs.Prelude.{◌≡◌, ◌<◌, ◌^◌, ◌==◌, IfSome, IfNone, OnOk, [], length};
+ghost use Rattle.frame_places.specs.Work.{BeginsRound, HasNoNext, PutsEntry, PutsNext, PutsWaiting, Takes, TakesFirst, TakesLast, TakesRound, Turns, all_work, PutsAs};
+
+use std::alloc::{AllocError, Global};
+use std::marker::Model;
+use std::mem::swap;
+
+/// The greatest number of places that are moved when one is put before them.
+const MOST_SHIFTED: usize = 64;
+
+/// Numbers of places. Each place with work is listed. Some are listed twice, or have no work any
+/// more; these are skipped.
+/// Most places are next, first in, first out: `first` holds the first of them in reverse, and is
+/// taken from its end; `next` holds the others. When none is next, the last one of `round` is
+/// taken. When `round` is empty, the places in `waiting` become the round, in the order of their
+/// numbers, which is the order in which they were found. So the readers of an exit that rises again
+/// are visited once, after the exit has risen as far as it does for now. And a frame is visited
+/// after the frames found before it, which may enter it too.
+/// Entry points that weren't visited yet are put into `round` above its first `base` places, which
+/// are those that were left when a place of it was taken last. So the frame that was found last is
+/// visited first, with all that it enters; of up to 64 frames found since then, the first one.
+#[derive(Drop)]
+pub struct Work {
+    first: Vec<usize>,
+    next: Vec<usize>,
+    round: Vec<usize>,
+    waiting: Vec<usize>,
+    base: usize,
+}
+
+impl Model for Work {
+    ghost use Rattle.frame_places.specs.Work.{Lists};
+
+    ghost Value = { Lists };
+
+    ghost view = { λ w. record { first = w.first.items; next = w.next.items; round = w.round.items; waiting = w.waiting.items } };
+}
+
+impl Work {
+    /// Returns an empty list.
+    pub fn new(alloc: Global) -> Work
+        ensures { all_work result ≡ [] }
+    {
+        Work {
+            first: Vec::new(alloc),
+            next: Vec::new(alloc),
+            round: Vec::new(alloc),
+            waiting: Vec::new(alloc),
+            base: 0,
+        }
+    }
+
+    /// Returns the number of places that are listed.
+    pub fn len(&self) -> u128
+        ensures listed { result ≡ length (all_work self.now) }
+        ensures few { result < 2 ^ 66 }
+    {
+        let next = self.first.len() as u128 + self.next.len() as u128;
+        next + (self.round.len() as u128 + self.waiting.len() as u128)
+    }
+
+    /// Returns whether no place is listed.
+    pub fn is_empty(&self) -> bool
+        ensures { result ≡ (length (all_work self.now) == 0) }
+    {
+        self.first.is_empty()
+            && self.next.is_empty()
+            && self.round.is_empty()
+            && self.waiting.is_empty()
+    }
+
+    /// Puts a place after those that are next.
+    #[inline(always)]
+    pub(crate) fn push(&mut self, number: usize) -> Result<(), AllocError>
+        ensures { OnOk result (PutsNext self.old self.new number) }
+    {
+        self.next.push(number)?;
+        Ok(())
+    }
+
+    /// Puts a place among those that wait.
+    #[inline(always)]
+    pub(crate) fn push_waiting(&mut self, number: usize) -> Result<(), AllocError>
+        ensures { OnOk result (PutsWaiting self.old self.new number) }
+    {
+        self.waiting.push(number)?;
+        Ok(())
+    }
+
+    /// Puts an entry point that wasn't visited yet before what is left of the round, after the
+    /// places found since a place of it was taken, or after 64 of them. If it is listed, it is
+    /// listed again: once for each rise of its state, so the list never has more places than there
+    /// were rises.
+    #[inline(always)]
+    pub(crate) fn push_entry(&mut self, number: usize) -> Result<(), AllocError>
+        ensures { OnOk result (PutsEntry self.old self.new number) }
+    {
+        let len = self.round.len();
+        let at = self.base.max(len.saturating_sub(MOST_SHIFTED)).min(len);
+        self.round.insert(at, number)?;
+        Ok(())
+    }
+
+    /// Begins a round with the places that wait. The least number is the last, where places are
+    /// taken.
+    fn begin_round(&mut self)
+        ensures { BeginsRound self.old self.new }
+    {
+        swap(&mut self.round, &mut self.waiting);
+        self.round
+            .sort_unstable_by_key(|number| usize::MAX - *number);
+    }
+
+    /// Takes a place of this round.
+    #[inline(always)]
+    fn pop_round(&mut self) -> Option<usize>
+        ensures some { IfSome result (TakesRound self.old self.new) }
+        ensures none { IfNone result ((self.old.round ≡ []) × (self.new ≡ self.old)) }
+    {
+        let number = self.round.pop();
+        self.base = self.round.len();
+        number
+    }
+
+    /// Makes the places that are next the first ones, in reverse, since they are taken from the
+    /// end.
+    fn turn(&mut self)
+        ensures { Turns self.old self.new }
+    {
+        swap(&mut self.first, &mut self.next);
+        self.first.reverse();
+    }
+
+    /// Takes the first place.
+    #[inline(always)]
+    fn pop_first(&mut self) -> Option<usize>
+        ensures some { IfSome result (TakesFirst self.old self.new) }
+        ensures none { IfNone result ((self.old.first ≡ []) × (self.new ≡ self.old)) }
+    {
+        self.first.pop()
+    }
+
+    /// Takes the last of the places that are next.
+    #[inline(always)]
+    fn pop_last(&mut self) -> Option<usize>
+        ensures some { IfSome result (TakesLast self.old self.new) }
+        ensures none { IfNone result ((self.old.next ≡ []) × (self.new ≡ self.old)) }
+    {
+        self.next.pop()
+    }
+
+    /// Takes the first of the places that are next. A single one is also the last.
+    #[inline(always)]
+    fn pop_next(&mut self) -> Option<usize>
+        ensures some { IfSome result (Takes self.old self.new) }
+        ensures none { IfNone result (HasNoNext self.old self.new) }
+    {
+        if let Some(number) = self.pop_first() {
+            return Some(number);
+        }
+        if self.next.len() > 1 {
+            self.turn();
+            return self.pop_first();
+        }
+        self.pop_last()
+    }
+
+    /// Takes a place.
+    #[inline(always)]
+    pub fn pop(&mut self) -> Option<usize>
+        ensures some { IfSome result (Takes self.old self.new) }
+        ensures none { IfNone result (all_work self.old ≡ []) }
+        ensures empty { IfNone result (all_work self.new ≡ []) }
+    {
+        if let Some(number) = self.pop_next() {
+            return Some(number);
+        }
+        if let Some(number) = self.pop_round() {
+            return Some(number);
+        }
+        self.begin_round();
+        self.pop_round()
+    }
+}
+
+/// Queues a place: it waits for the next round, or is next.
+#[inline(always)]
+pub(crate) fn enqueue(work: &mut Work, number: usize, waits: bool) -> Result<(), AllocError>
+    ensures { OnOk result (PutsAs waits work.old work.new number) }
+{
+    if waits {
+        work.push_waiting(number)
+    } else {
+        work.push(number)
+    }
+}

@@ -1,0 +1,82 @@
+-- Nodes and certificates in the bytes.
+use Rattle.std.specs.Prelude.{ℕ, List, map, Option, IfSome, ◌≡◌, ◌≤◌, ◌^◌, length, Ok}
+use Rattle.std.specs.Option.{option_map}
+use Rattle.std.specs.List.{All}
+use Rattle.std.specs.List.Sorted.{IsStrictlyIncreasing}
+use Rattle.tcd_base.specs.Place.{Place}
+use Rattle.depth_cert.specs.declared.keys.Key.{Key}
+use Rattle.depth_cert.specs.Keys.{number_of_key}
+use Rattle.depth_cert.specs.declared.points.Exit.{Exit}
+use Rattle.depth_cert.specs.Nodes.{NodeData}
+use Rattle.depth_cert.specs.Certs.{CertData, IsCert}
+use Rattle.depth_cert.specs.Grammar.{exit_at, certificate_of}
+use Rattle.depth_cert.specs.Spelling.{bytes_of}
+use Rattle.packed_cert.specs.declared.places.ExitPlaces.{ExitPlaces}
+use Rattle.packed_cert.specs.declared.places.NodePlaces.{NodePlaces}
+use Rattle.packed_cert.specs.declared.places.PackedPoint.{PackedPoint}
+use Rattle.packed_cert.specs.ValuesAtPlaces.{at}
+use Rattle.packed_cert.specs.PointsInBytes.{read_or, points_in, HasState}
+use Rattle.packed_cert.specs.Moves.{AreMoves}
+use Rattle.depth_cert.specs.Exits.{no_exit}
+
+-- the exit at a place
+abbrev pub exit_in : ℕ → List ℕ → ℕ → Exit
+exit_in version bytes place = read_or no_exit (exit_at version (at bytes place))
+
+-- there is an exit at a place
+abbrev pub HasExit : ℕ → List ℕ → ℕ → Type 0
+HasExit version bytes place = (x : Exit × Place) × (exit_at version (at bytes place) ≡ Ok x)
+
+-- an exit is read from one place to another
+abbrev pub ReadsExit : ℕ → Place → Place → Type 0
+ReadsExit version c d = (x : Exit) × (exit_at version c ≡ Ok (x, d))
+
+-- there is an exit at these places
+pub record ExitStands (version : ℕ) (bytes : List ℕ) (p : ExitPlaces) : Type 0 where
+  pub order : p.start ≤ p.end
+  pub within : p.end ≤ length bytes
+  pub read : ReadsExit version (at bytes p.start) (at bytes p.end)
+
+-- what always holds of an exit in the bytes
+pub record IsExitAt (version : ℕ) (bytes : List ℕ) (place : ℕ) : Type 0 where
+  pub short : length bytes ≤ 2 ^ 30
+  pub exit : HasExit version bytes place
+
+-- a node as plain data
+abbrev pub node_in : ℕ → List ℕ → Key → ℕ → Option ℕ → List PackedPoint → NodeData
+node_in version bytes key need exit points = record { key = key; need = need; exit = option_map (exit_in version bytes) exit; points = points_in version bytes points }
+
+-- what always holds of a node in the bytes: its points ascend, and states and an exit are at their
+-- places
+pub record IsPackedNode (version : ℕ) (bytes : List ℕ) (exit_place : Option ℕ) (points : List PackedPoint) : Type 0 where
+  pub short : length bytes ≤ 2 ^ 30
+  pub rising : IsStrictlyIncreasing (map (λ p. p.addr) points)
+  pub states : All (λ p. HasState version bytes p.place) points
+  pub exit : IfSome exit_place (HasExit version bytes)
+  pub moves : AreMoves version bytes points
+
+-- the node of these places
+abbrev pub node_of : ℕ → List ℕ → NodePlaces → NodeData
+node_of version bytes n = node_in version bytes n.key n.need n.exit n.points.items
+
+-- the nodes of these places
+abbrev pub nodes_of : ℕ → List ℕ → List NodePlaces → List NodeData
+nodes_of version bytes ns = map (node_of version bytes) ns
+
+-- the number is that of the key, and states and an exit are at the places of a node
+pub record HasPlaces (version : ℕ) (bytes : List ℕ) (n : NodePlaces) : Type 0 where
+  pub number : n.number ≡ number_of_key n.key
+  pub node : IsPackedNode version bytes n.exit n.points.items
+
+-- a certificate as plain data
+abbrev pub cert_of : ℕ → List ℕ → List NodePlaces → CertData
+cert_of version bytes ns = record { version = version; nodes = nodes_of version bytes ns }
+
+-- what always holds of a certificate on its bytes: they spell it, it keeps the limits, and its
+-- nodes are at their places
+pub record IsPackedCert (version : ℕ) (bytes : List ℕ) (ns : List NodePlaces) : Type 0 where
+  pub short : length bytes ≤ 2 ^ 30
+  pub spells : certificate_of bytes ≡ Ok (cert_of version bytes ns)
+  pub one : bytes_of (cert_of version bytes ns) ≡ bytes
+  pub limits : IsCert (cert_of version bytes ns)
+  pub nodes : All (HasPlaces version bytes) ns

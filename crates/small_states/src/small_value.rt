@@ -1,0 +1,729 @@
+// Compact values.
+ghost use Rattle.std.specs.Prelude.{◌≡◌, ◌↔◌, ◌≤◌, ◌<◌, ℕ, List, IsTrue, IfOk, IfSome, OnOk, ◌∷◌, ◌++◌, [], length, slice_index};
+ghost use Rattle.depth_cert.specs.Spelling.{bytes_of_value};
+ghost use Rattle.value_domain.specs.declared.values.Val.TheVariants.{Set, Span};
+ghost use Rattle.value_domain.specs.Sets.{Among, Rising};
+ghost use Rattle.value_domain.specs.Values.{IsWell, IsValue, IsBelow, IsMember, any_val, cover, members};
+ghost use Rattle.value_domain.specs.State.{join_of};
+ghost use Rattle.small_states.specs.SmallValues.{val_of};
+ghost use Rattle.small_states.specs.CompactForms.{given_of};
+
+use crate::incoming::Given;
+use depth_cert::write_value;
+use std::alloc::{AllocError, Global};
+use std::marker::Model;
+use std::rc::Rc;
+use tcd_base::NoMemory;
+use value_domain::{
+    Bounds, Extent, Val, Words, add_words, alignment_log2, extent_of, is_set, join, leq, set_span,
+    set_words, write_any,
+};
+use vd_transfer::only_word;
+
+/// All words, a single word, a whole value that copies share (a set of several words), or another
+/// range.
+#[derive(Drop)]
+pub(crate) enum Form {
+    Any,
+    One(u32),
+    Many(Rc<Val>),
+    Range { lo: u32, last: u32, step: u8 },
+}
+
+/// A value that takes no more room than its words need.
+#[derive(Drop)]
+pub struct Small {
+    pub(crate) form: Form,
+}
+
+impl Model for Small {
+    ghost use Rattle.value_domain.specs.declared.values.Val.{Val};
+    ghost use Rattle.small_states.specs.SmallValues.{val_of};
+
+    ghost Value = { Val };
+
+    ghost view = { λ s. val_of s.form };
+}
+
+#[inline(always)]
+fn is_one(words: &Words, x: u32) -> bool
+    ensures { IsTrue result → words.now ≡ x ∷ [] }
+{
+    let all = words.as_slice();
+    if all.len() != 1 {
+        return false;
+    }
+    all[0] == x
+}
+
+#[inline(always)]
+fn is_the_range(v: &Val, lo: u32, last: u32, step: u8) -> bool
+    ensures { IsTrue result → v.now ≡ Span lo last step }
+{
+    match v {
+        Val::Set(_) => false,
+        Val::Span {
+            lo: own_lo,
+            last: own_last,
+            step: own_step,
+        } => *own_lo == lo && *own_last == last && *own_step == step,
+    }
+}
+
+/// Returns true only if a list begins with the words of another. It compares all of them, since
+/// that takes several at once.
+#[inline(always)]
+fn begins_with(own: &[u32], words: &[u32]) -> bool
+    ensures { IsTrue result → (rest : List ℕ) × (own.now ≡ words.now ++ rest) }
+{
+    if own.len() < words.len() {
+        return false;
+    }
+    let mut same = true;
+    for n in 0..words.len() {
+        if own[n] != words[n] {
+            same = false;
+        }
+    }
+    same
+}
+
+/// Returns true only if both values are sets of the same words.
+#[inline(never)]
+fn have_same_words(v: &Val, w: &Val) -> bool
+    ensures { IsTrue result → v.now ≡ w.now }
+{
+    let Some(own) = v.words() else {
+        return false;
+    };
+    let Some(words) = w.words() else {
+        return false;
+    };
+    own.len() == words.len() && begins_with(own, words)
+}
+
+/// Returns the number of words that are among others, up to the first that isn't. Both ascend, and
+/// are walked once.
+fn held_before(own: &[u32], words: &[u32]) -> usize
+    requires own { Rising own.now }
+    requires words { Rising words.now }
+    ensures within { result ≤ length words.now }
+    ensures held { (j : ℕ) → j < result → Among (slice_index words.now j) own.now }
+    ensures missing { result < length words.now → ¬ Among (slice_index words.now result) own.now }
+{
+    let mut k = 0;
+    let mut n = 0;
+    while n < words.len() && k < own.len() {
+        if own[k] > words[n] {
+            return n;
+        }
+        if own[k] == words[n] {
+            n += 1;
+        }
+        k += 1;
+    }
+    n
+}
+
+/// Returns whether each member of a value is one of another. Of two sets it compares the greatest
+/// words first. A set that grew mostly begins with the words that it had.
+fn are_below(v: &Val, own: &Val) -> bool
+    requires value { IsWell v.now }
+    requires own { IsWell own.now }
+    ensures { IsTrue result ↔ IsBelow v.now own.now }
+{
+    let Some(words) = v.words() else {
+        return leq(v, own);
+    };
+    let Some(held) = own.words() else {
+        return leq(v, own);
+    };
+    let end = words.len() - 1;
+    if words[end] > held[held.len() - 1] {
+        return false;
+    }
+    if end < held.len() && held[end] == words[end] {
+        if begins_with(held, words) {
+            return true;
+        }
+    }
+    held_before(held, words) == words.len()
+}
+
+/// Returns whether a range reaches from the least to the greatest of an extent, in steps that it
+/// has.
+fn is_inside(e: &Extent, lo: u32, last: u32, step: u8) -> bool
+    ensures { IsTrue result
+        ↔ ((lo ≤ e.now.least) × (e.now.greatest ≤ last) × (step ≤ e.now.step)) }
+{
+    lo <= e.least && e.greatest <= last && step <= e.step
+}
+
+/// Returns whether each member of a value is a word of a range.
+fn is_below_range(v: &Val, lo: u32, last: u32, step: u8) -> bool
+    requires value { IsWell v.now }
+    requires step { step ≤ 2 }
+    ensures { IsTrue result ↔ IsBelow v.now (Span lo last step) }
+{
+    let e = extent_of(v);
+    is_inside(&e, lo, last, step)
+}
+
+/// Returns whether a word is one of a range.
+#[inline(always)]
+fn is_in_range(x: u32, lo: u32, last: u32, step: u8) -> bool
+    ensures { IsTrue result ↔ IsMember x (Span lo last step) }
+{
+    lo <= x && x <= last && step <= alignment_log2(x)
+}
+
+/// Returns a range that isn't all words. Since this is a call, the test before it stays a jump, and
+/// most tested values are all words.
+#[inline(never)]
+fn range_of(lo: u32, last: u32, step: u8) -> Form
+    ensures { val_of result ≡ Span lo last step }
+{
+    Form::Range { lo, last, step }
+}
+
+// Code that needs room for a whole value is in functions of its own, so that the others have no
+// such room to fill.
+impl Small {
+    /// Returns a copy of a whole value.
+    #[inline(never)]
+    fn of_many(alloc: Global, v: &Val) -> Result<Small, AllocError>
+        ensures { IfOk result (λ s. s ≡ v.now) }
+    {
+        let form = Form::Many(Rc::new(alloc, v.copy())?);
+        Ok(Small { form })
+    }
+
+    /// Returns a compact value. If it is a set of several words, it isn't copied.
+    #[inline(never)]
+    fn of_own(alloc: Global, v: Val) -> Result<Small, AllocError>
+        ensures { IfOk result (λ s. s ≡ v) }
+    {
+        if only_word(&v).is_none() && is_set(&v) {
+            let form = Form::Many(Rc::new(alloc, v)?);
+            return Ok(Small { form });
+        }
+        Small::of(alloc, &v)
+    }
+
+    /// Returns a copy of a value.
+    #[inline(always)]
+    pub fn of(alloc: Global, v: &Val) -> Result<Small, AllocError>
+        ensures { IfOk result (λ s. s ≡ v.now) }
+    {
+        match v {
+            Val::Set(words) => {
+                let first = words.as_slice()[0];
+                if is_one(words, first) {
+                    let form = Form::One(first);
+                    return Ok(Small { form });
+                }
+                Small::of_many(alloc, v)
+            }
+            Val::Span { lo, last, step } => {
+                // All words have a form of their own, which is recognised at once.
+                if *lo == 0 && *last == u32::MAX && *step == 0 {
+                    return Ok(Small { form: Form::Any });
+                }
+                let form = range_of(*lo, *last, *step);
+                Ok(Small { form })
+            }
+        }
+    }
+
+    /// Returns the whole value.
+    #[inline(never)]
+    pub fn value(&self) -> Val
+        ensures { result ≡ self.now }
+    {
+        match &self.form {
+            Form::Any => Val::any(),
+            Form::One(x) => Val::one(*x),
+            Form::Many(own) => own.as_ref().copy(),
+            Form::Range { lo, last, step } => Val::Span {
+                lo: *lo,
+                last: *last,
+                step: *step,
+            },
+        }
+    }
+
+    /// Returns whether it holds all words.
+    #[inline(always)]
+    pub fn is_any(&self) -> bool
+        ensures { IsTrue result ↔ (self.now ≡ any_val) }
+    {
+        match &self.form {
+            Form::Any => true,
+            Form::One(_) => false,
+            Form::Many(own) => match own.as_ref() {
+                Val::Set(_) => false,
+                Val::Span { lo, last, step } => *lo == 0 && *last == u32::MAX && *step == 0,
+            },
+            Form::Range { lo, last, step } => *lo == 0 && *last == u32::MAX && *step == 0,
+        }
+    }
+
+    /// Returns true only if it is this value.
+    #[inline(always)]
+    pub fn is_same(&self, v: &Val) -> bool
+        ensures { IsTrue result → v.now ≡ self.now }
+    {
+        match &self.form {
+            Form::Any => is_the_range(v, 0, u32::MAX, 0),
+            Form::One(x) => match v {
+                Val::Set(words) => is_one(words, *x),
+                Val::Span { .. } => false,
+            },
+            Form::Many(own) => have_same_words(v, own.as_ref()),
+            Form::Range { lo, last, step } => is_the_range(v, *lo, *last, *step),
+        }
+    }
+
+    /// Returns the word if it has the form of a single word.
+    #[inline(always)]
+    pub(crate) fn word(&self) -> Option<u32>
+        ensures { IfSome result (λ x. self.now ≡ Set (x ∷ [])) }
+    {
+        match &self.form {
+            Form::One(x) => Some(*x),
+            _ => None,
+        }
+    }
+
+    /// Returns true only if it has the form of this range.
+    #[inline(always)]
+    fn has_ends(&self, lo: u32, last: u32, step: u8) -> bool
+        ensures { IsTrue result → self.now ≡ Span lo last step }
+    {
+        match &self.form {
+            Form::Range {
+                lo: own_lo,
+                last: own_last,
+                step: own_step,
+            } => *own_lo == lo && *own_last == last && *own_step == step,
+            _ => false,
+        }
+    }
+
+    /// Returns true only if it is this compact value.
+    #[inline(always)]
+    fn is_equal_form(&self, v: &Small) -> bool
+        ensures { IsTrue result → v.now ≡ self.now }
+    {
+        match &v.form {
+            Form::Any => self.is_any(),
+            Form::One(x) => self.word() == Some(*x),
+            Form::Many(words) => match &self.form {
+                Form::Many(own) => have_same_words(words.as_ref(), own.as_ref()),
+                _ => false,
+            },
+            Form::Range { lo, last, step } => self.has_ends(*lo, *last, *step),
+        }
+    }
+
+    /// Returns true only if it is this compact value. Most are single words, which are asked for
+    /// first.
+    #[inline(always)]
+    pub(crate) fn is_equal(&self, v: &Small) -> bool
+        ensures { IsTrue result → v.now ≡ self.now }
+    {
+        if let Form::One(x) = &v.form {
+            return self.word() == Some(*x);
+        }
+        self.is_equal_form(v)
+    }
+
+    /// Returns a copy. It shares the words of a set.
+    #[inline(always)]
+    pub(crate) fn copy(&self) -> Result<Small, AllocError>
+        ensures { IfOk result (λ s. s ≡ self.now) }
+    {
+        let form = match &self.form {
+            Form::Any => Form::Any,
+            Form::One(x) => Form::One(*x),
+            Form::Many(own) => Form::Many(own.clone()?),
+            Form::Range { lo, last, step } => Form::Range {
+                lo: *lo,
+                last: *last,
+                step: *step,
+            },
+        };
+        Ok(Small { form })
+    }
+
+    /// Returns a copy. It is a call of its own, for rare cases.
+    #[inline(never)]
+    fn copy_any(&self) -> Result<Small, AllocError>
+        ensures { IfOk result (λ s. s ≡ self.now) }
+    {
+        self.copy()
+    }
+
+    /// Returns a compact copy of an incoming value.
+    #[inline(always)]
+    pub(crate) fn of_given(alloc: Global, v: &Given) -> Result<Small, AllocError>
+        ensures { IfOk result (λ s. s ≡ given_of v.now) }
+    {
+        match v {
+            Given::Whole(v) => Small::of(alloc, v),
+            Given::Packed(v) => v.copy(),
+        }
+    }
+
+    /// Writes the value over another.
+    #[inline(never)]
+    pub fn replace(&self, out: &mut Val)
+        ensures { out.new ≡ self.now }
+    {
+        match &self.form {
+            Form::Any => write_any(out),
+            Form::One(x) => set_words(out, &[*x]),
+            Form::Many(own) => match own.as_ref() {
+                Val::Set(words) => set_words(out, words.as_slice()),
+                Val::Span { lo, last, step } => set_span(out, *lo, *last, *step),
+            },
+            Form::Range { lo, last, step } => set_span(out, *lo, *last, *step),
+        }
+    }
+
+    /// Appends the only bytes that spell the value. It makes the whole value first.
+    #[inline(never)]
+    pub(crate) fn spell(&self, out: &mut Vec<u8>) -> Result<(), NoMemory>
+        requires { IsWell self.now }
+        ensures { OnOk result (out.new.items ≡ out.old.items ++ bytes_of_value self.now) }
+    {
+        write_value(out, &self.value())
+    }
+
+    /// Returns whether a word is one of its members.
+    #[inline(always)]
+    fn has(&self, x: u32) -> bool
+        ensures { IsTrue result ↔ IsMember x self.now }
+    {
+        match &self.form {
+            Form::Any => true,
+            Form::One(own) => x == *own,
+            Form::Many(own) => match own.as_ref() {
+                Val::Set(words) => words.as_slice().contains(&x),
+                Val::Span { lo, last, step } => is_in_range(x, *lo, *last, *step),
+            },
+            Form::Range { lo, last, step } => is_in_range(x, *lo, *last, *step),
+        }
+    }
+
+    /// Returns whether it has all members of a value.
+    #[inline(always)]
+    pub fn covers(&self, v: &Val) -> bool
+        requires own { IsWell self.now }
+        requires value { IsWell v.now }
+        ensures { IsTrue result ↔ IsBelow v.now self.now }
+    {
+        if let Some(x) = only_word(v) {
+            return self.has(x);
+        }
+        match &self.form {
+            Form::Many(own) => are_below(v, own.as_ref()),
+            Form::One(x) => match v.words() {
+                Some(words) => held_before(&[*x], words) == words.len(),
+                None => is_below_range(v, *x, *x, 0),
+            },
+            Form::Range { lo, last, step } => {
+                if is_the_range(v, *lo, *last, *step) {
+                    return true;
+                }
+                is_below_range(v, *lo, *last, *step)
+            }
+            Form::Any => true,
+        }
+    }
+
+    /// Returns whether it is a word or a set and the other has more words.
+    pub(crate) fn has_fewer(&self, v: &Val) -> bool {
+        let most = match v.words() {
+            Some(words) => words.len(),
+            None => usize::MAX,
+        };
+        match &self.form {
+            Form::One(_) => 1 < most,
+            Form::Many(own) => match own.as_ref().words() {
+                Some(words) => words.len() < most,
+                None => false,
+            },
+            _ => false,
+        }
+    }
+
+    /// Returns whether it has all members of a compact value. It makes the whole value.
+    #[inline(never)]
+    fn covers_unpacked(&self, v: &Small) -> bool
+        requires own { IsWell self.now }
+        requires value { IsWell v.now }
+        ensures { IsTrue result ↔ IsBelow v.now self.now }
+    {
+        self.covers(&v.value())
+    }
+
+    /// Returns whether it has all members of a compact value. The caller has asked for an equal one
+    /// before.
+    #[inline(never)]
+    fn covers_packed(&self, v: &Small) -> bool
+        requires own { IsWell self.now }
+        requires value { IsWell v.now }
+        ensures { IsTrue result ↔ IsBelow v.now self.now }
+    {
+        match &v.form {
+            Form::One(x) => self.has(*x),
+            Form::Many(words) => self.covers(words.as_ref()),
+            Form::Range { lo, last, step } => {
+                if self.has_range(*lo, *last, *step) {
+                    return true;
+                }
+                self.covers_unpacked(v)
+            }
+            Form::Any => self.covers_unpacked(v),
+        }
+    }
+
+    /// Returns whether it has all members of a compact value.
+    #[inline(always)]
+    pub(crate) fn covers_small(&self, v: &Small) -> bool
+        requires own { IsWell self.now }
+        requires value { IsWell v.now }
+        ensures { IsTrue result ↔ IsBelow v.now self.now }
+    {
+        if self.is_equal(v) {
+            return true;
+        }
+        self.covers_packed(v)
+    }
+
+    /// Returns whether it has all members of an incoming value.
+    #[inline(always)]
+    pub(crate) fn covers_given(&self, v: &Given) -> bool
+        requires own { IsWell self.now }
+        requires value { IsWell (given_of v.now) }
+        ensures { IsTrue result ↔ IsBelow (given_of v.now) self.now }
+    {
+        match v {
+            Given::Whole(v) => self.covers(v),
+            Given::Packed(v) => self.covers_small(v),
+        }
+    }
+
+    /// Returns true only if its form shows that its members are words of a range.
+    #[inline(always)]
+    fn is_within(&self, lo: u32, last: u32, step: u8) -> bool
+        ensures { IsTrue result → IsBelow self.now (Span lo last step) }
+    {
+        match &self.form {
+            Form::One(x) => is_in_range(*x, lo, last, step),
+            Form::Range {
+                lo: own_lo,
+                last: own_last,
+                step: own_step,
+            } => lo <= *own_lo && *own_last <= last && step <= *own_step,
+            _ => false,
+        }
+    }
+
+    /// Returns true only if its form shows that it has all words of a range.
+    #[inline(always)]
+    fn has_range(&self, lo: u32, last: u32, step: u8) -> bool
+        ensures { IsTrue result → IsBelow (Span lo last step) self.now }
+    {
+        match &self.form {
+            Form::Range {
+                lo: own_lo,
+                last: own_last,
+                step: own_step,
+            } => *own_lo <= lo && last <= *own_last && *own_step <= step,
+            _ => false,
+        }
+    }
+
+    /// Returns the least value with the members of both. It joins whole values.
+    #[inline(never)]
+    fn join_whole(&self, alloc: Global, b: &Bounds, v: &Val) -> Result<Small, AllocError>
+        requires own { IsValue b.now self.now }
+        requires value { IsValue b.now v.now }
+        ensures { IfOk result (λ s. s ≡ join_of b.now self.now v.now) }
+    {
+        match &self.form {
+            Form::Many(own) => Small::of_own(alloc, join(b, own.as_ref(), v)),
+            _ => Small::of_own(alloc, join(b, &self.value(), v)),
+        }
+    }
+
+    /// Returns the least value with its members and these words. It adds them to a copy.
+    #[inline(never)]
+    fn with_words(&self, alloc: Global, b: &Bounds, words: &[u32]) -> Result<Small, AllocError>
+        requires own { IsValue b.now self.now }
+        ensures { IfOk result (λ s. s ≡ cover b.now (members self.now ++ words.now)) }
+    {
+        let mut out = Val::one(0);
+        self.replace(&mut out);
+        add_words(b, &mut out, words);
+        if is_set(&out) {
+            let form = Form::Many(Rc::new(alloc, out)?);
+            return Ok(Small { form });
+        }
+        Small::of(alloc, &out)
+    }
+
+    /// Returns the least value with these words, a set's, and others.
+    #[inline(never)]
+    fn with_others(
+        alloc: Global,
+        b: &Bounds,
+        words: &[u32],
+        others: &[u32],
+    ) -> Result<Small, AllocError>
+        requires { IsValue b.now (Set words.now) }
+        ensures { IfOk result (λ s. s ≡ cover b.now (words.now ++ others.now)) }
+    {
+        let mut out = Val::one(0);
+        set_words(&mut out, words);
+        add_words(b, &mut out, others);
+        if is_set(&out) {
+            let form = Form::Many(Rc::new(alloc, out)?);
+            return Ok(Small { form });
+        }
+        Small::of(alloc, &out)
+    }
+
+    /// Returns the least value with its members and these words, a set's. Of two sets it adds the
+    /// fewer words to the others. If more than 16 are missing, it joins whole values.
+    #[inline(never)]
+    fn join_words(
+        &self,
+        alloc: Global,
+        b: &Bounds,
+        v: &Val,
+        words: &[u32],
+    ) -> Result<Small, AllocError>
+        requires own { IsValue b.now self.now }
+        requires value { IsValue b.now v.now }
+        requires words { v.now ≡ Set words.now }
+        ensures { IfOk result (λ s. s ≡ join_of b.now self.now v.now) }
+    {
+        if let Form::One(x) = &self.form {
+            return Small::with_others(alloc, b, words, &[*x]);
+        }
+        let Form::Many(own) = &self.form else {
+            return self.with_words(alloc, b, words);
+        };
+        let Some(held) = own.as_ref().words() else {
+            return self.with_words(alloc, b, words);
+        };
+        let n = held_before(held, words);
+        if n == words.len() {
+            return self.copy_any();
+        }
+        let missing = words.len() - n;
+        if held.len() < missing {
+            return Small::with_others(alloc, b, words, held);
+        }
+        if missing > 16 {
+            return self.join_whole(alloc, b, v);
+        }
+        self.with_words(alloc, b, &words[n..])
+    }
+
+    /// Returns the least value with its members and the words of a range. If one has all members
+    /// of the other, it is the one.
+    #[inline(never)]
+    fn join_range(&self, alloc: Global, b: &Bounds, v: &Val) -> Result<Small, AllocError>
+        requires own { IsValue b.now self.now }
+        requires value { IsValue b.now v.now }
+        ensures { IfOk result (λ s. s ≡ join_of b.now self.now v.now) }
+    {
+        if let Val::Span { lo, last, step } = v {
+            if self.has_range(*lo, *last, *step) {
+                return self.copy_any();
+            }
+            if self.is_within(*lo, *last, *step) {
+                return Small::of(alloc, v);
+            }
+        }
+        self.join_whole(alloc, b, v)
+    }
+
+    /// Returns the least value with the members of both.
+    #[inline(always)]
+    pub fn join(&self, alloc: Global, b: &Bounds, v: &Val) -> Result<Small, AllocError>
+        requires own { IsValue b.now self.now }
+        requires value { IsValue b.now v.now }
+        ensures { IfOk result (λ s. s ≡ join_of b.now self.now v.now) }
+    {
+        if self.is_same(v) {
+            return self.copy();
+        }
+        if let Some(x) = only_word(v) {
+            if self.has(x) {
+                return self.copy();
+            }
+        }
+        match v {
+            Val::Set(words) => self.join_words(alloc, b, v, words.as_slice()),
+            Val::Span { .. } => self.join_range(alloc, b, v),
+        }
+    }
+
+    /// Returns the least value with the members of both. It makes the other whole value.
+    #[inline(never)]
+    fn join_unpacked(&self, alloc: Global, b: &Bounds, v: &Small) -> Result<Small, AllocError>
+        requires own { IsValue b.now self.now }
+        requires value { IsValue b.now v.now }
+        ensures { IfOk result (λ s. s ≡ join_of b.now self.now v.now) }
+    {
+        self.join(alloc, b, &v.value())
+    }
+
+    /// Returns the least value with the members of both. The caller has asked for an equal one
+    /// before.
+    #[inline(never)]
+    fn join_packed(&self, alloc: Global, b: &Bounds, v: &Small) -> Result<Small, AllocError>
+        requires own { IsValue b.now self.now }
+        requires value { IsValue b.now v.now }
+        ensures { IfOk result (λ s. s ≡ join_of b.now self.now v.now) }
+    {
+        match &v.form {
+            Form::One(x) => {
+                if self.has(*x) {
+                    return self.copy();
+                }
+                self.with_words(alloc, b, &[*x])
+            }
+            Form::Many(words) => self.join(alloc, b, words.as_ref()),
+            _ => self.join_unpacked(alloc, b, v),
+        }
+    }
+
+    /// Returns the least value with the members of both.
+    #[inline(always)]
+    pub(crate) fn join_given(
+        &self,
+        alloc: Global,
+        b: &Bounds,
+        v: &Given,
+    ) -> Result<Small, AllocError>
+        requires own { IsValue b.now self.now }
+        requires value { IsValue b.now (given_of v.now) }
+        ensures { IfOk result (λ s. s ≡ join_of b.now self.now (given_of v.now)) }
+    {
+        match v {
+            Given::Whole(v) => self.join(alloc, b, v),
+            Given::Packed(v) => {
+                if self.is_equal(v) {
+                    return v.copy();
+                }
+                self.join_packed(alloc, b, v)
+            }
+        }
+    }
+}

@@ -1,5 +1,0 @@
-use Rattle.task_chains.proofs.RoutineBytes.{view_words_are}
-use Rattle.task_chains.proofs.routine.view_words.Goals as goal
-
-pub returns : goal.returns
-returns c = view_words_are c.args.n c.args.b _ _ c.upper_half-upper.ensures.is c.offset_bits-lower.ensures

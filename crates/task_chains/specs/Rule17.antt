@@ -1,0 +1,96 @@
+-- Rule 17: what the code of a task must not do, since the task's view hides it.
+use Rattle.std.specs.Prelude.{◌≡◌, ◌≢◌, ◌+◌, ◌*◌, ◌%◌, ◌^◌, ◌<◌, ◌≤◌, ◌⊎◌, ℕ, false, All, Contains}
+use Rattle.depth_cert.specs.Keys.{number_of_key}
+use Rattle.elf_image.specs.Images.{ImageData}
+use Rattle.tcd_plan.specs.PlanData.{PlanData}
+use Rattle.tc_isa.specs.declared.shapes.Shape.{Shape}
+use Rattle.tc_isa.specs.declared.shapes.Shape.TheVariants.{Load, Bisr, Mfcr}
+use Rattle.value_domain.specs.declared.values.Val.{Val}
+use Rattle.value_domain.specs.declared.states.State.{State}
+use Rattle.value_domain.specs.Limits.{Limits}
+use Rattle.value_domain.specs.Values.{IsMember}
+use Rattle.vd_transfer.specs.EffectsOnStates.{address_of}
+use Rattle.depth_cert.specs.declared.keys.Key.{Key}
+use Rattle.depth_cert.specs.declared.points.Point.{Point}
+use Rattle.depth_cert.specs.Nodes.{NodeData}
+use Rattle.depth_cert.specs.Certs.{CertData}
+use Rattle.cfg_recover.specs.Code.{IsCode}
+use Rattle.cfg_recover.specs.RulesHoldOrFail.{limits_in}
+use Rattle.task_chains.specs.Tasks.{TasksData, routine_size}
+use Rattle.task_chains.specs.SwitchRoutine.{switch_key, IsRoutineStep}
+
+-- no byte of the access of n bytes from x, which can wrap at 2^32, is one of the len bytes from an
+-- address on
+abbrev pub Misses : ℕ → ℕ → ℕ → ℕ → Type 0
+Misses x n from len = (i : ℕ) → i < n → ((x + i) % 2 ^ 32 < from) ⊎ (from + len ≤ (x + i) % 2 ^ 32)
+
+-- no access at an address that is a word of the value shares a byte with them
+abbrev pub AllMiss : Val → ℕ → ℕ → ℕ → Type 0
+AllMiss v n from len = (x : ℕ) → IsMember x v → Misses x n from len
+
+-- a load reaches no save area and no byte of the routine
+abbrev pub LoadsElsewhere : Limits → PlanData → TasksData → State → Shape → Type 0
+LoadsElsewhere b plan tasks s (Load dst base offset size signed after) =
+    AllMiss (address_of b plan (Load dst base offset size signed after) s) size plan.csa_at (64 * plan.areas)
+    × AllMiss (address_of b plan (Load dst base offset size signed after) s) size tasks.switch routine_size
+LoadsElsewhere b plan tasks s _ = Unit {0}
+
+-- no MFCR reads PCXI, FCX or LCX
+abbrev pub ReadsNoLink : Shape → Type 0
+ReadsNoLink (Mfcr dst number) = (number ≢ 0xfe00) × (number ≢ 0xfe38) × (number ≢ 0xfe3c)
+ReadsNoLink _ = Unit {0}
+
+-- the instruction is no BISR, which would set CCPN and enable interrupts
+abbrev pub IsNoBisr : Shape → Type 0
+IsNoBisr (Bisr c) = ⊥
+IsNoBisr _ = Unit {0}
+
+-- rule 17 at a point with an instruction of this shape
+pub record StaysApart (b : Limits) (plan : PlanData) (tasks : TasksData) (key : Key) (p : ℕ) (s : State) (shape : Shape) : Type 0 where
+  pub inside : tasks.switch ≤ p → p < tasks.switch + routine_size → key ≡ switch_key tasks
+  pub at : key ≡ switch_key tasks → (i : ℕ) × (i < 18) × (p ≡ tasks.switch + 4 * i)
+  pub loads : LoadsElsewhere b plan tasks s shape
+  pub links : ReadsNoLink shape
+  pub level : key.prio ≡ 0 → key.is ≡ false → IsNoBisr shape
+
+-- rule 17 at a point of a view's certificate
+abbrev pub HoldsApart : ImageData → PlanData → TasksData → CertData → NodeData → Point → Type 0
+HoldsApart view plan tasks cert node point =
+    (shape : Shape) (n : ℕ) → IsCode view plan point.addr shape n → StaysApart (limits_in plan cert) plan tasks node.key point.addr point.state shape
+
+-- rule 17 at all points of a view's certificate
+abbrev pub KeepsApart : ImageData → PlanData → TasksData → CertData → Type 0
+KeepsApart view plan tasks cert = All (λ node. All (λ point. HoldsApart view plan tasks cert node point) node.points) cert.nodes
+
+-- rule 17 fails at a key and an address
+pub data FailsApart (view : ImageData) (plan : PlanData) (tasks : TasksData) (cert : CertData) : Key → ℕ → Type 0 where
+  at_point :
+      (node : NodeData) (point : Point) → Contains cert.nodes node → Contains node.points point → (HoldsApart view plan tasks cert node point → ⊥)
+      → FailsApart view plan tasks cert node.key point.addr
+
+-- rule 17 fails there, and at no lesser key or address
+pub record IsTaskFault (view : ImageData) (plan : PlanData) (tasks : TasksData) (cert : CertData) (k : Key) (p : ℕ) : Type 0 where
+  pub fails : FailsApart view plan tasks cert k p
+  pub least : (j : Key) (x : ℕ) → FailsApart view plan tasks cert j x → number_of_key k * 2 ^ 32 + p ≤ number_of_key j * 2 ^ 32 + x
+
+-- a word of the value is in low..=high
+abbrev pub HasBetween : Val → ℕ → ℕ → Type 0
+HasBetween v low high = (x : ℕ) × IsMember x v × (low ≤ x) × (x ≤ high)
+
+-- the routine's frame has points only at the routine's instructions, and no other frame has one in
+-- the routine
+pub record IsPlaceApart (tasks : TasksData) (key : Key) (p : ℕ) : Type 0 where
+  pub inside : tasks.switch ≤ p → p < tasks.switch + routine_size → key ≡ switch_key tasks
+  pub at : key ≡ switch_key tasks → IsRoutineStep tasks p
+
+-- rule 17 at a point of a frame, under these limits
+abbrev pub HoldsApartIn : Limits → ImageData → PlanData → TasksData → Key → Point → Type 0
+HoldsApartIn b view plan tasks key point = (shape : Shape) (n : ℕ) → IsCode view plan point.addr shape n → StaysApart b plan tasks key point.addr point.state shape
+
+-- rule 17 fails at an address of a node's points, and at no lesser one
+pub record IsNodeFault (b : Limits) (view : ImageData) (plan : PlanData) (tasks : TasksData) (node : NodeData) (p : ℕ) : Type 0 where
+  pub point : Point
+  pub stands : Contains node.points point
+  pub addr : point.addr ≡ p
+  pub fails : HoldsApartIn b view plan tasks node.key point → ⊥
+  pub least : (other : Point) → Contains node.points other → (HoldsApartIn b view plan tasks node.key other → ⊥) → p ≤ other.addr

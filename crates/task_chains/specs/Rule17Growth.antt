@@ -1,0 +1,24 @@
+-- Rule 17 and larger certificates: the statements of the laws.
+use Rattle.std.specs.Prelude.{◌≡◌, ℕ}
+use Rattle.elf_image.specs.Images.{ImageData}
+use Rattle.tcd_plan.specs.PlanData.{PlanData, IsPlan}
+use Rattle.depth_cert.specs.declared.keys.Key.{Key}
+use Rattle.depth_cert.specs.Certs.{CertData, IsCert}
+use Rattle.cfg_recover.specs.RulesHoldOrFail.{Accepts}
+use Rattle.cfg_recover.specs.Assignments.{IsBelowAt, known_in}
+use Rattle.task_chains.specs.Tasks.{TasksData}
+use Rattle.task_chains.specs.Rule17.{KeepsApart, FailsApart}
+
+-- One certificate is below another if the other has all of its places and covers what is known
+-- there. If both are accepted for a view, rule 17 fails for the upper one wherever it fails for the
+-- lower.
+abbrev pub TaskFaultsGrow : Type 0
+TaskFaultsGrow =
+    (view : ImageData) (plan : PlanData) (tasks : TasksData) (lower upper : CertData) (k : Key) (p : ℕ) → IsPlan plan → IsCert lower → IsCert upper
+    → lower.version ≡ upper.version → Accepts view plan lower → Accepts view plan upper → IsBelowAt (known_in lower) (known_in upper)
+    → FailsApart view plan tasks lower k p → FailsApart view plan tasks upper k p
+
+-- If rule 17 fails somewhere, it doesn't hold at all points.
+abbrev pub TaskFaultsRefute : Type 0
+TaskFaultsRefute =
+    (view : ImageData) (plan : PlanData) (tasks : TasksData) (cert : CertData) (k : Key) (p : ℕ) → FailsApart view plan tasks cert k p → KeepsApart view plan tasks cert → ⊥

@@ -1,0 +1,99 @@
+-- The task that owns the chain of PCXI, and what safe runs of all tasks are.
+use Rattle.std.specs.Prelude.{◌≡◌, ◌+◌, ◌-◌, ◌<◌, ◌≤◌, ◌⊎◌, ◌↔◌, ◌==◌, ◌||◌, ℕ, max, if◌then◌else◌, List, length, Some, IfSome}
+use Rattle.csa_chain.specs.Chain.{link_in, chain}
+use Rattle.elf_image.specs.Images.{ImageData}
+use Rattle.tcd_plan.specs.PlanData.{PlanData, IsPlan}
+use Rattle.tc_machine.specs.declared.events.Event.{Event}
+use Rattle.tc_machine.specs.declared.events.End.TheVariants.{Running}
+use Rattle.tc_machine.specs.declared.state.Machine.{Machine}
+use Rattle.tc_machine.specs.Stepping.{run, stored}
+use Rattle.tc_machine.specs.PlanAreas.{plan_areas}
+use Rattle.tc_machine.specs.Safe.{Fits, AllFit, Safe}
+use Rattle.tcd_plan.specs.Regions.{IsStoreInRange}
+use Rattle.depth_cert.specs.Certs.{CertData, IsCert}
+use Rattle.cfg_recover.specs.RulesHoldOrFail.{Accepts, certified_need}
+use Rattle.cfg_recover.specs.FrameLaws.{FramesHeld}
+use Rattle.csa_chain.specs.SeveralChains.{sum_below, Share}
+use Rattle.task_chains.specs.Tasks.{TasksData, AreTasks, count, block_size, routine_size}
+use Rattle.task_chains.specs.SwitchRoutine.{HasRoutine}
+use Rattle.task_chains.specs.Views.{view_image_of, view_plan_of, FitPlan}
+use Rattle.task_chains.specs.Rule17.{KeepsApart}
+use Rattle.task_chains.specs.TaskStarts.{TasksStart, block_word, current}
+
+-- ---- the owner
+-- the task before this one in the round of n
+abbrev pub before : ℕ → ℕ → ℕ
+before n u = if u == 0 then n - 1 else u - 1
+
+-- The task whose chain begins in PCXI: the current one. While the routine has made the next task
+-- the current one, but hasn't set PCXI yet, it is the task before the current one.
+abbrev pub owner : TasksData → Machine → ℕ
+owner tasks m =
+    if m.pc == tasks.switch + 48 || m.pc == tasks.switch + 52 || m.pc == tasks.switch + 56 then before (count tasks) (current tasks m.mem)
+    else current tasks m.mem
+
+-- the word that begins the chain of task u
+abbrev pub chain_word : TasksData → Machine → ℕ → ℕ
+chain_word tasks m u = if u == owner tasks m then m.pcxi else block_word tasks m.mem u
+
+-- ---- safe
+-- The chains of the tasks and the free list have each area of the plan once. Each task has at most
+-- its need. FCX is at the limit exactly if all areas except the reserve are in use.
+pub record AreAreasShared (plan : PlanData) (tasks : TasksData) (needs : ℕ → ℕ) (m : Machine) : Type 0 where
+  pub chain_of : ℕ → List ℕ
+  pub free : List ℕ
+  pub chains : (u : ℕ) → u < count tasks → chain m.mem (chain_word tasks m u) ≡ Some (chain_of u)
+  pub free_chain : chain m.mem m.fcx ≡ Some free
+  pub share : Share (count tasks) chain_of free (plan_areas plan)
+  pub within_need : (u : ℕ) → u < count tasks → length (chain_of u) ≤ needs u
+  pub limit : (link_in m.fcx ≡ link_in m.lcx) ↔ (sum_below (count tasks) (λ u. length (chain_of u)) ≡ plan.areas - plan.reserve)
+
+-- the access shares no byte with the block
+abbrev pub MissesBlock : TasksData → ℕ × ℕ → Type 0
+MissesBlock tasks at = (at.0 + at.1 ≤ tasks.block) ⊎ (tasks.block + block_size tasks ≤ at.0)
+
+-- pc is in the routine
+abbrev pub IsInRoutine : TasksData → ℕ → Type 0
+IsInRoutine tasks x = (tasks.switch ≤ x) × (x < tasks.switch + routine_size)
+
+-- a store in range that misses the block, unless the routine does it
+abbrev pub IsTaskStore : PlanData → TasksData → ℕ → ℕ × ℕ → Type 0
+IsTaskStore plan tasks pc at = IsStoreInRange plan at × ((IsInRoutine tasks pc → ⊥) → MissesBlock tasks at)
+
+-- a state of a run of all tasks is safe, and so is its next event
+pub record AreSafeAt (plan : PlanData) (tasks : TasksData) (needs : ℕ → ℕ) (m : Machine) (e : Event) : Type 0 where
+  pub running : m.end ≡ Running
+  pub owner : owner tasks m < count tasks
+  pub areas : AreAreasShared plan tasks needs m
+  pub stores : IfSome (stored m e) (IsTaskStore plan tasks m.pc)
+
+-- this holds in every run from every start state, for every list of fitting events and every next
+-- event
+abbrev pub SafeTasks : ImageData → PlanData → TasksData → (ℕ → ℕ) → Type 0
+SafeTasks image plan tasks needs =
+    (m : Machine) (es : List Event) (e : Event) → TasksStart image plan tasks m → AllFit plan m es → Fits plan (run m es) e → AreSafeAt plan tasks needs (run m es) e
+
+-- ---- the theorem's premises
+-- the need that counts for a task: the first starts with no area, each other with two
+abbrev pub need_of_task : ImageData → PlanData → TasksData → (ℕ → CertData) → ℕ → ℕ
+need_of_task image plan tasks certs u =
+    let n = certified_need (view_image_of image tasks u) (view_plan_of plan tasks u) (certs u) in
+    if u == 0 then n else max n 2
+
+-- a task's certificate is accepted for its view and keeps rule 17, and the view's runs are safe and
+-- have the certificate's frames
+pub record IsJudged (image : ImageData) (plan : PlanData) (tasks : TasksData) (cert : CertData) (u : ℕ) : Type 0 where
+  pub is_cert : IsCert cert
+  pub accepted : Accepts (view_image_of image tasks u) (view_plan_of plan tasks u) cert
+  pub safe : Safe (view_image_of image tasks u) (view_plan_of plan tasks u) (certified_need (view_image_of image tasks u) (view_plan_of plan tasks u) cert)
+  pub frames : FramesHeld (view_image_of image tasks u) (view_plan_of plan tasks u) cert
+  pub apart : KeepsApart (view_image_of image tasks u) (view_plan_of plan tasks u) tasks cert
+
+-- If the image has the routine, each task is judged well, and the sum of the needs is at most the
+-- areas without the reserve, all runs are safe.
+abbrev pub TasksAreSafe : Type 0
+TasksAreSafe =
+    (image : ImageData) (plan : PlanData) (tasks : TasksData) (certs : ℕ → CertData) → IsPlan plan → AreTasks tasks → FitPlan plan tasks → HasRoutine image plan tasks
+    → ((u : ℕ) → u < count tasks → IsJudged image plan tasks (certs u) u)
+    → sum_below (count tasks) (need_of_task image plan tasks certs) ≤ plan.areas - plan.reserve
+    → SafeTasks image plan tasks (need_of_task image plan tasks certs)

@@ -1,0 +1,76 @@
+-- The states in which tasks start.
+use Rattle.std.specs.Prelude.{◌≡◌, ◌+◌, ◌-◌, ◌*◌, ◌/◌, ◌%◌, ◌^◌, ◌<◌, ◌≤◌, ℕ, true, false, slice_index}
+use Rattle.csa_chain.specs.MemoryBytes.{Memory, word_at}
+use Rattle.csa_chain.specs.Chain.{link_in, area_word}
+use Rattle.csa_chain.specs.ContextWords.{pcxi_word_of, ul_of}
+use Rattle.elf_image.specs.Images.{ImageData}
+use Rattle.tcd_base.specs.declared.core_version.Core.{Core}
+use Rattle.tcd_plan.specs.PlanData.{PlanData}
+use Rattle.tc_machine.specs.declared.events.End.TheVariants.{Running}
+use Rattle.tc_machine.specs.declared.state.Machine.{Machine}
+use Rattle.tc_machine.specs.Machine.{is_of}
+use Rattle.tc_machine.specs.PlanAreas.{first_link, link_or_end}
+use Rattle.tc_machine.specs.Safe.{IsMachine, HasGlobals}
+use Rattle.tc_mem.specs.PlanMemory.{HoldsRom, IsPlanMemory}
+use Rattle.task_chains.specs.Tasks.{TasksData, count, task_at}
+
+-- ---- the block
+-- the word of task u
+abbrev pub block_word : TasksData → Memory → ℕ → ℕ
+block_word tasks mem u = word_at mem (tasks.block + 4 * u)
+
+-- the number of the current task
+abbrev pub current : TasksData → Memory → ℕ
+current tasks mem = block_word tasks mem (count tasks)
+
+-- ---- contexts of the tasks that didn't start yet
+-- the link of the area of the upper context of a task other than the first
+abbrev pub upper_area : PlanData → ℕ → ℕ
+upper_area plan u = first_link plan + 2 * (u - 1)
+
+-- the link of the area of its lower context
+abbrev pub lower_area : PlanData → ℕ → ℕ
+lower_area plan u = first_link plan + (2 * (u - 1) + 1)
+
+-- the number of areas of all these contexts
+abbrev pub held_at_start : TasksData → ℕ
+held_at_start tasks = 2 * (count tasks - 1)
+
+-- The upper context has PCXI 0, a PSW with IO 2 and IS 0, and the task's stack pointer. The lower
+-- one, which links to the upper, has the task's entry as A11. The block's word names the lower one.
+-- All other words are any.
+pub record IsReady (core : Core) (plan : PlanData) (tasks : TasksData) (mem : Memory) (u : ℕ) : Type 0 where
+  pub ends : area_word mem (upper_area plan u) 0 ≡ 0
+  pub io : area_word mem (upper_area plan u) 1 / 2 ^ 10 % 4 ≡ 2
+  pub is : is_of (area_word mem (upper_area plan u) 1) ≡ false
+  pub sp : area_word mem (upper_area plan u) 2 ≡ (task_at tasks u).sp
+  pub above : link_in (area_word mem (lower_area plan u) 0) ≡ upper_area plan u
+  pub ul : ul_of core (area_word mem (lower_area plan u) 0) ≡ true
+  pub entry : area_word mem (lower_area plan u) 1 ≡ (task_at tasks u).entry
+  pub word : block_word tasks mem u ≡ pcxi_word_of core 0 false false (lower_area plan u)
+
+-- A state that starts the tasks: the first one runs, the others are ready, and all other areas are
+-- free, in ascending order. All other bytes and registers are any.
+pub record TasksStart (image : ImageData) (plan : PlanData) (tasks : TasksData) (m : Machine) : Type 0 where
+  pub machine : IsMachine m
+  pub memory : IsPlanMemory plan m.mem
+  pub rom : HoldsRom image plan m.mem
+  pub room : held_at_start tasks ≤ plan.areas
+  pub first : current tasks m.mem ≡ 0
+  pub ready : (u : ℕ) → 1 ≤ u → u < count tasks → IsReady plan.core plan tasks m.mem u
+  pub linked : (i : ℕ) → held_at_start tasks ≤ i → i < plan.areas → area_word m.mem (first_link plan + i) 0 ≡ link_or_end plan (i + 1)
+  pub fcx : m.fcx ≡ link_or_end plan (held_at_start tasks)
+  pub lcx : m.lcx ≡ first_link plan + (plan.areas - plan.reserve)
+  pub pcxi : m.pcxi ≡ 0
+  pub pc : m.pc ≡ (task_at tasks 0).entry
+  pub sp : slice_index m.a 10 ≡ (task_at tasks 0).sp
+  pub globals : HasGlobals plan m.a
+  pub biv : m.biv ≡ plan.biv
+  pub btv : m.btv ≡ plan.btv
+  pub isp : m.isp ≡ plan.isp
+  pub ie : m.ie ≡ plan.start_ie
+  pub ccpn : m.ccpn ≡ plan.start_ccpn
+  pub is : is_of m.psw ≡ plan.start_is
+  pub io : m.psw / 2 ^ 10 % 4 ≡ 2
+  pub end : m.end ≡ Running
+  pub core : m.core ≡ plan.core

@@ -1,0 +1,71 @@
+-- Bounds of what instructions do: registers are below 32, words below 2 ^ 32.
+use Rattle.std.specs.Prelude.{◌≡◌, ◌<◌, ◌^◌, ◌⊎◌, ℕ, ◌&&◌, Bool, nat_lt}
+use Rattle.tc_isa.specs.declared.shapes.Arg.{Arg}
+use Rattle.tc_isa.specs.declared.shapes.Arg.TheVariants.{Reg, Word}
+use Rattle.tc_isa.specs.declared.shapes.Target.{Target}
+use Rattle.tc_isa.specs.declared.shapes.Target.TheVariants as target
+use Rattle.tc_isa.specs.declared.shapes.Shape.{Shape}
+use Rattle.tc_isa.specs.declared.shapes.Shape.TheVariants.{Compute, Scaled, Load, Store, Branch, Jump, Call, Ret, Rfe, Svlcx, Rslcx, Bisr, Enable, Disable, Syscall, Mfcr, Mtcr, Nothing}
+use Rattle.tc_isa.specs.declared.fields.Fields.{Fields}
+use Rattle.tcd_base.specs.Bytes.{IsWord}
+use Rattle.tc_isa.specs.Forms.{bounds}
+
+-- one of the 32 registers
+abbrev pub IsRegister : ℕ → Type 0
+IsRegister r = r < 32
+
+-- an operand: one of the registers, or a word
+abbrev pub IsArg : Arg → Type 0
+IsArg (Reg r) = IsRegister r
+IsArg (Word w) = IsWord w
+
+-- a target: a distance, an address, or one of the registers
+abbrev pub IsTarget : Target → Type 0
+IsTarget (target.Rel w) = IsWord w
+IsTarget (target.Abs w) = IsWord w
+IsTarget (target.Reg r) = IsRegister r
+
+-- the size of an access in bytes
+abbrev pub IsSize : ℕ → Type 0
+IsSize n = (n ≡ 1) ⊎ ((n ≡ 2) ⊎ (n ≡ 4))
+
+-- the registers, words, sizes and numbers of a shape are within their bounds
+abbrev pub IsShape : Shape → Type 0
+IsShape (Compute op dst x y) = IsRegister dst × IsArg x × IsArg y
+IsShape (Scaled dst base index n) = IsRegister dst × IsRegister base × IsRegister index × (n < 4)
+IsShape (Load dst base offset size sign after) = IsRegister dst × IsArg base × IsWord offset × IsSize size
+IsShape (Store src base offset size after) = IsRegister src × IsArg base × IsWord offset × IsSize size
+IsShape (Branch cond x y by lowers) = IsRegister x × IsArg y × IsWord by
+IsShape (Jump to) = IsTarget to
+IsShape (Call to) = IsTarget to
+IsShape Ret = Unit {0}
+IsShape Rfe = Unit {0}
+IsShape Svlcx = Unit {0}
+IsShape Rslcx = Unit {0}
+IsShape (Bisr c) = c < 256
+IsShape Enable = Unit {0}
+IsShape Disable = Unit {0}
+IsShape (Syscall tin) = tin < 256
+IsShape (Mfcr dst number) = IsRegister dst × (number < 2 ^ 16)
+IsShape (Mtcr src number) = IsRegister src × (number < 2 ^ 16)
+IsShape Nothing = Unit {0}
+
+-- register fields have four bits, n two, and k at most 24
+pub record AreSmall (f : Fields) : Type 0 where
+  pub c : f.c < 16
+  pub s1 : f.s1 < 16
+  pub s2 : f.s2 < 16
+  pub n : f.n < 4
+  pub k : f.k < 2 ^ 24
+
+-- each field is below its bound; a field that the form doesn't have has the bound 1
+pub record IsBelow (f bounds : Fields) : Type 0 where
+  pub c : f.c < bounds.c
+  pub s1 : f.s1 < bounds.s1
+  pub s2 : f.s2 < bounds.s2
+  pub n : f.n < bounds.n
+  pub k : f.k < bounds.k
+
+-- each field is below its bound
+abbrev pub is_below_test : Fields → Fields → Bool
+is_below_test f b = nat_lt f.c b.c && nat_lt f.s1 b.s1 && nat_lt f.s2 b.s2 && nat_lt f.n b.n && nat_lt f.k b.k

@@ -1,0 +1,82 @@
+-- Saving and restoring contexts (TriCore 1 architecture manual, volume 1, context management).
+use Rattle.std.specs.Prelude.{ℕ, Bool, not, ◌==◌, if◌then◌else◌, List, [], ◌∷◌, map}
+use Rattle.csa_chain.specs.MemoryBytes.{Memory, with_words}
+use Rattle.csa_chain.specs.Chain.{link_in, link_address, is_area, area_word}
+use Rattle.csa_chain.specs.ContextWords.{pcxi_word_of, ul_of, with_link, upper_words_of, lower_words_of, d_after_upper, a_after_upper, d_after_lower, a_after_lower}
+use Rattle.tc_machine.specs.declared.events.Cause.TheVariants.{Fcd, Fcu, Csu, Ctyp, NoArea}
+use Rattle.tc_machine.specs.declared.state.Machine.{Machine}
+use Rattle.tc_machine.specs.Machine.{died}
+
+-- the 16 words of the upper or the lower context
+abbrev pub context_of : Machine → Bool → List ℕ
+context_of m upper = if upper then upper_words_of m.pcxi m.psw m.d m.a else lower_words_of m.pcxi m.d m.a
+
+-- The machine after a context was saved to the first free area. Word 0 of that area was the link of
+-- the next free one.
+abbrev pub saved : Machine → Bool → Machine
+saved m upper =
+    let free = link_in m.fcx in
+    record m {
+      mem = with_words m.mem (link_address free) (context_of m upper);
+      pcxi = pcxi_word_of m.core m.ccpn m.ie upper free;
+      fcx = with_link m.fcx (link_in (area_word m.mem free 0));
+    }
+
+-- A save. The machine dies if the free list is empty or its first area isn't mapped. After the save
+-- it dies if the limit of the list is reached.
+unfoldable pub save : Machine → Bool → Machine
+save m upper =
+    if link_in m.fcx == 0 then died Fcu m
+    else if is_area m.mem (link_in m.fcx) then
+    (if link_in m.fcx == link_in m.lcx then died Fcd (saved m upper) else saved m upper)
+    else died NoArea m
+
+-- the last context that was saved is of this kind, as PCXI says
+abbrev pub has_kind : Machine → Bool → Bool
+has_kind m upper = if upper then ul_of m.core m.pcxi else not (ul_of m.core m.pcxi)
+
+-- the machine after the area that PCXI names was moved to the front of the free list
+abbrev pub released : Machine → Machine
+released m =
+    let used = link_in m.pcxi in
+    record m {
+      pcxi = area_word m.mem used 0;
+      mem = with_words m.mem (link_address used) (m.fcx ∷ []);
+      fcx = with_link m.fcx used;
+    }
+
+-- the 16 words of the area of a link
+abbrev pub area_words : Memory → ℕ → List ℕ
+area_words mem link = map (area_word mem link) (0 ∷ 1 ∷ 2 ∷ 3 ∷ 4 ∷ 5 ∷ 6 ∷ 7 ∷ 8 ∷ 9 ∷ 10 ∷ 11 ∷ 12 ∷ 13 ∷ 14 ∷ 15 ∷ [])
+
+-- the 16 words of the area that PCXI names
+abbrev pub last_context : Machine → List ℕ
+last_context m = area_words m.mem (link_in m.pcxi)
+
+-- the machine after the upper context, PSW included, was restored from the area that PCXI names
+abbrev pub restored_upper : Machine → Machine
+restored_upper m = record (released m) {
+  psw = area_word m.mem (link_in m.pcxi) 1;
+  d = d_after_upper (last_context m) m.d;
+  a = a_after_upper (last_context m) m.a;
+}
+
+-- the machine after the lower context was restored from the area that PCXI names
+abbrev pub restored_lower : Machine → Machine
+restored_lower m = record (released m) {
+  d = d_after_lower (last_context m) m.d;
+  a = a_after_lower (last_context m) m.a;
+}
+
+-- the machine after the upper or the lower context was restored from the area that PCXI names
+abbrev pub restored : Machine → Bool → Machine
+restored m upper = if upper then restored_upper m else restored_lower m
+
+-- a restore: the machine dies if there is no context, if it is of the other kind, or if its area
+-- isn't mapped
+unfoldable pub restore : Machine → Bool → Machine
+restore m upper =
+    if link_in m.pcxi == 0 then died Csu m
+    else if has_kind m upper then
+    (if is_area m.mem (link_in m.pcxi) then restored m upper else died NoArea m)
+    else died Ctyp m

@@ -1,0 +1,31 @@
+-- The forms of files of cells and of tasks.
+use Rattle.std.specs.Prelude.{◌≡◌, ◌^◌, List, Ok, Err}
+use Rattle.tcd_plan.specs.PlanData.{PlanData}
+use Rattle.value_cells.specs.CellListText.{Reads}
+use Rattle.value_cells.specs.declared.cells.Cell.{Cell}
+use Rattle.value_cells.specs.declared.errors.CellsErr.{CellsErr}
+use Rattle.tcd_reading.specs.Inputs.{FormSeen}
+use Rattle.tcd_text.specs.Lines.{lines_of}
+use Rattle.task_chains.specs.Tasks.{TasksData}
+use Rattle.task_chains.specs.TaskListText as tasks
+use Rattle.task_chains.specs.declared.task_lists.TasksErr.{TasksErr}
+use Rattle.tcd_forms.specs.Lines.{long_cells_line, long_tasks_line}
+use Rattle.tcd_driver.specs.BadInputLines.{cells_line, tasks_line}
+
+-- a file of cells for a plan
+abbrev pub cells_form : PlanData → FormSeen (List Cell)
+cells_form p = record {
+  limit = 2 ^ 24;
+  long_line = long_cells_line;
+  Is = λ bytes cells. Reads p bytes (Ok cells);
+  IsBad = λ bytes text. (e : CellsErr) × Reads p bytes (Err e) × (text ≡ cells_line e);
+}
+
+-- a file of tasks for a plan
+abbrev pub tasks_form : PlanData → FormSeen TasksData
+tasks_form p = record {
+  limit = 2 ^ 24;
+  long_line = long_tasks_line;
+  Is = λ bytes list. tasks.Reads p (lines_of bytes) (Ok list);
+  IsBad = λ bytes text. (e : TasksErr) × tasks.Reads p (lines_of bytes) (Err e) × (text ≡ tasks_line e);
+}

@@ -1,0 +1,21 @@
+-- The edges of runs, on the lines of a graph's text.
+use Rattle.std.specs.Prelude.{◌<◌, ◌^◌, ℕ, List, [], ◌∷◌, ◌++◌, map}
+use Rattle.elf_image.specs.Images.{ImageData}
+use Rattle.tcd_plan.specs.PlanData.{PlanData, IsPlan}
+use Rattle.depth_cert.specs.Certs.{CertData, IsCert}
+use Rattle.cfg_recover.specs.RulesHoldOrFail.{Accepts}
+use Rattle.tcd_text.specs.Lines.{lines_of}
+use Rattle.tcd_report.specs.Graphs.{IsGraph}
+use Rattle.tcd_report.specs.Graphs.EdgeLaws.{EdgesStand}
+
+-- the lines of a text as it is printed, each with the line feed that ends it
+abbrev pub printed_lines : List ℕ → List (List ℕ)
+printed_lines text = map (λ l. l ++ 10 ∷ []) (lines_of text)
+
+-- The graph of a certificate that is accepted: the edge of each step of each run that starts as the
+-- plan says, after any events that fit, stands on a line of its text, with the key of its frame and
+-- its address.
+abbrev pub AcceptedEdgesStand : Type 0
+AcceptedEdgesStand =
+    (image : ImageData) (plan : PlanData) (cert : CertData) (text : List ℕ) → image.entry < 2 ^ 32 → IsPlan plan → IsCert cert
+    → Accepts image plan cert → IsGraph image plan cert text → EdgesStand image plan cert (printed_lines text)

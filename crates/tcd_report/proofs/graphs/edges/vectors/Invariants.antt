@@ -1,6 +1,0 @@
-use Rattle.std.proofs.Common.{◌≡◌, take}
-use Rattle.tcd_report.specs.Graphs.Edges.{vectors_in}
-use Rattle.tcd_report.proofs.graphs.edges.vectors.Given as goal
-
-abbrev pub invariant-loop-irq : goal.invariant-loop-irq
-invariant-loop-irq l = l.all.items ≡ vectors_in l.plan (take l.irq-index l.irqs)

@@ -1,5 +1,0 @@
-use Rattle.std.proofs.Common.{refl}
-use Rattle.value_domain.proofs.meets.is_member.Goals as goal
-
-pub returns-in-Set : goal.returns-in-Set
-returns-in-Set c = rw (c.in-Set.is, c.has.ensures, c.as_slice.ensures.items) refl
