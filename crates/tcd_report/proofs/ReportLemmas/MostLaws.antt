@@ -1,9 +1,13 @@
 -- The greatest number of the elements, over one element after another.
-use Rattle.std.proofs.Common.{◌≡◌, ℕ, ◌+◌, ◌<◌, ◌≤◌, List, [], ◌∷◌, ◌++◌, length, get_or, take, max, inl, inr, sym, ap, ◌∙◌, subst, arith, Contains}
+use Rattle.std.proofs.Common.{◌≡◌, ℕ, ◌+◌, ◌<◌, ◌≤◌, List, [], ◌∷◌, ◌++◌, length, get_or, take, max, inl, inr, refl, sym, ap, ◌∙◌, subst, arith}
 use Rattle.std.proofs.lemmas.Bool.{cases_lt}
 use Rattle.std.proofs.lemmas.List.{take_all, take_more}
 use Rattle.std.proofs.lemmas.List.Elements.{Contains-append_left, Contains-push, Contains-push_cases}
 use Rattle.tcd_report.specs.Reports.Heights.{IsMost, IsMostOf}
+
+-- no element has a number
+pub most_none : {A : Type 0} (Has : A → ℕ → Type 0) → IsMostOf Has [] 0
+most_none Has = record { reached = inl refl; most = λ m h. absurd (let before = ((h.1).0).1 in omega (arith, before)) }
 
 -- the elements with one more at the end
 pub most_with : {A : Type 0} (Has : A → ℕ → Type 0) (xs : List A) (x : A) (a b n : ℕ) → IsMostOf Has xs a → IsMost (Has x) b → n ≡ max b a → IsMostOf Has (xs ++ x ∷ []) n

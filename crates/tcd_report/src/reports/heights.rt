@@ -1,5 +1,5 @@
 // The length of the longest call chain that begins in each node.
-ghost use Rattle.std.specs.Prelude.{◌≡◌, ℕ, Some, Contains, IfOk, map};
+ghost use Rattle.std.specs.Prelude.{◌≡◌, ℕ, [], Some, Contains, IfOk, map, unwrap_or};
 ghost use Rattle.std.specs.HashMap.{get};
 ghost use Rattle.depth_cert.specs.Nodes.{NodeData};
 ghost use Rattle.tcd_report.specs.Reports.Heights.{TellsHeights, IsMost, IsMostOf, HasRow, HasRowAt, AreLow};
@@ -7,18 +7,21 @@ ghost use Rattle.tcd_report.specs.Reports.{rank_of};
 ghost use Rattle.depth_cert.specs.Keys.{key_eq, call_kind};
 ghost use Rattle.tcd_report.specs.Judging.{IsJudged};
 ghost use Rattle.cfg_recover.specs.FlowDuties as flows;
+ghost use Rattle.tc_isa.specs.InBounds.{IsTarget};
+ghost use Rattle.cfg_recover.specs.LocalRules.{targets_of};
 ghost use Rattle.cfg_recover.specs.LocalFaults.{IsFaultless};
 ghost use Rattle.depth_cert.specs.Points.{point_of};
 
-use crate::graphs::entries::call_targets;
 use crate::judged::Judged;
 use crate::reports::call_chains::rows_from;
-use cfg_recover::{KnownCodes, entered_key};
+use cfg_recover::{KnownCodes, entered_key, targets};
 use depth_cert::{CALL, Key};
 use packed_cert::{PackedCert, PointWalk};
 use std::alloc::Global;
 use std::collections::HashMap;
+use tc_isa::{Shape, Target};
 use tcd_base::NoMemory;
+use tcd_plan::Plan;
 use value_domain::State;
 
 /// The length of the longest call chain that begins in each node. Nodes are taken by ascending
@@ -82,7 +85,29 @@ pub(crate) fn rows_at(
     let Some(found) = codes.located(judged.image, judged.plan, addr) else {
         unreachable!()
     };
-    let functions = call_targets(judged.plan, addr, s, found.shape);
+    match found.shape {
+        Shape::Call { to } => rows_called(judged.plan, heights, key, addr, s, to),
+        _ => 0,
+    }
+}
+
+// The length of the longest call chain that begins with a call. A function of its own, as it has
+// room for a list of functions.
+#[inline(never)]
+fn rows_called(
+    plan: &Plan,
+    heights: &HashMap<Key, u32>,
+    key: &Key,
+    addr: u32,
+    s: &State,
+    to: Target,
+) -> u32
+    requires low { AreLow heights.now }
+    requires target { IsTarget to }
+    ensures { IsMostOf (λ t. HasRow heights.now (flows.entered_key key.now call_kind t))
+        (unwrap_or (targets_of plan.now s.now addr to) []) result }
+{
+    let functions = targets(plan, s, addr, to);
     rows_into(heights, key, functions.as_slice())
 }
 
