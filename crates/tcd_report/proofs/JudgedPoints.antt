@@ -1,5 +1,5 @@
 -- What holds at each point of an accepted certificate.
-use Rattle.std.proofs.Common.{◌≡◌, ℕ, refl, sym, subst, All, Contains}
+use Rattle.std.proofs.Common.{◌≡◌, ℕ, refl, sym, subst, Contains}
 use Rattle.std.proofs.lemmas.List.Elements.{All-contains}
 use Rattle.elf_image.specs.Images.{ImageData}
 use Rattle.tcd_plan.specs.PlanData.{PlanData}

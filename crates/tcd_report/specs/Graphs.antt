@@ -1,6 +1,7 @@
 -- The graph of a certificate: one line for each way on from a point, in the order of keys and
 -- addresses.
 pub mod EdgeLaws
+pub mod Handlers
 use Rattle.std.specs.Prelude.{◌≡◌, ◌==◌, ℕ, false, not, List, ◌∷◌, ◌++◌, map, filter, codes, is_some, if◌then◌else◌, unwrap_or, []}
 use Rattle.std.specs.List.{flat_map, list_any}
 use Rattle.std.specs.Option.{option_map_or}
@@ -34,6 +35,10 @@ pub data Arrow : Type 0 where
   goes : Way → Arrow
   back : ℕ → Arrow
 
+-- the front of each line of a node: its key
+abbrev pub key_front : Key → List ℕ
+key_front key = key_text key ++ codes ": "
+
 -- the front of each line of a point: the key, and the point's address
 abbrev pub line_front : Key → ℕ → List ℕ
 line_front key p = key_text key ++ (codes ": " ++ (hex_word p ++ 32 ∷ []))
@@ -41,10 +46,6 @@ line_front key p = key_text key ++ (codes ": " ++ (hex_word p ++ 32 ∷ []))
 -- the end of a line: its word, and an address
 abbrev pub end_to : List ℕ → ℕ → List ℕ
 end_to word q = word ++ (hex_word q ++ 10 ∷ [])
-
--- a line that ends with a word and an address
-abbrev pub line_to : Key → ℕ → List ℕ → ℕ → List ℕ
-line_to key p word q = line_front key p ++ end_to word q
 
 -- the end of a way's line; a return has no address
 abbrev pub way_end : Way → List ℕ
@@ -208,27 +209,27 @@ pub record AreEdges (cert : CertData) (ds : List Owed) (w : Edges) : Type 0 wher
   pub back : w.back.items ≡ backs_in cert ds
   pub sys : w.sys.items ≡ systems_in ds
   pub aln : w.aln.items ≡ misaligned_in ds
-  pub irq : w.irq.items ≡ interrupts_in ds
+  pub irq : w.irq.entries.items ≡ interrupts_in ds
 
--- one line with this word for each address
-abbrev pub lines_to : Key → ℕ → List ℕ → List ℕ → List ℕ
-lines_to key p word targets = flat_map (line_to key p word) targets
+-- one line with this front and word for each address
+abbrev pub lines_to : List ℕ → List ℕ → List ℕ → List ℕ
+lines_to front word targets = flat_map (λ q. front ++ end_to word q) targets
 
--- the lines of a point, except that of its own return
-abbrev pub ways_text : Key → ℕ → Edges → List ℕ
-ways_text key p w =
-    lines_to key p (codes "to ") w.to.items
-    ++ (lines_to key p (codes "call ") w.call.items
-    ++ (lines_to key p (codes "back ") w.back.items
-    ++ (lines_to key p (codes "sys ") w.sys.items
-    ++ (lines_to key p (codes "aln ") w.aln.items
-    ++ lines_to key p (codes "irq ") w.irq.items))))
+-- the lines of a point with this front, except that of its own return
+abbrev pub ways_text : List ℕ → Edges → List ℕ
+ways_text front w =
+    lines_to front (codes "to ") w.to.items
+    ++ (lines_to front (codes "call ") w.call.items
+    ++ (lines_to front (codes "back ") w.back.items
+    ++ (lines_to front (codes "sys ") w.sys.items
+    ++ (lines_to front (codes "aln ") w.aln.items
+    ++ lines_to front (codes "irq ") w.irq.entries.items))))
 
 -- the line of a return, if the instruction is one
-abbrev pub leaving_text : Key → ℕ → Shape → List ℕ
-leaving_text key p Ret = line_front key p ++ (codes "ret" ++ 10 ∷ [])
-leaving_text key p Rfe = line_front key p ++ (codes "rfe" ++ 10 ∷ [])
-leaving_text key p _ = []
+abbrev pub leaving_text : List ℕ → Shape → List ℕ
+leaving_text front Ret = front ++ (codes "ret" ++ 10 ∷ [])
+leaving_text front Rfe = front ++ (codes "rfe" ++ 10 ∷ [])
+leaving_text front _ = []
 
 -- the successors of a point in its frame, by its instruction
 abbrev pub successors_at : Judged → Point → Located → List Owed

@@ -3,7 +3,7 @@ ghost use Rattle.std.specs.Prelude.{IfOk, string_bytes};
 ghost use Rattle.cfg_recover.specs.RulesHoldOrFail.{Accepts};
 ghost use Rattle.tcd_report.specs.Graphs.{IsGraph};
 
-use crate::graphs::graph_text::append_node;
+use crate::graphs::graph_text::{append_node, no_lines};
 use crate::judged::Judged;
 use cfg_recover::KnownCodes;
 use depth_cert::Cert;
@@ -18,6 +18,7 @@ pub(crate) mod addresses;
 pub(crate) mod edges;
 pub(crate) mod entries;
 pub(crate) mod graph_text;
+pub(crate) mod handlers;
 pub(crate) mod lines;
 pub(crate) mod successors;
 
@@ -34,7 +35,6 @@ pub fn graph_packed(
     requires { Accepts image.now plan.now cert.now }
     ensures { IfOk result (λ text. IsGraph image.now plan.now cert.now (string_bytes text)) }
 {
-    let mut text = String::new(alloc);
     let bounds = Bounds::of(plan, cert.version());
     let judged = Judged {
         bounds: &bounds,
@@ -42,15 +42,16 @@ pub fn graph_packed(
         plan,
         cert,
     };
+    let mut graph = no_lines(alloc);
     let mut codes = KnownCodes::new();
     let mut walk = PointWalk::none();
     for i in 0..cert.len() {
         let Some(node) = cert.get(i) else {
             unreachable!()
         };
-        append_node(alloc, &mut text, &judged, &mut codes, &node, &mut walk)?;
+        append_node(&mut graph, &judged, &mut codes, &node, &mut walk)?;
     }
-    Ok(text)
+    Ok(graph.text)
 }
 
 /// The graph of an accepted certificate in memory, by way of the bytes that spell it.

@@ -1,28 +1,26 @@
 // The addresses where a point goes on, by the words of its lines.
-ghost use Rattle.std.specs.Prelude.{◌≡◌, IfOk, false, is_some, ◌++◌, OnOk, string_bytes};
-ghost use Rattle.std.specs.Option.{option_map_or};
+ghost use Rattle.std.specs.Prelude.{◌≡◌, OnOk};
+ghost use Rattle.tcd_plan.specs.PlanData.{PlanData};
 ghost use Rattle.tc_isa.specs.InBounds.{IsShape};
 ghost use Rattle.value_domain.specs.State.{AreValues};
-ghost use Rattle.depth_cert.specs.Certs.{find_node};
-ghost use Rattle.tcd_report.specs.Graphs.{AreEdges, leaving_text};
+ghost use Rattle.tcd_report.specs.Graphs.{AreEdges};
+ghost use Rattle.tcd_report.specs.Graphs.Handlers.{KnowsHandlers};
 ghost use Rattle.tcd_report.specs.Judging.{duties_at};
 ghost use Rattle.depth_cert.specs.Points.{point_of};
 
 use crate::graphs::addresses::{keep_once, sort_once};
-use crate::graphs::entries::{call_targets, misaligned_entries, system_call_entries, vectors};
-use crate::graphs::lines::append_front;
+use crate::graphs::entries::{push_called, set_misaligned, set_system_call};
+use crate::graphs::handlers::{Handlers, find_handlers, no_handlers};
 use crate::graphs::successors::{add_returns, push_successors};
 use crate::judged::Judged;
-use crate::texts::append;
-use cfg_recover::{Located, interrupts};
+use cfg_recover::Located;
 use depth_cert::Key;
-use packed_cert::PackedCert;
 use std::alloc::Global;
-use tc_isa::Shape;
 use tcd_base::NoMemory;
 use value_domain::State;
 
-/// The addresses where a point goes on: one list for each word of its lines.
+/// The addresses where a point goes on: one list for each word of its lines. They are used again
+/// for each point.
 #[derive(Drop)]
 pub(crate) struct Edges {
     pub(crate) to: Vec<u32>,
@@ -30,70 +28,54 @@ pub(crate) struct Edges {
     pub(crate) back: Vec<u32>,
     pub(crate) sys: Vec<u32>,
     pub(crate) aln: Vec<u32>,
-    pub(crate) irq: Vec<u32>,
+    pub(crate) irq: Handlers,
+    /// Room for addresses in the order in which they are found.
+    pub(crate) found: Vec<u32>,
+    pub(crate) returns: Vec<u32>,
 }
 
-/// The addresses where a point with this instruction goes on.
-pub(crate) fn edges_of(
-    alloc: Global,
+/// No addresses.
+pub(crate) fn no_edges(alloc: Global) -> Edges
+    ensures { (plan : PlanData) → KnowsHandlers plan result.irq }
+{
+    Edges {
+        to: Vec::new(alloc),
+        call: Vec::new(alloc),
+        back: Vec::new(alloc),
+        sys: Vec::new(alloc),
+        aln: Vec::new(alloc),
+        irq: no_handlers(alloc),
+        found: Vec::new(alloc),
+        returns: Vec::new(alloc),
+    }
+}
+
+/// Finds the addresses where a point with this instruction goes on.
+pub(crate) fn find_edges(
+    ways: &mut Edges,
     judged: &Judged,
     key: &Key,
     addr: u32,
     s: &State,
     found: &Located,
-) -> Result<Edges, NoMemory>
+) -> Result<(), NoMemory>
     requires shape { IsShape found.now.shape }
     requires values { AreValues judged.now.bounds.now s.now.regs }
-    ensures { let j = judged.now in IfOk result
-        (λ w. AreEdges j.cert.now (duties_at j key.now (point_of addr s.now) found.now) w) }
+    requires handlers { KnowsHandlers judged.now.plan.now ways.old.irq }
+    ensures edges { let j = judged.now in OnOk result
+        (AreEdges j.cert.now (duties_at j key.now (point_of addr s.now) found.now) ways.new) }
+    ensures handlers { OnOk result (KnowsHandlers judged.now.plan.now ways.new.irq) }
 {
-    let mut jumps = Vec::new(alloc);
-    push_successors(&mut jumps, judged, addr, s, found)?;
-    let functions = call_targets(judged.plan, addr, s, found.shape);
-    let mut returns = Vec::new(alloc);
-    add_returns(&mut returns, judged, key, addr, s, found)?;
-    let irqs = interrupts(judged.plan, s);
-    let handlers = vectors(alloc, judged.plan, irqs.as_slice())?;
-    Ok(Edges {
-        to: sort_once(alloc, &jumps)?,
-        call: sort_once(alloc, functions.as_slice())?,
-        back: keep_once(alloc, &returns)?,
-        sys: system_call_entries(alloc, judged.plan, key, found.shape)?,
-        aln: misaligned_entries(alloc, judged, key, s, found.shape)?,
-        irq: keep_once(alloc, &handlers)?,
-    })
-}
-
-// Whether the node of this key has an exit.
-pub(crate) fn has_exit(cert: &PackedCert, key: &Key) -> bool
-    ensures { result
-        ≡ option_map_or (λ n. is_some n.exit) (find_node key.now cert.now.nodes) false }
-{
-    match cert.node(key) {
-        None => false,
-        Some(node) => node.exit().is_some(),
-    }
-}
-
-/// Appends the line of a return, if the instruction is one.
-pub(crate) fn append_leaving(
-    text: &mut String,
-    key: &Key,
-    addr: u32,
-    shape: Shape,
-) -> Result<(), NoMemory>
-    ensures { OnOk result (string_bytes text.new
-        ≡ string_bytes text.old ++ leaving_text key.now addr shape) }
-{
-    match shape {
-        Shape::Ret => {
-            append_front(text, key, addr)?;
-            append(text, "ret\n")
-        }
-        Shape::Rfe => {
-            append_front(text, key, addr)?;
-            append(text, "rfe\n")
-        }
-        _ => Ok(()),
-    }
+    ways.found.clear();
+    push_successors(&mut ways.found, judged, addr, s, found)?;
+    sort_once(&mut ways.to, &ways.found)?;
+    ways.found.clear();
+    push_called(&mut ways.found, judged.plan, addr, s, found.shape)?;
+    sort_once(&mut ways.call, &ways.found)?;
+    ways.returns.clear();
+    add_returns(&mut ways.returns, judged, key, addr, &ways.found, found)?;
+    keep_once(&mut ways.back, &ways.returns)?;
+    set_system_call(&mut ways.sys, judged.plan, key, found.shape)?;
+    set_misaligned(&mut ways.aln, judged, key, s, found.shape)?;
+    find_handlers(&mut ways.irq, &mut ways.found, judged.plan, s)
 }

@@ -1,5 +1,5 @@
 // The entries of the frames that an instruction enters.
-ghost use Rattle.std.specs.Prelude.{◌≡◌, ◌++◌, ◌∷◌, [], OnOk, IfOk, not, if◌then◌else◌};
+ghost use Rattle.std.specs.Prelude.{◌≡◌, ◌++◌, ◌∷◌, [], OnOk, not, if◌then◌else◌};
 ghost use Rattle.tc_isa.specs.InBounds.{IsShape, IsSize};
 ghost use Rattle.value_domain.specs.State.{AreValues};
 ghost use Rattle.vd_transfer.specs.EffectsOnStates.{address_of};
@@ -7,65 +7,71 @@ ghost use Rattle.depth_cert.specs.declared.keys.Key.{Key};
 ghost use Rattle.store_ranges.specs.Accesses.{are_aligned};
 ghost use Rattle.cfg_recover.specs.Duties.{misaligned_entry, misaligned_of};
 ghost use Rattle.tcd_report.specs.Graphs.{entries_in, misaligned_rule, called_of, systems_of};
-ghost use Rattle.cfg_recover.specs.Entries.{vectors_in};
 
+use crate::graphs::successors::push_targets;
 use crate::judged::Judged;
-use arrayvec::ArrayVec;
-use cfg_recover::{aln_key, interrupts, irq_key, is_aligned, sys_key, targets};
+use cfg_recover::{aln_key, is_aligned, sys_key};
 use depth_cert::Key;
-use std::alloc::Global;
 use tc_isa::Shape;
 use tcd_base::NoMemory;
 use tcd_plan::Plan;
 use value_domain::State;
 use vd_transfer::address_by;
 
-/// The functions that an instruction of this shape calls.
-pub(crate) fn call_targets(plan: &Plan, addr: u32, s: &State, shape: Shape) -> ArrayVec<u32, 128>
+/// Appends the functions that an instruction of this shape calls.
+pub(crate) fn push_called(
+    all: &mut Vec<u32>,
+    plan: &Plan,
+    addr: u32,
+    s: &State,
+    shape: Shape,
+) -> Result<(), NoMemory>
     requires { IsShape shape }
-    ensures { result.items ≡ called_of plan.now s.now addr shape }
+    ensures { OnOk result
+        (all.new.items ≡ all.old.items ++ called_of plan.now s.now addr shape) }
 {
     match shape {
-        Shape::Call { to } => targets(plan, s, addr, to),
-        _ => ArrayVec::new(),
+        Shape::Call { to } => push_targets(all, plan, addr, s, to),
+        _ => Ok(()),
     }
 }
 
-/// The entry of the handler of system calls, if the instruction is a system call.
-pub(crate) fn system_call_entries(
-    alloc: Global,
+/// Makes a list the entry of the handler of system calls, if the instruction is a system call.
+pub(crate) fn set_system_call(
+    all: &mut Vec<u32>,
     plan: &Plan,
     key: &Key,
     shape: Shape,
-) -> Result<Vec<u32>, NoMemory>
-    ensures { IfOk result (λ v. v.items ≡ systems_of plan.now key.now shape) }
+) -> Result<(), NoMemory>
+    ensures { OnOk result (all.new.items ≡ systems_of plan.now key.now shape) }
 {
-    let mut all = Vec::new(alloc);
+    all.clear();
     if let Shape::Syscall { .. } = shape {
         all.push(sys_key(plan, key).entry)?;
     }
-    Ok(all)
+    Ok(())
 }
 
-/// The entry of the handler of misaligned accesses, if the instruction's access may be misaligned.
-pub(crate) fn misaligned_entries(
-    alloc: Global,
+/// Makes a list the entry of the handler of misaligned accesses, if the instruction's access may be
+/// misaligned.
+pub(crate) fn set_misaligned(
+    all: &mut Vec<u32>,
     judged: &Judged,
     key: &Key,
     s: &State,
     shape: Shape,
-) -> Result<Vec<u32>, NoMemory>
+) -> Result<(), NoMemory>
     requires values { AreValues judged.now.bounds.now s.now.regs }
     requires shape { IsShape shape }
-    ensures { let j = judged.now in IfOk result (λ v. v.items
+    ensures { let j = judged.now in OnOk result (all.new.items
         ≡ entries_in misaligned_rule (misaligned_of j.bounds.now j.plan.now key.now s.now shape)) }
 {
-    let mut all = Vec::new(alloc);
+    all.clear();
     if !is_misaligned(judged, s, shape) {
-        return Ok(all);
+        return Ok(());
     }
     all.push(aln_key(judged.plan, key).entry)?;
-    Ok(all)
+    Ok(())
 }
 
 // Whether the instruction's access may be misaligned.
@@ -95,15 +101,4 @@ fn accesses_misaligned(judged: &Judged, s: &State, shape: Shape, size: u8) -> bo
 {
     let at = address_by(judged.bounds, judged.plan, shape, s);
     !is_aligned(judged.bounds, &at, size)
-}
-
-// The entries of the handlers of these interrupts.
-pub(crate) fn vectors(alloc: Global, plan: &Plan, irqs: &[u8]) -> Result<Vec<u32>, NoMemory>
-    ensures { IfOk result (λ v. v.items ≡ vectors_in plan.now irqs.now) }
-{
-    let mut all = Vec::new(alloc);
-    for irq in irqs {
-        all.push(irq_key(plan, *irq).entry)?;
-    }
-    Ok(all)
 }

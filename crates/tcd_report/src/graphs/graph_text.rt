@@ -1,13 +1,17 @@
 // The graph of a certificate as text.
-ghost use Rattle.std.specs.Prelude.{Contains, OnOk, string_bytes};
+ghost use Rattle.std.specs.Prelude.{◌≡◌, [], Contains, OnOk, string_bytes};
+ghost use Rattle.tcd_plan.specs.PlanData.{PlanData};
+ghost use Rattle.std.specs.Str.{IsAscii};
 ghost use Rattle.value_domain.specs.State.{AreValues};
 ghost use Rattle.cfg_recover.specs.LocalFaults.{IsFaultless};
-ghost use Rattle.tcd_report.specs.Graphs.{ArePointLines, AreNodeLines};
+ghost use Rattle.tcd_report.specs.Graphs.{ArePointLines, AreNodeLines, key_front};
+ghost use Rattle.tcd_report.specs.Graphs.Handlers.{KnowsHandlers};
 ghost use Rattle.tcd_report.specs.Judging.{IsJudged, GrowsBy};
 ghost use Rattle.depth_cert.specs.Points.{point_of};
 
-use crate::graphs::edges::{append_leaving, edges_of};
-use crate::graphs::lines::append_edges;
+use crate::graphs::edges::{Edges, find_edges, no_edges};
+use crate::graphs::handlers::set_front;
+use crate::graphs::lines::{append_edges, append_leaving, set_address, set_key};
 use crate::judged::Judged;
 use cfg_recover::KnownCodes;
 use depth_cert::Key;
@@ -16,10 +20,33 @@ use std::alloc::Global;
 use tcd_base::NoMemory;
 use value_domain::State;
 
-// Appends the lines of a node's points.
+/// The graph so far, and what the lines of the point at hand are made of.
+#[derive(Drop)]
+pub(crate) struct Drawing {
+    pub(crate) text: String,
+    /// The front of all lines of the node at hand.
+    pub(crate) key_front: String,
+    /// The front of all lines of the point at hand.
+    pub(crate) front: String,
+    pub(crate) ways: Edges,
+}
+
+/// A graph without lines.
+pub(crate) fn no_lines(alloc: Global) -> Drawing
+    ensures text { string_bytes result.text ≡ [] }
+    ensures handlers { (plan : PlanData) → KnowsHandlers plan result.ways.irq }
+{
+    Drawing {
+        text: String::new(alloc),
+        key_front: String::new(alloc),
+        front: String::new(alloc),
+        ways: no_edges(alloc),
+    }
+}
+
+/// Appends the lines of a node's points.
 pub(crate) fn append_node<'a>(
-    alloc: Global,
-    text: &mut String,
+    graph: &mut Drawing,
     judged: &Judged,
     codes: &mut KnownCodes,
     node: &PackedNode<'a>,
@@ -27,21 +54,23 @@ pub(crate) fn append_node<'a>(
 ) -> Result<(), NoMemory>
     requires judged { IsJudged judged.now }
     requires stands { Contains judged.now.cert.now.nodes node.now }
-    ensures { let j = judged.now in
+    requires handlers { KnowsHandlers judged.now.plan.now graph.old.ways.irq }
+    ensures lines { let j = judged.now in
         OnOk result (GrowsBy (AreNodeLines j.image.now j.plan.now j.cert.now node.now)
-        (string_bytes text.old) (string_bytes text.new)) }
+        (string_bytes graph.old.text) (string_bytes graph.new.text)) }
+    ensures handlers { OnOk result (KnowsHandlers judged.now.plan.now graph.new.ways.irq) }
 {
+    set_key(&mut graph.key_front, &node.key)?;
     node.walk(walk);
     while let Some(addr) = walk.step() {
-        append_point(alloc, text, judged, codes, &node.key, addr, walk.state())?;
+        append_point(graph, judged, codes, &node.key, addr, walk.state())?;
     }
     Ok(())
 }
 
 // Appends the lines of a point.
 fn append_point(
-    alloc: Global,
-    text: &mut String,
+    graph: &mut Drawing,
     judged: &Judged,
     codes: &mut KnownCodes,
     key: &Key,
@@ -52,14 +81,21 @@ fn append_point(
     requires values { AreValues judged.now.bounds.now s.now.regs }
     requires faultless { let j = judged.now in
         IsFaultless j.bounds.now j.image.now j.plan.now key.now addr s.now }
-    ensures { let j = judged.now in
+    requires front { string_bytes graph.old.key_front ≡ key_front key.now }
+    requires ascii { IsAscii (key_front key.now) }
+    requires handlers { KnowsHandlers judged.now.plan.now graph.old.ways.irq }
+    ensures lines { let j = judged.now in
         OnOk result (GrowsBy (ArePointLines j.image.now j.plan.now j.cert.now key.now (point_of addr s.now))
-        (string_bytes text.old) (string_bytes text.new)) }
+        (string_bytes graph.old.text) (string_bytes graph.new.text)) }
+    ensures front { OnOk result (string_bytes graph.new.key_front ≡ key_front key.now) }
+    ensures handlers { OnOk result (KnowsHandlers judged.now.plan.now graph.new.ways.irq) }
 {
     let Some(found) = codes.located(judged.image, judged.plan, addr) else {
         unreachable!()
     };
-    let ways = edges_of(alloc, judged, key, addr, s, &found)?;
-    append_edges(text, key, addr, &ways)?;
-    append_leaving(text, key, addr, found.shape)
+    find_edges(&mut graph.ways, judged, key, addr, s, &found)?;
+    set_address(&mut graph.front, graph.key_front.as_str(), addr)?;
+    set_front(&mut graph.ways.irq, graph.front.as_str())?;
+    append_edges(&mut graph.text, graph.front.as_str(), &graph.ways)?;
+    append_leaving(&mut graph.text, graph.front.as_str(), found.shape)
 }

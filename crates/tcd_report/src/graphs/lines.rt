@@ -1,66 +1,121 @@
 // The lines of a point in the graph.
-ghost use Rattle.std.specs.Prelude.{◌≡◌, ◌++◌, OnOk, string_bytes};
-ghost use Rattle.tcd_report.specs.Graphs.{line_front, line_to, lines_to, ways_text};
+ghost use Rattle.std.specs.Prelude.{◌≡◌, ◌<◌, ◌^◌, ◌++◌, ◌∷◌, [], ℕ, OnOk, codes, slice_index, string_bytes};
+ghost use Rattle.tcd_text.specs.Digits.{hex_word};
+ghost use Rattle.tcd_report.specs.Graphs.{end_to, key_front, lines_to, ways_text, leaving_text};
+ghost use Rattle.std.specs.Str.{IsAscii};
 
 use crate::graphs::edges::Edges;
+use crate::graphs::handlers::Handlers;
 use crate::texts::{append, append_key};
 use depth_cert::Key;
+use tc_isa::Shape;
 use tcd_base::NoMemory;
-use tcd_text::append_hex_word;
+use tcd_text::{append_ascii, append_hex_word, hex_word};
+
+/// Makes the front of all lines of a node.
+pub(crate) fn set_key(front: &mut String, key: &Key) -> Result<(), NoMemory>
+    ensures front { OnOk result (string_bytes front.new ≡ key_front key.now) }
+    ensures ascii { OnOk result (IsAscii (key_front key.now)) }
+{
+    // Reading a field gives its limits, by which its digits are ASCII.
+    let _entry = key.entry;
+    let _prio = key.prio;
+    front.clear();
+    append_key(front, key)?;
+    append(front, ": ")
+}
+
+/// Makes the front of all lines of a point from that of its node.
+pub(crate) fn set_address(front: &mut String, key_front: &str, addr: u32) -> Result<(), NoMemory>
+    ensures { OnOk result
+        (string_bytes front.new ≡ key_front.now ++ (hex_word addr ++ 32 ∷ [])) }
+{
+    front.clear();
+    append(front, key_front)?;
+    append_hex_word(front, addr)?;
+    append(front, " ")
+}
 
 /// Appends the lines of a point, except that of its own return.
-pub(crate) fn append_edges(
-    text: &mut String,
-    key: &Key,
-    addr: u32,
-    ways: &Edges,
-) -> Result<(), NoMemory>
+pub(crate) fn append_edges(text: &mut String, front: &str, ways: &Edges) -> Result<(), NoMemory>
+    requires ascii { IsAscii front.now }
+    requires handlers { let irq = ways.now.irq in
+        irq.lines.items ≡ lines_to front.now (codes "irq ") irq.entries.items }
     ensures { OnOk result (string_bytes text.new
-        ≡ string_bytes text.old ++ ways_text key.now addr ways.now) }
+        ≡ string_bytes text.old ++ ways_text front.now ways.now) }
 {
-    append_lines(text, key, addr, "to ", &ways.to)?;
-    append_lines(text, key, addr, "call ", &ways.call)?;
-    append_lines(text, key, addr, "back ", &ways.back)?;
-    append_lines(text, key, addr, "sys ", &ways.sys)?;
-    append_lines(text, key, addr, "aln ", &ways.aln)?;
-    append_lines(text, key, addr, "irq ", &ways.irq)
+    append_lines(text, front, "to ", &ways.to)?;
+    append_lines(text, front, "call ", &ways.call)?;
+    append_lines(text, front, "back ", &ways.back)?;
+    append_lines(text, front, "sys ", &ways.sys)?;
+    append_lines(text, front, "aln ", &ways.aln)?;
+    append_handlers(text, front, &ways.irq)
 }
 
 // Appends one line for each of the addresses.
-fn append_lines(
-    text: &mut String,
-    key: &Key,
-    addr: u32,
-    word: &str,
-    targets: &[u32],
-) -> Result<(), NoMemory>
+fn append_lines(text: &mut String, front: &str, word: &str, targets: &[u32]) -> Result<(), NoMemory>
     ensures { OnOk result (string_bytes text.new
-        ≡ string_bytes text.old ++ lines_to key.now addr word.now targets.now) }
+        ≡ string_bytes text.old ++ lines_to front.now word.now targets.now) }
 {
     for to in targets {
-        append_line(text, key, addr, word, *to)?;
+        append_line(text, front, word, *to)?;
     }
     Ok(())
 }
 
 // Appends a line that ends with a word and an address.
-fn append_line(text: &mut String, key: &Key, addr: u32, word: &str, to: u32) -> Result<(), NoMemory>
+fn append_line(text: &mut String, front: &str, word: &str, to: u32) -> Result<(), NoMemory>
     ensures { OnOk result (string_bytes text.new
-        ≡ string_bytes text.old ++ line_to key.now addr word.now to) }
+        ≡ string_bytes text.old ++ (front.now ++ end_to word.now to)) }
 {
-    append_front(text, key, addr)?;
+    append(text, front)?;
     append(text, word)?;
-    append_hex_word(text, to)?;
-    append(text, "\n")
+    append_target(text, to)
 }
 
-// Appends the front of a line: the key and the address of the point.
-pub(crate) fn append_front(text: &mut String, key: &Key, addr: u32) -> Result<(), NoMemory>
+// Appends the lines of these handlers.
+fn append_handlers(text: &mut String, front: &str, known: &Handlers) -> Result<(), NoMemory>
+    requires ascii { IsAscii front.now }
+    requires lines { known.now.lines.items
+        ≡ lines_to front.now (codes "irq ") known.now.entries.items }
     ensures { OnOk result (string_bytes text.new
-        ≡ string_bytes text.old ++ line_front key.now addr) }
+        ≡ string_bytes text.old ++ lines_to front.now (codes "irq ") known.now.entries.items) }
 {
-    append_key(text, key)?;
-    append(text, ": ")?;
-    append_hex_word(text, addr)?;
-    append(text, " ")
+    are_addresses(&known.entries);
+    append_ascii(text, &known.lines)
+}
+
+// Addresses are below 2^32, as their type says.
+fn are_addresses(addresses: &[u32])
+    ensures { (k : ℕ) → slice_index addresses.now k < 2 ^ 32 }
+{}
+
+// Appends the address that a line ends with, and a line feed.
+fn append_target(text: &mut String, to: u32) -> Result<(), NoMemory>
+    ensures { OnOk result
+        (string_bytes text.new ≡ string_bytes text.old ++ (hex_word to ++ 10 ∷ [])) }
+{
+    let w = hex_word(to);
+    append_ascii(
+        text,
+        &[w[0], w[1], w[2], w[3], w[4], w[5], w[6], w[7], b'\n'],
+    )
+}
+
+/// Appends the line of a return, if the instruction is one.
+pub(crate) fn append_leaving(text: &mut String, front: &str, shape: Shape) -> Result<(), NoMemory>
+    ensures { OnOk result (string_bytes text.new
+        ≡ string_bytes text.old ++ leaving_text front.now shape) }
+{
+    match shape {
+        Shape::Ret => {
+            append(text, front)?;
+            append(text, "ret\n")
+        }
+        Shape::Rfe => {
+            append(text, front)?;
+            append(text, "rfe\n")
+        }
+        _ => Ok(()),
+    }
 }

@@ -5,13 +5,15 @@ ghost use Rattle.value_domain.specs.State.{AreValues};
 ghost use Rattle.vd_transfer.specs.Branches.{refine_of};
 ghost use Rattle.cfg_recover.specs.LocalRules.{targets_of};
 ghost use Rattle.cfg_recover.specs.Duties.{jump_on, resume};
-ghost use Rattle.tcd_report.specs.Graphs.{successors_at, jumped_in, back_by, entries_at, returned_in};
+ghost use Rattle.tcd_report.specs.Graphs.{successors_at, jumped_in, back_by};
+ghost use Rattle.tcd_report.specs.Graphs.{called_of, entries_at, returned_in};
 ghost use Rattle.depth_cert.specs.Points.{point_of};
 ghost use Rattle.std.specs.List.{flat_map};
+ghost use Rattle.std.specs.Option.{option_map_or};
+ghost use Rattle.depth_cert.specs.Certs.{find_node};
 ghost use Rattle.depth_cert.specs.Keys.{call_kind};
 ghost use Rattle.cfg_recover.specs.FlowDuties as flows;
 
-use crate::graphs::edges::has_exit;
 use crate::judged::Judged;
 use cfg_recover::{Located, entered_key, sys_key, targets};
 use depth_cert::{CALL, Key};
@@ -103,8 +105,10 @@ fn is_possible(judged: &Judged, shape: Shape, s: &State, taken: bool) -> bool
     change_on(judged.bounds, judged.plan, shape, s, taken, &mut c)
 }
 
-// Appends the addresses where a jump may go.
-fn push_targets(
+/// Appends the addresses where a jump or a call may go. A function of its own, as it has room for a
+/// list of them.
+#[inline(never)]
+pub(crate) fn push_targets(
     all: &mut Vec<u32>,
     plan: &Plan,
     addr: u32,
@@ -120,25 +124,24 @@ fn push_targets(
     Ok(())
 }
 
-// Appends the address after a call or a system call, once for each entered frame that may return.
+/// Appends the address after a call or a system call, once for each entered frame that may return.
+/// The list has the functions that the instruction calls.
 pub(crate) fn add_returns(
     all: &mut Vec<u32>,
     judged: &Judged,
     key: &Key,
     addr: u32,
-    s: &State,
+    called: &[u32],
     found: &Located,
 ) -> Result<(), NoMemory>
-    requires { IsShape found.now.shape }
-    ensures { let j = judged.now in OnOk result (all.new.items ≡ all.old.items
-        ++ returned_in j.cert.now (entries_at j key.now (point_of addr s.now) found.now)) }
+    ensures { let j = judged.now in (s : State)
+        → called.now ≡ called_of j.plan.now s addr found.now.shape
+        → OnOk result (all.new.items ≡ all.old.items
+        ++ returned_in j.cert.now (entries_at j key.now (point_of addr s) found.now)) }
 {
     let back = addr.wrapping_add(found.size);
     match found.shape {
-        Shape::Call { to } => {
-            let targets = targets(judged.plan, s, addr, to);
-            push_returns(all, judged.cert, key, targets.as_slice(), back)
-        }
+        Shape::Call { .. } => push_returns(all, judged.cert, key, called, back),
         Shape::Syscall { .. } => push_return(all, judged.cert, &sys_key(judged.plan, key), back),
         _ => Ok(()),
     }
@@ -171,4 +174,15 @@ fn push_return(all: &mut Vec<u32>, cert: &PackedCert, key: &Key, back: u32) -> R
         all.push(back)?;
     }
     Ok(())
+}
+
+// Whether the node of this key has an exit.
+fn has_exit(cert: &PackedCert, key: &Key) -> bool
+    ensures { result
+        ≡ option_map_or (λ n. is_some n.exit) (find_node key.now cert.now.nodes) false }
+{
+    match cert.node(key) {
+        None => false,
+        Some(node) => node.exit().is_some(),
+    }
 }

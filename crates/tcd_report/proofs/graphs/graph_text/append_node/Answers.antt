@@ -1,11 +1,11 @@
-use Rattle.std.proofs.Common.{◌≡◌, ◌∙◌, ◌++◌, ◌∷◌, [], List, Contains, ap, sym, subst, string_bytes}
+use Rattle.std.proofs.Common.{◌∙◌, ◌++◌, ◌∷◌, [], List, Contains, ap, sym, subst, string_bytes}
 use Rattle.value_domain.specs.State.{AreValues}
 use Rattle.value_domain.specs.declared.states.State.{State}
 use Rattle.depth_cert.specs.declared.keys.Key.{Key}
 use Rattle.depth_cert.specs.declared.points.Point.{Point}
 use Rattle.depth_cert.specs.Nodes.{NodeData}
 use Rattle.cfg_recover.specs.LocalFaults.{IsFaultless}
-use Rattle.tcd_report.specs.Graphs.{ArePointLines, AreJoined}
+use Rattle.tcd_report.specs.Graphs.{ArePointLines, AreJoined, key_front}
 use Rattle.tcd_report.specs.Judging.{GrowsBy}
 use Rattle.depth_cert.specs.Points.{point_of}
 use Rattle.tcd_report.proofs.GraphLemmas.Joining.{grown_push}
@@ -36,18 +36,20 @@ loop-addr-preserved c =
     let inv = c.loop-addr.invariant in
     let p : Point = point_of c.in-Some.addr c.step.new.self.current in
     let grows =
-    subst (λ (s : State). GrowsBy (ArePointLines j.image.now j.plan.now j.cert.now (c.args.node.now).key (point_of c.in-Some.addr s)) (string_bytes c.loop-addr.text) (string_bytes c.append_point.new.text)) c.state.ensures
-    (subst (λ (k : Key). GrowsBy (ArePointLines j.image.now j.plan.now j.cert.now k (point_of c.in-Some.addr c.state.result.now)) (string_bytes c.loop-addr.text) (string_bytes c.append_point.new.text)) (ap (λ (n : NodeData). n.key) c.node.view_is)
-    c.in_ok-append_point.ensures) in
+    subst (λ (s : State). GrowsBy (ArePointLines j.image.now j.plan.now j.cert.now (c.args.node.now).key (point_of c.in-Some.addr s)) (string_bytes c.loop-addr.graph.text) (string_bytes c.append_point.new.graph.text)) c.state.ensures
+    (subst (λ (k : Key). GrowsBy (ArePointLines j.image.now j.plan.now j.cert.now k (point_of c.in-Some.addr c.state.result.now)) (string_bytes c.loop-addr.graph.text) (string_bytes c.append_point.new.graph.text)) (ap (λ (n : NodeData). n.key) c.node.view_is)
+    c.in_ok-append_point.ensures.lines) in
     record {
       done = inv.done ++ p ∷ [];
       split = split_more (c.args.node.now).points inv.done (c.loop-addr.walk).left c.step.new.self.left p inv.split c.in-Some.ensures.0;
-      grown = grown_push (ArePointLines j.image.now j.plan.now j.cert.now (c.args.node.now).key) inv.done p (string_bytes c.args.text.now) (string_bytes c.loop-addr.text) (string_bytes c.append_point.new.text) inv.grown grows;
+      front = c.in_ok-append_point.ensures.front ∙ ap key_front (ap (λ (n : NodeData). n.key) c.node.view_is);
+      handlers = c.in_ok-append_point.ensures.handlers;
+      grown = grown_push (ArePointLines j.image.now j.plan.now j.cert.now (c.args.node.now).key) inv.done p (string_bytes c.args.graph.now.text) (string_bytes c.loop-addr.graph.text) (string_bytes c.append_point.new.graph.text) inv.grown grows;
     }
 
-pub returns : goal.returns
-returns c =
+pub returns-clause-lines : goal.returns-clause-lines
+returns-clause-lines c =
     let j = c.args.judged.now in
     let inv = c.loop-addr.invariant in
-    subst (λ (l : List Point). GrowsBy (AreJoined (ArePointLines j.image.now j.plan.now j.cert.now (c.args.node.now).key) l) (string_bytes c.args.text.now) (string_bytes c.loop-addr.text))
+    subst (λ (l : List Point). GrowsBy (AreJoined (ArePointLines j.image.now j.plan.now j.cert.now (c.args.node.now).key) l) (string_bytes c.args.graph.now.text) (string_bytes c.loop-addr.graph.text))
     (sym (walked_all (c.args.node.now).points inv.done (c.loop-addr.walk).left inv.split c.in_default.ensures.0)) inv.grown

@@ -1,0 +1,139 @@
+// The handlers of the interrupts that may come at a point, and their lines.
+ghost use Rattle.std.specs.Prelude.{◌≡◌, ◌+◌, ◌≤◌, OnOk, codes, length};
+ghost use Rattle.cfg_recover.specs.Entries.{vectors_in, irqs_of};
+ghost use Rattle.tcd_report.specs.Graphs.{each_once, end_to, lines_to};
+ghost use Rattle.tcd_report.specs.Graphs.Handlers.{HasLines, KnowsHandlers, with_front};
+ghost use Rattle.tcd_plan.specs.PlanData.{PlanData};
+
+use crate::graphs::addresses::keep_once;
+use cfg_recover::{interrupts, irq_key};
+use std::alloc::Global;
+use tcd_base::NoMemory;
+use tcd_plan::Plan;
+use tcd_text::hex_word;
+use value_domain::State;
+
+// The length of the end of a handler's line.
+const IRQ_END: usize = 13;
+
+/// The handlers of the interrupts that may come while IE and CCPN have these values, and their
+/// lines. The next point mostly has the same, but for the front of its lines.
+#[derive(Drop)]
+pub(crate) struct Handlers {
+    pub(crate) ie: bool,
+    pub(crate) ccpn: u8,
+    pub(crate) entries: Vec<u32>,
+    pub(crate) lines: Vec<u8>,
+    /// The length of the front of each line.
+    pub(crate) front: usize,
+}
+
+/// No handlers: interrupts are off.
+pub(crate) fn no_handlers(alloc: Global) -> Handlers
+    ensures { (plan : PlanData) → KnowsHandlers plan result }
+{
+    Handlers {
+        ie: false,
+        ccpn: 0,
+        entries: Vec::new(alloc),
+        lines: Vec::new(alloc),
+        front: 0,
+    }
+}
+
+/// Finds the handlers of the interrupts that may come in a state, each entry once. The room is for
+/// the entries before that.
+pub(crate) fn find_handlers(
+    known: &mut Handlers,
+    room: &mut Vec<u32>,
+    plan: &Plan,
+    s: &State,
+) -> Result<(), NoMemory>
+    requires { KnowsHandlers plan.now known.old }
+    ensures entries { OnOk result
+        (known.new.entries.items ≡ each_once (vectors_in plan.now (irqs_of plan.now s.now))) }
+    ensures known { OnOk result (KnowsHandlers plan.now known.new) }
+{
+    if known.ie == s.ie && known.ccpn == s.ccpn {
+        return Ok(());
+    }
+    let irqs = interrupts(plan, s);
+    set_vectors(room, plan, irqs.as_slice())?;
+    keep_once(&mut known.entries, room)?;
+    make_lines(&mut known.lines, "", &known.entries)?;
+    known.front = 0;
+    known.ie = s.ie;
+    known.ccpn = s.ccpn;
+    Ok(())
+}
+
+// Makes a list the entries of the handlers of these interrupts.
+fn set_vectors(all: &mut Vec<u32>, plan: &Plan, irqs: &[u8]) -> Result<(), NoMemory>
+    ensures { OnOk result (all.new.items ≡ vectors_in plan.now irqs.now) }
+{
+    all.clear();
+    for irq in irqs {
+        all.push(irq_key(plan, *irq).entry)?;
+    }
+    Ok(())
+}
+
+/// Makes this the front of the lines of handlers. If it is as long as the front before it, it is
+/// written over that one.
+pub(crate) fn set_front(known: &mut Handlers, front: &str) -> Result<(), NoMemory>
+    requires { HasLines known.old.front known.old.entries.items known.old.lines.items }
+    ensures lines { OnOk result (known.new.lines.items
+        ≡ lines_to front.now (codes "irq ") known.new.entries.items) }
+    ensures known { OnOk result
+        ((plan : PlanData) → KnowsHandlers plan known.old → KnowsHandlers plan known.new) }
+    ensures entries { OnOk result (known.new.entries.items ≡ known.old.entries.items) }
+{
+    if known.front == front.len() {
+        write_fronts(&mut known.lines, front.as_bytes(), &known.entries);
+        return Ok(());
+    }
+    known.front = front.len();
+    make_lines(&mut known.lines, front, &known.entries)
+}
+
+// Makes the lines of handlers with these entries.
+fn make_lines(lines: &mut Vec<u8>, front: &str, entries: &[u32]) -> Result<(), NoMemory>
+    ensures { OnOk result (lines.new.items ≡ lines_to front.now (codes "irq ") entries.now) }
+{
+    lines.clear();
+    for entry in entries {
+        lines.extend_from_slice(front.as_bytes())?;
+        lines.extend_from_slice(&irq_end(*entry))?;
+    }
+    Ok(())
+}
+
+// Writes a front over those of the lines of handlers with these entries.
+fn write_fronts(lines: &mut [u8], front: &[u8], entries: &[u32])
+    requires { HasLines (length front.now) entries.now lines.old }
+    ensures { lines.new ≡ lines_to front.now (codes "irq ") entries.now }
+{
+    let mut at = 0;
+    for _ in 0..entries.len() {
+        write_front(lines, at, front);
+        at += front.len() + IRQ_END;
+    }
+}
+
+// Writes a front at a place.
+fn write_front(lines: &mut [u8], at: usize, front: &[u8])
+    requires { at + length front.now ≤ length lines.old }
+    ensures { lines.new ≡ with_front lines.old at front.now }
+{
+    lines[at..at + front.len()].copy_from_slice(front);
+}
+
+// The end of the line of a handler with this entry.
+fn irq_end(entry: u32) -> [u8; IRQ_END]
+    ensures { result ≡ end_to (codes "irq ") entry }
+{
+    let w = hex_word(entry);
+    [
+        b'i', b'r', b'q', b' ', w[0], w[1], w[2], w[3], w[4], w[5], w[6], w[7], b'\n',
+    ]
+}
