@@ -27,11 +27,15 @@ pub(crate) struct Table {
     pub(crate) near: usize,
 }
 
-/// Returns the number of places to make room for at first: the number of 2-byte instructions in the
-/// first segment, at most 8,192.
+/// The greatest number of places to make room for at first: as many as a certificate has points.
+const MOST_ROOM: usize = 65536;
+
+/// Returns the number of places to make room for at first: the number of 2-byte instructions in all
+/// segments, at most `MOST_ROOM`.
 pub(crate) fn first_room(image: &Image) -> usize {
-    match image.segments.first() {
-        Some(segment) => (segment.bytes.len() / 2).min(8192),
-        None => 0,
+    let mut room: usize = 0;
+    for segment in image.segments.iter() {
+        room = room.saturating_add(segment.bytes.len() / 2);
     }
+    room.min(MOST_ROOM)
 }
