@@ -10,7 +10,7 @@ use Rattle.tc_stmt.specs.Names.{is_name}
 use Rattle.tc_stmt.specs.RowFields.{RowFieldsData}
 use Rattle.tc_stmt.specs.Items.{ReferenceData, ItemData, item_of, label, section, global, code, bytes, zeros}
 use Rattle.tc_stmt.specs.declared.item.Item.{Item}
-use Rattle.tc_stmt.specs.Lines.{LineData, lines_in, items_in}
+use Rattle.tc_stmt.specs.Lines.{LineData, line_data, lines_in, items_in}
 use Rattle.tc_stmt.specs.LinesRead.{lines_of}
 use Rattle.tc_stmt.specs.declared.source.Line.{Line}
 use Rattle.tc_stmt.specs.declared.source.Source.{Source}
@@ -365,6 +365,15 @@ module _ (known : Bool) (labels : List SymbolData) (ls : List LineData) (i : ℕ
     unfolding line_rule
     kept_line rule e =
         e ∙ ap (min x.rule) (rule_same known labels x.items draft (drafted labels (take i ls)) so_far ∙ rules_kept known labels x.items (drafted labels (take i ls)) (λ k. (news k).0))
+
+-- ---- a line without items that breaks no rule by itself
+module _ (known : Bool) (labels : List SymbolData) (draft : DraftData) (rule count : ℕ) (is : List ItemData) (none : count ≡ 0) where
+  pub blank_draft : kept known draft ≡ kept known (with_line labels draft (line_data rule (take count is)))
+  unfolding with_line
+  blank_draft = rw none refl
+
+  pub blank_rule : rule ≡ 15 → 15 ≡ min rule (kept_rule known labels draft (take count is))
+  blank_rule e = rw (none, e) refl
 
 -- ---- the end of a source
 -- after the last line

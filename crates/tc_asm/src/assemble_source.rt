@@ -79,6 +79,7 @@ fn later_items<'p, 'a>(items: &'p [Item<'a>], count: u8) -> &'p [Item<'a>]
 }
 
 // Adds a line, whose items are first in `items`, and returns the least rule that it breaks.
+#[inline(always)]
 #[tactic(auto, unfolding(crate::specs::Drafts::with_line))]
 fn add_line<'a>(
     alloc: Global,
@@ -94,9 +95,6 @@ fn add_line<'a>(
     ensures rule { IfOk result (λ rule. rule ≡ min line.rule
         (kept_rule known labels.now draft.old (take line.count (map item_of items.now)))) }
 {
-    if line.count == 0 {
-        return Ok(line.rule.min(NO_RULE));
-    }
     let rule = add_items(alloc, draft, labels, known, first_items(items, line.count))?;
     Ok(line.rule.min(rule))
 }
@@ -149,6 +147,9 @@ fn draft_of_lines<'a>(
     let mut rest = source.items.as_slice();
     for i in 0..lines.len() {
         let line = lines[i];
+        if line.count == 0 && line.rule == NO_RULE {
+            continue;
+        }
         let rule = add_line(alloc, &mut draft, labels, known, line, rest)?;
         if rule != NO_RULE {
             return Err(AsmErr::Bad {

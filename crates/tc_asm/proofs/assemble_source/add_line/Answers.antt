@@ -12,6 +12,6 @@ returns-clause-draft c =
 
 pub returns-clause-rule : goal.returns-clause-rule
 returns-clause-rule c =
-    c.min-2.ensures
+    c.min.ensures
     ∙ ap (min c.args.line.rule)
     (c.in_ok-rule.ensures.rule ∙ ap (kept_rule c.args.known c.args.labels.now c.args.draft.now) (first_things c.args.items.now c.first_items.result.now c.args.line.count c.first_items.ensures))

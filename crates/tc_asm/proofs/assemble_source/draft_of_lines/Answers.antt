@@ -10,7 +10,7 @@ use Rattle.tc_asm.specs.Drafts.{drafted}
 use Rattle.tc_asm.specs.DraftInvariants.{IsDraft}
 use Rattle.tc_asm.proofs.Passes.{drafted_more, kept_more as rules_more, least_here, behind_here, read_here, read_behind}
 use Rattle.tc_asm.proofs.KeptLaws.{IsDraft-start, IsDraft-more}
-use Rattle.tc_asm.proofs.KnownSymbols.{kept_more, kept_line, new_lines, lines_end, past}
+use Rattle.tc_asm.proofs.KnownSymbols.{kept_more, kept_line, new_lines, lines_end, past, blank_draft, blank_rule}
 use Rattle.tc_asm.proofs.assemble_source.draft_of_lines.Goals as goal
 
 pub loop-i-init : goal.loop-i-init
@@ -34,6 +34,23 @@ loop-i-preserved c =
       whole = IsDraft-more c.args.labels.now so_far _ _ _ c.loop-i.invariant.whole (sym (drafted_more ls c.loop-i.i _ _ here c.args.labels.now so_far _ refl refl)) rule (omega arith);
       rules = rules_more ls c.loop-i.i _ _ here c.args.labels.now so_far _ c.requires.labels refl rule (omega arith) c.loop-i.invariant.rules;
       rest = behind_here ls c.loop-i.i _ _ here ∙ read_behind lines c.loop-i.i _ c.loop-i.rest.now (omega arith) _ c.later_items-rest.ensures;
+      new = new_lines c.args.known c.args.labels.now ls c.loop-i.i _ _ here c.loop-i.draft c.loop-i.invariant.so_far c.loop-i.invariant.new;
+    }
+
+-- a line without items that breaks no rule by itself is passed over
+pub loop-i-preserved-then-line-eq-NO_RULE : goal.loop-i-preserved-then-line-eq-NO_RULE
+loop-i-preserved-then-line-eq-NO_RULE c =
+    let lines = c.as_slice-lines.result.now in
+    let ls = lines_of c.args.source.now in
+    let so_far = drafted c.args.labels.now (take c.loop-i.i ls) in
+    let here = read_here lines c.loop-i.i _ c.loop-i.rest.now (omega arith) ls c.loop-i.invariant.rest in
+    let none = c.if-line-eq0.true in
+    let rule = kept_line c.args.known c.args.labels.now ls c.loop-i.i _ _ here c.loop-i.draft c.loop-i.invariant.so_far c.loop-i.invariant.new 15 (blank_rule c.args.known c.args.labels.now c.loop-i.draft _ _ _ none c.if-line-eq-NO_RULE.true) in
+    record {
+      so_far = kept_more c.args.known c.args.labels.now ls c.loop-i.i _ _ here c.loop-i.draft c.loop-i.invariant.so_far c.loop-i.draft (blank_draft c.args.known c.args.labels.now c.loop-i.draft _ _ _ none);
+      whole = IsDraft-more c.args.labels.now so_far _ _ _ c.loop-i.invariant.whole (sym (drafted_more ls c.loop-i.i _ _ here c.args.labels.now so_far _ refl refl)) rule refl;
+      rules = rules_more ls c.loop-i.i _ _ here c.args.labels.now so_far _ c.requires.labels refl rule refl c.loop-i.invariant.rules;
+      rest = behind_here ls c.loop-i.i _ _ here ∙ read_behind lines c.loop-i.i _ c.loop-i.rest.now (omega arith) _ (rw none refl);
       new = new_lines c.args.known c.args.labels.now ls c.loop-i.i _ _ here c.loop-i.draft c.loop-i.invariant.so_far c.loop-i.invariant.new;
     }
 
