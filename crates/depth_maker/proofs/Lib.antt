@@ -17,6 +17,7 @@ pub mod NeedLaws
 pub mod NeedSteps
 pub mod OwnGrowth
 pub mod PartLemmas
+pub mod PassingLaws
 pub mod PlaceKinds
 pub mod PlaceLaws
 pub mod PlaceRanges

@@ -1,6 +1,6 @@
 -- A visit, over plain tables.
 use Rattle.std.proofs.Common.{◌≡◌, ℕ, Bool, true, false, ◌⊎◌, inl, inr, List, [], ◌∷◌, Option, Some, None, IsSome, refl, sym, ap, subst, ◌∙◌, arith, length, Contains}
-use Rattle.std.specs.Prelude.{if◌then◌else◌}
+use Rattle.std.specs.Prelude.{if◌then◌else◌, slice_get}
 use Rattle.std.specs.Map.{lookup}
 use Rattle.indexmap.specs.IndexMap.{IndexMap, get}
 use Rattle.std.proofs.lemmas.Option.{same_Some}
@@ -12,7 +12,7 @@ use Rattle.depth_cert.specs.declared.keys.Key.{Key}
 use Rattle.cfg_recover.specs.Entries.{start_key, start_state}
 use Rattle.cfg_recover.specs.LocalFaults.{IsFaultless}
 use Rattle.cfg_recover.specs.Assignments.{Assignment, Place, point, exit, same_place, Derived, begins, Closed, first_place, AllFaultless}
-use Rattle.depth_cert.specs.Known.{Known, state, leaving}
+use Rattle.depth_cert.specs.Known.{IsStateAt, Known, state, leaving}
 use Rattle.depth_maker.specs.Covered.{EntriesCovered}
 use Rattle.depth_maker.specs.MakerLaws.{AreLawful}
 use Rattle.depth_maker.proofs.TableLaws.{derived_proper, table_closed, table_marked, settled_again}
@@ -43,7 +43,7 @@ use Rattle.depth_maker.specs.TableView.{seen}
 use Rattle.depth_maker.specs.Visits.{IsVisited, IsOpenAt, NoneOpen, AllSettled, PointJoined}
 use Rattle.depth_maker.specs.Counts.{IsCountedIn}
 use Rattle.frame_places.proofs.MarkLemmas.{sides}
-use Rattle.frame_places.proofs.NearbyLemmas.{queued_mark}
+use Rattle.frame_places.proofs.NearbyLemmas.{had_at, queued_mark}
 use Rattle.frame_places.specs.Work.{Takes, all_work}
 use Rattle.frame_places.proofs.WorkLemmas.{takes_left, takes_only}
 use Rattle.depth_maker.proofs.CountedLemmas.{counted_again, counted_start}
@@ -294,6 +294,22 @@ exit_known b image plan t k w fine at = of_kind w (derived_kinds b image plan (s
   of_kind : (v : Known) → IsOfKind (exit k) v → (x : exits.Exit) × (v ≡ leaving x)
   of_kind (state s) h = absurd h
   of_kind (leaving x) h = (x, refl)
+
+-- the value at the visited point is a state
+pub own_state : (b : Limits) (image : ImageData) (plan : PlanData) (t : made.Table) (k : Key) (p : ℕ) (y : Spot) (old : Marked Known) → IsFine b image plan t → slice_get t.places.entries t.near ≡ Some (y, old)
+    → get spot_eq t.places y ≡ Some old → StandsAt t.places t.near (Point k p) → (u : State) × (old.value ≡ state u) × (value_for t.places (Point k p) ≡ Some (state u))
+own_state b image plan t k p y old fine entry value stands =
+    let at : value_for t.places (Point k p) ≡ Some old.value = ap (option_map (λ (m : Marked Known). m.value)) (had_at t.places t.near (Point k p) y old entry value stands) in
+    let e = point_state b image plan t k p old.value fine at in
+    (e.0, e.1, at ∙ ap (λ (w : Known). Some w) e.1)
+
+-- the state that was read there
+pub state_there : (b : Limits) (image : ImageData) (plan : PlanData) (t : made.Table) (k : Key) (p : ℕ) (y : Spot) (old : Marked Known) (u : State) → IsFine b image plan t → slice_get t.places.entries t.near ≡ Some (y, old)
+    → get spot_eq t.places y ≡ Some old → StandsAt t.places t.near (Point k p) → IsStateAt old.value u → value_for t.places (Point k p) ≡ Some (state u)
+state_there b image plan t k p y old u fine entry value stands read =
+    let e = own_state b image plan t k p y old fine entry value stands in
+    let is : u ≡ e.0 = subst (λ (w : Known). IsStateAt w u) e.1 read in
+    e.2 ∙ ap (λ (w : State). Some (state w)) (sym is)
 
 -- the state of the visited point
 pub visited_at : (b : Limits) (image : ImageData) (plan : PlanData) (laws : AreLawful b image plan) (t : made.Table) (k : Key) (p : ℕ) (u : State) → IsFine b image plan t → StandsAt t.places t.near (Point k p)

@@ -1,6 +1,7 @@
 // What a certificate is made for.
 ghost use Rattle.depth_maker.specs.DutiesGrow.{IsGround};
 
+use cfg_recover::Located;
 use depth_cert::Key;
 use elf_image::Image;
 use tcd_plan::Plan;
@@ -22,4 +23,13 @@ pub(crate) struct Visit<'a> {
     pub(crate) key: Key,
     pub(crate) addr: u32,
     pub(crate) state: &'a State,
+}
+
+/// A point, and the instruction there.
+#[derive(Drop)]
+pub(crate) struct Site<'a> {
+    pub(crate) ground: &'a Ground<'a>,
+    pub(crate) key: Key,
+    pub(crate) addr: u32,
+    pub(crate) located: &'a Option<Located>,
 }

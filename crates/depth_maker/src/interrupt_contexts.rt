@@ -1,7 +1,9 @@
 // The last contexts in which interrupts were taken: their handlers' entries are covered.
 ghost use Rattle.std.specs.Prelude.{◌≡◌, IsTrue};
+ghost use Rattle.value_domain.specs.declared.states.State.{State};
 ghost use Rattle.value_domain.specs.Values.{IsBelow, IsValue, IsWell};
 ghost use Rattle.depth_maker.specs.InterruptHandlers.{IsAlike, IsContextOf, IsWithinContext, joined_context};
+ghost use Rattle.depth_maker.specs.PassingInstructions.{IsNotedFor};
 ghost use Rattle.value_domain.specs.State.{a10_of};
 ghost use Rattle.depth_cert.specs.Proper.{IsProper};
 ghost use Rattle.frame_places.specs.declared.places.Spot.TheVariants.{Point};
@@ -68,6 +70,15 @@ impl InterruptContext {
         self.is == is && self.ccpn <= s.ccpn && self.covers_stack(s)
     }
 
+    /// Returns true only if its entries cover those of each frame with this CCPN, whatever its A10:
+    /// neither runs on the interrupt stack.
+    #[inline(always)]
+    fn covers_any_stack(&self, is: bool, ccpn: u8) -> bool
+        ensures { IsTrue result → (s : State) → s.ccpn ≡ ccpn → IsWithinContext self.now is s }
+    {
+        !is && !self.is && self.ccpn <= ccpn
+    }
+
     /// Returns true only if the context of a frame with this state differs at most in A10.
     pub(crate) fn is_alike(&self, is: bool, s: &State) -> bool
         ensures { IsTrue result → IsAlike self.now is s.now }
@@ -98,6 +109,18 @@ pub(crate) fn are_noted(table: &Table, v: &Visit) -> bool
     }
     match &table.covered.interrupts.before {
         Some(before) => before.covers(v.key.is, v.state),
+        None => false,
+    }
+}
+
+/// Returns true only if the last context of interrupts shows that the entries of all interrupts
+/// that may be taken are covered in each frame with this CCPN.
+#[inline(always)]
+pub(crate) fn is_noted(table: &Table, is: bool, ccpn: u8) -> bool
+    ensures { IsTrue result → IsNotedFor table.now is ccpn }
+{
+    match &table.covered.interrupts.last {
+        Some(last) => last.covers_any_stack(is, ccpn),
         None => false,
     }
 }

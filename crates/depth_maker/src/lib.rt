@@ -16,6 +16,7 @@ mod join_successors;
 mod last_call;
 mod laws;
 mod needs;
+mod passing;
 mod recursion;
 mod rows;
 mod spelling;

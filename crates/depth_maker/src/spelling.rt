@@ -19,7 +19,7 @@ use tcd_base::{NoMemory, put_u32};
 const MAGIC: u32 = 0x4344_4354;
 
 /// A byte is below 256.
-fn is_byte(_byte: u8)
+pub(crate) fn is_byte(_byte: u8)
     ensures { _byte < 2 ^ 8 }
 {}
 

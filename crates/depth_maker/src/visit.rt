@@ -1,10 +1,11 @@
 // A visit joins all that a point owes, in the order of its duties.
-ghost use Rattle.std.specs.Prelude.{◌≡◌, IsTrue, OnOk, IfErr, IfOk, Some};
+ghost use Rattle.std.specs.Prelude.{◌≡◌, IsTrue, OnOk, IfErr, IfOk, IfSome, Some};
 ghost use Rattle.cfg_recover.specs.Assignments.{point};
+ghost use Rattle.cfg_recover.specs.Code.{LocatesCode};
 ghost use Rattle.depth_cert.specs.Known.{state};
 ghost use Rattle.frame_places.specs.declared.places.Spot.TheVariants.{Point};
 ghost use Rattle.cfg_recover.specs.SetOperations.{HoldsResults};
-ghost use Rattle.depth_maker.specs.EnteredFrames.{EntersNone, IsPlainIn};
+ghost use Rattle.depth_maker.specs.EnteredFrames.{EntersNone, IsPlainAt, IsPlainIn};
 ghost use Rattle.depth_maker.specs.TableView.{seen};
 ghost use Rattle.depth_maker.specs.Answers.{AnsweredOn};
 ghost use Rattle.depth_maker.specs.VisitDuties.{IsPlainBy, JoinedBy, StandsBy, duties_by, step_by};
@@ -18,11 +19,12 @@ ghost use Rattle.vd_transfer.specs.Changes.{state_after};
 ghost use Rattle.vd_transfer.specs.EffectsOnStates.{HasRoom};
 
 use crate::fixpoint::VisitScratch;
-use crate::inputs_and_limits::{Ground, Visit};
+use crate::inputs_and_limits::{Ground, Site, Visit};
 use crate::join_entries::{join_access, join_entries, join_interrupts};
 use crate::join_successors::{join_leavings, join_successors};
+use crate::passing::pass_on;
 use crate::table::Table;
-use cfg_recover::{KnownCodes, Located, OperationCache, check_located, step_change};
+use cfg_recover::{Located, OperationCache, check_located, step_change};
 use frame_places::{Refusal, Spot};
 use std::alloc::Global;
 use tc_isa::Shape;
@@ -70,19 +72,22 @@ fn enters_none(plan: &Plan, shape: Shape) -> bool
 }
 
 /// Joins what the point owes, or a part of it if the point has new work. Returns true only if its
-/// instruction enters no frame by itself. The change by the instruction is written over `c`, its
-/// word is remembered in `codes`, and results of operations on two sets are in `cache`.
+/// instruction enters no frame by itself. The change by the instruction is written over `c`, and
+/// results of operations on two sets are in `cache`.
 pub(crate) fn visit_point(
     alloc: Global,
     table: &mut Table,
     v: &Visit,
+    located: &Option<Located>,
     c: &mut Change,
-    codes: &mut KnownCodes,
     cache: &mut OperationCache,
 ) -> Result<bool, Refusal>
     requires visited { VisitedBy v.now table.old }
     requires at { (seen table.old).cells (point v.now.key v.now.addr)
         ≡ Some (state v.now.state.now) }
+    requires code { LocatesCode v.now.ground.now.image.now v.now.ground.now.plan.now
+        v.now.addr located.now }
+    requires shape { IfSome located.now (λ found. IsShape found.shape) }
     requires results { HoldsResults v.now.ground.now.bounds.now cache.old }
     ensures ok { OnOk result
         (PointJoinedOn v.now.ground.now table.old table.new (Point v.now.key v.now.addr)) }
@@ -91,8 +96,7 @@ pub(crate) fn visit_point(
     ensures results { HoldsResults v.now.ground.now.bounds.now cache.new }
 {
     let g = v.ground;
-    let located = codes.located(g.image, g.plan, v.addr);
-    match check_located(g.bounds, g.plan, &v.key, v.state, &located) {
+    match check_located(g.bounds, g.plan, &v.key, v.state, located) {
         Ok(found) => {
             join_duties(alloc, table, v, found, c, cache)?;
             Ok(enters_none(g.plan, found.shape))
@@ -101,9 +105,47 @@ pub(crate) fn visit_point(
     }
 }
 
+/// Reads the state of the visited point over `scratch`, and joins what the point owes, as
+/// `visit_point` does.
+fn read_and_visit(
+    alloc: Global,
+    table: &mut Table,
+    site: &Site,
+    scratch: &mut VisitScratch,
+    change: &mut Change,
+    cache: &mut OperationCache,
+) -> Result<bool, Refusal>
+    requires fine { FineOn site.now.ground.now table.old }
+    requires near { StandsAt table.old.places table.old.near (Point site.now.key site.now.addr) }
+    requires code { LocatesCode site.now.ground.now.image.now site.now.ground.now.plan.now
+        site.now.addr site.now.located.now }
+    requires shape { IfSome site.now.located.now (λ found. IsShape found.shape) }
+    requires results { HoldsResults site.now.ground.now.bounds.now cache.old }
+    ensures ok { OnOk result (PointJoinedOn site.now.ground.now table.old table.new
+        (Point site.now.key site.now.addr)) }
+    ensures plain { IfOk result (λ plain. IsTrue plain
+        → IsPlainAt site.now.ground.now.image.now site.now.ground.now.plan.now site.now.addr) }
+    ensures err { IfErr result (AnsweredOn site.now.ground.now) }
+    ensures results { HoldsResults site.now.ground.now.bounds.now cache.new }
+{
+    let Some((_, place)) = table.places.get_index(table.near) else {
+        unreachable!();
+    };
+    place
+        .value
+        .read_state(site.ground.bounds, &mut scratch.state);
+    let v = Visit {
+        ground: site.ground,
+        key: site.key,
+        addr: site.addr,
+        state: scratch.state.state(),
+    };
+    visit_point(alloc, table, &v, site.located, change, cache)
+}
+
 /// Joins what the visited place owes, and returns true only if its instruction enters no frame by
-/// itself. An exit owes nothing. The state of a point is written over `scratch`, its changes over
-/// `change`, and results of operations on two sets are in `cache`.
+/// itself. An exit owes nothing. The state of a point may be written over `scratch`, its changes
+/// over `change`, and results of operations on two sets are in `cache`.
 pub(crate) fn visit_place(
     alloc: Global,
     ground: &Ground,
@@ -122,20 +164,23 @@ pub(crate) fn visit_place(
     ensures err { IfErr result (AnsweredOn ground.now) }
     ensures results { HoldsResults ground.now.bounds.now cache.new }
 {
-    let Some((at, place)) = table.places.get_index(table.near) else {
+    let Some((at, _)) = table.places.get_index(table.near) else {
         return Ok(false);
     };
     let Spot::Point(key, addr) = *at else {
         return Ok(false);
     };
-    place.value.read_state(ground.bounds, &mut scratch.state);
-    let v = Visit {
+    let located = scratch.codes.located(ground.image, ground.plan, addr);
+    let site = Site {
         ground,
         key,
         addr,
-        state: scratch.state.state(),
+        located: &located,
     };
-    visit_point(alloc, table, &v, change, &mut scratch.codes, cache)
+    if pass_on(alloc, table, &site)? {
+        return Ok(true);
+    }
+    read_and_visit(alloc, table, &site, scratch, change, cache)
 }
 
 /// Writes what the instruction makes of the state into `c`. The result of an operation on two sets

@@ -12,7 +12,7 @@ use crate::incoming::{
 };
 use crate::incoming_values::{are_all_below, are_covered, join_values, pack_for, pack_values};
 use crate::small_value::{Form, Small};
-use crate::{ScratchState, SmallExit, SmallState};
+use crate::{ScratchState, SmallExit, SmallState, copy_of};
 use std::alloc::{AllocError, Global};
 use std::marker::Model;
 use std::rc::Rc;
@@ -145,6 +145,23 @@ impl SmallKnown {
             KnownForm::Leaves(_) => Rc::new(alloc, pack_values(alloc, incoming)?)?,
         };
         let form = form_with(values, incoming);
+        Ok(SmallKnown { form })
+    }
+
+    /// Returns a copy. It shares the values.
+    pub fn copy(&self) -> Result<SmallKnown, AllocError>
+        ensures { IfOk result (λ c. c ≡ self.now) }
+    {
+        let form = match &self.form {
+            KnownForm::Point(s) => KnownForm::Point(SmallState {
+                regs: s.regs.clone()?,
+                ie: s.ie,
+                ccpn: s.ccpn,
+                lower: s.lower,
+                locals: copy_of(&s.locals),
+            }),
+            KnownForm::Leaves(x) => KnownForm::Leaves(x.copy()?),
+        };
         Ok(SmallKnown { form })
     }
 

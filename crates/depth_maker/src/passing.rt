@@ -1,0 +1,92 @@
+// Points whose instruction only passes the state on: their successor shares it if it is new.
+ghost use Rattle.std.specs.Prelude.{IsTrue, IfSome};
+ghost use Rattle.cfg_recover.specs.Code.{LocatesCode};
+ghost use Rattle.frame_places.specs.declared.places.Spot.TheVariants.{Point};
+ghost use Rattle.frame_places.specs.Numbers.{StandsAt};
+ghost use Rattle.depth_maker.specs.PassingInstructions.{IsQuiet, PassedBy, PassesOn};
+ghost use Rattle.depth_maker.specs.TableInvariant.{FineOn};
+ghost use Rattle.tc_isa.specs.InBounds.{IsShape};
+
+use crate::inputs_and_limits::Site;
+use crate::interrupt_contexts::is_noted;
+use crate::spelling::is_byte;
+use crate::table::Table;
+use cfg_recover::direct_target;
+use frame_places::{Refusal, Spot, add_or_find, count};
+use std::alloc::Global;
+use tc_isa::Shape;
+
+/// Returns the address after an instruction that only passes the state on: one that does nothing,
+/// or a jump to one address.
+#[inline(always)]
+fn passed_to(site: &Site) -> Option<u32>
+    requires code { LocatesCode site.now.ground.now.image.now site.now.ground.now.plan.now
+        site.now.addr site.now.located.now }
+    requires shape { IfSome site.now.located.now (λ found. IsShape found.shape) }
+    ensures { IfSome result
+        (PassesOn site.now.ground.now.image.now site.now.ground.now.plan.now site.now.addr) }
+{
+    let Some(found) = site.located else {
+        return None;
+    };
+    match found.shape {
+        Shape::Nothing => Some(site.addr.wrapping_add(found.size)),
+        Shape::Jump { to } => direct_target(site.addr, to),
+        _ => None,
+    }
+}
+
+/// Returns true only if the visited point is the place that was found last, and the entries of all
+/// interrupts that may be taken there are covered.
+#[inline(always)]
+fn is_last_and_quiet(table: &Table, site: &Site) -> bool
+    requires fine { FineOn site.now.ground.now table.now }
+    requires near { StandsAt table.now.places table.now.near (Point site.now.key site.now.addr) }
+    ensures { IsTrue result → IsQuiet site.now table.now }
+{
+    if table.near < table.places.len().saturating_sub(1) {
+        return false;
+    }
+    let Some((_, own)) = table.places.get_index(table.near) else {
+        return false;
+    };
+    match own.value.outline() {
+        Some(outline) => {
+            is_byte(outline.ccpn);
+            !outline.ie || is_noted(table, site.key.is, outline.ccpn)
+        }
+        None => false,
+    }
+}
+
+/// Joins the state at the successor, if the instruction only passes the state on, no interrupt's
+/// entry has to be joined, and the successor is unknown: the successor shares the state, which
+/// isn't read. Otherwise nothing is joined, and it returns false. After the last place that was
+/// found mostly nothing is known.
+pub(crate) fn pass_on(alloc: Global, table: &mut Table, site: &Site) -> Result<bool, Refusal>
+    requires fine { FineOn site.now.ground.now table.old }
+    requires near { StandsAt table.old.places table.old.near (Point site.now.key site.now.addr) }
+    requires code { LocatesCode site.now.ground.now.image.now site.now.ground.now.plan.now
+        site.now.addr site.now.located.now }
+    requires shape { IfSome site.now.located.now (λ found. IsShape found.shape) }
+    ensures { PassedBy site.now table.old table.new result }
+{
+    let Some(to) = passed_to(site) else {
+        return Ok(false);
+    };
+    if !is_last_and_quiet(&*table, site) {
+        return Ok(false);
+    }
+    let Some((_, own)) = table.places.get_index(table.near) else {
+        unreachable!();
+    };
+    let value = own.value.copy()?;
+    let y = Spot::Point(site.key, to);
+    match add_or_find(&mut table.places, &mut table.work, y, value)? {
+        None => {
+            count(false, &mut table.points, &mut table.frames, y)?;
+            Ok(true)
+        }
+        Some(_) => Ok(false),
+    }
+}
