@@ -3,7 +3,8 @@ use Rattle.std.proofs.Common.{◌≡◌, ℕ, ◌+◌, ◌*◌, ◌/◌, ◌%◌
 use Rattle.std.specs.List.{flat_map}
 use Rattle.tc_isa.specs.Spelling.{word}
 use Rattle.tcd_base.specs.Bytes.{four_bytes}
-use Rattle.task_chains.specs.SwitchRoutine.{hi, lo, routine_of, view_routine_of, bytes_of}
+use Rattle.tc_isa.specs.NamedInstructions.{upper_half, lower_half}
+use Rattle.task_chains.specs.SwitchRoutine.{routine_of, view_routine_of, bytes_of}
 
 -- the bits of a 16-bit offset
 abbrev pub offset : ℕ → ℕ
@@ -53,10 +54,10 @@ by_view_words a b d =
 
 module _ (n b : ℕ) where
   abbrev first_of : ℕ
-  first_of = 2 * 2 ^ 28 + hi b * 2 ^ 12 + 0 * 2 ^ 8 + 145
+  first_of = 2 * 2 ^ 28 + upper_half b * 2 ^ 12 + 0 * 2 ^ 8 + 145
 
   abbrev second_of : ℕ
-  second_of = lo b / 64 % 16 * 2 ^ 28 + lo b / 1024 * 2 ^ 22 + lo b % 64 * 2 ^ 16 + 2 * 2 ^ 12 + 2 * 2 ^ 8 + 217
+  second_of = lower_half b / 64 % 16 * 2 ^ 28 + lower_half b / 1024 * 2 ^ 22 + lower_half b % 64 * 2 ^ 16 + 2 * 2 ^ 12 + 2 * 2 ^ 8 + 217
 
   abbrev third_of : ℕ
   third_of = 4 * n / 64 % 16 * 2 ^ 28 + 4 * n / 1024 * 2 ^ 22 + 4 * n % 64 * 2 ^ 16 + 2 * 2 ^ 12 + 0 * 2 ^ 8 + 25
@@ -71,28 +72,28 @@ module _ (n b : ℕ) where
   unfolding word
   spelled = refl
 
-  pub routine_by_words : by_words (movh_word (hi b)) (lea_word (lo b)) (load_word (4 * n)) (jne_word n) (store_word (4 * n)) ≡ bytes_of (routine_of n b)
+  pub routine_by_words : by_words (movh_word (upper_half b)) (lea_word (lower_half b)) (load_word (4 * n)) (jne_word n) (store_word (4 * n)) ≡ bytes_of (routine_of n b)
   routine_by_words =
-      sym (spelled ∙ ap (λ x. by_words x second_of third_of fourth_of fifth_of) (movh_is (hi b)) ∙ ap (λ x. by_words (movh_word (hi b)) x third_of fourth_of fifth_of) (lea_is (lo b))
-      ∙ ap (λ x. by_words (movh_word (hi b)) (lea_word (lo b)) x fourth_of fifth_of) (load_is (4 * n)) ∙ ap (λ x. by_words (movh_word (hi b)) (lea_word (lo b)) (load_word (4 * n)) x fifth_of) (jne_is n)
-      ∙ ap (λ x. by_words (movh_word (hi b)) (lea_word (lo b)) (load_word (4 * n)) (jne_word n) x) (store_is (4 * n)))
+      sym (spelled ∙ ap (λ x. by_words x second_of third_of fourth_of fifth_of) (movh_is (upper_half b)) ∙ ap (λ x. by_words (movh_word (upper_half b)) x third_of fourth_of fifth_of) (lea_is (lower_half b))
+      ∙ ap (λ x. by_words (movh_word (upper_half b)) (lea_word (lower_half b)) x fourth_of fifth_of) (load_is (4 * n)) ∙ ap (λ x. by_words (movh_word (upper_half b)) (lea_word (lower_half b)) (load_word (4 * n)) x fifth_of) (jne_is n)
+      ∙ ap (λ x. by_words (movh_word (upper_half b)) (lea_word (lower_half b)) (load_word (4 * n)) (jne_word n) x) (store_is (4 * n)))
 
   view_spelled : bytes_of (view_routine_of n b) ≡ by_view_words first_of second_of fourth_of
   unfolding word
   view_spelled = refl
 
-  pub view_by_words : by_view_words (movh_word (hi b)) (lea_word (lo b)) (jne_word n) ≡ bytes_of (view_routine_of n b)
+  pub view_by_words : by_view_words (movh_word (upper_half b)) (lea_word (lower_half b)) (jne_word n) ≡ bytes_of (view_routine_of n b)
   view_by_words =
-      sym (view_spelled ∙ ap (λ x. by_view_words x second_of fourth_of) (movh_is (hi b)) ∙ ap (λ x. by_view_words (movh_word (hi b)) x fourth_of) (lea_is (lo b))
-      ∙ ap (λ x. by_view_words (movh_word (hi b)) (lea_word (lo b)) x) (jne_is n))
+      sym (view_spelled ∙ ap (λ x. by_view_words x second_of fourth_of) (movh_is (upper_half b)) ∙ ap (λ x. by_view_words (movh_word (upper_half b)) x fourth_of) (lea_is (lower_half b))
+      ∙ ap (λ x. by_view_words (movh_word (upper_half b)) (lea_word (lower_half b)) x) (jne_is n))
 
-  pub routine_words_are : (u l k : ℕ) → u ≡ hi b → l ≡ offset (lo b) → k ≡ offset (4 * n) → by_words (0x20000091 + u * 4096) (0x22d9 + l) (0x2019 + k) (0x800400df + n * 4096) (0x2059 + k) ≡ bytes_of (routine_of n b)
+  pub routine_words_are : (u l k : ℕ) → u ≡ upper_half b → l ≡ offset (lower_half b) → k ≡ offset (4 * n) → by_words (0x20000091 + u * 4096) (0x22d9 + l) (0x2019 + k) (0x800400df + n * 4096) (0x2059 + k) ≡ bytes_of (routine_of n b)
   routine_words_are u l k is low count =
       ap (λ x. by_words (0x20000091 + x * 4096) (0x22d9 + l) (0x2019 + k) (0x800400df + n * 4096) (0x2059 + k)) is
-      ∙ ap (λ x. by_words (movh_word (hi b)) (0x22d9 + x) (0x2019 + k) (0x800400df + n * 4096) (0x2059 + k)) low
-      ∙ ap (λ x. by_words (movh_word (hi b)) (lea_word (lo b)) (0x2019 + x) (0x800400df + n * 4096) (0x2059 + x)) count ∙ routine_by_words
+      ∙ ap (λ x. by_words (movh_word (upper_half b)) (0x22d9 + x) (0x2019 + k) (0x800400df + n * 4096) (0x2059 + k)) low
+      ∙ ap (λ x. by_words (movh_word (upper_half b)) (lea_word (lower_half b)) (0x2019 + x) (0x800400df + n * 4096) (0x2059 + x)) count ∙ routine_by_words
 
-  pub view_words_are : (u l : ℕ) → u ≡ hi b → l ≡ offset (lo b) → by_view_words (0x20000091 + u * 4096) (0x22d9 + l) (0x800400df + n * 4096) ≡ bytes_of (view_routine_of n b)
+  pub view_words_are : (u l : ℕ) → u ≡ upper_half b → l ≡ offset (lower_half b) → by_view_words (0x20000091 + u * 4096) (0x22d9 + l) (0x800400df + n * 4096) ≡ bytes_of (view_routine_of n b)
   view_words_are u l is low =
       ap (λ x. by_view_words (0x20000091 + x * 4096) (0x22d9 + l) (0x800400df + n * 4096)) is
-      ∙ ap (λ x. by_view_words (movh_word (hi b)) (0x22d9 + x) (0x800400df + n * 4096)) low ∙ view_by_words
+      ∙ ap (λ x. by_view_words (movh_word (upper_half b)) (0x22d9 + x) (0x800400df + n * 4096)) low ∙ view_by_words

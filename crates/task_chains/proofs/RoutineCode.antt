@@ -23,7 +23,8 @@ use Rattle.tc_isa.specs.declared.shapes.Shape.TheVariants.{Compute, Scaled, Load
 use Rattle.tcd_base.specs.Ranges.{IsInOne}
 use Rattle.cfg_recover.specs.Code.{IsCode}
 use Rattle.task_chains.specs.Tasks.{TasksData, AreTasks, count, routine_size}
-use Rattle.task_chains.specs.SwitchRoutine.{plain, movh_a, lea_l, ld_w_l, st_w_l, addsc_a, mfcr, mtcr, addi, mov, jne_over, hi, lo, routine_bytes, view_routine_bytes, HasRoutine}
+use Rattle.tc_isa.specs.NamedInstructions.{disable, svlcx, isync, rslcx, ret, nop, movh_a, lea_l, ld_w_l, st_w_l, addsc_a, mfcr, mtcr, addi, mov, jne, upper_half, lower_half}
+use Rattle.task_chains.specs.SwitchRoutine.{routine_bytes, view_routine_bytes, HasRoutine}
 use Rattle.task_chains.specs.Views.{is_in_routine, view_image_of}
 use Rattle.task_chains.proofs.ViewImage.{seen_byte, view_byte}
 
@@ -99,11 +100,11 @@ module _ (image : ImageData) (plan : PlanData) (tasks : TasksData) (are : AreTas
   first_bytes u j lt =
       elim (cases_lt j 4) [
         | inl low ↦
-            let bs = spelling (row (codes "disable") [] Sys 13 13) (fields_in (plain 57)) in
+            let bs = spelling (row (codes "disable") [] Sys 13 13) (fields_in disable) in
             let at : tasks.switch + 4 * 0 + j ≡ tasks.switch + j = omega arith in
             ap (image_byte (view_image_of image tasks u)) (sym at) ∙ view_held u 0 (lit< tt) bs refl refl refl refl j low ∙ sym (held_at 0 (lit< tt) bs refl refl refl refl j low) ∙ ap (image_byte image) at
         | inr high ↦
-            let bs = spelling (row (codes "svlcx") [] Sys 13 8) (fields_in (plain 54)) in
+            let bs = spelling (row (codes "svlcx") [] Sys 13 8) (fields_in svlcx) in
             let at : tasks.switch + 4 * 1 + (j - 4) ≡ tasks.switch + j = omega arith in
             ap (image_byte (view_image_of image tasks u)) (sym at) ∙ view_held u 1 (lit< tt) bs refl refl refl refl (j - 4) (omega arith) ∙ sym (held_at 1 (lit< tt) bs refl refl refl refl (j - 4) (omega arith)) ∙ ap (image_byte image) at
       ]
@@ -111,22 +112,22 @@ module _ (image : ImageData) (plan : PlanData) (tasks : TasksData) (are : AreTas
   pub code_0 : IsCode image plan (tasks.switch + 4 * 0) (Disable) 4
   unfolding bounds shape_of
   code_0 =
-      code_at image plan (tasks.switch + 4 * 0) (row (codes "disable") [] Sys 13 13) (plain 57) (Disable) (even_at 0) refl (record { below = record { c = lit< tt; s1 = lit< tt; s2 = lit< tt; n = lit< tt; k = lit< tt }; zero = refl; apart = refl }) refl refl (inner tasks.switch (tasks.switch + 4 * 0) 0 plan whole (omega arith) (omega arith)) (held_at 0 (lit< tt) (spelling (row (codes "disable") [] Sys 13 13) (fields_in (plain 57))) refl refl refl refl)
+      code_at image plan (tasks.switch + 4 * 0) (row (codes "disable") [] Sys 13 13) disable (Disable) (even_at 0) refl (record { below = record { c = lit< tt; s1 = lit< tt; s2 = lit< tt; n = lit< tt; k = lit< tt }; zero = refl; apart = refl }) refl refl (inner tasks.switch (tasks.switch + 4 * 0) 0 plan whole (omega arith) (omega arith)) (held_at 0 (lit< tt) (spelling (row (codes "disable") [] Sys 13 13) (fields_in disable)) refl refl refl refl)
 
   pub code_1 : IsCode image plan (tasks.switch + 4 * 1) (Svlcx) 4
   unfolding bounds shape_of
   code_1 =
-      code_at image plan (tasks.switch + 4 * 1) (row (codes "svlcx") [] Sys 13 8) (plain 54) (Svlcx) (even_at 1) refl (record { below = record { c = lit< tt; s1 = lit< tt; s2 = lit< tt; n = lit< tt; k = lit< tt }; zero = refl; apart = refl }) refl refl (inner tasks.switch (tasks.switch + 4 * 1) 0 plan whole (omega arith) (omega arith)) (held_at 1 (lit< tt) (spelling (row (codes "svlcx") [] Sys 13 8) (fields_in (plain 54))) refl refl refl refl)
+      code_at image plan (tasks.switch + 4 * 1) (row (codes "svlcx") [] Sys 13 8) svlcx (Svlcx) (even_at 1) refl (record { below = record { c = lit< tt; s1 = lit< tt; s2 = lit< tt; n = lit< tt; k = lit< tt }; zero = refl; apart = refl }) refl refl (inner tasks.switch (tasks.switch + 4 * 1) 0 plan whole (omega arith) (omega arith)) (held_at 1 (lit< tt) (spelling (row (codes "svlcx") [] Sys 13 8) (fields_in svlcx)) refl refl refl refl)
 
-  pub code_2 : IsCode image plan (tasks.switch + 4 * 2) (Compute Second 18 (Word 0) (Word (hi b * 2 ^ 16 % 2 ^ 32))) 4
+  pub code_2 : IsCode image plan (tasks.switch + 4 * 2) (Compute Second 18 (Word 0) (Word (upper_half b * 2 ^ 16 % 2 ^ 32))) 4
   unfolding bounds shape_of
   code_2 =
-      code_at image plan (tasks.switch + 4 * 2) (row (codes "movh.a") (codes "Ac, uk") Rlc 145 0) (movh_a 2 (hi b)) (Compute Second 18 (Word 0) (Word (hi b * 2 ^ 16 % 2 ^ 32))) (even_at 2) refl (record { below = record { c = lit< tt; s1 = lit< tt; s2 = lit< tt; n = lit< tt; k = omega arith }; zero = refl; apart = refl }) refl refl (inner tasks.switch (tasks.switch + 4 * 2) 0 plan whole (omega arith) (omega arith)) (held_at 2 (lit< tt) (spelling (row (codes "movh.a") (codes "Ac, uk") Rlc 145 0) (fields_in (movh_a 2 (hi b)))) refl refl refl refl)
+      code_at image plan (tasks.switch + 4 * 2) (row (codes "movh.a") (codes "Ac, uk") Rlc 145 0) (movh_a 2 (upper_half b)) (Compute Second 18 (Word 0) (Word (upper_half b * 2 ^ 16 % 2 ^ 32))) (even_at 2) refl (record { below = record { c = lit< tt; s1 = lit< tt; s2 = lit< tt; n = lit< tt; k = omega arith }; zero = refl; apart = refl }) refl refl (inner tasks.switch (tasks.switch + 4 * 2) 0 plan whole (omega arith) (omega arith)) (held_at 2 (lit< tt) (spelling (row (codes "movh.a") (codes "Ac, uk") Rlc 145 0) (fields_in (movh_a 2 (upper_half b)))) refl refl refl refl)
 
-  pub code_3 : IsCode image plan (tasks.switch + 4 * 3) (Compute Add 18 (Reg 18) (Word (sign_extended 16 (lo b % 2 ^ 16)))) 4
+  pub code_3 : IsCode image plan (tasks.switch + 4 * 3) (Compute Add 18 (Reg 18) (Word (sign_extended 16 (lower_half b % 2 ^ 16)))) 4
   unfolding bounds shape_of
   code_3 =
-      code_at image plan (tasks.switch + 4 * 3) (row (codes "lea.l") (codes "As1, [As2]sk") Bol 217 0) (lea_l 2 2 (lo b)) (Compute Add 18 (Reg 18) (Word (sign_extended 16 (lo b % 2 ^ 16)))) (even_at 3) refl (record { below = record { c = lit< tt; s1 = lit< tt; s2 = lit< tt; n = lit< tt; k = omega arith }; zero = refl; apart = refl }) refl refl (inner tasks.switch (tasks.switch + 4 * 3) 0 plan whole (omega arith) (omega arith)) (held_at 3 (lit< tt) (spelling (row (codes "lea.l") (codes "As1, [As2]sk") Bol 217 0) (fields_in (lea_l 2 2 (lo b)))) refl refl refl refl)
+      code_at image plan (tasks.switch + 4 * 3) (row (codes "lea.l") (codes "As1, [As2]sk") Bol 217 0) (lea_l 2 2 (lower_half b)) (Compute Add 18 (Reg 18) (Word (sign_extended 16 (lower_half b % 2 ^ 16)))) (even_at 3) refl (record { below = record { c = lit< tt; s1 = lit< tt; s2 = lit< tt; n = lit< tt; k = omega arith }; zero = refl; apart = refl }) refl refl (inner tasks.switch (tasks.switch + 4 * 3) 0 plan whole (omega arith) (omega arith)) (held_at 3 (lit< tt) (spelling (row (codes "lea.l") (codes "As1, [As2]sk") Bol 217 0) (fields_in (lea_l 2 2 (lower_half b)))) refl refl refl refl)
 
   pub code_4 : IsCode image plan (tasks.switch + 4 * 4) (Load 0 (Reg 18) (sign_extended 16 (4 * n % 2 ^ 16)) 4 false false) 4
   unfolding bounds shape_of
@@ -156,7 +157,7 @@ module _ (image : ImageData) (plan : PlanData) (tasks : TasksData) (are : AreTas
   pub code_9 : IsCode image plan (tasks.switch + 4 * 9) (Branch cond.Ne 0 (Word (sign_extended 4 (n % 2 ^ 4))) 8 false) 4
   unfolding bounds shape_of
   code_9 =
-      code_at image plan (tasks.switch + 4 * 9) (row (codes "jne") (codes "Ds1, sk4, T") Brc 223 1) (jne_over 0 n) (Branch cond.Ne 0 (Word (sign_extended 4 (n % 2 ^ 4))) 8 false) (even_at 9) refl (record { below = record { c = lit< tt; s1 = lit< tt; s2 = let few = are.few in omega arith; n = lit< tt; k = lit< tt }; zero = refl; apart = refl }) refl refl (inner tasks.switch (tasks.switch + 4 * 9) 0 plan whole (omega arith) (omega arith)) (held_at 9 (lit< tt) (spelling (row (codes "jne") (codes "Ds1, sk4, T") Brc 223 1) (fields_in (jne_over 0 n))) refl refl refl refl)
+      code_at image plan (tasks.switch + 4 * 9) (row (codes "jne") (codes "Ds1, sk4, T") Brc 223 1) (jne 0 n 4) (Branch cond.Ne 0 (Word (sign_extended 4 (n % 2 ^ 4))) 8 false) (even_at 9) refl (record { below = record { c = lit< tt; s1 = lit< tt; s2 = let few = are.few in omega arith; n = lit< tt; k = lit< tt }; zero = refl; apart = refl }) refl refl (inner tasks.switch (tasks.switch + 4 * 9) 0 plan whole (omega arith) (omega arith)) (held_at 9 (lit< tt) (spelling (row (codes "jne") (codes "Ds1, sk4, T") Brc 223 1) (fields_in (jne 0 n 4))) refl refl refl refl)
 
   pub code_10 : IsCode image plan (tasks.switch + 4 * 10) (Compute Second 0 (Word 0) (Word 0)) 4
   unfolding bounds shape_of
@@ -186,37 +187,37 @@ module _ (image : ImageData) (plan : PlanData) (tasks : TasksData) (are : AreTas
   pub code_15 : IsCode image plan (tasks.switch + 4 * 15) (Nothing) 4
   unfolding bounds shape_of
   code_15 =
-      code_at image plan (tasks.switch + 4 * 15) (row (codes "isync") [] Sys 13 19) (plain 59) (Nothing) (even_at 15) refl (record { below = record { c = lit< tt; s1 = lit< tt; s2 = lit< tt; n = lit< tt; k = lit< tt }; zero = refl; apart = refl }) refl refl (inner tasks.switch (tasks.switch + 4 * 15) 0 plan whole (omega arith) (omega arith)) (held_at 15 (lit< tt) (spelling (row (codes "isync") [] Sys 13 19) (fields_in (plain 59))) refl refl refl refl)
+      code_at image plan (tasks.switch + 4 * 15) (row (codes "isync") [] Sys 13 19) isync (Nothing) (even_at 15) refl (record { below = record { c = lit< tt; s1 = lit< tt; s2 = lit< tt; n = lit< tt; k = lit< tt }; zero = refl; apart = refl }) refl refl (inner tasks.switch (tasks.switch + 4 * 15) 0 plan whole (omega arith) (omega arith)) (held_at 15 (lit< tt) (spelling (row (codes "isync") [] Sys 13 19) (fields_in isync)) refl refl refl refl)
 
   pub code_16 : IsCode image plan (tasks.switch + 4 * 16) (Rslcx) 4
   unfolding bounds shape_of
   code_16 =
-      code_at image plan (tasks.switch + 4 * 16) (row (codes "rslcx") [] Sys 13 9) (plain 55) (Rslcx) (even_at 16) refl (record { below = record { c = lit< tt; s1 = lit< tt; s2 = lit< tt; n = lit< tt; k = lit< tt }; zero = refl; apart = refl }) refl refl (inner tasks.switch (tasks.switch + 4 * 16) 0 plan whole (omega arith) (omega arith)) (held_at 16 (lit< tt) (spelling (row (codes "rslcx") [] Sys 13 9) (fields_in (plain 55))) refl refl refl refl)
+      code_at image plan (tasks.switch + 4 * 16) (row (codes "rslcx") [] Sys 13 9) rslcx (Rslcx) (even_at 16) refl (record { below = record { c = lit< tt; s1 = lit< tt; s2 = lit< tt; n = lit< tt; k = lit< tt }; zero = refl; apart = refl }) refl refl (inner tasks.switch (tasks.switch + 4 * 16) 0 plan whole (omega arith) (omega arith)) (held_at 16 (lit< tt) (spelling (row (codes "rslcx") [] Sys 13 9) (fields_in rslcx)) refl refl refl refl)
 
   pub code_17 : IsCode image plan (tasks.switch + 4 * 17) (Ret) 4
   unfolding bounds shape_of
   code_17 =
-      code_at image plan (tasks.switch + 4 * 17) (row (codes "ret") [] Sys 13 6) (plain 52) (Ret) (even_at 17) refl (record { below = record { c = lit< tt; s1 = lit< tt; s2 = lit< tt; n = lit< tt; k = lit< tt }; zero = refl; apart = refl }) refl refl (inner tasks.switch (tasks.switch + 4 * 17) 0 plan whole (omega arith) (omega arith)) (held_at 17 (lit< tt) (spelling (row (codes "ret") [] Sys 13 6) (fields_in (plain 52))) refl refl refl refl)
+      code_at image plan (tasks.switch + 4 * 17) (row (codes "ret") [] Sys 13 6) ret (Ret) (even_at 17) refl (record { below = record { c = lit< tt; s1 = lit< tt; s2 = lit< tt; n = lit< tt; k = lit< tt }; zero = refl; apart = refl }) refl refl (inner tasks.switch (tasks.switch + 4 * 17) 0 plan whole (omega arith) (omega arith)) (held_at 17 (lit< tt) (spelling (row (codes "ret") [] Sys 13 6) (fields_in ret)) refl refl refl refl)
 
   pub view_code_0 : (u : ℕ) → IsCode (view_image_of image tasks u) plan (tasks.switch + 4 * 0) (Disable) 4
   unfolding bounds shape_of
   view_code_0 u =
-      code_at (view_image_of image tasks u) plan (tasks.switch + 4 * 0) (row (codes "disable") [] Sys 13 13) (plain 57) (Disable) (even_at 0) refl (record { below = record { c = lit< tt; s1 = lit< tt; s2 = lit< tt; n = lit< tt; k = lit< tt }; zero = refl; apart = refl }) refl refl (inner tasks.switch (tasks.switch + 4 * 0) 0 plan whole (omega arith) (omega arith)) (view_held u 0 (lit< tt) (spelling (row (codes "disable") [] Sys 13 13) (fields_in (plain 57))) refl refl refl refl)
+      code_at (view_image_of image tasks u) plan (tasks.switch + 4 * 0) (row (codes "disable") [] Sys 13 13) disable (Disable) (even_at 0) refl (record { below = record { c = lit< tt; s1 = lit< tt; s2 = lit< tt; n = lit< tt; k = lit< tt }; zero = refl; apart = refl }) refl refl (inner tasks.switch (tasks.switch + 4 * 0) 0 plan whole (omega arith) (omega arith)) (view_held u 0 (lit< tt) (spelling (row (codes "disable") [] Sys 13 13) (fields_in disable)) refl refl refl refl)
 
   pub view_code_1 : (u : ℕ) → IsCode (view_image_of image tasks u) plan (tasks.switch + 4 * 1) (Svlcx) 4
   unfolding bounds shape_of
   view_code_1 u =
-      code_at (view_image_of image tasks u) plan (tasks.switch + 4 * 1) (row (codes "svlcx") [] Sys 13 8) (plain 54) (Svlcx) (even_at 1) refl (record { below = record { c = lit< tt; s1 = lit< tt; s2 = lit< tt; n = lit< tt; k = lit< tt }; zero = refl; apart = refl }) refl refl (inner tasks.switch (tasks.switch + 4 * 1) 0 plan whole (omega arith) (omega arith)) (view_held u 1 (lit< tt) (spelling (row (codes "svlcx") [] Sys 13 8) (fields_in (plain 54))) refl refl refl refl)
+      code_at (view_image_of image tasks u) plan (tasks.switch + 4 * 1) (row (codes "svlcx") [] Sys 13 8) svlcx (Svlcx) (even_at 1) refl (record { below = record { c = lit< tt; s1 = lit< tt; s2 = lit< tt; n = lit< tt; k = lit< tt }; zero = refl; apart = refl }) refl refl (inner tasks.switch (tasks.switch + 4 * 1) 0 plan whole (omega arith) (omega arith)) (view_held u 1 (lit< tt) (spelling (row (codes "svlcx") [] Sys 13 8) (fields_in svlcx)) refl refl refl refl)
 
-  pub view_code_2 : (u : ℕ) → IsCode (view_image_of image tasks u) plan (tasks.switch + 4 * 2) (Compute Second 18 (Word 0) (Word (hi b * 2 ^ 16 % 2 ^ 32))) 4
+  pub view_code_2 : (u : ℕ) → IsCode (view_image_of image tasks u) plan (tasks.switch + 4 * 2) (Compute Second 18 (Word 0) (Word (upper_half b * 2 ^ 16 % 2 ^ 32))) 4
   unfolding bounds shape_of
   view_code_2 u =
-      code_at (view_image_of image tasks u) plan (tasks.switch + 4 * 2) (row (codes "movh.a") (codes "Ac, uk") Rlc 145 0) (movh_a 2 (hi b)) (Compute Second 18 (Word 0) (Word (hi b * 2 ^ 16 % 2 ^ 32))) (even_at 2) refl (record { below = record { c = lit< tt; s1 = lit< tt; s2 = lit< tt; n = lit< tt; k = omega arith }; zero = refl; apart = refl }) refl refl (inner tasks.switch (tasks.switch + 4 * 2) 0 plan whole (omega arith) (omega arith)) (view_held u 2 (lit< tt) (spelling (row (codes "movh.a") (codes "Ac, uk") Rlc 145 0) (fields_in (movh_a 2 (hi b)))) refl refl refl refl)
+      code_at (view_image_of image tasks u) plan (tasks.switch + 4 * 2) (row (codes "movh.a") (codes "Ac, uk") Rlc 145 0) (movh_a 2 (upper_half b)) (Compute Second 18 (Word 0) (Word (upper_half b * 2 ^ 16 % 2 ^ 32))) (even_at 2) refl (record { below = record { c = lit< tt; s1 = lit< tt; s2 = lit< tt; n = lit< tt; k = omega arith }; zero = refl; apart = refl }) refl refl (inner tasks.switch (tasks.switch + 4 * 2) 0 plan whole (omega arith) (omega arith)) (view_held u 2 (lit< tt) (spelling (row (codes "movh.a") (codes "Ac, uk") Rlc 145 0) (fields_in (movh_a 2 (upper_half b)))) refl refl refl refl)
 
-  pub view_code_3 : (u : ℕ) → IsCode (view_image_of image tasks u) plan (tasks.switch + 4 * 3) (Compute Add 18 (Reg 18) (Word (sign_extended 16 (lo b % 2 ^ 16)))) 4
+  pub view_code_3 : (u : ℕ) → IsCode (view_image_of image tasks u) plan (tasks.switch + 4 * 3) (Compute Add 18 (Reg 18) (Word (sign_extended 16 (lower_half b % 2 ^ 16)))) 4
   unfolding bounds shape_of
   view_code_3 u =
-      code_at (view_image_of image tasks u) plan (tasks.switch + 4 * 3) (row (codes "lea.l") (codes "As1, [As2]sk") Bol 217 0) (lea_l 2 2 (lo b)) (Compute Add 18 (Reg 18) (Word (sign_extended 16 (lo b % 2 ^ 16)))) (even_at 3) refl (record { below = record { c = lit< tt; s1 = lit< tt; s2 = lit< tt; n = lit< tt; k = omega arith }; zero = refl; apart = refl }) refl refl (inner tasks.switch (tasks.switch + 4 * 3) 0 plan whole (omega arith) (omega arith)) (view_held u 3 (lit< tt) (spelling (row (codes "lea.l") (codes "As1, [As2]sk") Bol 217 0) (fields_in (lea_l 2 2 (lo b)))) refl refl refl refl)
+      code_at (view_image_of image tasks u) plan (tasks.switch + 4 * 3) (row (codes "lea.l") (codes "As1, [As2]sk") Bol 217 0) (lea_l 2 2 (lower_half b)) (Compute Add 18 (Reg 18) (Word (sign_extended 16 (lower_half b % 2 ^ 16)))) (even_at 3) refl (record { below = record { c = lit< tt; s1 = lit< tt; s2 = lit< tt; n = lit< tt; k = omega arith }; zero = refl; apart = refl }) refl refl (inner tasks.switch (tasks.switch + 4 * 3) 0 plan whole (omega arith) (omega arith)) (view_held u 3 (lit< tt) (spelling (row (codes "lea.l") (codes "As1, [As2]sk") Bol 217 0) (fields_in (lea_l 2 2 (lower_half b)))) refl refl refl refl)
 
   pub view_code_4 : (u : ℕ) → IsCode (view_image_of image tasks u) plan (tasks.switch + 4 * 4) (Mfcr 0 0) 4
   unfolding bounds shape_of
@@ -236,7 +237,7 @@ module _ (image : ImageData) (plan : PlanData) (tasks : TasksData) (are : AreTas
   pub view_code_7 : (u : ℕ) → IsCode (view_image_of image tasks u) plan (tasks.switch + 4 * 7) (Nothing) 4
   unfolding bounds shape_of
   view_code_7 u =
-      code_at (view_image_of image tasks u) plan (tasks.switch + 4 * 7) (row (codes "nop") [] Sys 13 0) (plain 51) (Nothing) (even_at 7) refl (record { below = record { c = lit< tt; s1 = lit< tt; s2 = lit< tt; n = lit< tt; k = lit< tt }; zero = refl; apart = refl }) refl refl (inner tasks.switch (tasks.switch + 4 * 7) 0 plan whole (omega arith) (omega arith)) (view_held u 7 (lit< tt) (spelling (row (codes "nop") [] Sys 13 0) (fields_in (plain 51))) refl refl refl refl)
+      code_at (view_image_of image tasks u) plan (tasks.switch + 4 * 7) (row (codes "nop") [] Sys 13 0) nop (Nothing) (even_at 7) refl (record { below = record { c = lit< tt; s1 = lit< tt; s2 = lit< tt; n = lit< tt; k = lit< tt }; zero = refl; apart = refl }) refl refl (inner tasks.switch (tasks.switch + 4 * 7) 0 plan whole (omega arith) (omega arith)) (view_held u 7 (lit< tt) (spelling (row (codes "nop") [] Sys 13 0) (fields_in nop)) refl refl refl refl)
 
   pub view_code_8 : (u : ℕ) → IsCode (view_image_of image tasks u) plan (tasks.switch + 4 * 8) (Compute Add 0 (Reg 0) (Word 1)) 4
   unfolding bounds shape_of
@@ -246,7 +247,7 @@ module _ (image : ImageData) (plan : PlanData) (tasks : TasksData) (are : AreTas
   pub view_code_9 : (u : ℕ) → IsCode (view_image_of image tasks u) plan (tasks.switch + 4 * 9) (Branch cond.Ne 0 (Word (sign_extended 4 (n % 2 ^ 4))) 8 false) 4
   unfolding bounds shape_of
   view_code_9 u =
-      code_at (view_image_of image tasks u) plan (tasks.switch + 4 * 9) (row (codes "jne") (codes "Ds1, sk4, T") Brc 223 1) (jne_over 0 n) (Branch cond.Ne 0 (Word (sign_extended 4 (n % 2 ^ 4))) 8 false) (even_at 9) refl (record { below = record { c = lit< tt; s1 = lit< tt; s2 = let few = are.few in omega arith; n = lit< tt; k = lit< tt }; zero = refl; apart = refl }) refl refl (inner tasks.switch (tasks.switch + 4 * 9) 0 plan whole (omega arith) (omega arith)) (view_held u 9 (lit< tt) (spelling (row (codes "jne") (codes "Ds1, sk4, T") Brc 223 1) (fields_in (jne_over 0 n))) refl refl refl refl)
+      code_at (view_image_of image tasks u) plan (tasks.switch + 4 * 9) (row (codes "jne") (codes "Ds1, sk4, T") Brc 223 1) (jne 0 n 4) (Branch cond.Ne 0 (Word (sign_extended 4 (n % 2 ^ 4))) 8 false) (even_at 9) refl (record { below = record { c = lit< tt; s1 = lit< tt; s2 = let few = are.few in omega arith; n = lit< tt; k = lit< tt }; zero = refl; apart = refl }) refl refl (inner tasks.switch (tasks.switch + 4 * 9) 0 plan whole (omega arith) (omega arith)) (view_held u 9 (lit< tt) (spelling (row (codes "jne") (codes "Ds1, sk4, T") Brc 223 1) (fields_in (jne 0 n 4))) refl refl refl refl)
 
   pub view_code_10 : (u : ℕ) → IsCode (view_image_of image tasks u) plan (tasks.switch + 4 * 10) (Compute Second 0 (Word 0) (Word 0)) 4
   unfolding bounds shape_of
@@ -256,7 +257,7 @@ module _ (image : ImageData) (plan : PlanData) (tasks : TasksData) (are : AreTas
   pub view_code_11 : (u : ℕ) → IsCode (view_image_of image tasks u) plan (tasks.switch + 4 * 11) (Nothing) 4
   unfolding bounds shape_of
   view_code_11 u =
-      code_at (view_image_of image tasks u) plan (tasks.switch + 4 * 11) (row (codes "nop") [] Sys 13 0) (plain 51) (Nothing) (even_at 11) refl (record { below = record { c = lit< tt; s1 = lit< tt; s2 = lit< tt; n = lit< tt; k = lit< tt }; zero = refl; apart = refl }) refl refl (inner tasks.switch (tasks.switch + 4 * 11) 0 plan whole (omega arith) (omega arith)) (view_held u 11 (lit< tt) (spelling (row (codes "nop") [] Sys 13 0) (fields_in (plain 51))) refl refl refl refl)
+      code_at (view_image_of image tasks u) plan (tasks.switch + 4 * 11) (row (codes "nop") [] Sys 13 0) nop (Nothing) (even_at 11) refl (record { below = record { c = lit< tt; s1 = lit< tt; s2 = lit< tt; n = lit< tt; k = lit< tt }; zero = refl; apart = refl }) refl refl (inner tasks.switch (tasks.switch + 4 * 11) 0 plan whole (omega arith) (omega arith)) (view_held u 11 (lit< tt) (spelling (row (codes "nop") [] Sys 13 0) (fields_in nop)) refl refl refl refl)
 
   pub view_code_12 : (u : ℕ) → IsCode (view_image_of image tasks u) plan (tasks.switch + 4 * 12) (Scaled 19 18 0 2) 4
   unfolding bounds shape_of
@@ -271,22 +272,22 @@ module _ (image : ImageData) (plan : PlanData) (tasks : TasksData) (are : AreTas
   pub view_code_14 : (u : ℕ) → IsCode (view_image_of image tasks u) plan (tasks.switch + 4 * 14) (Nothing) 4
   unfolding bounds shape_of
   view_code_14 u =
-      code_at (view_image_of image tasks u) plan (tasks.switch + 4 * 14) (row (codes "nop") [] Sys 13 0) (plain 51) (Nothing) (even_at 14) refl (record { below = record { c = lit< tt; s1 = lit< tt; s2 = lit< tt; n = lit< tt; k = lit< tt }; zero = refl; apart = refl }) refl refl (inner tasks.switch (tasks.switch + 4 * 14) 0 plan whole (omega arith) (omega arith)) (view_held u 14 (lit< tt) (spelling (row (codes "nop") [] Sys 13 0) (fields_in (plain 51))) refl refl refl refl)
+      code_at (view_image_of image tasks u) plan (tasks.switch + 4 * 14) (row (codes "nop") [] Sys 13 0) nop (Nothing) (even_at 14) refl (record { below = record { c = lit< tt; s1 = lit< tt; s2 = lit< tt; n = lit< tt; k = lit< tt }; zero = refl; apart = refl }) refl refl (inner tasks.switch (tasks.switch + 4 * 14) 0 plan whole (omega arith) (omega arith)) (view_held u 14 (lit< tt) (spelling (row (codes "nop") [] Sys 13 0) (fields_in nop)) refl refl refl refl)
 
   pub view_code_15 : (u : ℕ) → IsCode (view_image_of image tasks u) plan (tasks.switch + 4 * 15) (Nothing) 4
   unfolding bounds shape_of
   view_code_15 u =
-      code_at (view_image_of image tasks u) plan (tasks.switch + 4 * 15) (row (codes "isync") [] Sys 13 19) (plain 59) (Nothing) (even_at 15) refl (record { below = record { c = lit< tt; s1 = lit< tt; s2 = lit< tt; n = lit< tt; k = lit< tt }; zero = refl; apart = refl }) refl refl (inner tasks.switch (tasks.switch + 4 * 15) 0 plan whole (omega arith) (omega arith)) (view_held u 15 (lit< tt) (spelling (row (codes "isync") [] Sys 13 19) (fields_in (plain 59))) refl refl refl refl)
+      code_at (view_image_of image tasks u) plan (tasks.switch + 4 * 15) (row (codes "isync") [] Sys 13 19) isync (Nothing) (even_at 15) refl (record { below = record { c = lit< tt; s1 = lit< tt; s2 = lit< tt; n = lit< tt; k = lit< tt }; zero = refl; apart = refl }) refl refl (inner tasks.switch (tasks.switch + 4 * 15) 0 plan whole (omega arith) (omega arith)) (view_held u 15 (lit< tt) (spelling (row (codes "isync") [] Sys 13 19) (fields_in isync)) refl refl refl refl)
 
   pub view_code_16 : (u : ℕ) → IsCode (view_image_of image tasks u) plan (tasks.switch + 4 * 16) (Rslcx) 4
   unfolding bounds shape_of
   view_code_16 u =
-      code_at (view_image_of image tasks u) plan (tasks.switch + 4 * 16) (row (codes "rslcx") [] Sys 13 9) (plain 55) (Rslcx) (even_at 16) refl (record { below = record { c = lit< tt; s1 = lit< tt; s2 = lit< tt; n = lit< tt; k = lit< tt }; zero = refl; apart = refl }) refl refl (inner tasks.switch (tasks.switch + 4 * 16) 0 plan whole (omega arith) (omega arith)) (view_held u 16 (lit< tt) (spelling (row (codes "rslcx") [] Sys 13 9) (fields_in (plain 55))) refl refl refl refl)
+      code_at (view_image_of image tasks u) plan (tasks.switch + 4 * 16) (row (codes "rslcx") [] Sys 13 9) rslcx (Rslcx) (even_at 16) refl (record { below = record { c = lit< tt; s1 = lit< tt; s2 = lit< tt; n = lit< tt; k = lit< tt }; zero = refl; apart = refl }) refl refl (inner tasks.switch (tasks.switch + 4 * 16) 0 plan whole (omega arith) (omega arith)) (view_held u 16 (lit< tt) (spelling (row (codes "rslcx") [] Sys 13 9) (fields_in rslcx)) refl refl refl refl)
 
   pub view_code_17 : (u : ℕ) → IsCode (view_image_of image tasks u) plan (tasks.switch + 4 * 17) (Ret) 4
   unfolding bounds shape_of
   view_code_17 u =
-      code_at (view_image_of image tasks u) plan (tasks.switch + 4 * 17) (row (codes "ret") [] Sys 13 6) (plain 52) (Ret) (even_at 17) refl (record { below = record { c = lit< tt; s1 = lit< tt; s2 = lit< tt; n = lit< tt; k = lit< tt }; zero = refl; apart = refl }) refl refl (inner tasks.switch (tasks.switch + 4 * 17) 0 plan whole (omega arith) (omega arith)) (view_held u 17 (lit< tt) (spelling (row (codes "ret") [] Sys 13 6) (fields_in (plain 52))) refl refl refl refl)
+      code_at (view_image_of image tasks u) plan (tasks.switch + 4 * 17) (row (codes "ret") [] Sys 13 6) ret (Ret) (even_at 17) refl (record { below = record { c = lit< tt; s1 = lit< tt; s2 = lit< tt; n = lit< tt; k = lit< tt }; zero = refl; apart = refl }) refl refl (inner tasks.switch (tasks.switch + 4 * 17) 0 plan whole (omega arith) (omega arith)) (view_held u 17 (lit< tt) (spelling (row (codes "ret") [] Sys 13 6) (fields_in ret)) refl refl refl refl)
 
   -- each of them
   pub some_view_code : (u i : ℕ) → i < 18 → (shape : Shape) × IsCode (view_image_of image tasks u) plan (tasks.switch + 4 * i) shape 4

@@ -1,6 +1,6 @@
 -- The routine's instructions 2 to 13, one after another: what registers and the block hold.
 use Rattle.std.proofs.Common.{◌≡◌, ◌≢◌, ℕ, suc, ◌+◌, ◌-◌, ◌*◌, ◌%◌, ◌^◌, ◌<◌, ◌≤◌, inl, inr, Bool, true, false, not, ◌&&◌, cond, length, set, get_or-set_same, get_or-set_other, Ok, refl, sym, ap, ◌∙◌, subst, arith, nat_lt}
-use Rattle.std.proofs.lemmas.Bool.{cases_eq, eq-eqb, ne_eqb, lt-ltb, ltb-true, ltb-false}
+use Rattle.std.proofs.lemmas.Bool.{cases_eq, eq-eqb, ne_eqb, lt-ltb}
 use Rattle.csa_chain.specs.MemoryBytes.{Memory, is_mapped, load_number, with_bytes}
 use Rattle.csa_chain.proofs.SeveralLaws.{cond_same, cond_other}
 use Rattle.tc_isa.specs.Arithmetic.{sign_extended, alu_of, taken_of}
@@ -18,7 +18,8 @@ use Rattle.tc_machine.specs.Fetching.{fetched}
 use Rattle.tc_machine.specs.Stepping.{is_taken, step}
 use Rattle.tc_machine.proofs.Steps.{with_event, step_does}
 use Rattle.task_chains.specs.Tasks.{TasksData, AreTasks, count, block_size}
-use Rattle.task_chains.specs.SwitchRoutine.{hi, lo}
+use Rattle.tc_isa.specs.NamedInstructions.{upper_half, lower_half}
+use Rattle.tc_isa.proofs.WordHalves.{joined}
 use Rattle.task_chains.specs.TaskStarts.{block_word}
 use Rattle.task_chains.proofs.RoutineSteps.{block_read, block_written, block_kept}
 use Rattle.task_chains.proofs.Invariant.{after, InRoutine}
@@ -62,14 +63,6 @@ module _ (tasks : TasksData) (are : AreTasks tasks) (fits : tasks.block + block_
       let few = are.few in
       let small : n % 2 ^ 4 ≡ n = omega arith in
       ap (sign_extended 4) small ∙ ap (λ t. cond t n (n + 2 ^ 32 - 2 ^ 4)) (lt-ltb n (2 ^ 3) (omega arith))
-
-  -- the two halves give the word
-  two_halves : (x : ℕ) → x < 2 ^ 32 → (hi x * 2 ^ 16 % 2 ^ 32 + sign_extended 16 (lo x % 2 ^ 16)) % 2 ^ 32 ≡ x
-  two_halves x lt = by_test (nat_lt (lo x % 2 ^ 16) (2 ^ 15)) refl
-    where
-      by_test : (t : Bool) → nat_lt (lo x % 2 ^ 16) (2 ^ 15) ≡ t → (hi x * 2 ^ 16 % 2 ^ 32 + cond t (lo x % 2 ^ 16) (lo x % 2 ^ 16 + 2 ^ 32 - 2 ^ 16)) % 2 ^ 32 ≡ x
-      by_test true h = let low = ltb-true (lo x % 2 ^ 16) (2 ^ 15) h in omega arith
-      by_test false h = let high = ltb-false (lo x % 2 ^ 16) (2 ^ 15) h in omega arith
 
   pub after_le : after n u ≤ n
   after_le = elim (cases_eq (suc u) n) [ inl last ↦ (let f = cond_same (suc u) n 0 (suc u) last in omega arith) | inr more ↦ (let f = cond_other (suc u) n 0 (suc u) more in omega arith) ]
@@ -153,19 +146,19 @@ module _ (tasks : TasksData) (are : AreTasks tasks) (fits : tasks.block + block_
       let done : does m e (Load 1 (Reg 19) 0 4 false false) 4 ≡ x = ap (λ t. cond t (misaligned m) (record (advanced 4 m) { d = set m.d 1 (load_number m.mem e.input (moved (reg m 19) 0) 4) })) (no_trap (moved (reg m 19) 0) (ap (λ y. y % 4) place ∙ four_place (after n u))) in
       to_next 14 x (none_of r.off) (Load 1 (Reg 19) 0 4 false false) at done running (record { pc = (let p = r.pc in let f = fits_pc in omega arith); off = r.off; high = λ a. absurd (omega arith); block = λ a. r.block (omega arith); own = λ a b. absurd (omega arith); own_word = λ a b. absurd (omega arith); pcxi = λ a. absurd (omega arith); stored = λ a. r.stored (omega arith); one_on = λ a b. absurd (omega arith); at_end = λ a. absurd (omega arith); next = λ a. get_or-set_other m.d 1 0 (load_number m.mem e.input (moved (reg m 19) 0) 4) 0 (λ e. omega arith) ∙ r.next (omega arith); old_current = λ a. absurd (omega arith); new_current = λ a. r.new_current (omega arith); next_word = λ a. absurd (omega arith); next_pcxi = λ a. get_or-set_same m.d 1 (load_number m.mem e.input (moved (reg m 19) 0) 4) 0 (omega arith) ∙ ap (λ y. load_number m.mem e.input y 4) place ∙ block_read tasks m.mem fits here e.input (after n u) after_le ∙ more })
 
-  pub next_2 : InRoutine tasks m u 2 word_of → fetched m ≡ Ok (Compute Second 18 (Word 0) (Word (hi tasks.block * 2 ^ 16 % 2 ^ 32)), 4) → InRoutine tasks (step m e) u 3 word_of
+  pub next_2 : InRoutine tasks m u 2 word_of → fetched m ≡ Ok (Compute Second 18 (Word 0) (Word (upper_half tasks.block * 2 ^ 16 % 2 ^ 32)), 4) → InRoutine tasks (step m e) u 3 word_of
   unfolding does alu_of taken_of
   next_2 r at =
-      let x : Machine = record (advanced 4 m) { a = set m.a 2 (hi tasks.block * 2 ^ 16 % 2 ^ 32) } in
-      let done : does m e (Compute Second 18 (Word 0) (Word (hi tasks.block * 2 ^ 16 % 2 ^ 32))) 4 ≡ x = refl in
-      to_next 3 x (none_of r.off) (Compute Second 18 (Word 0) (Word (hi tasks.block * 2 ^ 16 % 2 ^ 32))) at done running (record { pc = (let p = r.pc in let f = fits_pc in omega arith); off = r.off; high = λ a. get_or-set_same m.a 2 (hi tasks.block * 2 ^ 16 % 2 ^ 32) 0 (omega arith); block = λ a. absurd (omega arith); own = λ a b. absurd (omega arith); own_word = λ a b. absurd (omega arith); pcxi = λ a. absurd (omega arith); stored = λ a. absurd (omega arith); one_on = λ a b. absurd (omega arith); at_end = λ a. absurd (omega arith); next = λ a. absurd (omega arith); old_current = λ a. r.old_current (omega arith); new_current = λ a. absurd (omega arith); next_word = λ a. absurd (omega arith); next_pcxi = λ a. absurd (omega arith) })
+      let x : Machine = record (advanced 4 m) { a = set m.a 2 (upper_half tasks.block * 2 ^ 16 % 2 ^ 32) } in
+      let done : does m e (Compute Second 18 (Word 0) (Word (upper_half tasks.block * 2 ^ 16 % 2 ^ 32))) 4 ≡ x = refl in
+      to_next 3 x (none_of r.off) (Compute Second 18 (Word 0) (Word (upper_half tasks.block * 2 ^ 16 % 2 ^ 32))) at done running (record { pc = (let p = r.pc in let f = fits_pc in omega arith); off = r.off; high = λ a. get_or-set_same m.a 2 (upper_half tasks.block * 2 ^ 16 % 2 ^ 32) 0 (omega arith); block = λ a. absurd (omega arith); own = λ a b. absurd (omega arith); own_word = λ a b. absurd (omega arith); pcxi = λ a. absurd (omega arith); stored = λ a. absurd (omega arith); one_on = λ a b. absurd (omega arith); at_end = λ a. absurd (omega arith); next = λ a. absurd (omega arith); old_current = λ a. r.old_current (omega arith); new_current = λ a. absurd (omega arith); next_word = λ a. absurd (omega arith); next_pcxi = λ a. absurd (omega arith) })
 
-  pub next_3 : InRoutine tasks m u 3 word_of → fetched m ≡ Ok (Compute Add 18 (Reg 18) (Word (sign_extended 16 (lo tasks.block % 2 ^ 16))), 4) → InRoutine tasks (step m e) u 4 word_of
+  pub next_3 : InRoutine tasks m u 3 word_of → fetched m ≡ Ok (Compute Add 18 (Reg 18) (Word (sign_extended 16 (lower_half tasks.block % 2 ^ 16))), 4) → InRoutine tasks (step m e) u 4 word_of
   unfolding does alu_of taken_of
   next_3 r at =
-      let x : Machine = record (advanced 4 m) { a = set m.a 2 ((reg m 18 + sign_extended 16 (lo tasks.block % 2 ^ 16)) % 2 ^ 32) } in
-      let done : does m e (Compute Add 18 (Reg 18) (Word (sign_extended 16 (lo tasks.block % 2 ^ 16)))) 4 ≡ x = refl in
-      to_next 4 x (none_of r.off) (Compute Add 18 (Reg 18) (Word (sign_extended 16 (lo tasks.block % 2 ^ 16)))) at done running (record { pc = (let p = r.pc in let f = fits_pc in omega arith); off = r.off; high = λ a. absurd (omega arith); block = λ a. get_or-set_same m.a 2 ((reg m 18 + sign_extended 16 (lo tasks.block % 2 ^ 16)) % 2 ^ 32) 0 (omega arith) ∙ ap (λ y. (y + sign_extended 16 (lo tasks.block % 2 ^ 16)) % 2 ^ 32) (r.high refl) ∙ two_halves tasks.block (omega arith); own = λ a b. absurd (omega arith); own_word = λ a b. absurd (omega arith); pcxi = λ a. absurd (omega arith); stored = λ a. absurd (omega arith); one_on = λ a b. absurd (omega arith); at_end = λ a. absurd (omega arith); next = λ a. absurd (omega arith); old_current = λ a. r.old_current (omega arith); new_current = λ a. absurd (omega arith); next_word = λ a. absurd (omega arith); next_pcxi = λ a. absurd (omega arith) })
+      let x : Machine = record (advanced 4 m) { a = set m.a 2 ((reg m 18 + sign_extended 16 (lower_half tasks.block % 2 ^ 16)) % 2 ^ 32) } in
+      let done : does m e (Compute Add 18 (Reg 18) (Word (sign_extended 16 (lower_half tasks.block % 2 ^ 16)))) 4 ≡ x = refl in
+      to_next 4 x (none_of r.off) (Compute Add 18 (Reg 18) (Word (sign_extended 16 (lower_half tasks.block % 2 ^ 16)))) at done running (record { pc = (let p = r.pc in let f = fits_pc in omega arith); off = r.off; high = λ a. absurd (omega arith); block = λ a. get_or-set_same m.a 2 ((reg m 18 + sign_extended 16 (lower_half tasks.block % 2 ^ 16)) % 2 ^ 32) 0 (omega arith) ∙ ap (λ y. (y + sign_extended 16 (lower_half tasks.block % 2 ^ 16)) % 2 ^ 32) (r.high refl) ∙ joined tasks.block (omega arith); own = λ a b. absurd (omega arith); own_word = λ a b. absurd (omega arith); pcxi = λ a. absurd (omega arith); stored = λ a. absurd (omega arith); one_on = λ a b. absurd (omega arith); at_end = λ a. absurd (omega arith); next = λ a. absurd (omega arith); old_current = λ a. r.old_current (omega arith); new_current = λ a. absurd (omega arith); next_word = λ a. absurd (omega arith); next_pcxi = λ a. absurd (omega arith) })
 
   pub next_9_last : suc u ≡ n → InRoutine tasks m u 9 word_of → fetched m ≡ Ok (Branch cond.Ne 0 (Word (sign_extended 4 (n % 2 ^ 4))) 8 false, 4) → InRoutine tasks (step m e) u 10 word_of
   unfolding does alu_of taken_of

@@ -37,7 +37,7 @@ use Rattle.cfg_recover.specs.Code.{IsCode}
 use Rattle.cfg_recover.specs.StepEdges.{to, way_by}
 use Rattle.cfg_recover.proofs.Writes.{store_keeps_areas}
 use Rattle.task_chains.specs.Tasks.{TasksData, count, block_size}
-use Rattle.task_chains.specs.SwitchRoutine.{hi, lo}
+use Rattle.tc_isa.specs.NamedInstructions.{upper_half, lower_half}
 use Rattle.task_chains.specs.Views.{view_image_of, view_plan_of}
 use Rattle.task_chains.specs.TaskStarts.{block_word}
 use Rattle.task_chains.proofs.Alike.{seen_as, Alike}
@@ -234,16 +234,16 @@ module _ {image : ImageData} {plan : PlanData} {tasks : TasksData} {certs : ℕ 
 
     turn_2 : InRoutine tasks m u 2 word_of → Goes image plan tasks needs (step m e)
     turn_2 r =
-        let shape = Compute Second 18 (Word 0) (Word (hi tasks.block * 2 ^ 16 % 2 ^ 32)) in
+        let shape = Compute Second 18 (Word 0) (Word (upper_half tasks.block * 2 ^ 16 % 2 ^ 32)) in
         let c = code_2 image plan tasks wd.are wd.has in
-        same_turn 2 r 3 (omega arith) (omega arith) shape c (view_code_2 image plan tasks wd.are wd.has u) tt (λ q. refl) (plain-compute m mem pcxi fcx e e Second 18 (Word 0) (Word (hi tasks.block * 2 ^ 16 % 2 ^ 32)) 4)
+        same_turn 2 r 3 (omega arith) (omega arith) shape c (view_code_2 image plan tasks wd.are wd.has u) tt (λ q. refl) (plain-compute m mem pcxi fcx e e Second 18 (Word 0) (Word (upper_half tasks.block * 2 ^ 16 % 2 ^ 32)) 4)
         (next_2 tasks wd.are block_fits routine_fits m e u word_of k.running dl al block_here own (k.words).pcxi r (fetched_here 2 r shape c))
 
     turn_3 : InRoutine tasks m u 3 word_of → Goes image plan tasks needs (step m e)
     turn_3 r =
-        let shape = Compute Add 18 (Reg 18) (Word (sign_extended 16 (lo tasks.block % 2 ^ 16))) in
+        let shape = Compute Add 18 (Reg 18) (Word (sign_extended 16 (lower_half tasks.block % 2 ^ 16))) in
         let c = code_3 image plan tasks wd.are wd.has in
-        same_turn 3 r 4 (omega arith) (omega arith) shape c (view_code_3 image plan tasks wd.are wd.has u) tt (λ q. refl) (plain-compute m mem pcxi fcx e e Add 18 (Reg 18) (Word (sign_extended 16 (lo tasks.block % 2 ^ 16))) 4)
+        same_turn 3 r 4 (omega arith) (omega arith) shape c (view_code_3 image plan tasks wd.are wd.has u) tt (λ q. refl) (plain-compute m mem pcxi fcx e e Add 18 (Reg 18) (Word (sign_extended 16 (lower_half tasks.block % 2 ^ 16))) 4)
         (next_3 tasks wd.are block_fits routine_fits m e u word_of k.running dl al block_here own (k.words).pcxi r (fetched_here 3 r shape c))
 
     no_trap_at : (x j : ℕ) → x ≡ tasks.block + 4 * j → traps_at e x 4 ≡ false

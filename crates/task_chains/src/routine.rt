@@ -2,25 +2,18 @@
 ghost use Rattle.std.specs.Prelude.{◌≡◌, ◌≤◌, ◌<◌, ◌+◌, ◌*◌, ◌/◌, ◌%◌, ◌^◌, ◌↔◌, IsTrue, IfNone, IfSome, slice_index, ◌-◌, ℕ};
 ghost use Rattle.std.specs.List.{flat_map};
 ghost use Rattle.tcd_base.specs.Bytes.{four_bytes};
-ghost use Rattle.task_chains.specs.SwitchRoutine.{hi, lo, routine_of, bytes_of, routine_bytes, HasRoutineByte, HasRoutine, IsRoutineFault};
+ghost use Rattle.task_chains.specs.SwitchRoutine.{routine_of, bytes_of, routine_bytes, HasRoutineByte, HasRoutine, IsRoutineFault};
 ghost use Rattle.tcd_base.specs.Ranges.{IsInOne};
 
 use crate::Tasks;
 use arrayvec::ArrayVec;
 use elf_image::Image;
+use tc_isa::{lower_half, upper_half};
 use tcd_base::any_holds;
 use tcd_plan::Plan;
 
 /// The number of bytes of the routine: 18 instructions of four bytes.
 pub(crate) const ROUTINE_BYTES: u32 = 72;
-
-/// Returns the upper half of an address, plus one if the lower half is negative as a signed number.
-pub(crate) fn upper_half(x: u32) -> u32
-    ensures is { result ≡ hi x }
-    ensures small { result < 2 ^ 16 }
-{
-    ((u64::from(x) + 0x8000) / 0x1_0000 % 0x1_0000) as u32
-}
 
 /// Returns the bits of a 16-bit offset in the word of an instruction `lea.l`, `ld.w.l` or `st.w.l`.
 pub(crate) fn offset_bits(k: u32) -> u32
@@ -36,7 +29,7 @@ fn routine_words(n: u32, b: u32) -> [u32; 18]
     ensures { flat_map four_bytes result ≡ bytes_of (routine_of n b) }
 {
     let upper = upper_half(b);
-    let lower = offset_bits(b % 0x1_0000);
+    let lower = offset_bits(lower_half(b));
     let count = offset_bits(4 * n);
     [
         0x0340_000D, // disable

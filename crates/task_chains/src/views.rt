@@ -5,14 +5,15 @@ ghost use Rattle.task_chains.specs.Tasks.{count};
 ghost use Rattle.task_chains.specs.Views.{FitPlan, with_routine_from, view_segment, view_image_of, view_plan_of};
 ghost use Rattle.std.specs.List.{flat_map};
 ghost use Rattle.tcd_base.specs.Bytes.{four_bytes};
-ghost use Rattle.task_chains.specs.SwitchRoutine.{hi, lo, view_routine_of, bytes_of, view_routine_bytes};
+ghost use Rattle.task_chains.specs.SwitchRoutine.{view_routine_of, bytes_of, view_routine_bytes};
 
 use crate::Tasks;
 use crate::devices::devices_without;
-use crate::routine::{bytes_of_words, offset_bits, upper_half};
+use crate::routine::{bytes_of_words, offset_bits};
 use arrayvec::ArrayVec;
 use elf_image::{Image, Segment, read_segments};
 use std::alloc::Global;
+use tc_isa::{lower_half, upper_half};
 use tcd_base::{NoMemory, Range};
 use tcd_plan::Plan;
 
@@ -111,7 +112,7 @@ fn view_words(n: u32, b: u32) -> [u32; 18]
     ensures { flat_map four_bytes result ≡ bytes_of (view_routine_of n b) }
 {
     let upper = upper_half(b);
-    let lower = offset_bits(b % 0x1_0000);
+    let lower = offset_bits(lower_half(b));
     [
         0x0340_000D, // disable
         0x0200_000D, // svlcx

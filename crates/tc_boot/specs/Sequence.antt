@@ -1,78 +1,14 @@
 -- The boot sequence of a plan and an entry: 56 instructions of four bytes each.
-use Rattle.std.specs.Prelude.{◌+◌, ◌-◌, ◌*◌, ◌/◌, ◌%◌, ◌^◌, ℕ, if◌then◌else◌, List, ◌∷◌, ◌++◌, slice_index, slice_get, []}
+use Rattle.std.specs.Prelude.{◌+◌, ◌-◌, ◌*◌, ◌^◌, ℕ, if◌then◌else◌, List, ◌∷◌, ◌++◌, slice_index, []}
 use Rattle.std.specs.List.{flat_map}
 use Rattle.elf_image.specs.Images.{ImageData}
 use Rattle.tcd_plan.specs.PlanData.{PlanData}
 use Rattle.tc_isa.specs.Insts.{InstData}
-use Rattle.tc_isa.specs.Rows.{listed}
-use Rattle.tc_isa.specs.Spelling.{spelling_by}
+use Rattle.tc_isa.specs.NamedInstructions.{movh, addi, mov, movh_a, mtcr, mov_a, ji, isync, st_w_after, st_w_l, lea_l, loop_at, upper_half, lower_half}
+use Rattle.tc_isa.specs.Spelling.{instruction_bytes}
 use Rattle.tc_machine.specs.PlanAreas.{first_link}
 
--- ---- the instructions in use, by their rows in the instruction table and their fields; the names
--- are the architecture's
--- an instruction without a bit number
-abbrev pub inst : ℕ → ℕ → ℕ → ℕ → ℕ → InstData
-inst row c s1 s2 k = record { row = row; c = c; s1 = s1; s2 = s2; n = 0; k = k }
-
--- movh Dc, k: the constant in the upper half
-abbrev pub movh : ℕ → ℕ → InstData
-movh c k = inst 5 c 0 0 k
-
--- addi Dc, Ds1, k: the sum with a signed constant of 16 bits
-abbrev pub addi : ℕ → ℕ → ℕ → InstData
-addi c s1 k = inst 0 c s1 0 k
-
--- mov Dc, k: a signed constant of 16 bits
-abbrev pub mov : ℕ → ℕ → InstData
-mov c k = inst 3 c 0 0 k
-
--- movh.a Ac, k: the constant in the upper half of an address register
-abbrev pub movh_a : ℕ → ℕ → InstData
-movh_a c k = inst 6 c 0 0 k
-
--- mtcr number, Ds1: a data register to the core register of that number
-abbrev pub mtcr : ℕ → ℕ → InstData
-mtcr number s1 = inst 8 0 s1 0 number
-
--- mov.a Ac, Ds2: a data register to an address register
-abbrev pub mov_a : ℕ → ℕ → InstData
-mov_a c s2 = inst 48 c 0 s2 0
-
--- ji As1: a jump to the address in a register
-abbrev pub ji : ℕ → InstData
-ji s1 = inst 50 0 s1 0 0
-
--- isync: what was written to core registers holds from here on
-abbrev pub isync : InstData
-isync = inst 59 0 0 0 0
-
--- st.w [As2+]k, Ds1: a word is stored, and the constant added to its address register
-abbrev pub st_w_after : ℕ → ℕ → ℕ → InstData
-st_w_after s2 k s1 = inst 74 0 s1 s2 k
-
--- st.w [As2]k, Ds1 with an offset of 16 bits
-abbrev pub st_w_l : ℕ → ℕ → ℕ → InstData
-st_w_l s2 k s1 = inst 83 0 s1 s2 k
-
--- lea As1, [As2]k with an offset of 16 bits
-abbrev pub lea_l : ℕ → ℕ → ℕ → InstData
-lea_l s1 s2 k = inst 84 0 s1 s2 k
-
--- loop As2: subtracts one from a register, and jumps by twice the signed field k unless the
--- register was 0
-abbrev pub loop_at : ℕ → ℕ → InstData
-loop_at s2 k = inst 100 0 0 s2 k
-
--- ---- words in halves
--- the lower half of a word
-abbrev pub lower_half : ℕ → ℕ
-lower_half x = x % 2 ^ 16
-
--- The upper half of a word, plus one if the lower half is negative as a signed number. With the
--- signed lower half added, it is the word.
-abbrev pub upper_half : ℕ → ℕ
-upper_half x = (x + 0x8000) / 2 ^ 16 % 2 ^ 16
-
+-- ---- words into registers
 -- sets a core register to x, by D0; the register holds x from the next instruction on
 abbrev pub set_core : ℕ → ℕ → List InstData
 set_core number x = movh 0 (upper_half x) ∷ addi 0 0 (lower_half x) ∷ mtcr number 0 ∷ isync ∷ []
@@ -128,13 +64,9 @@ boot_sequence plan entry = core_part plan ++ first_part plan ++ link_part ++ las
 
 -- ---- its bytes
 
--- the bytes of an instruction
-abbrev pub spelling_of : InstData → List ℕ
-spelling_of i = spelling_by (slice_get listed i.row) i
-
 -- the bytes of the sequence
 abbrev pub boot_bytes_of : PlanData → ℕ → List ℕ
-boot_bytes_of plan entry = flat_map spelling_of (boot_sequence plan entry)
+boot_bytes_of plan entry = flat_map instruction_bytes (boot_sequence plan entry)
 
 -- the number of events of the sequence: three for each CSA in the loop, and one for each of the
 -- other 53 instructions

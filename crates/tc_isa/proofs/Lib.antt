@@ -3,3 +3,4 @@ pub mod TableFacts
 pub mod Made
 pub mod Shaped
 pub mod ShapeBounds
+pub mod WordHalves

@@ -3,6 +3,7 @@ pub mod Rows
 pub mod Forms
 pub mod ValidRows
 pub mod Insts
+pub mod NamedInstructions
 pub mod Spelling
 pub mod Arithmetic
 pub mod Meanings

@@ -1,7 +1,7 @@
 -- The bytes of instructions (TriCore 1 architecture manual, volume 2, instruction formats).
-use Rattle.std.specs.Prelude.{◌≡◌, ◌≢◌, ◌≤◌, ℕ, List, ◌++◌, length, take, Bool, true, false, Option, Some, None, ◌+◌, ◌*◌, ◌/◌, ◌%◌, ◌^◌, []}
+use Rattle.std.specs.Prelude.{◌≡◌, ◌≢◌, ◌≤◌, ℕ, List, ◌++◌, length, take, slice_get, Bool, true, false, Option, Some, None, ◌+◌, ◌*◌, ◌/◌, ◌%◌, ◌^◌, []}
 use Rattle.tc_isa.specs.Insts.{InstData, IsInst, fields_in}
-use Rattle.tc_isa.specs.Rows.{RowData, is_long}
+use Rattle.tc_isa.specs.Rows.{RowData, listed, is_long}
 use Rattle.tc_isa.specs.declared.fields.Fields.{Fields}
 use Rattle.tcd_base.specs.Bytes.{four_bytes, two_bytes}
 use Rattle.tc_isa.specs.declared.table.Form.{Form}
@@ -65,7 +65,6 @@ abbrev pub spelling_by : Option RowData → InstData → List ℕ
 spelling_by None i = []
 spelling_by (Some r) i = spelling r (fields_in i)
 
--- the bytes of an instruction, by its row
-abbrev pub spelled_by : Option RowData → InstData → List ℕ
-spelled_by None i = []
-spelled_by (Some row) i = spelling row (fields_in i)
+-- the bytes of an instruction
+abbrev pub instruction_bytes : InstData → List ℕ
+instruction_bytes i = spelling_by (slice_get listed i.row) i
