@@ -1,4 +1,5 @@
--- The file of an image: the ELF header, a program header for each segment, and the segments' bytes without gaps.
+-- The file of an image: the ELF header, a program header for each segment, and the segments' bytes
+-- without gaps.
 use Rattle.std.specs.Prelude.{ℕ, ◌+◌, ◌*◌, List, [], ◌∷◌, ◌++◌, length}
 use Rattle.std.specs.Int.{w16, w32, to_le_bytes}
 use Rattle.std.specs.List.{flat_map}

@@ -21,8 +21,8 @@ pub(crate) fn count_same_before(bytes: &[u8], x: usize, y: usize, end: usize) ->
     count_same(bytes, x, y, n)
 }
 
-/// Counts the bytes that are equal at two places: many as slices, else eight at a time, then byte by
-/// byte. The contract says that so many are equal, not that the next ones differ.
+/// Counts equal bytes at two places: many as slices, else eight at a time, then byte by byte. The
+/// contract says that the counted bytes are equal, not that the next ones differ.
 pub(crate) fn count_same(bytes: &[u8], x: usize, y: usize, n: usize) -> usize
     requires first { x + n ≤ length bytes.now }
     requires second { y + n ≤ length bytes.now }
@@ -40,7 +40,7 @@ pub(crate) fn count_same(bytes: &[u8], x: usize, y: usize, n: usize) -> usize
     same_from(bytes, x, y, from, n)
 }
 
-/// From so many bytes on they are compared as slices first. That takes 17 instructions for 64
+/// At least this number of bytes is compared as slices first. That takes 17 instructions for 64
 /// bytes, but doesn't tell where they differ.
 const MANY_BYTES: usize = 1024;
 

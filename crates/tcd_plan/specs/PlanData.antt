@@ -13,7 +13,8 @@ use Rattle.tcd_plan.specs.JsonValues.{word_in}
 use Rattle.tcd_plan.specs.declared.plans.PlanKey.{PlanKey}
 use Rattle.tcd_plan.specs.declared.key_table.Holder.TheVariants.{Rom, Ram, Devices}
 
--- a plan: the board's memory and devices, the save areas, the start state, the interrupts, and the traps
+-- a plan: the board's memory and devices, the save areas, the start state, the interrupts, and the
+-- traps
 pub record PlanData : Type 0 where
   pub rom : List Range
   pub ram : List Range

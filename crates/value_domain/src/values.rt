@@ -256,8 +256,8 @@ pub fn set_word(out: &mut Val, x: u32)
     }
 }
 
-// `one_from_span`, `set_from_span` and `set_from_set` write all bytes of a value. They are functions
-// of their own, so that their callers need no stack for a value.
+// `one_from_span`, `set_from_span` and `set_from_set` write all bytes of a value. Each is a
+// function of its own, so that its callers need no stack for a value.
 
 #[inline(never)]
 fn one_from_span(out: &mut Val, x: u32)
