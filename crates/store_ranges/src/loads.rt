@@ -3,7 +3,7 @@ ghost use Rattle.std.specs.Prelude.{◌≡◌, ◌≤◌, ◌<◌, ◌+◌, ◌-
 ghost use Rattle.std.specs.List.{flat_map};
 ghost use Rattle.csa_chain.specs.MemoryBytes as memory;
 ghost use Rattle.tcd_base.specs.Ranges.{is_within};
-ghost use Rattle.value_domain.specs.Values.{IsValue, cover, members, range};
+ghost use Rattle.value_domain.specs.Values.{IsValue, cover, members};
 ghost use Rattle.value_domain.specs.declared.values.Val.TheVariants.{Set, Span};
 ghost use Rattle.store_ranges.specs.Accesses.{IsSize};
 ghost use Rattle.store_ranges.specs.Loads as loads;
@@ -15,7 +15,7 @@ use elf_image::Image;
 use tcd_base::sext;
 use tcd_plan::{Device, Plan};
 use value_domain::{
-    Bounds, Val, add_words, cover, extent_of, join, set_span, set_words, write_any,
+    Bounds, Val, add_value, add_words, extent_of, set_span, set_words, write_any, write_cover,
 };
 
 /// How many bytes a load takes, and whether it extends their sign.
@@ -154,7 +154,7 @@ fn write_answers(b: &Bounds, device: Option<Device>, load: LoadKind, out: &mut V
     ensures some { 1 ≤ length (loads.answers load.size load.signed device) }
 {
     match device {
-        Some(device) => write_between(b, device.lo, device.hi, out),
+        Some(device) => write_cover(b, device.lo, device.hi, 0, out),
         None => write_anything(b, load, out),
     }
 }
@@ -172,18 +172,7 @@ fn add_answers(b: &Bounds, device: Option<Device>, load: LoadKind, out: &mut Val
 {
     let mut answers = Val::any();
     write_answers(b, device, load, &mut answers);
-    *out = join(b, out, &answers);
-}
-
-/// Overwrites a value with the cover of the words from `lo` to `hi`, in a function of its own, so
-/// that its callers need no stack for a value.
-#[inline(never)]
-fn write_between(b: &Bounds, lo: u32, hi: u32, out: &mut Val)
-    requires { lo ≤ hi }
-    ensures cover { out.new ≡ cover b.now (range lo hi 0) }
-    ensures value { IsValue b.now out.new }
-{
-    *out = cover(b, lo, hi, 0);
+    add_value(b, out, &answers);
 }
 
 /// Overwrites a value with the cover of all words that a load of this kind can give.
