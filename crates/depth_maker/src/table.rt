@@ -27,11 +27,12 @@ pub(crate) struct Table {
     pub(crate) near: usize,
 }
 
-/// The greatest number of places to make room for at first: as many as a certificate has points.
+/// The greatest number of places to make room for at first. It is the greatest number of points of
+/// a certificate; exits are places too, so more room may be needed later.
 const MOST_ROOM: usize = 65536;
 
-/// Returns the number of places to make room for at first: the number of 2-byte instructions in all
-/// segments, at most `MOST_ROOM`.
+/// Returns the number of places to make room for at first: the number of halfwords in all segments,
+/// code and data, at most `MOST_ROOM`.
 pub(crate) fn first_room(image: &Image) -> usize {
     let mut room: usize = 0;
     for segment in image.segments.iter() {

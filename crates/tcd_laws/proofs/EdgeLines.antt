@@ -21,7 +21,7 @@ use Rattle.depth_check.proofs.Sound.{accepted_is_safe}
 use Rattle.depth_check.proofs.Held.{edges_are_owed}
 use Rattle.tcd_text.specs.Digits.{hex_digit, hex_byte, hex_word}
 use Rattle.tcd_report.specs.Texts.{kind_text, key_text}
-use Rattle.tcd_report.specs.Graphs.{Arrow, goes, back, line_front, end_to, way_end, arrow_end, line_text, ArePointLines, AreParts, AreJoined, AreNodeLines, AreGraphLines}
+use Rattle.tcd_report.specs.Graphs.{Arrow, goes, back, key_front, line_front, end_to, way_end, arrow_end, line_text, ArePointLines, AreParts, AreJoined, AreNodeLines, AreGraphLines}
 use Rattle.tcd_report.specs.Graphs.EdgeLaws.{EdgesStand}
 use Rattle.tcd_report.proofs.GraphLemmas.EdgeProofs.{edges_stand}
 use Rattle.tcd_laws.specs.EdgesOnLines.{printed_lines, AcceptedEdgesStand}
@@ -87,8 +87,8 @@ key_passes key small =
 
 front_passes : (key : Key) (p : ℕ) → key.prio < 2 ^ 8 → NoFeed (line_front key p)
 front_passes key p small =
-    joined (key_text key) (codes ": " ++ (hex_word p ++ 32 ∷ [])) (key_passes key small)
-    (joined (codes ": ") (hex_word p ++ 32 ∷ []) (record { none = refl }) (joined (hex_word p) (32 ∷ []) (word_passes p) (record { none = refl })))
+    joined (key_front key) (hex_word p ++ 32 ∷ []) (joined (key_text key) (codes ": ") (key_passes key small) (record { none = refl }))
+    (joined (hex_word p) (32 ∷ []) (word_passes p) (record { none = refl }))
 
 -- ---- lines
 -- a text whose only line feed ends it

@@ -39,9 +39,9 @@ pub data Arrow : Type 0 where
 abbrev pub key_front : Key → List ℕ
 key_front key = key_text key ++ codes ": "
 
--- the front of each line of a point: the key, and the point's address
+-- the front of each line of a point: that of its node, and the point's address
 abbrev pub line_front : Key → ℕ → List ℕ
-line_front key p = key_text key ++ (codes ": " ++ (hex_word p ++ 32 ∷ []))
+line_front key p = key_front key ++ (hex_word p ++ 32 ∷ [])
 
 -- the end of a line: its word, and an address
 abbrev pub end_to : List ℕ → ℕ → List ℕ

@@ -1,5 +1,5 @@
 -- The text of a key is ASCII.
-use Rattle.std.proofs.Common.{◌≡◌, ◌==◌, ◌<◌, ◌^◌, ◌++◌, ◌∷◌, [], ℕ, Bool, true, false, ◌&&◌, List, IsAscii, decimal, refl, subst, arith, append_assoc}
+use Rattle.std.proofs.Common.{◌≡◌, ◌==◌, ◌<◌, ◌^◌, ◌++◌, ◌∷◌, [], ℕ, Bool, true, false, ◌&&◌, List, IsAscii, decimal, refl, arith}
 use Rattle.std.specs.Prelude.{codes, nat_lt, if◌then◌else◌}
 use Rattle.std.specs.List.{list_all}
 use Rattle.std.proofs.lemmas.Bool.{ltb-true}
@@ -61,5 +61,4 @@ key_front_ascii key entry prio = IsAscii-append (key_text key) (codes ": ") (key
 
 pub line_front_ascii : (key : Key) (p : ℕ) → p < 2 ^ 32 → IsAscii (key_front key) → IsAscii (line_front key p)
 line_front_ascii key p small is =
-    subst IsAscii (append_assoc (key_text key) (codes ": ") (hex_word p ++ 32 ∷ []))
-    (IsAscii-append (key_front key) (hex_word p ++ 32 ∷ []) is (IsAscii-append (hex_word p) (32 ∷ []) (hex_word-ascii p small) (literal (32 ∷ []) refl)))
+    IsAscii-append (key_front key) (hex_word p ++ 32 ∷ []) is (IsAscii-append (hex_word p) (32 ∷ []) (hex_word-ascii p small) (literal (32 ∷ []) refl))

@@ -1,4 +1,4 @@
--- The handlers of interrupts that are known while IE and CCPN stay, and their lines.
+-- The handlers of the interrupts that may come while IE and CCPN stay the same, and their lines.
 use Rattle.std.specs.Prelude.{◌≡◌, ℕ, ◌+◌, List, ◌++◌, codes, length, take, drop}
 use Rattle.tcd_plan.specs.PlanData.{PlanData}
 use Rattle.value_domain.specs.declared.states.State.{State}
@@ -6,7 +6,7 @@ use Rattle.cfg_recover.specs.Entries.{irqs_of, vectors_in}
 use Rattle.tcd_report.specs.declared.graphs.handlers.Handlers.{Handlers}
 use Rattle.tcd_report.specs.Graphs.{each_once, lines_to}
 
--- these are the lines of handlers with these entries, each with a front of this length
+-- these are the lines of handlers with these entries, all with the same front, of this length
 pub record HasLines (size : ℕ) (entries lines : List ℕ) : Type 0 where
   pub front : List ℕ
   pub sized : length front ≡ size

@@ -19,8 +19,8 @@ use std::alloc::Global;
 use tcd_base::NoMemory;
 use value_domain::State;
 
-/// The addresses where a point goes on: one list for each word of its lines. They are used again
-/// for each point.
+/// The addresses where a point goes on, by the words of its lines, and room for finding them. The
+/// lists are used again for each point.
 #[derive(Drop)]
 pub(crate) struct Edges {
     pub(crate) to: Vec<u32>,
@@ -31,6 +31,7 @@ pub(crate) struct Edges {
     pub(crate) irq: Handlers,
     /// Room for addresses in the order in which they are found.
     pub(crate) found: Vec<u32>,
+    /// Room for the addresses after entered frames returned, one for each frame.
     pub(crate) returns: Vec<u32>,
 }
 

@@ -36,7 +36,8 @@ pub(crate) fn push_called(
     }
 }
 
-/// Makes a list the entry of the handler of system calls, if the instruction is a system call.
+/// Fills the list with the entry of the handler of system calls if the instruction is a system
+/// call, else with nothing, in place of what it held.
 pub(crate) fn set_system_call(
     all: &mut Vec<u32>,
     plan: &Plan,
@@ -52,8 +53,8 @@ pub(crate) fn set_system_call(
     Ok(())
 }
 
-/// Makes a list the entry of the handler of misaligned accesses, if the instruction's access may be
-/// misaligned.
+/// Fills the list with the entry of the handler of misaligned accesses if the instruction's access
+/// may be misaligned, else with nothing, in place of what it held.
 pub(crate) fn set_misaligned(
     all: &mut Vec<u32>,
     judged: &Judged,

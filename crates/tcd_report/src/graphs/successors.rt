@@ -125,7 +125,7 @@ pub(crate) fn push_targets(
 }
 
 /// Appends the address after a call or a system call, once for each entered frame that may return.
-/// The list has the functions that the instruction calls.
+/// `called` has the functions that a call may enter.
 pub(crate) fn add_returns(
     all: &mut Vec<u32>,
     judged: &Judged,

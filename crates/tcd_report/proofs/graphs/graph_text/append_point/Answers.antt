@@ -1,12 +1,11 @@
 use Rattle.std.proofs.lemmas.Result.{on_ok_weaker}
-use Rattle.std.proofs.Common.{◌≡◌, ◌∙◌, ◌++◌, ◌∷◌, [], List, ℕ, ap, sym, subst, string_bytes, refl, arith, append_assoc}
+use Rattle.std.proofs.Common.{◌≡◌, ◌∙◌, ◌++◌, ◌∷◌, [], List, ℕ, ap, sym, subst, string_bytes, refl, arith}
 use Rattle.depth_cert.specs.Points.{point_of}
 use Rattle.std.specs.Str.{IsAscii}
 use Rattle.tcd_text.specs.Digits.{hex_word}
 use Rattle.std.specs.Prelude.{codes}
 use Rattle.tcd_report.specs.declared.graphs.edges.Edges.{Edges}
 use Rattle.tcd_report.specs.Graphs.{AreEdges, line_front, lines_to, ways_text, leaving_text}
-use Rattle.tcd_report.specs.Texts.{key_text}
 use Rattle.tcd_report.specs.Judging.{duties_at}
 use Rattle.tcd_report.proofs.GraphLemmas.KeyTexts.{line_front_ascii}
 use Rattle.tcd_report.proofs.GraphLemmas.GraphTexts.{point_lines}
@@ -15,7 +14,7 @@ use Rattle.tcd_report.proofs.graphs.graph_text.append_point.Goals as goal
 pub append_edges-requires-clause-ascii : goal.append_edges-requires-clause-ascii
 append_edges-requires-clause-ascii c =
     let front_is : c.as_str-3.result.now ≡ line_front c.args.key.now c.args.addr =
-    c.as_str-3.ensures.value ∙ c.in_ok-set_address.ensures ∙ ap (λ l. l ++ (hex_word c.args.addr ++ 32 ∷ [])) (c.as_str.ensures.value ∙ c.requires.front) ∙ append_assoc (key_text c.args.key.now) (codes ": ") (hex_word c.args.addr ++ 32 ∷ []) in
+    c.as_str-3.ensures.value ∙ c.in_ok-set_address.ensures ∙ ap (λ l. l ++ (hex_word c.args.addr ++ 32 ∷ [])) (c.as_str.ensures.value ∙ c.requires.front) in
     subst IsAscii (sym front_is) (line_front_ascii c.args.key.now c.args.addr (omega arith) c.requires.ascii)
 
 pub append_edges-requires-clause-handlers : goal.append_edges-requires-clause-handlers
@@ -33,7 +32,7 @@ returns-clause-lines c =
     let are : AreEdges j.cert.now (duties_at j key (point_of c.args.addr c.args.s.now) c.in-Some.found) ways =
     record { to = found.to; call = found.call; back = found.back; sys = found.sys; aln = found.aln; irq = c.in_ok-set_front.ensures.entries ∙ found.irq } in
     let front_is : string_bytes c.set_address.new.front ≡ line_front key c.args.addr =
-    c.in_ok-set_address.ensures ∙ ap (λ l. l ++ (hex_word c.args.addr ++ 32 ∷ [])) (c.as_str.ensures.value ∙ c.requires.front) ∙ append_assoc (key_text c.args.key.now) (codes ": ") (hex_word c.args.addr ++ 32 ∷ []) in
+    c.in_ok-set_address.ensures ∙ ap (λ l. l ++ (hex_word c.args.addr ++ 32 ∷ [])) (c.as_str.ensures.value ∙ c.requires.front) in
     on_ok_weaker c.append_leaving.result
     (λ whole.
     point_lines j.image.now j.plan.now j.cert.now key (point_of c.args.addr c.args.s.now) c.in-Some.found.shape c.in-Some.found.size j.bounds.now ways before text (string_bytes c.append_leaving.new.text)
