@@ -30,7 +30,7 @@ use Rattle.frame_places.proofs.MarkLemmas.{Requeues-none, same_value}
 use Rattle.indexmap.specs.IndexMap.{get}
 use Rattle.depth_maker.specs.InterruptHandlers.{IsContextEntered}
 use Rattle.depth_maker.specs.MakerLaws.{AreLawful}
-use Rattle.depth_maker.specs.PassingInstructions.{IsNotedFor, PassesOn}
+use Rattle.depth_maker.specs.SharedStates.{IsNotedFor, SharesState}
 use Rattle.depth_maker.specs.Spots.{place_of, spot_of}
 use Rattle.depth_maker.specs.TableView.{seen}
 use Rattle.depth_maker.specs.TableInvariant.{IsFine}
@@ -49,7 +49,7 @@ nothing_duties : (b : Limits) (image : ImageData) (plan : PlanData) (p n : ℕ) 
 unfolding duties_of transfer_of
 nothing_duties b image plan p n k u = append-nil (owed 4 (jump (moved p n) u) ∷ interrupts_of plan k u)
 
-pub nothing_passes : (image : ImageData) (plan : PlanData) (p n : ℕ) → IsCode image plan p Nothing n → IsShape Nothing → PassesOn image plan p (moved p n)
+pub nothing_passes : (image : ImageData) (plan : PlanData) (p n : ℕ) → IsCode image plan p Nothing n → IsShape Nothing → SharesState image plan p (moved p n)
 nothing_passes image plan p n code shaped = record {
   shape = Nothing;
   size = n;
@@ -67,7 +67,7 @@ jump_duties b image plan p n to next k u known =
     ap (λ (o : Option (List ℕ)). (((jumps_to u (unwrap_or o []) ++ []) ++ []) ++ interrupts_of plan k u) ++ []) known ∙ append-nil (owed 4 (jump next u) ∷ interrupts_of plan k u)
 
 pub jump_passes : (image : ImageData) (plan : PlanData) (p n : ℕ) (to : Target) (o : Option ℕ) → IsCode image plan p (Jump to) n → IsShape (Jump to)
-    → IfSome o (λ next. (plan : PlanData) (s : State) → targets_of plan s p to ≡ Some (next ∷ [])) → IfSome o (PassesOn image plan p)
+    → IfSome o (λ next. (plan : PlanData) (s : State) → targets_of plan s p to ≡ Some (next ∷ [])) → IfSome o (SharesState image plan p)
 jump_passes image plan p n to None code shaped known = tt
 jump_passes image plan p n to (Some next) code shaped known = record {
   shape = Jump to;
@@ -110,7 +110,7 @@ module _ (b : Limits) (image : ImageData) (plan : PlanData) (k : Key) (p : ℕ) 
         ];
   }
 
-  module _ (s : made.Table) (next : ℕ) (at : (seen s).cells (point k p) ≡ Some (state u)) (passes : PassesOn image plan p next) where
+  module _ (s : made.Table) (next : ℕ) (at : (seen s).cells (point k p) ≡ Some (state u)) (passes : SharesState image plan p next) where
     -- ---- a visit
     faultless : IsFaultless b image plan k p u
     faultless r = LocalHolds-found b image plan k p u passes.shape passes.size r passes.code (passes.local b k u r)

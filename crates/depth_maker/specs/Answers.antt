@@ -12,7 +12,7 @@ use Rattle.value_domain.specs.Limits.{Limits}
 use Rattle.depth_cert.specs.declared.keys.Key.{Key}
 use Rattle.cfg_recover.specs.Assignments.{point}
 use Rattle.frame_places.specs.declared.refusals.Refusal.{Refusal}
-use Rattle.frame_places.specs.declared.refusals.Refusal.TheVariants.{Fault, NoMemory}
+use Rattle.frame_places.specs.declared.refusals.Refusal.TheVariants as refusal
 use Rattle.depth_maker.specs.Spots.{place_of}
 use Rattle.depth_cert.specs.Certs.{CertData, IsCert}
 use Rattle.cfg_recover.specs.RulesHoldOrFail.{Accepts}
@@ -47,8 +47,8 @@ IsRefusedOn g version e = IsRefused g.image.now g.plan.now version e
 
 -- the fault holds
 abbrev pub Answered : Limits → ImageData → PlanData → Refusal → Type 0
-Answered b image plan (Fault rule x) = (k : Key) × (p : ℕ) × (place_of x ≡ point k p) × IsFault b image plan rule k p
-Answered b image plan NoMemory = Unit {0}
+Answered b image plan (refusal.Fault rule x) = (k : Key) × (p : ℕ) × (place_of x ≡ point k p) × IsFault b image plan rule k p
+Answered b image plan refusal.NoMemory = Unit {0}
 
 -- the fault holds
 abbrev pub AnsweredOn : Ground → Refusal → Type 0

@@ -19,4 +19,4 @@ pub mod Answers
 pub mod Joins
 pub mod Visits
 pub mod VisitDuties
-pub mod PassingInstructions
+pub mod SharedStates

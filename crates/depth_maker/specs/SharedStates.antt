@@ -1,4 +1,4 @@
--- Points whose instruction only passes the state on.
+-- Points whose instruction only passes the state on: a new successor shares it.
 use Rattle.std.specs.Prelude.{◌≡◌, ◌<◌, ℕ, Bool, true, false, ◌∷◌, Some, Result, Ok, Err}
 use Rattle.elf_image.specs.Images.{ImageData}
 use Rattle.tcd_plan.specs.PlanData.{PlanData}
@@ -28,7 +28,7 @@ use Rattle.depth_maker.specs.declared.table.Table as made
 
 -- The instruction at p breaks no rule by itself, whatever the state. A point there owes this
 -- successor, with the same state, and the entries of interrupts.
-pub record PassesOn (image : ImageData) (plan : PlanData) (p next : ℕ) : Type 0 where
+pub record SharesState (image : ImageData) (plan : PlanData) (p next : ℕ) : Type 0 where
   pub shape : Shape
   pub size : ℕ
   pub code : IsCode image plan p shape size
@@ -57,7 +57,7 @@ pub record IsLeft (g : Ground) (s t : made.Table) : Type 0 where
   pub entries : t.places.entries ≡ s.places.entries
 
 -- what the point owes was joined, and its instruction enters no frame by itself; or nothing was
--- joined
+-- joined; or the refusal holds
 abbrev pub PassedBy : Site → made.Table → made.Table → Result Bool Refusal → Type 0
 PassedBy v s t (Ok true) = PointJoinedOn v.ground.now s t (Point v.key v.addr) × IsPlainAt (v.ground.now).image.now (v.ground.now).plan.now v.addr
 PassedBy v s t (Ok false) = IsLeft v.ground.now s t

@@ -24,7 +24,7 @@ use vd_transfer::Change;
 
 /// Returns true only if the last call of several functions shows that the entries of these are
 /// covered.
-fn is_noted(table: &Table, v: &Visit, entry: &Change, targets: &ArrayVec<u32, 128>) -> bool
+fn has_noted_call(table: &Table, v: &Visit, entry: &Change, targets: &ArrayVec<u32, 128>) -> bool
     requires visited { VisitedBy v.now table.now }
     requires entry { state_after v.now.state.now entry.now ≡ entries.call_entry v.now.state.now }
     ensures { IsTrue result
@@ -85,7 +85,7 @@ fn join_listed_entries(
         (JoinedBy v.now table.old table.new (enters_by v.now targets.now.items)) }
     ensures err { IfErr result (AnsweredOn v.now.ground.now) }
 {
-    if is_noted(&*table, v, entry, targets) {
+    if has_noted_call(&*table, v, entry, targets) {
         return Ok(());
     }
     join_each_entry(alloc, table, v, entry, targets.as_slice())?;

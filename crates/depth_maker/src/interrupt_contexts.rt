@@ -3,7 +3,7 @@ ghost use Rattle.std.specs.Prelude.{◌≡◌, IsTrue};
 ghost use Rattle.value_domain.specs.declared.states.State.{State};
 ghost use Rattle.value_domain.specs.Values.{IsBelow, IsValue, IsWell};
 ghost use Rattle.depth_maker.specs.InterruptHandlers.{IsAlike, IsContextOf, IsWithinContext, joined_context};
-ghost use Rattle.depth_maker.specs.PassingInstructions.{IsNotedFor};
+ghost use Rattle.depth_maker.specs.SharedStates.{IsNotedFor};
 ghost use Rattle.value_domain.specs.State.{a10_of};
 ghost use Rattle.depth_cert.specs.Proper.{IsProper};
 ghost use Rattle.frame_places.specs.declared.places.Spot.TheVariants.{Point};
@@ -116,7 +116,7 @@ pub(crate) fn are_noted(table: &Table, v: &Visit) -> bool
 /// Returns true only if the last context of interrupts shows that the entries of all interrupts
 /// that may be taken are covered in each frame with this CCPN.
 #[inline(always)]
-pub(crate) fn is_noted(table: &Table, is: bool, ccpn: u8) -> bool
+pub(crate) fn has_noted_interrupts(table: &Table, is: bool, ccpn: u8) -> bool
     ensures { IsTrue result → IsNotedFor table.now is ccpn }
 {
     match &table.covered.interrupts.last {

@@ -3,12 +3,12 @@ ghost use Rattle.std.specs.Prelude.{IsTrue, IfSome};
 ghost use Rattle.cfg_recover.specs.Code.{LocatesCode};
 ghost use Rattle.frame_places.specs.declared.places.Spot.TheVariants.{Point};
 ghost use Rattle.frame_places.specs.Numbers.{StandsAt};
-ghost use Rattle.depth_maker.specs.PassingInstructions.{IsQuiet, PassedBy, PassesOn};
+ghost use Rattle.depth_maker.specs.SharedStates.{IsQuiet, PassedBy, SharesState};
 ghost use Rattle.depth_maker.specs.TableInvariant.{FineOn};
 ghost use Rattle.tc_isa.specs.InBounds.{IsShape};
 
 use crate::inputs_and_limits::Site;
-use crate::interrupt_contexts::is_noted;
+use crate::interrupt_contexts::has_noted_interrupts;
 use crate::spelling::is_byte;
 use crate::table::Table;
 use cfg_recover::direct_target;
@@ -24,7 +24,7 @@ fn passed_to(site: &Site) -> Option<u32>
         site.now.addr site.now.located.now }
     requires shape { IfSome site.now.located.now (λ found. IsShape found.shape) }
     ensures { IfSome result
-        (PassesOn site.now.ground.now.image.now site.now.ground.now.plan.now site.now.addr) }
+        (SharesState site.now.ground.now.image.now site.now.ground.now.plan.now site.now.addr) }
 {
     let Some(found) = site.located else {
         return None;
@@ -53,7 +53,7 @@ fn is_last_and_quiet(table: &Table, site: &Site) -> bool
     match own.value.outline() {
         Some(outline) => {
             is_byte(outline.ccpn);
-            !outline.ie || is_noted(table, site.key.is, outline.ccpn)
+            !outline.ie || has_noted_interrupts(table, site.key.is, outline.ccpn)
         }
         None => false,
     }
@@ -61,8 +61,10 @@ fn is_last_and_quiet(table: &Table, site: &Site) -> bool
 
 /// Joins the state at the successor, if the instruction only passes the state on, no interrupt's
 /// entry has to be joined, and the successor is unknown: the successor shares the state, which
-/// isn't read. Otherwise nothing is joined, and it returns false. After the last place that was
-/// found mostly nothing is known.
+/// isn't read. Otherwise nothing is joined, and it returns false.
+///
+/// This is tried only at the place that was found last. The successors of other places are mostly
+/// known already, and the look-up here would be in vain.
 pub(crate) fn pass_on(alloc: Global, table: &mut Table, site: &Site) -> Result<bool, Refusal>
     requires fine { FineOn site.now.ground.now table.old }
     requires near { StandsAt table.old.places table.old.near (Point site.now.key site.now.addr) }

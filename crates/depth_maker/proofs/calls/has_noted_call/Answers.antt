@@ -6,7 +6,7 @@ use Rattle.depth_maker.specs.Covered.{IsCallEntered, IsWithinCall}
 use Rattle.depth_maker.specs.TableView.{seen}
 use Rattle.depth_maker.proofs.Lawful.{lawful}
 use Rattle.depth_maker.proofs.NotedCalls.{enters_already, entry_proper}
-use Rattle.depth_maker.proofs.calls.is_noted.Goals as goal
+use Rattle.depth_maker.proofs.calls.has_noted_call.Goals as goal
 
 pub covers-requires-clause-own : goal.covers-requires-clause-own
 covers-requires-clause-own c =

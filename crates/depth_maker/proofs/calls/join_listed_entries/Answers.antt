@@ -3,8 +3,8 @@ use Rattle.depth_maker.specs.VisitDuties.{enters_by, JoinedBy, OwesAll}
 use Rattle.depth_maker.proofs.PartLemmas.{visited_after}
 use Rattle.depth_maker.proofs.calls.join_listed_entries.Goals as goal
 
-pub returns-then-is_noted-clause-ok : goal.returns-then-is_noted-clause-ok
-returns-then-is_noted-clause-ok c = c.is_noted.ensures c.if-is_noted.true
+pub returns-then-has_noted_call-clause-ok : goal.returns-then-has_noted_call-clause-ok
+returns-then-has_noted_call-clause-ok c = c.has_noted_call.ensures c.if-has_noted_call.true
 
 pub join_each_entry-requires-clause-owes : goal.join_each_entry-requires-clause-owes
 join_each_entry-requires-clause-owes c = subst (λ (l : List ℕ). OwesAll c.args.v.now (enters_by c.args.v.now l)) (sym c.as_slice.ensures.value) c.requires.owes

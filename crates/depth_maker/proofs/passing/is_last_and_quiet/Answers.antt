@@ -5,7 +5,7 @@ use Rattle.depth_cert.specs.Known.{Known, state}
 use Rattle.frame_places.specs.declared.places.Marked.{Marked}
 use Rattle.frame_places.specs.declared.places.Spot.TheVariants.{Point}
 use Rattle.frame_places.proofs.NearbyLemmas.{had_at}
-use Rattle.depth_maker.specs.PassingInstructions.{IsNotedFor}
+use Rattle.depth_maker.specs.SharedStates.{IsNotedFor}
 use Rattle.depth_maker.proofs.PassingLaws.{quiet_noted, quiet_off}
 use Rattle.depth_maker.proofs.PlainRows.{off_of}
 use Rattle.depth_maker.proofs.passing.is_last_and_quiet.Goals as goal
@@ -30,4 +30,4 @@ returns-else-not-outline c t u at =
     let is : own.value ≡ state u = same_Some own.value (state u) (sym (ap (option_map (λ (m : Marked Known). m.value)) had) ∙ at) in
     let outline = rw (c.in-Some-outline.is, is) at c.outline.ensures in
     let byte = c.is_byte.ensures in
-    (quiet_noted _ _ _ v.key v.addr u s c.requires.fine (subst (λ (n : ℕ). IsNotedFor s v.key.is n) (sym outline.1) (c.is_noted.ensures t)), omega (arith, outline.1, byte))
+    (quiet_noted _ _ _ v.key v.addr u s c.requires.fine (subst (λ (n : ℕ). IsNotedFor s v.key.is n) (sym outline.1) (c.has_noted_interrupts.ensures t)), omega (arith, outline.1, byte))
