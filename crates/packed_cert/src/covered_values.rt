@@ -42,7 +42,8 @@ pub(crate) fn are_covered_at(
     requires short { length bytes.now ≤ 2 ^ 30 }
     requires well { AreWell (values_to_cover values.now) }
     requires stand { HaveValues version bytes.now place n }
-    ensures { IsTrue result ↔ AreBelow (values_to_cover values.now) (values_in version bytes.now place n) }
+    ensures { IsTrue result
+        ↔ AreBelow (values_to_cover values.now) (values_in version bytes.now place n) }
 {
     let any = Val::any();
     let mut at = place;

@@ -85,7 +85,8 @@ fn append_point(
     requires ascii { IsAscii (key_front key.now) }
     requires handlers { KnowsHandlers judged.now.plan.now graph.old.ways.irq }
     ensures lines { let j = judged.now in
-        OnOk result (GrowsBy (ArePointLines j.image.now j.plan.now j.cert.now key.now (point_of addr s.now))
+        OnOk result (GrowsBy
+        (ArePointLines j.image.now j.plan.now j.cert.now key.now (point_of addr s.now))
         (string_bytes graph.old.text) (string_bytes graph.new.text)) }
     ensures front { OnOk result (string_bytes graph.new.key_front ≡ key_front key.now) }
     ensures handlers { OnOk result (KnowsHandlers judged.now.plan.now graph.new.ways.irq) }

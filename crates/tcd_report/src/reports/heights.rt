@@ -80,7 +80,8 @@ pub(crate) fn rows_at(
     requires faultless { let j = judged.now in
         IsFaultless j.bounds.now j.image.now j.plan.now key.now addr s.now }
     ensures { let j = judged.now in
-        IsMost (HasRowAt j.image.now j.plan.now j.cert.now heights.now key.now (point_of addr s.now)) result }
+        IsMost (HasRowAt j.image.now j.plan.now j.cert.now heights.now key.now
+        (point_of addr s.now)) result }
 {
     let Some(found) = codes.located(judged.image, judged.plan, addr) else {
         unreachable!()
