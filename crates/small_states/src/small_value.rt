@@ -15,8 +15,8 @@ use std::marker::Model;
 use std::rc::Rc;
 use tcd_base::NoMemory;
 use value_domain::{
-    Bounds, Extent, Val, Words, add_words, alignment_log2, extent_of, is_set, join, leq, set_span,
-    set_words, write_any,
+    Bounds, Extent, Val, Words, add_value, add_words, alignment_log2, extent_of, is_set, leq,
+    set_span, set_words, write_any,
 };
 use vd_transfer::only_word;
 
@@ -546,17 +546,17 @@ impl Small {
         }
     }
 
-    /// Returns the least value with the members of both. It joins whole values.
+    /// Returns the least value with the members of both. It adds those of `v` to a copy.
     #[inline(never)]
     fn join_whole(&self, alloc: Global, b: &Bounds, v: &Val) -> Result<Small, AllocError>
         requires own { IsValue b.now self.now }
         requires value { IsValue b.now v.now }
         ensures { IfOk result (λ s. s ≡ join_of b.now self.now v.now) }
     {
-        match &self.form {
-            Form::Many(own) => Small::of_own(alloc, join(b, own.as_ref(), v)),
-            _ => Small::of_own(alloc, join(b, &self.value(), v)),
-        }
+        let mut out = Val::one(0);
+        self.replace(&mut out);
+        add_value(b, &mut out, v);
+        Small::of_own(alloc, out)
     }
 
     /// Returns the least value with its members and these words. It adds them to a copy.
