@@ -1,7 +1,7 @@
 // The own parts of rules: what each asks of a point's instruction alone, for the shapes of
 // instructions at which it can fail; and the least rule that fails at a point.
 ghost use Rattle.std.specs.Prelude.{◌≡◌, ◌<◌, ◌≤◌, ◌⊎◌, ◌↔◌, ℕ, true, length, IsTrue, IsSome, IfErr, IfOk, IfSome, None, Some, if◌then◌else◌, MatchResult};
-ghost use Rattle.tc_isa.specs.InBounds.{IsShape, IsSize, IsTarget};
+ghost use Rattle.tc_isa.specs.InBounds.{IsArg, IsShape, IsSize, IsTarget};
 ghost use Rattle.tc_isa.specs.declared.shapes.Shape.TheVariants.{Ret, Rfe};
 ghost use Rattle.value_domain.specs.Values.{IsWell, word_val};
 ghost use Rattle.vd_transfer.specs.Holding.{HasBaseValue};
@@ -15,17 +15,16 @@ ghost use Rattle.value_domain.specs.declared.states.State.{State};
 ghost use Rattle.value_domain.specs.State.{AreValues};
 ghost use Rattle.cfg_recover.specs.Code.{LocatesCode};
 ghost use Rattle.value_domain.specs.Limits.{Limits};
-ghost use Rattle.vd_transfer.specs.EffectsOnStates.{address_of};
+ghost use Rattle.vd_transfer.specs.EffectsOnStates.{access_of, address_of};
 
 use crate::rom_code::code_at;
-use crate::states_after::only_address;
 use depth_cert::{ALN, CALL, IRQ, Key, SYS};
 use elf_image::Image;
 use store_ranges::{aligned, is_in_range, store_ok};
-use tc_isa::{Arg, Inst, Shape, Target, shape};
+use tc_isa::{Arg, Inst, Op, Shape, Target, alu, shape};
 use tcd_plan::Plan;
 use value_domain::{Bounds, State, Val};
-use vd_transfer::{reg, write_address};
+use vd_transfer::{arg_word, reg, write_address};
 
 // The rules that have an own part, by what fails there.
 
@@ -211,6 +210,53 @@ fn broken_by_access(b: &Bounds, plan: &Plan, s: &State, shape: Shape) -> Option<
         Some(x) => broken_at_word(plan, x, shape),
         None => broken_at_value(b, plan, s, shape),
     }
+}
+
+/// The address of a load or a store, if its base has only one word.
+#[tactic(auto, unfolding(vd_transfer::specs::EffectsOnStates::address_of))]
+fn only_address(b: &Bounds, plan: &Plan, s: &State, shape: Shape) -> Option<u32>
+    requires shape { IsShape shape }
+    requires values { AreValues b.now s.now.regs }
+    ensures { IfSome result (λ x. address_of b.now plan.now shape s.now ≡ word_val x) }
+{
+    match shape {
+        Shape::Load {
+            base,
+            offset,
+            after,
+            ..
+        } => only_access(b, plan, s, base, offset, after),
+        Shape::Store {
+            base,
+            offset,
+            after,
+            ..
+        } => only_access(b, plan, s, base, offset, after),
+        _ => None,
+    }
+}
+
+#[inline(always)]
+fn only_access(
+    b: &Bounds,
+    plan: &Plan,
+    s: &State,
+    base: Arg,
+    offset: u32,
+    after: bool,
+) -> Option<u32>
+    requires base { IsArg base }
+    requires values { AreValues b.now s.now.regs }
+    ensures { IfSome result (λ x. access_of b.now plan.now s.now base offset after ≡ word_val x) }
+{
+    let _most_words = b.most_words();
+    let Some(x) = arg_word(b, plan, s, base) else {
+        return None;
+    };
+    if after {
+        return Some(x);
+    }
+    Some(alu(Op::Add, x, offset))
 }
 
 /// Tries the rules for an access with one address.

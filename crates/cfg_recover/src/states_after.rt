@@ -1,18 +1,17 @@
 // States that a change makes of another, and the addresses of accesses.
 ghost use Rattle.std.specs.Prelude.{◌≡◌, IfSome};
-ghost use Rattle.value_domain.specs.Values.{IsValue, word_val};
+ghost use Rattle.value_domain.specs.Values.{IsValue};
 ghost use Rattle.value_domain.specs.State.{AreValues};
-ghost use Rattle.tc_isa.specs.InBounds.{IsArg, IsShape};
 ghost use Rattle.tc_isa.specs.Meanings.{shape_of};
-ghost use Rattle.vd_transfer.specs.EffectsOnStates.{HasRoom, access_of, address_of, transfer_of};
+ghost use Rattle.vd_transfer.specs.EffectsOnStates.{HasRoom, address_of, transfer_of};
 ghost use Rattle.vd_transfer.specs.Branches.{refine_of};
 ghost use Rattle.vd_transfer.specs.Changes.{state_after};
 
 use crate::flow_after::copy_of;
-use tc_isa::{Arg, Inst, Op, Shape, alu, shape};
+use tc_isa::{Inst, shape};
 use tcd_plan::Plan;
 use value_domain::{Bounds, State, Val};
-use vd_transfer::{Change, address_by, arg_word, change_of, change_on, changed_value, unchanged};
+use vd_transfer::{Change, address_by, change_of, change_on, changed_value, unchanged};
 
 /// The addresses that a load or a store may access.
 pub fn address(b: &Bounds, plan: &Plan, inst: &Inst, s: &State) -> Val
@@ -21,53 +20,6 @@ pub fn address(b: &Bounds, plan: &Plan, inst: &Inst, s: &State) -> Val
     ensures value { IsValue b.now result }
 {
     address_by(b, plan, shape(inst), s)
-}
-
-/// The address of a load or a store, if its base has only one word.
-#[tactic(auto, unfolding(vd_transfer::specs::EffectsOnStates::address_of))]
-pub(crate) fn only_address(b: &Bounds, plan: &Plan, s: &State, shape: Shape) -> Option<u32>
-    requires shape { IsShape shape }
-    requires values { AreValues b.now s.now.regs }
-    ensures { IfSome result (λ x. address_of b.now plan.now shape s.now ≡ word_val x) }
-{
-    match shape {
-        Shape::Load {
-            base,
-            offset,
-            after,
-            ..
-        } => only_access(b, plan, s, base, offset, after),
-        Shape::Store {
-            base,
-            offset,
-            after,
-            ..
-        } => only_access(b, plan, s, base, offset, after),
-        _ => None,
-    }
-}
-
-#[inline(always)]
-fn only_access(
-    b: &Bounds,
-    plan: &Plan,
-    s: &State,
-    base: Arg,
-    offset: u32,
-    after: bool,
-) -> Option<u32>
-    requires base { IsArg base }
-    requires values { AreValues b.now s.now.regs }
-    ensures { IfSome result (λ x. access_of b.now plan.now s.now base offset after ≡ word_val x) }
-{
-    let _most_words = b.most_words();
-    let Some(x) = arg_word(b, plan, s, base) else {
-        return None;
-    };
-    if after {
-        return Some(x);
-    }
-    Some(alu(Op::Add, x, offset))
 }
 
 /// The state on a side of a branch, or `None` if that side isn't possible.

@@ -1,7 +1,7 @@
 use Rattle.std.proofs.Common.{◌<◌, ◌^◌, sym}
 use Rattle.tc_isa.specs.declared.shapes.Op.TheVariants.{Add}
 use Rattle.vd_transfer.proofs.OpLaws.{words_result}
-use Rattle.cfg_recover.proofs.states_after.only_access.Goals as goal
+use Rattle.cfg_recover.proofs.local_rules.only_access.Goals as goal
 
 pub returns-then-after : goal.returns-then-after
 returns-then-after c = rw c.if-after.true (rw c.in-Some.is at c.arg_word.ensures.arg)
