@@ -20,7 +20,7 @@ use Rattle.depth_cert.specs.Points.{IsState, IsPoint, ArePoints, addresses}
 use Rattle.depth_cert.specs.Exits.{IsExit}
 use Rattle.depth_cert.specs.Nodes.{NodeData, IsNode, count_points}
 use Rattle.depth_cert.specs.Certs.{CertData, IsCert, key_numbers}
-use Rattle.depth_cert.specs.Grammar.{checked, is_above, flag_at, values_at, locals_at, state_at, address_after, point_after, key_after, need_at, has_exit_at, exit_at, exits_at, point_count_at, points_at, node_after, magic_at, version_at, node_count_at, cert_at, certificate_of}
+use Rattle.depth_cert.specs.Grammar.{checked, is_above, last_of, flag_at, values_at, locals_at, state_at, address_after, point_after, key_after, need_at, has_exit_at, exit_at, exits_at, point_count_at, points_at, node_after, magic_at, version_at, node_count_at, cert_at, certificate_of}
 use Rattle.depth_cert.specs.Spelling.{bytes_of_value, bytes_of_state, bytes_of_point, bytes_of_key, bytes_of_exit, bytes_of_node, bytes_of}
 use Rattle.depth_cert.proofs.WrittenLaws.{IsRead, done, seq, test, byte, half, word, many_read, one_of, above_map, flag, values_read}
 
@@ -61,11 +61,11 @@ pub point_read : (version : ℕ) (all before : List Point) (x : Point) (after : 
 unfolding point_after address_after bytes_of_point
 point_read version all before x after rising each e =
     let good : IsPoint version x = one_of (IsPoint version) all before x after each e in
-    let above : is_above (addresses before) x.addr ≡ true = above_map (λ p. p.addr) all before x after rising e in
+    let above : is_above (last_of (addresses before)) x.addr ≡ true = above_map (λ p. p.addr) all before x after rising e in
     at_end (point_after version before) (bytes_of_word x.addr) (bytes_of_state x.state) x
-    (seq (address_after (addresses before)) _ (bytes_of_word x.addr) (bytes_of_state x.state ++ []) x.addr x
-    (alone (address_after (addresses before)) (bytes_of_word x.addr) x.addr
-    (seq u32_at (λ p a. checked 3 (is_above (addresses before) a.0) p a) (bytes_of_word x.addr) [] x.addr x.addr (word x.addr good.addr) (λ p0. test 3 (is_above (addresses before) x.addr) p0 x.addr above)))
+    (seq (address_after (last_of (addresses before))) _ (bytes_of_word x.addr) (bytes_of_state x.state ++ []) x.addr x
+    (alone (address_after (last_of (addresses before))) (bytes_of_word x.addr) x.addr
+    (seq u32_at (λ p a. checked 3 (is_above (last_of (addresses before)) a.0) p a) (bytes_of_word x.addr) [] x.addr x.addr (word x.addr good.addr) (λ p0. test 3 (is_above (last_of (addresses before)) x.addr) p0 x.addr above)))
     (λ p1. seq (state_at version) _ (bytes_of_state x.state) [] x.state x (state_read version x.state good.state) (λ p2. done x)))
 
 pub points_read : (version used : ℕ) (ps : List Point) → ArePoints ps → All (IsPoint version) ps → used + length ps ≤ 2 ^ 16 → IsRead (points_at version used) (bytes_of_word (length ps) ++ flat_map bytes_of_point ps) ps
@@ -82,9 +82,9 @@ flag_byte : (b : Bool) → (byte_of b ≤ 1) × (eqb (byte_of b) 1 ≡ b)
 flag_byte true = (omega arith, refl)
 flag_byte false = (omega arith, refl)
 
-pub key_read : (before : List ℕ) (k : Key) → IsKey k → is_above before (number_of_key k) ≡ true → IsRead (key_after before) (bytes_of_key k) k
+pub key_read : (last : Option ℕ) (k : Key) → IsKey k → is_above last (number_of_key k) ≡ true → IsRead (key_after last) (bytes_of_key k) k
 unfolding key_after bytes_of_key
-key_read before k good above =
+key_read last k good above =
     let bit = flag_byte k.is in
     let made : Key = record { kind = k.kind; entry = k.entry; prio = k.prio; is = eqb (byte_of k.is) 1 } in
     let same : made ≡ k = ap (λ (b : Bool). record { kind = k.kind; entry = k.entry; prio = k.prio; is = b }) bit.1 in
@@ -93,8 +93,8 @@ key_read before k good above =
     (λ p1. seq u32_at _ (bytes_of_word k.entry) _ k.entry k (word k.entry good.entry)
     (λ p2. seq u8_at _ (k.prio ∷ []) _ k.prio k (byte k.prio)
     (λ p3. seq u8_at _ (byte_of k.is ∷ []) [] (byte_of k.is) k (byte (byte_of k.is))
-    (λ p4. seq (λ p. checked 3 (is_above before (key_number k.kind k.entry k.prio (byte_of k.is))) p0 (byte_of k.is, p)) _ [] [] (byte_of k.is) k
-    (test 3 (is_above before (key_number k.kind k.entry k.prio (byte_of k.is))) p0 (byte_of k.is) above)
+    (λ p4. seq (λ p. checked 3 (is_above last (key_number k.kind k.entry k.prio (byte_of k.is))) p0 (byte_of k.is, p)) _ [] [] (byte_of k.is) k
+    (test 3 (is_above last (key_number k.kind k.entry k.prio (byte_of k.is))) p0 (byte_of k.is) above)
     (λ p5. seq (λ p. checked 4 (leb (byte_of k.is) 1) p4 (byte_of k.is, p)) _ [] [] (byte_of k.is) k (test 4 (leb (byte_of k.is) 1) p4 (byte_of k.is) (le-leb _ _ bit.0))
     (λ p6. subst (λ (x : Key). IsRead (λ p. Ok (made, p)) [] x) same (done made))))))))
 
@@ -127,13 +127,13 @@ node_read : (version : ℕ) (all before : List NodeData) (x : NodeData) (after :
 unfolding node_after need_at bytes_of_node
 node_read version all before x after rising each few e =
     let good : IsNode version x = one_of (IsNode version) all before x after each e in
-    let above : is_above (key_numbers before) (number_of_key x.key) ≡ true = above_map (λ n. number_of_key n.key) all before x after rising e in
+    let above : is_above (last_of (key_numbers before)) (number_of_key x.key) ≡ true = above_map (λ n. number_of_key n.key) all before x after rising e in
     let sum = ap count_points e ∙ sum_by-append (λ (n : NodeData). length n.points) before (x ∷ after) in
     let own = sum_by-cons (λ (n : NodeData). length n.points) x after in
     let room : count_points before + length x.points ≤ 2 ^ 16 = omega arith in
     let points : List ℕ = bytes_of_word (length x.points) ++ flat_map bytes_of_point x.points in
     subst (λ (l : List ℕ). IsRead (node_after version before) (bytes_of_key x.key ++ (bytes_of_half x.need ++ (bytes_of_exit x.exit ++ l))) x) (append-nil points)
-    (seq (key_after (key_numbers before)) _ (bytes_of_key x.key) _ x.key x (key_read (key_numbers before) x.key good.key above)
+    (seq (key_after (last_of (key_numbers before))) _ (bytes_of_key x.key) _ x.key x (key_read (last_of (key_numbers before)) x.key good.key above)
     (λ p0. seq need_at _ (bytes_of_half x.need) _ x.need x
     (alone need_at (bytes_of_half x.need) x.need
     (seq u16_at (λ p n. checked 5 (leb n.0 4096) p n) (bytes_of_half x.need) [] x.need x.need (half x.need (omega (arith, good.need))) (λ p1. test 5 (leb x.need 4096) p1 x.need (le-leb _ _ good.need))))

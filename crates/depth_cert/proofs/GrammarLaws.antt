@@ -18,7 +18,7 @@ use Rattle.value_domain.specs.VersionLimits.{most_words_of, most_locals_of}
 use Rattle.value_domain.proofs.WordLaws.{rising_from, among_place}
 use Rattle.depth_cert.specs.Keys.{byte_of}
 use Rattle.depth_cert.specs.Points.{IsWellOf}
-use Rattle.depth_cert.specs.Grammar.{checked, flag_at, word_after, set_at, span_at, value_at, values_at, is_span, is_above}
+use Rattle.depth_cert.specs.Grammar.{checked, flag_at, word_after, set_at, span_at, value_at, values_at, is_span, is_above, last_of}
 use Rattle.depth_cert.specs.Spelling.{bytes_of_value}
 use Rattle.depth_cert.proofs.ManyLaws.{rising_push}
 use Rattle.tcd_base.proofs.PassedLaws.{AreBytes, Passed, passed_bytes, passed_both, ok_pair, passed_test, byte_passed, word_passed, many_passed}
@@ -60,8 +60,8 @@ record AreAscending (ws : List ℕ) : Type 0 where
 word_after_passed : (before front rest : List ℕ) (x : ℕ) (q : Place) → AreBytes rest → AreAscending before → word_after before (place_between front rest) ≡ Ok (x, q) → Passed (bytes_of_word x) front rest q × AreAscending (before ++ x ∷ [])
 unfolding word_after
 word_after_passed before front rest x q bytes good e =
-    let b = bind_ok (u32_at (place_between front rest)) (λ w. checked 4 (is_above before w.0) (place_between front rest) w) (x, q) e in
-    let t = checked_passed 4 (is_above before b.0.0) (place_between front rest) b.0 (x, q) b.2 in
+    let b = bind_ok (u32_at (place_between front rest)) (λ w. checked 4 (is_above (last_of before) w.0) (place_between front rest) w) (x, q) e in
+    let t = checked_passed 4 (is_above (last_of before) b.0.0) (place_between front rest) b.0 (x, q) b.2 in
     let same : b.0.0 ≡ x = ap (λ (v : ℕ × Place). v.0) t.1 in
     let at : b.0.1 ≡ q = ap (λ (v : ℕ × Place). v.1) t.1 in
     let h = word_passed front rest x q bytes (b.1 ∙ ap (λ (v : ℕ × Place). Ok v) t.1) in

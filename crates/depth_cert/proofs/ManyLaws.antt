@@ -1,8 +1,10 @@
 -- Reading many items, one after another: their first fault, and numbers that ascend.
-use Rattle.std.proofs.Common.{◌≡◌, ℕ, zero, suc, ◌+◌, ◌-◌, ◌<◌, ◌≤◌, List, [], ◌∷◌, ◌++◌, length, get_or, true, false, Result, refl, sym, ap, ◌∙◌, arith, ltb, eqb, inl, inr, map}
+use Rattle.std.proofs.Common.{◌≡◌, ℕ, zero, suc, ◌+◌, ◌-◌, ◌<◌, ◌≤◌, List, [], ◌∷◌, ◌++◌, length, get_or, true, false, Option, Some, Result, refl, sym, ap, ◌∙◌, arith, ltb, eqb, inl, inr, map}
+use Rattle.std.specs.Prelude.{slice_get, option_map}
 use Rattle.std.specs.List.Sorted.{IsStrictlyIncreasing}
+use Rattle.std.proofs.lemmas.Option.{slice_get-map, slice_get-get_or}
 use Rattle.std.proofs.lemmas.Bool.{cases_lt, ltb-true}
-use Rattle.std.proofs.lemmas.List.{get_or_append_left, length_push, length-map, get_or-map, map-append}
+use Rattle.std.proofs.lemmas.List.{get_or_append_left, length_push, length-map, map-append}
 use Rattle.std.proofs.Math.Seq.{get_or-append_seam}
 use Rattle.tcd_base.specs.declared.errors.FormErr.{FormErr}
 use Rattle.tcd_base.specs.Place.{Place}
@@ -11,7 +13,7 @@ use Rattle.tcd_base.proofs.ManyLaws.{many_fail}
 use Rattle.depth_cert.specs.declared.errors.CertErr.{CertErr}
 use Rattle.depth_cert.specs.declared.errors.CertErr.TheVariants.{Bad, NoMemory}
 use Rattle.depth_cert.specs.Answers.{IsFaultOf}
-use Rattle.depth_cert.specs.Grammar.{is_above}
+use Rattle.depth_cert.specs.Grammar.{is_above, last_of}
 
 -- the first fault of an item, as an error says it
 pub many_fault : {A : Type 0} (item : List A → Place → Result (A × Place) FormErr) (n i : ℕ) (before : List A) (start p : Place) (e : CertErr) → i < n
@@ -20,14 +22,23 @@ many_fault item n i before start p (Bad e) h inv f = many_fail item n i before s
 many_fault item n i before start p NoMemory h inv f = tt
 
 -- ---- numbers that ascend
-pub is_above-last : (xs : List ℕ) (x : ℕ) → 1 ≤ length xs → is_above xs x ≡ ltb (get_or xs (length xs - 1) 0) x
-is_above-last [] x h = absurd (omega arith)
-is_above-last (y ∷ []) x h = refl
-is_above-last (y ∷ z ∷ zs) x h =
-    let i : length (y ∷ z ∷ zs) - 1 ≡ suc (length (z ∷ zs) - 1) = omega arith in
-    is_above-last (z ∷ zs) x (omega arith) ∙ ap (λ k. ltb (get_or (y ∷ z ∷ zs) k 0) x) (sym i)
+pub is_above-last : (xs : List ℕ) (x : ℕ) → 1 ≤ length xs → is_above (last_of xs) x ≡ ltb (get_or xs (length xs - 1) 0) x
+is_above-last xs x h = ap (λ (o : Option ℕ). is_above o x) (slice_get-get_or xs (length xs - 1) 0 (omega arith))
 
-pub rising_push : (xs : List ℕ) (x : ℕ) → IsStrictlyIncreasing xs → is_above xs x ≡ true → IsStrictlyIncreasing (xs ++ x ∷ [])
+-- the last of the numbers of items
+pub last_of-map : {A : Type 0} (f : A → ℕ) (xs : List A) → last_of (map f xs) ≡ option_map f (slice_get xs (length xs - 1))
+last_of-map f xs = ap (λ n. slice_get (map f xs) (n - 1)) (length-map xs f) ∙ slice_get-map f xs (length xs - 1)
+
+-- one item more is the last one
+pub last_of-push : {A : Type 0} (f : A → ℕ) (xs : List A) (x : A) → last_of (map f (xs ++ x ∷ [])) ≡ Some (f x)
+last_of-push f xs x = last_of-map f (xs ++ x ∷ []) ∙ ap (option_map f) (ap (λ n. slice_get (xs ++ x ∷ []) n) at ∙ slice_get-get_or (xs ++ x ∷ []) (length xs) x (omega (arith, len)) ∙ ap Some (get_or-append_seam xs x [] x))
+  where
+    len : length (xs ++ x ∷ []) ≡ length xs + 1
+    len = length_push xs x
+    at : length (xs ++ x ∷ []) - 1 ≡ length xs
+    at = omega (arith, len)
+
+pub rising_push : (xs : List ℕ) (x : ℕ) → IsStrictlyIncreasing xs → is_above (last_of xs) x ≡ true → IsStrictlyIncreasing (xs ++ x ∷ [])
 rising_push xs x rising above k h =
     let len = length_push xs x in
     elim (cases_lt (k + 1) (length xs)) [
@@ -49,12 +60,5 @@ pub some_elements : (n : ℕ) → false ≡ eqb n 0 → 1 ≤ n
 some_elements zero h = cc
 some_elements (suc n) h = omega arith
 
--- the last element of a list by its number
-pub is_above-map : {A : Type 0} (f : A → ℕ) (xs : List A) (x : ℕ) (d : A) → 1 ≤ length xs → is_above (map f xs) x ≡ ltb (f (get_or xs (length xs - 1) d)) x
-is_above-map f xs x d h =
-    is_above-last (map f xs) x (omega (arith, length-map xs f))
-    ∙ ap (λ k. ltb (get_or (map f xs) (k - 1) 0) x) (length-map xs f)
-    ∙ ap (λ k. ltb k x) (get_or-map f xs (length xs - 1) d 0 (omega arith))
-
-pub rising_map_push : {A : Type 0} (f : A → ℕ) (xs : List A) (x : A) → IsStrictlyIncreasing (map f xs) → is_above (map f xs) (f x) ≡ true → IsStrictlyIncreasing (map f (xs ++ x ∷ []))
+pub rising_map_push : {A : Type 0} (f : A → ℕ) (xs : List A) (x : A) → IsStrictlyIncreasing (map f xs) → is_above (last_of (map f xs)) (f x) ≡ true → IsStrictlyIncreasing (map f (xs ++ x ∷ []))
 rising_map_push f xs x rising above = rw (map-append f xs (x ∷ [])) (rising_push (map f xs) (f x) rising above)

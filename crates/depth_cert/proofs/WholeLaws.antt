@@ -17,7 +17,7 @@ use Rattle.depth_cert.specs.Keys.{byte_of, number_of_key}
 use Rattle.depth_cert.specs.Exits.{IsExit}
 use Rattle.depth_cert.specs.Nodes.{NodeData, IsNode, count_points}
 use Rattle.depth_cert.specs.Certs.{CertData, IsCert, key_numbers}
-use Rattle.depth_cert.specs.Grammar.{flag_at, values_at, key_after, need_at, has_exit_at, exit_at, exits_at, points_at, node_after, magic_at, version_at, node_count_at, cert_at, certificate_of}
+use Rattle.depth_cert.specs.Grammar.{last_of, flag_at, values_at, key_after, need_at, has_exit_at, exit_at, exits_at, points_at, node_after, magic_at, version_at, node_count_at, cert_at, certificate_of}
 use Rattle.depth_cert.specs.Spelling.{bytes_of_value, bytes_of_point, bytes_of_key, bytes_of_exit, bytes_of_node, bytes_of}
 use Rattle.depth_cert.proofs.ManyLaws.{rising_map_push}
 use Rattle.tcd_base.proofs.PassedLaws.{AreBytes, bytes_from, Passed, passed_bytes, passed_both, ok_pair, passed_test, byte_passed, half_passed, word_passed, many_passed}
@@ -104,8 +104,8 @@ node_passed : (version : ℕ) (before : List NodeData) (front rest : List ℕ) (
     → Passed (bytes_of_node n) front rest q × AreNodesOf version (before ++ n ∷ [])
 unfolding node_after need_at
 node_passed version before front rest n q bytes good e =
-    let key = bind_ok (key_after (key_numbers before) (place_between front rest)) _ _ e in
-    let h1 = key_passed (key_numbers before) front rest key.0.0 key.0.1 bytes key.1 in
+    let key = bind_ok (key_after (last_of (key_numbers before)) (place_between front rest)) _ _ e in
+    let h1 = key_passed (last_of (key_numbers before)) front rest key.0.0 key.0.1 bytes key.1 in
     let b1 = passed_bytes h1.0 bytes in
     let need = bind_ok (need_at key.0.1) _ _ key.2 in
     let half = bind_ok (u16_at key.0.1) _ _ need.1 in

@@ -1,6 +1,6 @@
 -- The grammar of certificates: fields read from left to right, and the first fault.
 -- Its kinds are SHORT, BAD_MAGIC, BAD_ORDER, BAD_VALUE, ABOVE_LIMIT and TRAILING of tcd_base.
-use Rattle.std.specs.Prelude.{◌+◌, ◌-◌, ◌^◌, ◌==◌, ◌&&◌, ◌||◌, not, nat_lt, nat_le, if◌then◌else◌, ℕ, Bool, true, List, ◌∷◌, length, Option, Some, None, Result, Ok, []}
+use Rattle.std.specs.Prelude.{◌+◌, ◌-◌, ◌^◌, ◌==◌, ◌&&◌, ◌||◌, not, nat_lt, nat_le, if◌then◌else◌, ℕ, Bool, true, List, ◌∷◌, length, slice_get, Option, Some, None, Result, Ok, []}
 use Rattle.depth_cert.specs.Keys.{call_kind, sys_kind, key_number}
 use Rattle.tcd_base.specs.declared.errors.FormErr.{FormErr}
 use Rattle.tcd_base.specs.Place.{Place}
@@ -23,11 +23,14 @@ use Rattle.depth_cert.specs.Certs.{CertData, key_numbers}
 abbrev pub checked : ℕ → Bool → Place → ℕ × Place → Result (ℕ × Place) FormErr
 checked kind good p x = if good then Ok x else fault_at kind p
 
--- a number is above the last of those before it, if there is one
-abbrev pub is_above : List ℕ → ℕ → Bool
-is_above [] x = true
-is_above (y ∷ []) x = nat_lt y x
-is_above (y ∷ z ∷ zs) x = is_above (z ∷ zs) x
+-- the last of these numbers, if there is one
+abbrev pub last_of : List ℕ → Option ℕ
+last_of xs = slice_get xs (length xs - 1)
+
+-- a number is above the last one, if there is one
+abbrev pub is_above : Option ℕ → ℕ → Bool
+is_above None x = true
+is_above (Some last) x = nat_lt last x
 
 -- a truth value
 unfoldable pub flag_at : Place → Result (Bool × Place) FormErr
@@ -36,7 +39,7 @@ flag_at p = u8_at p >>= λ b. if nat_lt 1 b.0 then fault_at 4 p else Ok (b.0 == 
 -- ---- values
 -- a word of a Set
 unfoldable pub word_after : List ℕ → Place → Result (ℕ × Place) FormErr
-word_after before p = u32_at p >>= λ w. checked 4 (is_above before w.0) p w
+word_after before p = u32_at p >>= λ w. checked 4 (is_above (last_of before) w.0) p w
 
 -- a Set of n words, each above the one before
 unfoldable pub set_at : ℕ → Place → Result (Val × Place) FormErr
@@ -77,21 +80,21 @@ state_at version p =
     flag_at p >>= λ ie. u8_at ie.1 >>= λ ccpn. flag_at ccpn.1 >>= λ lower. locals_at version lower.1 >>= λ locals. values_at version 27 locals.1 >>= λ regs.
     Ok (record { regs = regs.0; ie = ie.0; ccpn = ccpn.0; lower = lower.0; locals = record { items = locals.0 } }, regs.1)
 
--- an address after those before
-unfoldable pub address_after : List ℕ → Place → Result (ℕ × Place) FormErr
-address_after before p = u32_at p >>= λ addr. checked 3 (is_above before addr.0) p addr
+-- an address above the last one
+unfoldable pub address_after : Option ℕ → Place → Result (ℕ × Place) FormErr
+address_after last p = u32_at p >>= λ addr. checked 3 (is_above last addr.0) p addr
 
 -- a point whose address is above those before: the address and the state
 unfoldable pub point_after : ℕ → List Point → Place → Result (Point × Place) FormErr
 point_after version before p =
-    address_after (addresses before) p >>= λ addr. state_at version addr.1 >>= λ s. Ok (record { addr = addr.0; state = s.0 }, s.1)
+    address_after (last_of (addresses before)) p >>= λ addr. state_at version addr.1 >>= λ s. Ok (record { addr = addr.0; state = s.0 }, s.1)
 
 -- ---- nodes
--- a key whose number is above these; a fault of the order is at the kind, after `is` was read
-unfoldable pub key_after : List ℕ → Place → Result (Key × Place) FormErr
-key_after before p =
+-- a key whose number is above the last one; a fault of the order is at the kind, after `is` was read
+unfoldable pub key_after : Option ℕ → Place → Result (Key × Place) FormErr
+key_after last p =
     u8_at p >>= λ kind. checked 4 (nat_le kind.0 4) p kind >>= λ kind. u32_at kind.1 >>= λ entry. u8_at entry.1 >>= λ prio. u8_at prio.1 >>= λ is.
-    checked 3 (is_above before (key_number kind.0 entry.0 prio.0 is.0)) p is >>= λ is. checked 4 (nat_le is.0 1) prio.1 is >>= λ is.
+    checked 3 (is_above last (key_number kind.0 entry.0 prio.0 is.0)) p is >>= λ is. checked 4 (nat_le is.0 1) prio.1 is >>= λ is.
     Ok (record { kind = kind.0; entry = entry.0; prio = prio.0; is = is.0 == 1 }, is.1)
 
 -- a node's need, at most 4,096 areas
@@ -123,7 +126,7 @@ points_at version used p = point_count_at used p >>= λ n. many_at (point_after 
 -- a node whose key is above those before: the key, the need, the exit, and the points
 unfoldable pub node_after : ℕ → List NodeData → Place → Result (NodeData × Place) FormErr
 node_after version before p =
-    key_after (key_numbers before) p >>= λ key. need_at key.1 >>= λ need. exits_at version key.0.kind need.1 >>= λ exit. points_at version (count_points before) exit.1 >>= λ points.
+    key_after (last_of (key_numbers before)) p >>= λ key. need_at key.1 >>= λ need. exits_at version key.0.kind need.1 >>= λ exit. points_at version (count_points before) exit.1 >>= λ points.
     Ok (record { key = key.0; need = need.0; exit = exit.0; points = points.0 }, points.1)
 
 -- ---- certificates

@@ -2,12 +2,11 @@
 ghost use Rattle.std.specs.Prelude.{◌≡◌, ◌≤◌, ◌<◌, ◌+◌, ◌^◌, ◌-◌, length, Ok, Err, OnOk, IfOk, IfErr};
 ghost use Rattle.tcd_base.specs.FieldReaders.{Reads};
 ghost use Rattle.depth_cert.specs.Answers.{IsFaultOf};
-ghost use Rattle.depth_cert.specs.Grammar.{key_after, need_at, has_exit_at, exit_at, exits_at, node_after, point_count_at};
+ghost use Rattle.depth_cert.specs.Grammar.{is_above, key_after, need_at, has_exit_at, exit_at, exits_at, node_after, point_count_at};
 ghost use Rattle.depth_cert.specs.Keys.{key_number};
-ghost use Rattle.depth_cert.specs.Certs.{key_numbers};
 ghost use Rattle.depth_cert.specs.Nodes.{count_points};
 
-use crate::nodes::{is_next, no_exit};
+use crate::nodes::{last_number, no_exit};
 use crate::point_reader::{MOST_POINTS, read_points};
 use crate::value_reader::{read_flag, read_values};
 use crate::{ALN, CALL, CertErr, Exit, Key, Node, SYS};
@@ -24,10 +23,22 @@ pub(crate) fn number(kind: u8, entry: u32, prio: u8, is: u8) -> u64
         + u64::from(is)
 }
 
+// Whether the number of a key is above that of the node before, if there is one.
+fn is_next(last: Option<u64>, number: u64) -> bool
+    ensures { result ≡ is_above last number }
+{
+    match last {
+        None => true,
+        Some(last) => last < number,
+    }
+}
+
+/// Reads the key of a node. `last` is the number of the node before, if there is one.
 #[tactic(auto, unfolding(crate::specs::Grammar::key_after))]
-fn read_key(c: &mut Cursor<'_>, before: &[Node]) -> Result<Key, FormErr>
+#[inline]
+pub fn read_key(c: &mut Cursor<'_>, last: Option<u64>) -> Result<Key, FormErr>
     requires { length c.old.bytes ≤ 2 ^ 30 }
-    ensures read { Reads result c.new (key_after (key_numbers before.now) c.old) }
+    ensures read { Reads result c.new (key_after last c.old) }
     ensures bytes { c.new.bytes ≡ c.old.bytes }
 {
     let start = c.place();
@@ -39,7 +50,7 @@ fn read_key(c: &mut Cursor<'_>, before: &[Node]) -> Result<Key, FormErr>
     let prio = read_u8(c)?;
     let at = c.place();
     let is = read_u8(c)?;
-    if !is_next(before, number(kind, entry, prio, is)) {
+    if !is_next(last, number(kind, entry, prio, is)) {
         return Err(fault(BAD_ORDER, start));
     }
     if is > 1 {
@@ -131,7 +142,7 @@ pub(crate) fn read_node(
     ensures few { IfOk result (λ n. used + length n.points ≤ 2 ^ 16) }
     ensures bytes { c.new.bytes ≡ c.old.bytes }
 {
-    let key = read_key(c, before)?;
+    let key = read_key(c, last_number(before))?;
     let need = read_need(c)?;
     let exit = read_exits(c, version, key.kind)?;
     let points = read_points(alloc, c, version, used)?;

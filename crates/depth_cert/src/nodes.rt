@@ -2,7 +2,7 @@
 ghost use Rattle.std.specs.Prelude.{◌≡◌, ◌<◌, nat_lt, true, false, ◌-◌};
 ghost use Rattle.std.specs.Option.{option_map};
 ghost use Rattle.depth_cert.specs.Points.{ArePoints, find_point};
-ghost use Rattle.depth_cert.specs.Grammar.{is_above};
+ghost use Rattle.depth_cert.specs.Grammar.{last_of};
 ghost use Rattle.depth_cert.specs.Certs.{key_numbers};
 
 use crate::keys::number_of;
@@ -44,15 +44,14 @@ impl Node {
     }
 }
 
-/// Returns true if a key's number is above that of the last node.
-pub(crate) fn is_next(before: &[Node], key: u64) -> bool
-    ensures { result ≡ is_above (key_numbers before.now) key }
+/// Returns the number of the last node's key, if there is a node.
+pub(crate) fn last_number(nodes: &[Node]) -> Option<u64>
+    ensures { result ≡ last_of (key_numbers nodes.now) }
 {
-    if before.is_empty() {
-        return true;
+    match nodes.last() {
+        None => None,
+        Some(node) => Some(number_of(&node.key)),
     }
-    let last = &before[before.len() - 1];
-    number_of(&last.key) < key
 }
 
 /// Returns an exit that knows nothing.

@@ -3,7 +3,7 @@ ghost use Rattle.std.specs.Prelude.{◌≡◌, ◌≤◌, ◌+◌, ◌^◌, ◌-
 ghost use Rattle.tcd_base.specs.FieldReaders.{Reads, many_at};
 ghost use Rattle.depth_cert.specs.Grammar.{flag_at, locals_at, state_at, address_after, points_at, is_above};
 ghost use Rattle.depth_cert.specs.Answers.{IsFaultOf};
-ghost use Rattle.depth_cert.specs.Points.{addresses, ArePoints};
+ghost use Rattle.depth_cert.specs.Points.{ArePoints};
 
 use crate::node_reader::read_point_count;
 use crate::value_reader::{read_flag, read_values};
@@ -78,23 +78,28 @@ fn blank(addr: u32) -> Point
     }
 }
 
-/// Returns true if an address is above that of the last point.
-fn is_next(before: &[Point], addr: u32) -> bool
-    ensures { result ≡ is_above (addresses before.now) addr }
+// Whether an address is above that of the point before, if there is one.
+fn is_next(last: Option<u32>, addr: u32) -> bool
+    ensures { result ≡ is_above last addr }
 {
-    before.is_empty() || before[before.len() - 1].addr < addr
+    match last {
+        None => true,
+        Some(last) => last < addr,
+    }
 }
 
+/// Reads the address of a point. `last` is the address of the point before, if there is one.
 #[tactic(auto, unfolding(crate::specs::Grammar::address_after))]
-fn read_address(c: &mut Cursor<'_>, before: &[Point]) -> Result<u32, FormErr>
+#[inline]
+pub fn read_address(c: &mut Cursor<'_>, last: Option<u32>) -> Result<u32, FormErr>
     requires { length c.old.bytes ≤ 2 ^ 30 }
-    ensures read { Reads result c.new (address_after (addresses before.now) c.old) }
-    ensures next { IfOk result (λ addr. is_above (addresses before.now) addr ≡ true) }
+    ensures read { Reads result c.new (address_after last c.old) }
+    ensures next { IfOk result (λ addr. is_above last addr ≡ true) }
     ensures bytes { c.new.bytes ≡ c.old.bytes }
 {
     let start = c.place();
     let addr = read_u32(c)?;
-    if !is_next(before, addr) {
+    if !is_next(last, addr) {
         return Err(fault(BAD_ORDER, start));
     }
     Ok(addr)
@@ -121,11 +126,13 @@ pub(crate) fn read_points(
 {
     let count = read_point_count(c, used)?;
     let mut points = Vec::new(alloc);
+    let mut last = None;
     for _i in 0..count {
-        let addr = read_address(c, &points)?;
+        let addr = read_address(c, last)?;
+        last = Some(addr);
         points.push(blank(addr))?;
-        let last = points.len() - 1;
-        read_state(c, version, &mut points[last].state)?;
+        let at = points.len() - 1;
+        read_state(c, version, &mut points[at].state)?;
     }
     Ok(points)
 }

@@ -3,7 +3,7 @@ ghost use Rattle.std.specs.Prelude.{◌≡◌, ◌≤◌, ◌<◌, ◌^◌, ◌-
 ghost use Rattle.tcd_base.specs.FieldReaders.{Reads};
 ghost use Rattle.value_domain.specs.declared.values.Val.TheVariants.{Set, Span};
 ghost use Rattle.std.specs.List.Sorted.{IsStrictlyIncreasing};
-ghost use Rattle.depth_cert.specs.Grammar.{flag_at, word_after, set_at, span_at, value_at, values_at, is_above, is_span};
+ghost use Rattle.depth_cert.specs.Grammar.{flag_at, word_after, set_at, span_at, value_at, values_at, is_above, is_span, last_of};
 
 use arrayvec::ArrayVec;
 use tcd_base::{BAD_VALUE, Cursor, FormErr, fault, read_u8, read_u32};
@@ -35,7 +35,7 @@ pub fn read_flag(c: &mut Cursor<'_>) -> Result<bool, FormErr>
 
 /// Returns true if a word is above the last of those before it.
 fn is_next(before: &[u32], x: u32) -> bool
-    ensures { result ≡ is_above before.now x }
+    ensures { result ≡ is_above (last_of before.now) x }
 {
     before.is_empty() || before[before.len() - 1] < x
 }
@@ -44,7 +44,7 @@ fn is_next(before: &[u32], x: u32) -> bool
 fn read_word(c: &mut Cursor<'_>, before: &[u32]) -> Result<u32, FormErr>
     requires { length c.old.bytes ≤ 2 ^ 30 }
     ensures read { Reads result c.new (word_after before.now c.old) }
-    ensures next { IfOk result (λ w. is_above before.now w ≡ true) }
+    ensures next { IfOk result (λ w. is_above (last_of before.now) w ≡ true) }
     ensures bytes { c.new.bytes ≡ c.old.bytes }
 {
     let at = c.place();

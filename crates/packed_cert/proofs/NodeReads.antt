@@ -14,7 +14,7 @@ use Rattle.depth_cert.specs.Keys.{number_of_key}
 use Rattle.depth_cert.specs.Answers.{IsFaultOf}
 use Rattle.depth_cert.specs.Nodes.{NodeData, count_points}
 use Rattle.depth_cert.specs.Certs.{key_numbers}
-use Rattle.depth_cert.specs.Grammar.{exit_at, exits_at, key_after, need_at, points_at, node_after}
+use Rattle.depth_cert.specs.Grammar.{exit_at, exits_at, last_of, key_after, need_at, points_at, node_after}
 use Rattle.packed_cert.specs.declared.places.NodePlaces.{NodePlaces}
 use Rattle.packed_cert.specs.ValuesAtPlaces.{at}
 use Rattle.packed_cert.specs.PointsInBytes.{read_or, point_in}
@@ -70,26 +70,26 @@ count_in version bytes (n ∷ ns) =
 
 -- ---- a node behind others: the key, the need, the exit, and the points
 pub node_reads : (version : ℕ) (before : List NodeData) (p q r s t : Place) (key : Key) (need : ℕ) (exit : Option Exit) (points : List Point)
-    → key_after (key_numbers before) p ≡ Ok (key, q) → need_at q ≡ Ok (need, r) → exits_at version key.kind r ≡ Ok (exit, s) → points_at version (count_points before) s ≡ Ok (points, t)
+    → key_after (last_of (key_numbers before)) p ≡ Ok (key, q) → need_at q ≡ Ok (need, r) → exits_at version key.kind r ≡ Ok (exit, s) → points_at version (count_points before) s ≡ Ok (points, t)
     → node_after version before p ≡ Ok (record { key = key; need = need; exit = exit; points = points }, t)
 unfolding node_after
 node_reads version before p q r s t key need exit points a b c d = rw (a, b, c, d) refl
 
-pub key_fails : (version : ℕ) (before : List NodeData) (p : Place) (e : FormErr) → key_after (key_numbers before) p ≡ Err e → node_after version before p ≡ Err e
+pub key_fails : (version : ℕ) (before : List NodeData) (p : Place) (e : FormErr) → key_after (last_of (key_numbers before)) p ≡ Err e → node_after version before p ≡ Err e
 unfolding node_after
 key_fails version before p e a = rw a refl
 
-pub need_fails : (version : ℕ) (before : List NodeData) (p q : Place) (key : Key) (e : FormErr) → key_after (key_numbers before) p ≡ Ok (key, q) → need_at q ≡ Err e → node_after version before p ≡ Err e
+pub need_fails : (version : ℕ) (before : List NodeData) (p q : Place) (key : Key) (e : FormErr) → key_after (last_of (key_numbers before)) p ≡ Ok (key, q) → need_at q ≡ Err e → node_after version before p ≡ Err e
 unfolding node_after
 need_fails version before p q key e a b = rw (a, b) refl
 
 pub exit_fails : (version : ℕ) (before : List NodeData) (p q r : Place) (key : Key) (need : ℕ) (e : FormErr)
-    → key_after (key_numbers before) p ≡ Ok (key, q) → need_at q ≡ Ok (need, r) → exits_at version key.kind r ≡ Err e → node_after version before p ≡ Err e
+    → key_after (last_of (key_numbers before)) p ≡ Ok (key, q) → need_at q ≡ Ok (need, r) → exits_at version key.kind r ≡ Err e → node_after version before p ≡ Err e
 unfolding node_after
 exit_fails version before p q r key need e a b c = rw (a, b, c) refl
 
 pub points_fail : (version : ℕ) (before : List NodeData) (p q r s : Place) (key : Key) (need : ℕ) (exit : Option Exit) (e : CertErr)
-    → key_after (key_numbers before) p ≡ Ok (key, q) → need_at q ≡ Ok (need, r) → exits_at version key.kind r ≡ Ok (exit, s) → IsFaultOf (points_at version (count_points before) s) e
+    → key_after (last_of (key_numbers before)) p ≡ Ok (key, q) → need_at q ≡ Ok (need, r) → exits_at version key.kind r ≡ Ok (exit, s) → IsFaultOf (points_at version (count_points before) s) e
     → IsFaultOf (node_after version before p) e
 unfolding node_after
 points_fail version before p q r s key need exit (Bad e) a b c d = rw (a, b, c, d) refl

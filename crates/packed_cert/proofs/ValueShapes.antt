@@ -14,7 +14,7 @@ use Rattle.value_domain.specs.Values.{any_val, members, IsWell, IsBelow, IsExten
 use Rattle.value_domain.proofs.RangeLaws.{below_span}
 use Rattle.value_domain.specs.VersionLimits.{most_words_of}
 use Rattle.depth_cert.specs.Points.{IsWellOf}
-use Rattle.depth_cert.specs.Grammar.{checked, word_after, set_at, span_at, value_at, is_above, is_span}
+use Rattle.depth_cert.specs.Grammar.{checked, word_after, set_at, span_at, value_at, is_above, last_of, is_span}
 use Rattle.tcd_base.proofs.PassedLaws.{ok_pair, passed_test}
 use Rattle.depth_cert.proofs.GrammarLaws.{checked_passed, width_le}
 use Rattle.packed_cert.specs.ValuesAtPlaces.{at, length_by, behind}
@@ -36,8 +36,8 @@ unfolding many_at word_after words_at
 words_read zero before ws p q e = sym (ok_pair before ws p q e).0 ∙ sym (append-nil before)
 words_read (suc n) before ws p q e =
     let b = bind_ok (word_after before p) (λ x. many_at word_after n (before ++ x.0 ∷ []) x.1) (ws, q) e in
-    let c = bind_ok (u32_at p) (λ w. checked 4 (is_above before w.0) p w) b.0 b.1 in
-    let t = checked_passed 4 (is_above before c.0.0) p c.0 b.0 c.2 in
+    let c = bind_ok (u32_at p) (λ w. checked 4 (is_above (last_of before) w.0) p w) b.0 b.1 in
+    let t = checked_passed 4 (is_above (last_of before) c.0.0) p c.0 b.0 c.2 in
     let k = u32_at_ok p c.0.0 c.0.1 c.1 in
     let word : b.0.0 ≡ word_at p.bytes p.place = ap (λ (x : ℕ × Place). x.0) (sym t.1) ∙ k.1 in
     let after : b.0.1 ≡ c.0.1 = ap (λ (x : ℕ × Place). x.1) (sym t.1) in

@@ -3,10 +3,9 @@
 // If all come again, they are passed over, and else only the values whose bytes differ are read. In
 // bench/, a point of *functions*, whose state has 106 bytes, takes some 180 instructions if they
 // come again, and 480 more if they don't.
-ghost use Rattle.std.specs.Prelude.{◌≡◌, ◌≤◌, ◌<◌, ◌+◌, ◌-◌, ◌^◌, ℕ, List, length, map, vec_len, true, false, Ok, Err, OnOk, IfOk, IfErr, IfSome, IsTrue, IsFalse};
+ghost use Rattle.std.specs.Prelude.{◌≡◌, ◌≤◌, ◌<◌, ◌+◌, ◌-◌, ◌^◌, ℕ, List, length, map, vec_len, false, Ok, Err, OnOk, IfOk, IfErr, IfSome, IsTrue, IsFalse};
 ghost use Rattle.std.specs.List.{All};
-ghost use Rattle.tcd_base.specs.FieldReaders.{Reads};
-ghost use Rattle.depth_cert.specs.Grammar.{state_at, address_after, points_at, is_above};
+ghost use Rattle.depth_cert.specs.Grammar.{state_at, points_at};
 ghost use Rattle.depth_cert.specs.Answers.{IsFaultOf};
 ghost use Rattle.std.specs.List.Sorted.{IsStrictlyIncreasing};
 ghost use Rattle.packed_cert.specs.ValuesAtPlaces.{StandFrom, StandAlike};
@@ -21,9 +20,9 @@ use crate::repeated_bytes::count_same_before;
 use crate::states::read_state_after;
 use crate::value_reader::{move_to, no_row, read_values_like};
 use arrayvec::ArrayVec;
-use depth_cert::{CertErr, Exit, read_flag, read_locals, read_point_count};
+use depth_cert::{CertErr, Exit, read_address, read_flag, read_locals, read_point_count};
 use std::alloc::Global;
-use tcd_base::{BAD_ORDER, Cursor, FormErr, fault, read_u8, read_u32};
+use tcd_base::{Cursor, FormErr, read_u8};
 use value_domain::{State, Val};
 
 /// What the reading of a certificate carries from node to node.
@@ -83,8 +82,10 @@ pub(crate) fn read_points(
 {
     let count = read_point_count(c, room.used)?;
     let mut points = Vec::new(alloc);
+    let mut last = None;
     for i in 0..count {
-        let addr = read_address(c, &points)?;
+        let addr = read_address(c, last)?;
+        last = Some(addr);
         let read = read_state_like(c, bytes, version, room.last, &mut room.state)?;
         room.last = Some(read.at);
         let kept = for_point(read, i == 0);
@@ -97,28 +98,6 @@ pub(crate) fn read_points(
     }
     room.used += points.len();
     Ok(points)
-}
-
-#[tactic(auto, unfolding(depth_cert::specs::Grammar::address_after))]
-fn read_address(c: &mut Cursor<'_>, before: &[PackedPoint]) -> Result<u32, FormErr>
-    requires { length c.old.bytes ≤ 2 ^ 30 }
-    ensures read { Reads result c.new (address_after (map (λ p. p.addr) before.now) c.old) }
-    ensures next { IfOk result (λ addr. is_above (map (λ p. p.addr) before.now) addr ≡ true) }
-    ensures bytes { c.new.bytes ≡ c.old.bytes }
-{
-    let start = c.place();
-    let addr = read_u32(c)?;
-    if !is_next(before, addr) {
-        return Err(fault(BAD_ORDER, start));
-    }
-    Ok(addr)
-}
-
-/// Returns true if an address is above that of the last point.
-fn is_next(before: &[PackedPoint], addr: u32) -> bool
-    ensures { result ≡ is_above (map (λ p. p.addr) before.now) addr }
-{
-    before.is_empty() || before[before.len() - 1].addr < addr
 }
 
 /// Returns what a point keeps of the state that was read. For a node's first point it is the row of

@@ -1,7 +1,7 @@
 use Rattle.std.proofs.Common.{◌≡◌, ◌-◌, length, []}
 use Rattle.tcd_base.specs.FieldReaders.{many_at}
-use Rattle.depth_cert.specs.Grammar.{point_after}
-use Rattle.depth_cert.specs.Points.{ArePoints}
+use Rattle.depth_cert.specs.Grammar.{last_of, point_after}
+use Rattle.depth_cert.specs.Points.{addresses, ArePoints}
 use Rattle.depth_cert.proofs.point_reader.read_points.Given as goal
 
 abbrev pub invariant-loop-i : goal.invariant-loop-i
@@ -10,4 +10,5 @@ invariant-loop-i l = record {
   bytes : l.c.bytes ≡ l.initial.c.bytes;
   count : length l.points.items ≡ l._i;
   rising : ArePoints l.points.items;
+  last : l.last ≡ last_of (addresses l.points.items);
 }

@@ -3,9 +3,9 @@ use Rattle.std.proofs.Math.Seq.{get_or-append_seam}
 use Rattle.std.proofs.lemmas.Result.{err_from_is_err_and}
 use Rattle.std.proofs.lemmas.Bool.{ne_eqb}
 use Rattle.std.proofs.lemmas.List.Elements.{All-push}
-use Rattle.depth_cert.specs.Grammar.{points_at, point_after, address_after}
+use Rattle.depth_cert.specs.Grammar.{points_at, point_after, last_of, address_after}
 use Rattle.tcd_base.proofs.ManyLaws.{many_more, many_fail, many_end}
-use Rattle.depth_cert.proofs.ManyLaws.{rising_map_push}
+use Rattle.depth_cert.proofs.ManyLaws.{rising_map_push, last_of-push}
 use Rattle.depth_cert.proofs.PointReads.{address_fails, state_fails}
 use Rattle.packed_cert.specs.declared.places.PackedPoint.{PackedPoint}
 use Rattle.value_domain.specs.declared.states.State.{State}
@@ -24,9 +24,9 @@ unfolding points_at
 returns-in_err-addr-clause-err c =
     let p = err_from_is_err_and c.from_residual-in_err-addr.result c.from_residual-in_err-addr.ensures.1 in
     let before = points_in c.args.version c.args.bytes.now c.loop-i.points.items in
-    let e = rw c.deref.ensures.value at c.in_err-addr.ensures.read in
+    let e = rw c.loop-i.invariant.last at c.in_err-addr.ensures.read in
     let fault = many_fail (point_after c.args.version) c.in_ok-count.count c.loop-i.i before c.read_point_count.new.c c.loop-i.c _ c.loop-i-test.true c.loop-i.invariant.read
-    (address_fails c.args.version before c.loop-i.c _ (ap (λ (l : _). address_after l c.loop-i.c) (addresses_in c.args.version c.args.bytes.now c.loop-i.points.items) ∙ e)) in
+    (address_fails c.args.version before c.loop-i.c _ (ap (λ (l : _). address_after (last_of l) c.loop-i.c) (addresses_in c.args.version c.args.bytes.now c.loop-i.points.items) ∙ e)) in
     rw (p.1, p.2, c.in_ok-count.ensures.read) fault
 
 pub returns-in_err-read-clause-err : goal.returns-in_err-read-clause-err
@@ -34,9 +34,9 @@ unfolding points_at
 returns-in_err-read-clause-err c =
     let p = err_from_is_err_and c.from_residual-in_err-read.result c.from_residual-in_err-read.ensures.1 in
     let before = points_in c.args.version c.args.bytes.now c.loop-i.points.items in
-    let e = rw c.deref.ensures.value at c.in_ok-addr.ensures.read in
+    let e = rw c.loop-i.invariant.last at c.in_ok-addr.ensures.read in
     let fault = many_fail (point_after c.args.version) c.in_ok-count.count c.loop-i.i before c.read_point_count.new.c c.loop-i.c _ c.loop-i-test.true c.loop-i.invariant.read
-    (state_fails c.args.version before c.loop-i.c _ _ _ (ap (λ (l : _). address_after l c.loop-i.c) (addresses_in c.args.version c.args.bytes.now c.loop-i.points.items) ∙ e) c.in_err-read.ensures.err) in
+    (state_fails c.args.version before c.loop-i.c _ _ _ (ap (λ (l : _). address_after (last_of l) c.loop-i.c) (addresses_in c.args.version c.args.bytes.now c.loop-i.points.items) ∙ e) c.in_err-read.ensures.err) in
     rw (p.1, p.2, c.in_ok-count.ensures.read) fault
 
 pub loop-i-preserved : goal.loop-i-preserved
@@ -44,8 +44,8 @@ loop-i-preserved c =
     let version = c.args.version in
     let bytes = c.args.bytes.now in
     let ps = c.loop-i.points.items in
-    let e = rw c.deref.ensures.value at c.in_ok-addr.ensures.read in
-    let next = rw c.deref.ensures.value at c.in_ok-addr.ensures.next in
+    let e = rw c.loop-i.invariant.last at c.in_ok-addr.ensures.read in
+    let next = rw c.loop-i.invariant.last at c.in_ok-addr.ensures.next in
     let same = c.read_address.ensures.bytes ∙ c.loop-i.invariant.bytes ∙ c.read_point_count.ensures.bytes ∙ c.requires.same in
     let q = c.read_address.new.c in
     let item : PackedPoint = record { addr = c.in_ok-addr.addr; place = c.in_ok-read.read.at.start; row = c.for_point-kept.result.row; same = c.for_point-kept.result.same } in
@@ -71,6 +71,7 @@ loop-i-preserved c =
       count = omega (arith, c.in_ok-push.ensures.len, c.loop-i.invariant.count);
       states = rw pushed (All-push (λ (p : PackedPoint). HasState version bytes p.place) ps item c.loop-i.invariant.states there);
       rising = rw pushed (rising_map_push (λ (p : PackedPoint). p.addr) ps item c.loop-i.invariant.rising next);
+      last = rw pushed (sym (last_of-push (λ (p : PackedPoint). p.addr) ps item));
       used = c.loop-i.invariant.used;
       exit = c.loop-i.invariant.exit;
       state = stands;

@@ -3,7 +3,7 @@ use Rattle.std.specs.Prelude.{IfSome}
 use Rattle.std.specs.List.{All}
 use Rattle.std.specs.List.Sorted.{IsStrictlyIncreasing}
 use Rattle.tcd_base.specs.FieldReaders.{many_at}
-use Rattle.depth_cert.specs.Grammar.{point_after}
+use Rattle.depth_cert.specs.Grammar.{last_of, point_after}
 use Rattle.packed_cert.specs.declared.places.PackedPoint.{PackedPoint}
 use Rattle.packed_cert.specs.PointsInBytes.{state_in, points_in, HasState, StandsAt}
 use Rattle.packed_cert.specs.Moves.{AreMoves}
@@ -16,6 +16,7 @@ invariant-loop-i l = record {
   count : length l.points.items ≡ l.i;
   states : All (λ p. HasState l.version l.bytes p.place) l.points.items;
   rising : IsStrictlyIncreasing (map (λ p. p.addr) l.points.items);
+  last : l.last ≡ last_of (map (λ p. p.addr) l.points.items);
   used : l.room.used ≡ l.initial.room.used;
   exit : l.room.exit ≡ l.initial.room.exit;
   state : IfSome l.room.last (StandsAt l.version l.bytes l.room.state);
