@@ -35,6 +35,7 @@ last_of-push f xs x = last_of-map f (xs ++ x ∷ []) ∙ ap (option_map f) (ap (
   where
     len : length (xs ++ x ∷ []) ≡ length xs + 1
     len = length_push xs x
+
     at : length (xs ++ x ∷ []) - 1 ≡ length xs
     at = omega (arith, len)
 

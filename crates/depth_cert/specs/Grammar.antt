@@ -90,7 +90,7 @@ point_after version before p =
     address_after (last_of (addresses before)) p >>= λ addr. state_at version addr.1 >>= λ s. Ok (record { addr = addr.0; state = s.0 }, s.1)
 
 -- ---- nodes
--- a key whose number is above the last one; a fault of the order is at the kind, after `is` was read
+-- a key whose number is above the last; a fault of the order is at the kind, after `is` was read
 unfoldable pub key_after : Option ℕ → Place → Result (Key × Place) FormErr
 key_after last p =
     u8_at p >>= λ kind. checked 4 (nat_le kind.0 4) p kind >>= λ kind. u32_at kind.1 >>= λ entry. u8_at entry.1 >>= λ prio. u8_at prio.1 >>= λ is.

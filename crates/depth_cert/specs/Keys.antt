@@ -1,5 +1,5 @@
 -- Keys and their order.
-use Rattle.std.specs.Prelude.{◌≤◌, ◌<◌, ◌+◌, ◌*◌, ◌^◌, ◌==◌, ◌&&◌, ℕ, Bool, true, false}
+use Rattle.std.specs.Prelude.{◌≤◌, ◌<◌, ◌+◌, ◌*◌, ◌^◌, ◌==◌, ◌&&◌, if◌then◌else◌, ℕ, Bool, true, false, List, codes}
 use Rattle.depth_cert.specs.declared.keys.Key.{Key}
 use Rattle.std.specs.declared.cmp.Ordering.{Ordering}
 use Rattle.depth_cert.specs.contracts.keys.KeyPartialEq.TheImpl as block
@@ -24,6 +24,20 @@ sys_kind = 3
 -- the kind of frames of handlers of misaligned accesses
 abbrev pub aln_kind : ℕ
 aln_kind = 4
+
+-- how a frame is entered: at the start, or by a call, an interrupt, a system call, or a misaligned
+-- access
+abbrev pub kind_words : ℕ → List ℕ
+kind_words kind =
+    if kind == start_kind then codes "start "
+    else if kind == call_kind then codes "call "
+    else if kind == irq_kind then codes "irq "
+    else if kind == sys_kind then codes "sys "
+    else codes "aln "
+
+-- the kind of a key, and a blank
+unfoldable pub kind_text : ℕ → List ℕ
+kind_text kind = kind_words kind
 
 -- a truth value as a byte
 abbrev pub byte_of : Bool → ℕ

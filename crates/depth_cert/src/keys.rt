@@ -1,6 +1,6 @@
 // Kinds of frames, and the keys of nodes.
 ghost use Rattle.std.specs.Prelude.{◌≡◌, ◌-◌};
-ghost use Rattle.depth_cert.specs.Keys.{number_of_key};
+ghost use Rattle.depth_cert.specs.Keys.{kind_text, number_of_key};
 
 use crate::node_reader::number;
 
@@ -18,6 +18,21 @@ pub const SYS: u8 = 3;
 
 /// The kind of frames of handlers of misaligned accesses.
 pub const ALN: u8 = 4;
+
+/// Returns a kind of frame as text, and a blank.
+#[tactic(auto, unfolding(crate::specs::Keys::kind_text))]
+#[inline]
+pub fn kind_text(kind: u8) -> &'static str
+    ensures { result.now ≡ kind_text kind }
+{
+    match kind {
+        START => "start ",
+        CALL => "call ",
+        IRQ => "irq ",
+        SYS => "sys ",
+        _ => "aln ",
+    }
+}
 
 /// The key of a node. Keys are ordered by these four fields, in this order.
 #[derive(Clone, Copy, Debug, PartialEq, Eq, PartialOrd, Ord, Hash)]

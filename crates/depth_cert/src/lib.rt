@@ -17,7 +17,7 @@ mod writing;
 pub use cert_reader::{read_magic, read_node_count, read_version};
 pub use certs::Cert;
 pub use errors::CertErr;
-pub use keys::{ALN, CALL, IRQ, Key, START, SYS, number_of};
+pub use keys::{ALN, CALL, IRQ, Key, START, SYS, kind_text, number_of};
 pub use lower_registers::lower_value;
 pub use node_reader::{read_exit, read_has_exit, read_key, read_need, read_point_count};
 pub use nodes::{Node, no_exit};

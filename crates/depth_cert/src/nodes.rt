@@ -1,5 +1,5 @@
 // The type `Node`: a kind of frame with its points.
-ghost use Rattle.std.specs.Prelude.{◌≡◌, ◌<◌, nat_lt, true, false, ◌-◌};
+ghost use Rattle.std.specs.Prelude.{◌≡◌, false};
 ghost use Rattle.std.specs.Option.{option_map};
 ghost use Rattle.depth_cert.specs.Points.{ArePoints, find_point};
 ghost use Rattle.depth_cert.specs.Grammar.{last_of};

@@ -1,8 +1,8 @@
 -- The printed lines.
-use Rattle.std.specs.Prelude.{ℕ, ◌==◌, if◌then◌else◌, List, ◌∷◌, ◌++◌, codes, slice_get, unwrap_or, ◌-◌, length, take, []}
+use Rattle.std.specs.Prelude.{ℕ, if◌then◌else◌, List, ◌∷◌, ◌++◌, codes, slice_get, unwrap_or, ◌-◌, length, take, []}
 use Rattle.std.specs.Fmt.{decimal}
 use Rattle.tcd_text.specs.Digits.{hex_word}
-use Rattle.depth_cert.specs.Keys.{start_kind, call_kind, irq_kind, sys_kind}
+unfoldable pub use Rattle.depth_cert.specs.Keys.{kind_text}
 use Rattle.elf_image.specs.declared.errors.ImageErr.{ImageErr}
 use Rattle.elf_image.specs.declared.errors.ImageErr.TheVariants as elf
 use Rattle.tcd_base.specs.declared.errors.FormErr.{FormErr}
@@ -24,15 +24,6 @@ use Rattle.tcd_plan.specs.declared.plans.PlanKey.{PlanKey}
 use Rattle.tcd_plan.specs.declared.plans.PlanErr.{PlanErr}
 use Rattle.tcd_plan.specs.declared.plans.PlanErr.TheVariants as plan
 use Rattle.tc_lex.specs.Cut.{at_name}
-
--- the kind of a key: the start (0), a call, an interrupt, a system call or a misaligned access
-unfoldable pub kind_text : ℕ → List ℕ
-kind_text kind =
-    if kind == start_kind then codes "start "
-    else if kind == call_kind then codes "call "
-    else if kind == irq_kind then codes "irq "
-    else if kind == sys_kind then codes "sys "
-    else codes "aln "
 
 -- a key: its kind, its entry, its priority, and whether the interrupt stack is in use
 unfoldable pub key_line : Key → List ℕ

@@ -1,13 +1,12 @@
 // The printed lines on inputs that are refused, and on rules that fail.
 ghost use Rattle.std.specs.Prelude.{◌≡◌, ◌<◌, ◌++◌, ◌∷◌, [], if◌then◌else◌, length, codes, IsErr, IfOk, IfSome, OnOk};
 ghost use Rattle.std.specs.Fmt.{decimal};
-ghost use Rattle.tcd_forms.specs.Lines.{long_elf_line, long_plan_line, long_cert_line, long_script_line, long_source_line, kind_text, at_key, elf_line, plan_line, cert_line, script_line, source_line, long_layout_line, long_cells_line, long_tasks_line, layout_line, long_object_line, object_line, field_fault, link_line};
+ghost use Rattle.tcd_forms.specs.Lines.{long_elf_line, long_plan_line, long_cert_line, long_script_line, long_source_line, at_key, elf_line, plan_line, cert_line, script_line, source_line, long_layout_line, long_cells_line, long_tasks_line, layout_line, long_object_line, object_line, field_fault, link_line};
 ghost use Rattle.tc_lex.specs.Cut.{at_name};
 ghost use Rattle.tcd_plan.specs.Plans.{HasText};
 ghost use Rattle.tc_link.specs.Errors.{refusal_of};
 ghost use Rattle.tcd_plan.specs.Keys.{key_texts};
 
-use depth_cert::{CALL, IRQ, START, SYS};
 use elf_image::ImageErr;
 use std::alloc::Global;
 use tc_link::{LayoutErr, LinkErr};
@@ -22,20 +21,6 @@ pub fn append(line: &mut Vec<u8>, bytes: &[u8]) -> Result<(), NoMemory>
 {
     line.extend_from_slice(bytes)?;
     Ok(())
-}
-
-// Appends the kind of a key and a blank.
-#[tactic(auto, unfolding(crate::specs::Lines::kind_text))]
-pub(crate) fn append_kind(line: &mut Vec<u8>, kind: u8) -> Result<(), NoMemory>
-    ensures { OnOk result (line.new.items ≡ line.old.items ++ kind_text kind) }
-{
-    match kind {
-        START => append(line, b"start "),
-        CALL => append(line, b"call "),
-        IRQ => append(line, b"irq "),
-        SYS => append(line, b"sys "),
-        _ => append(line, b"aln "),
-    }
 }
 
 // The digit for the interrupt stack (1: in use), and the line feed.

@@ -5,8 +5,8 @@ ghost use Rattle.depth_cert.specs.Nodes.{count_points};
 ghost use Rattle.tcd_forms.specs.Lines.{boots_line, generated_boot_line, certified_cells_line, certified_tasks_line, generated_line, assembled_line, linked_line, cause_text, end_text, run_line, certified_line, key_line, refused_line, switch_line, of_task, refused_task_line, sum_line};
 ghost use Rattle.tcd_text.specs.Digits.{hex_word};
 
-use crate::error_lines::{append, append_kind, line_of, prio_text, stack_text, task_text};
-use depth_cert::Key;
+use crate::error_lines::{append, line_of, prio_text, stack_text, task_text};
+use depth_cert::{Key, kind_text};
 use packed_cert::PackedCert;
 use std::alloc::Global;
 use tc_machine::{Cause, End, Machine};
@@ -176,7 +176,7 @@ fn refused_front(alloc: Global, rule: u8) -> Result<Vec<u8>, NoMemory>
 fn append_key(alloc: Global, line: &mut Vec<u8>, key: Key) -> Result<(), NoMemory>
     ensures { OnOk result (line.new.items ≡ line.old.items ++ key_line key) }
 {
-    append_kind(line, key.kind)?;
+    append(line, kind_text(key.kind).as_bytes())?;
     append(line, &hex_word(key.entry))?;
     let prio = prio_text(alloc, key.prio)?;
     append(line, &prio)?;

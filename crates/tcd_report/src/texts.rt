@@ -1,9 +1,9 @@
 // Keys as text, and texts that grow at their end.
 ghost use Rattle.std.specs.Prelude.{◌≡◌, ◌++◌, ◌∷◌, [], OnOk, string_bytes, if◌then◌else◌};
 ghost use Rattle.std.specs.Fmt.{decimal};
-ghost use Rattle.tcd_report.specs.Texts.{kind_text, key_text};
+ghost use Rattle.tcd_report.specs.Texts.{key_text};
 
-use depth_cert::{CALL, IRQ, Key, START, SYS};
+use depth_cert::{Key, kind_text};
 use tcd_base::NoMemory;
 use tcd_text::append_hex_word;
 
@@ -26,20 +26,6 @@ pub(crate) fn append_key(text: &mut String, key: &Key) -> Result<(), NoMemory>
     append_decimal(text, key.prio)?;
     append(text, " is ")?;
     append(text, stack_text(key.is))
-}
-
-// The kind of a key, and a blank.
-#[tactic(auto, unfolding(crate::specs::Texts::kind_text))]
-fn kind_text(kind: u8) -> &'static str
-    ensures { result.now ≡ kind_text kind }
-{
-    match kind {
-        START => "start ",
-        CALL => "call ",
-        IRQ => "irq ",
-        SYS => "sys ",
-        _ => "aln ",
-    }
 }
 
 // Appends a number in decimal.
