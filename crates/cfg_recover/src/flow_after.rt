@@ -5,9 +5,8 @@ ghost use Rattle.value_domain.specs.State.{AreWell, AreBelow, Covers};
 ghost use Rattle.value_domain.specs.State as states;
 ghost use Rattle.depth_cert.specs.Exits.{after_of, with_lower_from};
 
-use arrayvec::ArrayVec;
 use depth_cert::{CALL, Exit};
-use value_domain::{State, Val, are_implied, covers_context, leq};
+use value_domain::{State, Val, are_implied, copy_locals, covers_context, leq};
 
 /// The state after a call (`kind` is CALL) or a system call (SYS) that returned by `exit`. The
 /// lower registers are the exit's. All other registers are as they were; IE and CCPN depend on the
@@ -20,7 +19,7 @@ pub fn after(s: &State, exit: &Exit, kind: u8) -> State
         ie: ie_after(s, exit, kind),
         ccpn: ccpn_after(s, exit, kind),
         lower: false,
-        locals: copy_of(&s.locals),
+        locals: copy_locals(&s.locals),
     }
 }
 
@@ -55,14 +54,6 @@ fn ccpn_after(s: &State, exit: &Exit, kind: u8) -> u8
     ensures { result ≡ (if kind == 1 then exit.now.ccpn else s.now.ccpn) }
 {
     if kind == CALL { exit.ccpn } else { s.ccpn }
-}
-
-pub(crate) fn copy_of(locals: &ArrayVec<bool, 8>) -> ArrayVec<bool, 8>
-    ensures { result ≡ locals.now }
-{
-    let mut copy = ArrayVec::new();
-    copy.try_extend_from_slice(locals.as_slice()).unwrap();
-    copy
 }
 
 /// The values, with those of the lower registers replaced.

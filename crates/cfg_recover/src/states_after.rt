@@ -7,10 +7,9 @@ ghost use Rattle.vd_transfer.specs.EffectsOnStates.{HasRoom, address_of, transfe
 ghost use Rattle.vd_transfer.specs.Branches.{refine_of};
 ghost use Rattle.vd_transfer.specs.Changes.{state_after};
 
-use crate::flow_after::copy_of;
 use tc_isa::{Inst, shape};
 use tcd_plan::Plan;
-use value_domain::{Bounds, State, Val};
+use value_domain::{Bounds, State, Val, copy_locals};
 use vd_transfer::{Change, address_by, change_of, change_on, changed_value, unchanged};
 
 /// The addresses that a load or a store may access.
@@ -61,7 +60,7 @@ pub fn changed_state(s: &State, c: &Change) -> State
         ie: c.ie,
         ccpn: c.ccpn,
         lower: c.lower,
-        locals: copy_of(&c.locals),
+        locals: copy_locals(&c.locals),
     }
 }
 

@@ -9,13 +9,13 @@ ghost use Rattle.small_states.specs.CompactForms.{all_values, state_in, known_of
 use crate::incoming_values::{are_covered, join_values};
 use crate::known::{KnownForm, SmallKnown};
 use crate::small_value::Form;
-use crate::{Small, SmallExit, SmallState, Values, copy_of, join_locals};
+use crate::{Small, SmallExit, SmallState, Values};
 use arrayvec::ArrayVec;
 use depth_cert::CALL;
 use std::alloc::{AllocError, Global};
 use std::marker::Model;
 use std::rc::Rc;
-use value_domain::{Bounds, State, Val, are_implied};
+use value_domain::{Bounds, State, Val, are_implied, copy_locals, join_locals};
 use vd_transfer::Change;
 
 /// What flows into a place, described by the state of the point that it comes from. No state is
@@ -141,7 +141,7 @@ pub(crate) fn form_with(values: Rc<Values>, incoming: &Incoming) -> KnownForm
         ie: k.ie,
         ccpn: k.ccpn,
         lower: k.lower,
-        locals: copy_of(k.locals),
+        locals: copy_locals(k.locals),
     })
 }
 

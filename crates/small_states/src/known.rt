@@ -12,12 +12,12 @@ use crate::incoming::{
 };
 use crate::incoming_values::{are_all_below, are_covered, join_values, pack_for, pack_values};
 use crate::small_value::{Form, Small};
-use crate::{ScratchState, SmallExit, SmallState, copy_of};
+use crate::{ScratchState, SmallExit, SmallState};
 use std::alloc::{AllocError, Global};
 use std::marker::Model;
 use std::rc::Rc;
 use tcd_base::NoMemory;
-use value_domain::{Bounds, are_implied};
+use value_domain::{Bounds, are_implied, copy_locals};
 use vd_transfer::{Base, Put};
 
 /// A state at a point, or the exit of a frame.
@@ -158,7 +158,7 @@ impl SmallKnown {
                 ie: s.ie,
                 ccpn: s.ccpn,
                 lower: s.lower,
-                locals: copy_of(&s.locals),
+                locals: copy_locals(&s.locals),
             }),
             KnownForm::Leaves(x) => KnownForm::Leaves(x.copy()?),
         };

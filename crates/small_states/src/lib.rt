@@ -15,5 +15,5 @@ pub use incoming::{Incoming, priority};
 pub use known::{Outline, SmallKnown};
 pub use scratch::ScratchState;
 pub use small_value::Small;
-pub use states::{SmallExit, SmallState, copy_of, join_locals};
+pub use states::{SmallExit, SmallState};
 pub use values::{SpacedValue, Values};

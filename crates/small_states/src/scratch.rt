@@ -2,11 +2,11 @@
 ghost use Rattle.std.specs.Prelude.{◌≡◌, IfSome, IsTrue, length};
 ghost use Rattle.small_states.specs.CompactForms.{all_values, state_in};
 
-use crate::states::{SmallState, copy_of};
+use crate::states::SmallState;
 use crate::values::Values;
 use std::marker::Model;
 use std::rc::Rc;
-use value_domain::{State, Val};
+use value_domain::{State, Val, copy_locals};
 
 /// A state that others are written over. It remembers the compact values that were written last, so
 /// that values with the same gaps are written only where they differ.
@@ -109,6 +109,6 @@ impl ScratchState {
         self.state.ie = s.ie;
         self.state.ccpn = s.ccpn;
         self.state.lower = s.lower;
-        self.state.locals = copy_of(&s.locals);
+        self.state.locals = copy_locals(&s.locals);
     }
 }

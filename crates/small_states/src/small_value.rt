@@ -15,8 +15,8 @@ use std::marker::Model;
 use std::rc::Rc;
 use tcd_base::NoMemory;
 use value_domain::{
-    Bounds, Extent, Val, Words, add_value, add_words, alignment_log2, extent_of, is_set, leq,
-    set_span, set_words, write_any,
+    Bounds, Extent, Val, Words, add_value, add_words, alignment_log2, extent_of, is_set,
+    is_the_span, leq, set_span, set_words, write_any,
 };
 use vd_transfer::only_word;
 
@@ -54,20 +54,6 @@ fn is_one(words: &Words, x: u32) -> bool
         return false;
     }
     all[0] == x
-}
-
-#[inline(always)]
-fn is_the_range(v: &Val, lo: u32, last: u32, step: u8) -> bool
-    ensures { IsTrue result → v.now ≡ Span lo last step }
-{
-    match v {
-        Val::Set(_) => false,
-        Val::Span {
-            lo: own_lo,
-            last: own_last,
-            step: own_step,
-        } => *own_lo == lo && *own_last == last && *own_step == step,
-    }
 }
 
 /// Returns true only if a list begins with the words of another. It compares all of them, since
@@ -274,13 +260,13 @@ impl Small {
         ensures { IsTrue result → v.now ≡ self.now }
     {
         match &self.form {
-            Form::Any => is_the_range(v, 0, u32::MAX, 0),
+            Form::Any => is_the_span(v, 0, u32::MAX, 0),
             Form::One(x) => match v {
                 Val::Set(words) => is_one(words, *x),
                 Val::Span { .. } => false,
             },
             Form::Many(own) => have_same_words(v, own.as_ref()),
-            Form::Range { lo, last, step } => is_the_range(v, *lo, *last, *step),
+            Form::Range { lo, last, step } => is_the_span(v, *lo, *last, *step),
         }
     }
 
@@ -433,7 +419,7 @@ impl Small {
                 None => is_below_range(v, *x, *x, 0),
             },
             Form::Range { lo, last, step } => {
-                if is_the_range(v, *lo, *last, *step) {
+                if is_the_span(v, *lo, *last, *step) {
                     return true;
                 }
                 is_below_range(v, *lo, *last, *step)

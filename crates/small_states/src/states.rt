@@ -1,6 +1,5 @@
 // States and exits with compact values.
-ghost use Rattle.std.specs.Prelude.{◌≡◌, ◌≤◌, ◌&&◌, ◌↔◌, IsTrue, IfOk, length};
-ghost use Rattle.value_domain.specs.State.{joined_locals};
+ghost use Rattle.std.specs.Prelude.{◌≡◌, ◌≤◌, ◌↔◌, IsTrue, IfOk};
 ghost use Rattle.small_states.specs.CompactForms.{exit_in};
 
 use crate::values::Values;
@@ -32,37 +31,6 @@ pub struct SmallExit {
     pub ccpn: u8,
     /// The values of the lower registers D0 to D7 and A2 to A7.
     pub lower: Rc<Values>,
-}
-
-/// Returns a copy of flags. Mostly there are none.
-pub fn copy_of(locals: &ArrayVec<bool, 8>) -> ArrayVec<bool, 8>
-    ensures { result ≡ locals.now }
-{
-    let mut copy = ArrayVec::new();
-    if !locals.is_empty() {
-        copy.try_extend_from_slice(locals.as_slice()).unwrap();
-    }
-    copy
-}
-
-fn and(a: bool, b: bool) -> bool
-    ensures { result ≡ (a && b) }
-{
-    a && b
-}
-
-/// Returns the flags that are set in both lists.
-pub fn join_locals(s: &[bool], t: &[bool]) -> ArrayVec<bool, 8>
-    requires same { length s.now ≡ length t.now }
-    requires few { length s.now ≤ 8 }
-    ensures { result.items ≡ joined_locals s.now t.now }
-{
-    let mut out = ArrayVec::new();
-    for (i, flag) in s.iter().enumerate() {
-        let both = and(*flag, t[i]);
-        out.push(both);
-    }
-    out
 }
 
 impl SmallState {

@@ -142,7 +142,20 @@ fn join_regs(b: &Bounds, s: &[Val; 27], t: &[Val; 27]) -> [Val; 27]
     out
 }
 
-fn join_locals(s: &[bool], t: &[bool]) -> ArrayVec<bool, 8>
+/// Returns a copy of the flags of a state's locals. Mostly there are none.
+#[inline(always)]
+pub fn copy_locals(locals: &ArrayVec<bool, 8>) -> ArrayVec<bool, 8>
+    ensures { result ≡ locals.now }
+{
+    let mut copy = ArrayVec::new();
+    if !locals.is_empty() {
+        copy.try_extend_from_slice(locals.as_slice()).unwrap();
+    }
+    copy
+}
+
+/// Returns the flags that are set in both lists.
+pub fn join_locals(s: &[bool], t: &[bool]) -> ArrayVec<bool, 8>
     requires same { length s.now ≡ length t.now }
     requires few { length s.now ≤ 8 }
     ensures { result.items ≡ joined_locals s.now t.now }

@@ -17,7 +17,7 @@ use crate::registers::slot_of;
 use arrayvec::ArrayVec;
 use tc_isa::Shape;
 use tcd_plan::Plan;
-use value_domain::{Bounds, State, Val};
+use value_domain::{Bounds, State, Val, copy_locals};
 
 /// The values that a change starts from.
 #[derive(Clone, Copy, PartialEq, Eq)]
@@ -74,15 +74,6 @@ pub fn put_register(r: u8, v: Val) -> Put
     }
 }
 
-#[inline(always)]
-pub(crate) fn copy_of(locals: &ArrayVec<bool, 8>) -> ArrayVec<bool, 8>
-    ensures { result ≡ locals.now }
-{
-    let mut copy = ArrayVec::new();
-    copy.try_extend_from_slice(locals.as_slice()).unwrap();
-    copy
-}
-
 /// Returns the change that keeps the whole state.
 #[inline(always)]
 pub fn unchanged(s: &State) -> Change
@@ -97,7 +88,7 @@ pub fn unchanged(s: &State) -> Change
         ie: s.ie,
         ccpn: s.ccpn,
         lower: s.lower,
-        locals: copy_of(&s.locals),
+        locals: copy_locals(&s.locals),
     }
 }
 
@@ -117,7 +108,7 @@ impl Change {
         self.ie = s.ie;
         self.ccpn = s.ccpn;
         self.lower = s.lower;
-        self.locals = copy_of(&s.locals);
+        self.locals = copy_locals(&s.locals);
     }
 }
 

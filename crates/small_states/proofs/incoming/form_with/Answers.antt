@@ -14,6 +14,6 @@ returns-then-is_leaving c =
 pub returns : goal.returns
 returns c =
     let k = c.context_of-k.result in
-    ap (λ locals. state (record { regs = all_values c.args.values.value; ie = k.ie; ccpn = k.ccpn; lower = k.lower; locals = locals })) c.copy_of.ensures
+    ap (λ locals. state (record { regs = all_values c.args.values.value; ie = k.ie; ccpn = k.ccpn; lower = k.lower; locals = locals })) c.copy_locals.ensures
     ∙ ap (λ (vs : List Val). state (state_with vs k)) c.requires
     ∙ sym (incoming_state c.args.incoming.now k c.is_leaving.result c.is_leaving.ensures c.context_of-k.ensures c.if-is_leaving.false)

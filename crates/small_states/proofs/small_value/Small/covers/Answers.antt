@@ -34,13 +34,13 @@ returns-in-None c =
     subst (λ (u : Val). IsTrue c.is_below_range.result ↔ IsBelow c.args.v.now u) (sym (sym c.self.view_is ∙ ap val_of c.in-One.is))
     ((λ t. both.0 (c.is_below_range.ensures.0 t)), (λ below. c.is_below_range.ensures.1 (both.1 below)))
 
-pub returns-then-is_the_range : goal.returns-then-is_the_range
-returns-then-is_the_range c =
-    let same = c.is_the_range.ensures c.if-is_the_range.true ∙ sym (sym c.self.view_is ∙ ap val_of c.in-Range.is) in
+pub returns-then-is_the_span : goal.returns-then-is_the_span
+returns-then-is_the_span c =
+    let same = c.is_the_span.ensures.0 c.if-is_the_span.true ∙ sym (sym c.self.view_is ∙ ap val_of c.in-Range.is) in
     ((λ t x m. subst (λ (u : Val). IsMember x u) same m), (λ below. refl))
 
-pub returns-else-is_the_range : goal.returns-else-is_the_range
-returns-else-is_the_range c =
+pub returns-else-is_the_span : goal.returns-else-is_the_span
+returns-else-is_the_span c =
     subst (λ (u : Val). IsTrue c.is_below_range-in-Range.result ↔ IsBelow c.args.v.now u) (sym (sym c.self.view_is ∙ ap val_of c.in-Range.is)) c.is_below_range-in-Range.ensures
 
 pub returns-in-Any : goal.returns-in-Any
