@@ -1,6 +1,6 @@
 -- Points with the state of the point before.
-use Rattle.std.proofs.Common.{◌≡◌, ℕ, ◌+◌, ◌<◌, List, [], ◌∷◌, ◌++◌, length, get_or, map, drop, Option, Some, None, Bool, arith, inl, inr, refl, sym, ap, ◌∙◌, subst, eq-eqb, ◌==◌}
-use Rattle.std.specs.Prelude.{IfSome, IsSomeAnd}
+use Rattle.std.proofs.Common.{◌≡◌, ℕ, ◌+◌, ◌<◌, List, [], ◌∷◌, ◌++◌, length, get_or, map, drop, Option, Some, None, arith, inl, inr, refl, sym, ap, ◌∙◌, subst, eq-eqb, ◌==◌}
+use Rattle.std.specs.Prelude.{IfSome, IsSomeAnd, IsTrue}
 use Rattle.std.specs.List.{find}
 use Rattle.std.specs.List.Sorted.{IsStrictlyIncreasing}
 use Rattle.std.proofs.lemmas.Bool.{lt-ltb, le-ltb}
@@ -12,6 +12,10 @@ use Rattle.value_domain.specs.State.{AreValues, Covers}
 use Rattle.depth_cert.specs.declared.points.Point.{Point}
 use Rattle.depth_cert.specs.Points.{ArePoints, find_point}
 use Rattle.depth_cert.specs.Nodes.{NodeData}
+use Rattle.depth_cert.specs.Certs.{CertData}
+use Rattle.tcd_plan.specs.PlanData.{PlanData}
+use Rattle.depth_check.specs.declared.points.CurrentPoint.{CurrentPoint}
+use Rattle.depth_check.specs.Interrupts.{InterruptsHold}
 use Rattle.depth_cert.proofs.FindLaws.{non_decreasing, found}
 use Rattle.cfg_recover.specs.RulesHoldOrFail.{HasPoint}
 use Rattle.packed_cert.specs.Walks.{WalkData, RepeatsAt, KeepsOthers}
@@ -73,6 +77,25 @@ repeats_stand node done before w p None s rising split step same h = tt
 repeats_stand node done before w p (Some a) s rising split step same h =
     let q : Point = record { addr = a; state = w.current } in
     subst (λ (t : State). StandsAt node a t) (sym same) (next_stands node done w.left (drop 1 w.left) p q rising (split ∙ ap (λ (l : List Point). done ++ l) step) h)
+
+-- ---- what is known at a point of a walk
+pub record WalkFacts (plan : PlanData) (cert : CertData) (node : NodeData) (here : CurrentPoint) : Type 0 where
+  pub again : IsTrue here.again → InterruptsHold plan cert node here.state.now
+  pub next : IfSome here.next (λ a. StandsAt node a here.state.now)
+  pub walk : IfSome here.walk (λ w. LooksAhead node here.state.now w.now)
+
+same_walk : {A : Type 0} (view : A → WalkData) (node : NodeData) (s : State) (w : WalkData) (o : Option A) → IfSome o (λ x. view x ≡ w) → LooksAhead node s w → IfSome o (λ x. LooksAhead node s (view x))
+same_walk view node s w None e h = tt
+same_walk view node s w (Some x) e h = subst (LooksAhead node s) (sym e) h
+
+pub walk_facts : (plan : PlanData) (cert : CertData) (node : NodeData) (done before : List Point) (w : WalkData) (p : Point) (here : CurrentPoint)
+    → ArePoints node.points → w.points ≡ node.points → node.points ≡ done ++ before → before ≡ p ∷ w.left → here.state.now ≡ w.current
+    → (IsTrue here.again → InterruptsHold plan cert node w.current) → IfSome here.next (RepeatsAt w) → IfSome here.walk (λ x. x.now ≡ w) → WalkFacts plan cert node here
+walk_facts plan cert node done before w p here rising all split step same again next walk = record {
+  again = λ t. subst (InterruptsHold plan cert node) (sym same) (again t);
+  next = repeats_stand node done before w p here.next here.state.now rising split step same next;
+  walk = same_walk (λ x. x.now) node here.state.now w here.walk walk (looks_ahead node done before w p here.state.now rising all split step same);
+}
 
 -- ---- values that are known
 pub known_values : (b : Limits) (before : State) (w : WalkData) → KeepsOthers before w → AreValues b before.regs → AreValues b w.anew → AreValues b (w.current).regs

@@ -1,6 +1,7 @@
 // Fast paths of the check. Each one skips work whose outcome is known, and its comment says what it
 // saves.
 ghost use Rattle.std.specs.Prelude.{◌≡◌, IfSome, Some, IsTrue, Bool, [], ◌∷◌, ◌<◌};
+ghost use Rattle.std.specs.Option.{option_and};
 ghost use Rattle.cfg_recover.specs.RulesHoldOrFail.{RuleHolds};
 ghost use Rattle.depth_check.specs.LeastBroken.{Finds, Breaks};
 ghost use Rattle.value_domain.specs.State.{AreValues, Covers};
@@ -124,6 +125,23 @@ pub(crate) fn only_narrows(shape: Shape) -> bool
 pub(crate) struct CheckedRegisters {
     pub(crate) called: Option<u8>,
     pub(crate) jumped: Option<u8>,
+}
+
+impl CheckedRegisters {
+    /// The registers that are known at the next point too, whose address is `next` if it has the
+    /// current state.
+    #[inline(always)]
+    pub(crate) fn if_repeated(self, next: Option<u32>) -> CheckedRegisters
+        ensures { result ≡ record {
+          called = option_and next self.called;
+          jumped = option_and next self.jumped;
+        } }
+    {
+        CheckedRegisters {
+            called: next.and(self.called),
+            jumped: next.and(self.jumped),
+        }
+    }
 }
 
 /// No register is known.

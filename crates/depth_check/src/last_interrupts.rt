@@ -1,5 +1,5 @@
 // A fast path: entries of interrupts that hold in one state hold in other states too.
-ghost use Rattle.std.specs.Prelude.{◌≡◌, IfSome, IsTrue, IsSomeAnd, slice_index_or, All, ◌<◌};
+ghost use Rattle.std.specs.Prelude.{◌≡◌, IfSome, IsTrue, IsSomeAnd, slice_index_or, ◌<◌};
 ghost use Rattle.depth_cert.specs.Certs.{CertData};
 ghost use Rattle.cfg_recover.specs.RulesHoldOrFail.{limits_in};
 ghost use Rattle.value_domain.specs.State.{AreValues};
@@ -7,17 +7,14 @@ ghost use Rattle.value_domain.specs.Values.{IsWell, IsValue, any_val};
 ghost use Rattle.tcd_plan.specs.PlanData.{PlanData};
 ghost use Rattle.depth_check.specs.Interrupts.{IsContext, FitsContext, IsBelowContext, InterruptsHold, AreWellStacks, LastInterruptsHold};
 ghost use Rattle.depth_check.specs.PassingInstructions.{HoldsWith};
-ghost use Rattle.depth_cert.specs.Proper.{IsWellNode};
+ghost use Rattle.depth_check.specs.PointChecks.{IsPointCheck};
 
 use crate::any_certs::AnyCert;
 use crate::any_nodes::{AnyNode, NodeForm};
 use crate::entry_rules::broken_by_irqs;
-use crate::nodes::NodeScratch;
-use crate::points::{CurrentPoint, PointCheck};
+use crate::points::PointCheck;
 use cfg_recover::interrupts;
-use elf_image::Image;
 use packed_cert::PackedNode;
-use tcd_plan::Plan;
 use value_domain::{A10_SLOT, Bounds, State, Val, join, leq};
 use vd_transfer::{A10, Base, put_register, unchanged};
 
@@ -60,7 +57,7 @@ impl LastInterrupts {
 
     /// The join of the last context's A10 and the state's, if the state needs more only because of
     /// A10.
-    pub(crate) fn join_stack(&self, b: &Bounds, any_node: &AnyNode<'_>, s: &State) -> Option<Val>
+    fn join_stack(&self, b: &Bounds, any_node: &AnyNode<'_>, s: &State) -> Option<Val>
         requires last { IfSome self.now.last (λ a. IsValue b.now a.sp) }
         requires values { AreValues b.now s.now.regs }
         ensures value { IfSome result (IsValue b.now) }
@@ -81,9 +78,24 @@ impl LastInterrupts {
         }
     }
 
+    /// Keeps the context of a point whose entries hold. This is a function of its own, so that the
+    /// loop over points needs no stack for a value.
+    #[inline(never)]
+    pub(crate) fn keep_context(&mut self, node: &PackedNode<'_>, at: &PointCheck<'_, '_>)
+        requires node { at.now.node.now ≡ node.now }
+        requires point { IsPointCheck at.now }
+        requires holds { InterruptsHold at.now.plan.now at.now.cert.now node.now
+            at.now.point.state.now }
+        requires interrupts { LastInterruptsHold at.now.plan.now at.now.cert.now self.old }
+        ensures { LastInterruptsHold at.now.plan.now at.now.cert.now self.new }
+    {
+        let sp = common_stack(at, &*self);
+        self.add(node, at.point.state, sp);
+    }
+
     /// Keeps the context of a state with an A10 with which the entries hold. The older of the two
     /// contexts is dropped.
-    pub(crate) fn add(&mut self, node: &PackedNode<'_>, s: &State, sp: Val)
+    fn add(&mut self, node: &PackedNode<'_>, s: &State, sp: Val)
         ensures { (plan : PlanData) (cert : CertData) → LastInterruptsHold plan cert self.old
             → IsValue (limits_in plan cert) sp → HoldsWith plan cert node.now s.now sp
             → LastInterruptsHold plan cert self.new }
@@ -145,59 +157,34 @@ fn context_covers(context: &Option<InterruptContext>, node: &PackedNode<'_>, s: 
     }
 }
 
-/// An A10 with which the entries of interrupts hold at the current point of the walk, if they hold
-/// with the point's own. It is the join of the point's own A10 and the last one that was kept, if
-/// the point needs more only because of A10 and the entries hold with the join; else it is the
-/// point's own.
+/// An A10 with which the entries of interrupts hold at a point, if they hold with the point's own.
+/// It is the join of the point's own A10 and the last one that was kept, if the point needs more
+/// only because of A10 and the entries hold with the join; else it is the point's own.
 ///
 /// With the join kept, an A10 that changes from point to point soon needs nothing more: after some
 /// 64 points the join has all of its values.
-#[inline(never)]
-pub(crate) fn common_stack(
-    b: &Bounds,
-    image: &Image,
-    plan: &Plan,
-    cert: &AnyCert<'_>,
-    any_node: &AnyNode<'_>,
-    scratch: &NodeScratch<'_>,
-) -> Val
-    requires limits { b.now ≡ limits_in plan.now cert.now }
-    requires nodes { All IsWellNode cert.now.nodes }
-    requires node { IsWellNode any_node.now }
-    requires values { AreValues b.now scratch.now.walk.current.regs }
-    requires holds { InterruptsHold plan.now cert.now any_node.now scratch.now.walk.current }
-    requires interrupts { LastInterruptsHold plan.now cert.now scratch.now.interrupts }
-    ensures value { IsValue b.now result }
-    ensures holds { HoldsWith plan.now cert.now any_node.now scratch.now.walk.current result }
+fn common_stack(at: &PointCheck<'_, '_>, kept: &LastInterrupts) -> Val
+    requires point { IsPointCheck at.now }
+    requires holds { InterruptsHold at.now.plan.now at.now.cert.now at.now.node.now
+        at.now.point.state.now }
+    requires interrupts { LastInterruptsHold at.now.plan.now at.now.cert.now kept.now }
+    ensures value { IsValue at.now.bounds.now result }
+    ensures holds { HoldsWith at.now.plan.now at.now.cert.now at.now.node.now
+        at.now.point.state.now result }
 {
-    let s = scratch.walk.state();
+    let s = at.point.state;
     let own = s.regs[A10_SLOT].copy();
-    let Some(sp) = scratch.interrupts.join_stack(b, any_node, s) else {
+    let Some(sp) = kept.join_stack(at.bounds, at.node, s) else {
         return own;
     };
-    let _most_words = b.most_words();
+    let _most_words = at.bounds.most_words();
     let mut entry = unchanged(s);
     entry.base = Base::Any;
     entry.first = put_register(A10, sp.copy());
     entry.ie = false;
     entry.lower = true;
     entry.locals.clear();
-    let at = PointCheck {
-        bounds: b,
-        image,
-        plan,
-        cert,
-        node: any_node,
-        point: CurrentPoint {
-            addr: 0,
-            state: s,
-            again: false,
-            known: false,
-            next: None,
-            walk: None,
-        },
-    };
-    match broken_by_irqs(&at, interrupts(plan, s).as_slice(), entry) {
+    match broken_by_irqs(at, interrupts(at.plan, s).as_slice(), entry) {
         Some(_) => own,
         None => sp,
     }

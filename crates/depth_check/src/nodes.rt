@@ -1,20 +1,24 @@
 // The rules of a node, and its first fault.
-ghost use Rattle.std.specs.Prelude.{◌≡◌, All, ◌<◌, ◌^◌, Contains, MatchOption};
+ghost use Rattle.std.specs.Prelude.{◌≡◌, All, ◌<◌, ◌^◌, Contains, IfSome, IsTrue, MatchOption, slice_index_or};
+ghost use Rattle.tcd_plan.specs.PlanData.{PlanData};
+ghost use Rattle.value_domain.specs.State.{AreValues};
+ghost use Rattle.value_domain.specs.Values.{IsWell, any_val};
+ghost use Rattle.depth_cert.specs.Certs.{CertData};
+ghost use Rattle.packed_cert.specs.Walks.{RepeatsAt};
 ghost use Rattle.cfg_recover.specs.RulesHoldOrFail.{limits_in, HoldsAtNode};
 ghost use Rattle.depth_cert.specs.Proper.{IsWellNode};
 ghost use Rattle.cfg_recover.specs.SetOperations.{HoldsResults};
-ghost use Rattle.depth_check.specs.Interrupts.{LastInterruptsHold};
+ghost use Rattle.depth_check.specs.Interrupts.{AreWellStacks, InterruptsHold, LastInterruptsHold};
 ghost use Rattle.depth_check.specs.NodeFaults.{IsNodeFault};
 ghost use Rattle.depth_check.specs.NodeFaults as nodes;
 
 use crate::any_certs::AnyCert;
 use crate::any_nodes::{AnyNode, NodeForm, packed_holds_at_entry, plain_holds_at_entry};
-use crate::fast_paths::{CheckedRegisters, NO_REGISTERS};
-use crate::last_interrupts::{LastInterrupts, common_stack};
+use crate::fast_paths::NO_REGISTERS;
+use crate::last_interrupts::LastInterrupts;
 use crate::node_covers::are_values;
 use crate::points::{CurrentPoint, PointCheck, PointScratch, broken_by_point};
 use crate::rules::BAD_VALUES;
-use cfg_recover::interrupts;
 use depth_cert::Node;
 use elf_image::Image;
 use packed_cert::{PackedNode, PointWalk};
@@ -89,50 +93,57 @@ fn packed_fault<'a>(
     node.walk(&mut scratch.walk);
     scratch.point.registers = NO_REGISTERS;
     let mut next = 0usize;
-    let mut known = false;
     while let Some(addr) = scratch.walk.step() {
         is_word(addr);
+        let here = walked_point(b, node, addr, next > 0, &scratch.interrupts, &scratch.walk);
         next = next.wrapping_add(1);
         let any_node = AnyNode::near(&*node, next);
-        let s = scratch.walk.state();
-        let again = scratch.interrupts.covers(node, s);
-        let repeats = scratch.walk.repeats_at();
-        let here = CurrentPoint {
-            addr,
-            state: s,
-            again,
-            known: known && are_values(b, scratch.walk.anew()),
-            next: repeats,
-            walk: Some(&scratch.walk),
-        };
-        let at = PointCheck {
-            bounds: b,
-            image,
-            plan,
-            cert,
-            node: &any_node,
-            point: here,
-        };
+        let at = PointCheck::new(&*b, &*image, &*plan, &*cert, &any_node, here);
         let found = broken_by_point(&at, &mut scratch.point);
         if let Some(fault) = first_of(good, entry, addr, found) {
             return Some(fault);
         }
-        known = true;
-        let checked = scratch.point.registers;
-        scratch.point.registers = CheckedRegisters {
-            called: repeats.and(checked.called),
-            jumped: repeats.and(checked.jumped),
-        };
-        let s = scratch.walk.state();
+        scratch.point.registers = scratch.point.registers.if_repeated(here.next);
         // Entries were checked here, so their context is kept.
-        let is_checked = s.ie && !again && !plan.irqs.is_empty();
+        let is_checked = here.state.ie && !here.again && !plan.irqs.is_empty();
         if is_checked {
-            let sp = common_stack(b, image, plan, cert, &any_node, &*scratch);
-            let t = scratch.walk.state();
-            scratch.interrupts.add(node, t, sp);
+            scratch.interrupts.keep_context(node, &at);
         }
     }
     if good { None } else { Some(entry_fault(entry)) }
+}
+
+/// The point at which the walk is, with facts for the fast paths. The values of the point before
+/// it are `known` to be values of the plan.
+#[inline(always)]
+fn walked_point<'b>(
+    b: &Bounds,
+    node: &PackedNode<'_>,
+    addr: u32,
+    known: bool,
+    interrupts: &LastInterrupts,
+    walk: &'b PointWalk<'b>,
+) -> CurrentPoint<'b>
+    requires stacks { AreWellStacks interrupts.now }
+    requires stack { IsWell (slice_index_or walk.now.current.regs 22 any_val) }
+    ensures addr { result.addr ≡ addr }
+    ensures state { result.state.now ≡ walk.now.current }
+    ensures again { IsTrue result.again → (plan : PlanData) (cert : CertData)
+        → LastInterruptsHold plan cert interrupts.now
+        → InterruptsHold plan cert node.now walk.now.current }
+    ensures known { IsTrue result.known → IsTrue known × AreValues b.now walk.now.anew }
+    ensures next { IfSome result.next (RepeatsAt walk.now) }
+    ensures walk { IfSome result.walk (λ w. w.now ≡ walk.now) }
+{
+    let state = walk.state();
+    CurrentPoint {
+        addr,
+        state,
+        again: interrupts.covers(node, state),
+        known: known && are_values(b, walk.anew()),
+        next: walk.repeats_at(),
+        walk: Some(walk),
+    }
 }
 
 /// The first fault of a node in memory.
@@ -157,22 +168,8 @@ fn plain_fault<'a>(
     let any_node = AnyNode::plain(&*node);
     for point in &node.points {
         scratch.registers = NO_REGISTERS;
-        let here = CurrentPoint {
-            addr: point.addr,
-            state: &point.state,
-            again: false,
-            known: false,
-            next: None,
-            walk: None,
-        };
-        let at = PointCheck {
-            bounds: &*b,
-            image: &*image,
-            plan: &*plan,
-            cert: &*cert,
-            node: &any_node,
-            point: here,
-        };
+        let here = CurrentPoint::alone(point.addr, &point.state);
+        let at = PointCheck::new(&*b, &*image, &*plan, &*cert, &any_node, here);
         let found = broken_by_point(&at, scratch);
         if let Some(fault) = first_of(good, entry, point.addr, found) {
             return Some(fault);

@@ -1,5 +1,5 @@
 // The rules at a point of a node.
-ghost use Rattle.std.specs.Prelude.{◌≡◌, All, IfSome, ◌↔◌, IsTrue, ◌<◌};
+ghost use Rattle.std.specs.Prelude.{◌≡◌, All, IfSome, ◌↔◌, IsTrue, None, false, ◌<◌};
 ghost use Rattle.cfg_recover.specs.RulesHoldOrFail.{limits_in, RuleHolds};
 ghost use Rattle.depth_check.specs.LeastBroken.{Finds};
 ghost use Rattle.depth_cert.specs.Proper.{IsWellNode};
@@ -53,6 +53,61 @@ pub(crate) struct CurrentPoint<'b> {
     pub(crate) known: bool,
     pub(crate) next: Option<u32>,
     pub(crate) walk: Option<&'b PointWalk<'b>>,
+}
+
+impl<'a, 'b> PointCheck<'a, 'b> {
+    /// A point of a node, and what it is checked against.
+    #[inline(always)]
+    pub(crate) fn new(
+        bounds: &'a Bounds,
+        image: &'a Image,
+        plan: &'a Plan,
+        cert: &'a AnyCert<'a>,
+        node: &'a AnyNode<'a>,
+        point: CurrentPoint<'b>,
+    ) -> PointCheck<'a, 'b>
+        ensures { result ≡ record {
+          bounds = bounds.entry;
+          image = image.entry;
+          plan = plan.entry;
+          cert = cert.entry;
+          node = node.entry;
+          point = point.entry;
+        } }
+    {
+        PointCheck {
+            bounds,
+            image,
+            plan,
+            cert,
+            node,
+            point,
+        }
+    }
+}
+
+impl<'b> CurrentPoint<'b> {
+    /// A point without facts for the fast paths.
+    #[inline(always)]
+    pub(crate) fn alone(addr: u32, state: &'b State) -> CurrentPoint<'b>
+        ensures { result ≡ record {
+          addr = addr;
+          state = state.entry;
+          again = false;
+          known = false;
+          next = None;
+          walk = None;
+        } }
+    {
+        CurrentPoint {
+            addr,
+            state,
+            again: false,
+            known: false,
+            next: None,
+            walk: None,
+        }
+    }
 }
 
 /// What the check of a point uses again: room for a change, results of operations on two sets,

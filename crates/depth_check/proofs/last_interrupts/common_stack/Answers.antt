@@ -1,41 +1,38 @@
-use Rattle.std.proofs.Common.{◌≡◌, ◌∙◌, Bool, List, [], arith, sym, ap, subst}
+use Rattle.std.proofs.Common.{◌≡◌, ◌∙◌, Bool, List, [], arith, refl, sym, ap}
 use Rattle.value_domain.specs.declared.values.Val.{Val}
-use Rattle.value_domain.specs.declared.states.State.{State}
 use Rattle.arrayvec.specs.ArrayVec.{ArrayVec}
 use Rattle.vd_transfer.specs.declared.change.Change.{Change}
 use Rattle.vd_transfer.specs.Changes.{no_put, reg_put}
 use Rattle.cfg_recover.proofs.EntryChanges.{handler_values}
-use Rattle.depth_check.specs.PassingInstructions.{HoldsWith}
 use Rattle.depth_check.proofs.RuleLaws.{values_well}
 use Rattle.depth_check.proofs.InterruptLaws.{own_value, own_holds, entered_state, other_stack}
 use Rattle.depth_check.proofs.last_interrupts.common_stack.Goals as goal
 
 pub returns-in_default-clause-holds : goal.returns-in_default-clause-holds
 returns-in_default-clause-holds c =
-    own_holds c.args.plan.now c.args.cert.now c.args.any_node.now c.state-s.result.now c.args.scratch.now.walk.current c.index-s-22.result c.copy-own.result c.state-s.ensures (omega arith) c.index-s-22.is (c.copy-own.ensures ∙ sym c.index-s-22.is) c.requires.holds
+    own_holds c.args.at.now.plan.now c.args.at.now.cert.now c.args.at.now.node.now c.args.at.now.point.state.now c.args.at.now.point.state.now c.index-s-22.result c.copy-own.result refl (omega arith) c.index-s-22.is (c.copy-own.ensures ∙ sym c.index-s-22.is) c.requires.holds
 
 pub broken_by_irqs-requires-clause-entry : goal.broken_by_irqs-requires-clause-entry
 broken_by_irqs-requires-clause-entry c =
     rw (c.unchanged-entry.ensures.kept, c.put_register-entry.ensures, c.copy.ensures)
-    (values_well c.args.b.now _ (handler_values c.args.b.now c.state-s.result.now c.in-Some.sp c.state-s.result.now.ccpn c.most_words-most_words.ensures.limits c.in-Some.ensures.value))
+    (values_well c.args.at.now.bounds.now _ (handler_values c.args.at.now.bounds.now c.args.at.now.point.state.now c.in-Some.sp c.args.at.now.point.state.now.ccpn c.most_words-most_words.ensures.limits c.in-Some.ensures.value))
 
 pub returns-in-Some-broken_by_irqs-clause-value : goal.returns-in-Some-broken_by_irqs-clause-value
 returns-in-Some-broken_by_irqs-clause-value c =
-    own_value c.args.b.now c.state-s.result.now c.args.scratch.now.walk.current c.index-s-22.result c.copy-own.result c.state-s.ensures (omega arith) c.index-s-22.is (c.copy-own.ensures ∙ sym c.index-s-22.is) c.requires.values
+    own_value c.args.at.now.bounds.now c.args.at.now.point.state.now c.args.at.now.point.state.now c.index-s-22.result c.copy-own.result refl (omega arith) c.index-s-22.is (c.copy-own.ensures ∙ sym c.index-s-22.is) c.requires.point.values
 
 pub returns-in-Some-broken_by_irqs-clause-holds : goal.returns-in-Some-broken_by_irqs-clause-holds
 returns-in-Some-broken_by_irqs-clause-holds c =
-    own_holds c.args.plan.now c.args.cert.now c.args.any_node.now c.state-s.result.now c.args.scratch.now.walk.current c.index-s-22.result c.copy-own.result c.state-s.ensures (omega arith) c.index-s-22.is (c.copy-own.ensures ∙ sym c.index-s-22.is) c.requires.holds
+    own_holds c.args.at.now.plan.now c.args.at.now.cert.now c.args.at.now.node.now c.args.at.now.point.state.now c.args.at.now.point.state.now c.index-s-22.result c.copy-own.result refl (omega arith) c.index-s-22.is (c.copy-own.ensures ∙ sym c.index-s-22.is) c.requires.holds
 
 pub returns-in-None-clause-holds : goal.returns-in-None-clause-holds
 returns-in-None-clause-holds c =
-    let s = c.state-s.result.now in
+    let s = c.args.at.now.point.state.now in
     let sp = c.in-Some.sp in
     let k = c.unchanged-entry.result in
     let first : c.put_register-entry.result ≡ reg_put 26 sp = c.put_register-entry.ensures ∙ ap (λ (v : Val). reg_put 26 v) c.copy.ensures in
     let second : k.second ≡ no_put = ap (λ (x : Change). x.second) c.unchanged-entry.ensures.kept in
     let third : k.third ≡ no_put = ap (λ (x : Change). x.third) c.unchanged-entry.ensures.kept in
     let none : c.clear.new.self ≡ record { items = [] } = ap (λ (l : List Bool). let a : ArrayVec Bool = record { items = l } in a) c.clear.ensures in
-    subst (λ (t : State). HoldsWith c.args.plan.now c.args.cert.now c.args.any_node.now t sp) c.state-s.ensures
-    (other_stack c.args.plan.now c.args.cert.now c.args.any_node.now s _ sp k.ccpn _ (entered_state s sp k.ccpn c.put_register-entry.result k.second k.third c.clear.new.self first second third none) (c.as_slice.ensures.value ∙ c.interrupts.ensures) c.in-Some.ensures.stack
-    (rw c.in-None.is at c.broken_by_irqs.ensures))
+    other_stack c.args.at.now.plan.now c.args.at.now.cert.now c.args.at.now.node.now s _ sp k.ccpn _ (entered_state s sp k.ccpn c.put_register-entry.result k.second k.third c.clear.new.self first second third none) (c.as_slice.ensures.value ∙ c.interrupts.ensures) c.in-Some.ensures.stack
+    (rw c.in-None.is at c.broken_by_irqs.ensures)

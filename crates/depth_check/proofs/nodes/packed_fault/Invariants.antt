@@ -1,5 +1,5 @@
-use Rattle.std.proofs.Common.{◌≡◌, ◌++◌, ℕ, List, length}
-use Rattle.std.specs.Prelude.{All, IsTrue}
+use Rattle.std.proofs.Common.{◌≡◌, ◌<◌, ◌++◌, ℕ, List, length}
+use Rattle.std.specs.Prelude.{All}
 use Rattle.value_domain.specs.State.{AreValues}
 use Rattle.cfg_recover.specs.RulesHoldOrFail.{limits_in, RuleHolds}
 use Rattle.depth_cert.specs.declared.points.Point.{Point}
@@ -14,7 +14,7 @@ invariant-loop-addr l = record {
   split : (l.node).points ≡ done ++ (l.scratch.walk).left;
   points : (l.scratch.walk).points ≡ (l.node).points;
   all : All (λ (p : Point). (r : ℕ) → RuleHolds l.image l.plan l.cert l.node p r) done;
-  known : IsTrue l.known → AreValues (limits_in l.plan l.cert) ((l.scratch.walk).current).regs;
+  known : 0 < l.next → AreValues (limits_in l.plan l.cert) ((l.scratch.walk).current).regs;
   interrupts : LastInterruptsHold l.plan l.cert l.scratch.interrupts;
   results : HoldsResults l.b (l.scratch.point).cache;
   registers : HoldsNext l.plan l.cert l.node (l.scratch.walk).left (l.scratch.point).registers;

@@ -1,9 +1,11 @@
-use Rattle.std.proofs.Common.{◌^◌, ◌<◌, ◌∙◌, sym, ap, subst, arith, List, ℕ}
+use Rattle.std.proofs.Common.{◌≡◌, ◌^◌, ◌<◌, ◌∙◌, true, false, sym, ap, subst, arith, List, ℕ}
 use Rattle.std.specs.Prelude.{IsTrue, ◌↔◌, All}
 use Rattle.value_domain.specs.Limits.{Limits}
 use Rattle.depth_cert.specs.declared.points.Point.{Point}
 use Rattle.depth_cert.specs.Points.{ArePoints}
 use Rattle.depth_cert.specs.Nodes.{NodeData}
+use Rattle.depth_cert.specs.Proper.{IsWellNode}
+use Rattle.std.proofs.lemmas.List.Elements.{All-contains}
 use Rattle.cfg_recover.specs.RulesHoldOrFail.{HoldsAtEntry, RuleHolds}
 use Rattle.depth_check.specs.declared.nodes.Fault.{Fault}
 use Rattle.depth_check.specs.NodeFaults.{IsNodeFault, first_of}
@@ -16,11 +18,38 @@ returns-in-Some-clause-fault c =
     fault_at c.args.image.now c.args.plan.now c.args.cert.now c.args.node.now c.requires.member c.deref-point-items.result.now
     (c.deref-point-items.ensures.value ∙ ap (λ (n : NodeData). n.points) c.node.view_is)
     (subst (λ (n : NodeData). ArePoints n.points) c.node.view_is c.node.invariant)
-    c.loop-point.point-index c.point-item.result c.plain_holds_at_entry-good.result c.broken_by_point-found.result c.in-Some.fault c.loop-point-test.true c.point-item.is c.loop-point.invariant.all (rw c.plain-any_node.ensures at c.broken_by_point-found.ensures.found)
+    c.loop-point.point-index c.point-item.result c.plain_holds_at_entry-good.result c.broken_by_point-found.result c.in-Some.fault c.loop-point-test.true c.point-item.is c.loop-point.invariant.all (rw (c.new-at.ensures, c.alone-here.ensures, c.plain-any_node.ensures) at c.broken_by_point-found.ensures.found)
     (omega arith)
     (subst (λ (n : NodeData). (n.key).entry < 2 ^ 32) c.node.view_is (omega arith))
     (subst (λ (b : Limits). IsTrue c.plain_holds_at_entry-good.result ↔ HoldsAtEntry b c.args.node.now) c.requires.limits c.plain_holds_at_entry-good.ensures)
     (ap (λ (n : NodeData). first_of c.plain_holds_at_entry-good.result (n.key).entry c.point-item.result.addr c.broken_by_point-found.result) (sym c.node.view_is) ∙ sym c.first_of.ensures ∙ c.in-Some.is)
+
+pub broken_by_point-found-requires-clause-limits : goal.broken_by_point-found-requires-clause-limits
+broken_by_point-found-requires-clause-limits c = rw c.new-at.ensures c.requires.limits
+
+pub broken_by_point-found-requires-clause-nodes : goal.broken_by_point-found-requires-clause-nodes
+broken_by_point-found-requires-clause-nodes c = rw c.new-at.ensures c.requires.nodes
+
+pub broken_by_point-found-requires-clause-node : goal.broken_by_point-found-requires-clause-node
+broken_by_point-found-requires-clause-node c = rw (c.new-at.ensures, c.plain-any_node.ensures) (All-contains IsWellNode (c.args.cert.now).nodes c.args.node.now c.requires.nodes c.requires.member)
+
+pub broken_by_point-found-requires-clause-again : goal.broken_by_point-found-requires-clause-again
+broken_by_point-found-requires-clause-again c = rw (c.new-at.ensures, c.alone-here.ensures) (λ t. absurd (let f : false ≡ true = t in cc))
+
+pub broken_by_point-found-requires-clause-known : goal.broken_by_point-found-requires-clause-known
+broken_by_point-found-requires-clause-known c = rw (c.new-at.ensures, c.alone-here.ensures) (λ t. absurd (let f : false ≡ true = t in cc))
+
+pub broken_by_point-found-requires-clause-next : goal.broken_by_point-found-requires-clause-next
+broken_by_point-found-requires-clause-next c = rw (c.new-at.ensures, c.alone-here.ensures) tt
+
+pub broken_by_point-found-requires-clause-walk : goal.broken_by_point-found-requires-clause-walk
+broken_by_point-found-requires-clause-walk c = rw (c.new-at.ensures, c.alone-here.ensures) tt
+
+pub broken_by_point-found-requires-clause-results : goal.broken_by_point-found-requires-clause-results
+broken_by_point-found-requires-clause-results c = rw c.new-at.ensures c.loop-point.invariant.results
+
+pub broken_by_point-found-requires-clause-registers : goal.broken_by_point-found-requires-clause-registers
+broken_by_point-found-requires-clause-registers c = record { called = tt; jumped = tt }
 
 pub loop-point-preserved : goal.loop-point-preserved
 loop-point-preserved c = record {
@@ -32,8 +61,8 @@ loop-point-preserved c = record {
       (subst (λ (n : NodeData). ArePoints n.points) c.node.view_is c.node.invariant)
       c.point-item.result c.plain_holds_at_entry-good.result c.broken_by_point-found.result
       (ap (λ (n : NodeData). first_of c.plain_holds_at_entry-good.result (n.key).entry c.point-item.result.addr c.broken_by_point-found.result) (sym c.node.view_is) ∙ sym c.first_of.ensures ∙ c.in_default.is)
-      (rw c.plain-any_node.ensures at c.broken_by_point-found.ensures.found));
-  results = c.broken_by_point-found.ensures.results;
+      (rw (c.new-at.ensures, c.alone-here.ensures, c.plain-any_node.ensures) at c.broken_by_point-found.ensures.found));
+  results = rw c.new-at.ensures at c.broken_by_point-found.ensures.results;
 }
 
 pub returns-then-good-clause-fault : goal.returns-then-good-clause-fault
