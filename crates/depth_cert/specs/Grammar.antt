@@ -1,6 +1,6 @@
 -- The grammar of certificates: fields read from left to right, and the first fault.
 -- Its kinds are SHORT, BAD_MAGIC, BAD_ORDER, BAD_VALUE, ABOVE_LIMIT and TRAILING of tcd_base.
-use Rattle.std.specs.Prelude.{◌+◌, ◌-◌, ◌^◌, ◌==◌, ◌&&◌, ◌||◌, not, nat_lt, nat_le, if◌then◌else◌, ℕ, Bool, true, List, ◌∷◌, length, slice_get, Option, Some, None, Result, Ok, []}
+use Rattle.std.specs.Prelude.{◌+◌, ◌-◌, ◌^◌, ◌==◌, ◌&&◌, ◌||◌, not, nat_lt, nat_le, if◌then◌else◌, ℕ, Bool, true, List, length, slice_get, Option, Some, None, Result, Ok, []}
 use Rattle.depth_cert.specs.Keys.{call_kind, sys_kind, key_number}
 use Rattle.tcd_base.specs.declared.errors.FormErr.{FormErr}
 use Rattle.tcd_base.specs.Place.{Place}

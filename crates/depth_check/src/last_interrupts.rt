@@ -9,7 +9,6 @@ ghost use Rattle.depth_check.specs.Interrupts.{IsContext, FitsContext, IsBelowCo
 ghost use Rattle.depth_check.specs.PassingInstructions.{HoldsWith};
 ghost use Rattle.depth_check.specs.PointChecks.{IsPointCheck};
 
-use crate::any_certs::AnyCert;
 use crate::any_nodes::{AnyNode, NodeForm};
 use crate::entry_rules::broken_by_irqs;
 use crate::points::PointCheck;

@@ -1,8 +1,8 @@
 // The rules of a node, and its first fault.
-ghost use Rattle.std.specs.Prelude.{◌≡◌, All, ◌<◌, ◌^◌, Contains, IfSome, IsTrue, MatchOption, slice_index_or};
+ghost use Rattle.std.specs.Prelude.{◌≡◌, All, ◌<◌, ◌^◌, Contains, IfSome, IsTrue, MatchOption};
 ghost use Rattle.tcd_plan.specs.PlanData.{PlanData};
-ghost use Rattle.value_domain.specs.State.{AreValues};
-ghost use Rattle.value_domain.specs.Values.{IsWell, any_val};
+ghost use Rattle.value_domain.specs.State.{AreValues, a10_of};
+ghost use Rattle.value_domain.specs.Values.{IsWell};
 ghost use Rattle.depth_cert.specs.Certs.{CertData};
 ghost use Rattle.packed_cert.specs.Walks.{RepeatsAt};
 ghost use Rattle.cfg_recover.specs.RulesHoldOrFail.{limits_in, HoldsAtNode};
@@ -113,8 +113,8 @@ fn packed_fault<'a>(
     if good { None } else { Some(entry_fault(entry)) }
 }
 
-/// The point at which the walk is, with facts for the fast paths. The values of the point before
-/// it are `known` to be values of the plan.
+/// The point at which the walk is, with facts for the fast paths. If `known`, the values of the
+/// point before it are values of the plan.
 #[inline(always)]
 fn walked_point<'b>(
     b: &Bounds,
@@ -125,7 +125,7 @@ fn walked_point<'b>(
     walk: &'b PointWalk<'b>,
 ) -> CurrentPoint<'b>
     requires stacks { AreWellStacks interrupts.now }
-    requires stack { IsWell (slice_index_or walk.now.current.regs 22 any_val) }
+    requires stack { IsWell (a10_of walk.now.current) }
     ensures addr { result.addr ≡ addr }
     ensures state { result.state.now ≡ walk.now.current }
     ensures again { IsTrue result.again → (plan : PlanData) (cert : CertData)

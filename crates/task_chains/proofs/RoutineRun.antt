@@ -19,7 +19,7 @@ use Rattle.tc_machine.specs.Stepping.{is_taken, step}
 use Rattle.tc_machine.proofs.Steps.{with_event, step_does}
 use Rattle.task_chains.specs.Tasks.{TasksData, AreTasks, count, block_size}
 use Rattle.tc_isa.specs.NamedInstructions.{upper_half, lower_half}
-use Rattle.tc_isa.proofs.WordHalves.{joined}
+use Rattle.tc_isa.proofs.WordHalves.{halves_join}
 use Rattle.task_chains.specs.TaskStarts.{block_word}
 use Rattle.task_chains.proofs.RoutineSteps.{block_read, block_written, block_kept}
 use Rattle.task_chains.proofs.Invariant.{after, InRoutine}
@@ -158,7 +158,7 @@ module _ (tasks : TasksData) (are : AreTasks tasks) (fits : tasks.block + block_
   next_3 r at =
       let x : Machine = record (advanced 4 m) { a = set m.a 2 ((reg m 18 + sign_extended 16 (lower_half tasks.block % 2 ^ 16)) % 2 ^ 32) } in
       let done : does m e (Compute Add 18 (Reg 18) (Word (sign_extended 16 (lower_half tasks.block % 2 ^ 16)))) 4 ≡ x = refl in
-      to_next 4 x (none_of r.off) (Compute Add 18 (Reg 18) (Word (sign_extended 16 (lower_half tasks.block % 2 ^ 16)))) at done running (record { pc = (let p = r.pc in let f = fits_pc in omega arith); off = r.off; high = λ a. absurd (omega arith); block = λ a. get_or-set_same m.a 2 ((reg m 18 + sign_extended 16 (lower_half tasks.block % 2 ^ 16)) % 2 ^ 32) 0 (omega arith) ∙ ap (λ y. (y + sign_extended 16 (lower_half tasks.block % 2 ^ 16)) % 2 ^ 32) (r.high refl) ∙ joined tasks.block (omega arith); own = λ a b. absurd (omega arith); own_word = λ a b. absurd (omega arith); pcxi = λ a. absurd (omega arith); stored = λ a. absurd (omega arith); one_on = λ a b. absurd (omega arith); at_end = λ a. absurd (omega arith); next = λ a. absurd (omega arith); old_current = λ a. r.old_current (omega arith); new_current = λ a. absurd (omega arith); next_word = λ a. absurd (omega arith); next_pcxi = λ a. absurd (omega arith) })
+      to_next 4 x (none_of r.off) (Compute Add 18 (Reg 18) (Word (sign_extended 16 (lower_half tasks.block % 2 ^ 16)))) at done running (record { pc = (let p = r.pc in let f = fits_pc in omega arith); off = r.off; high = λ a. absurd (omega arith); block = λ a. get_or-set_same m.a 2 ((reg m 18 + sign_extended 16 (lower_half tasks.block % 2 ^ 16)) % 2 ^ 32) 0 (omega arith) ∙ ap (λ y. (y + sign_extended 16 (lower_half tasks.block % 2 ^ 16)) % 2 ^ 32) (r.high refl) ∙ halves_join tasks.block (omega arith); own = λ a b. absurd (omega arith); own_word = λ a b. absurd (omega arith); pcxi = λ a. absurd (omega arith); stored = λ a. absurd (omega arith); one_on = λ a b. absurd (omega arith); at_end = λ a. absurd (omega arith); next = λ a. absurd (omega arith); old_current = λ a. r.old_current (omega arith); new_current = λ a. absurd (omega arith); next_word = λ a. absurd (omega arith); next_pcxi = λ a. absurd (omega arith) })
 
   pub next_9_last : suc u ≡ n → InRoutine tasks m u 9 word_of → fetched m ≡ Ok (Branch cond.Ne 0 (Word (sign_extended 4 (n % 2 ^ 4))) 8 false, 4) → InRoutine tasks (step m e) u 10 word_of
   unfolding does alu_of taken_of

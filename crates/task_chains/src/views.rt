@@ -1,5 +1,5 @@
 // The view of a task: the image and the plan for which its certificate is judged.
-ghost use Rattle.std.specs.Prelude.{◌≡◌, ◌≤◌, ◌<◌, ◌-◌, ◌==◌, ◌&&◌, false, nat_le, nat_lt, if◌then◌else◌, set, length, IfOk, ◌+◌, ◌*◌, ◌/◌, ◌%◌};
+ghost use Rattle.std.specs.Prelude.{◌≡◌, ◌≤◌, ◌<◌, ◌-◌, ◌==◌, ◌&&◌, false, nat_le, nat_lt, if◌then◌else◌, set, length, IfOk, ◌+◌, ◌*◌};
 ghost use Rattle.elf_image.specs.Images.{segment_data};
 ghost use Rattle.task_chains.specs.Tasks.{count};
 ghost use Rattle.task_chains.specs.Views.{FitPlan, with_routine_from, view_segment, view_image_of, view_plan_of};

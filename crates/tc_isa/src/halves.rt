@@ -1,4 +1,4 @@
-// The halves of a word, as two instructions put it together.
+// The halves of a word, for two instructions that put it together.
 ghost use Rattle.std.specs.Prelude.{◌≡◌, ◌<◌, ◌^◌};
 ghost use Rattle.tc_isa.specs.NamedInstructions as named;
 

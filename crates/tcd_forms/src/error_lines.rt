@@ -1,4 +1,4 @@
-// The printed lines on inputs that are refused, and on rules that fail.
+// The printed lines on malformed files, and on objects that can't be linked.
 ghost use Rattle.std.specs.Prelude.{◌≡◌, ◌<◌, ◌++◌, ◌∷◌, [], if◌then◌else◌, length, codes, IsErr, IfOk, IfSome, OnOk};
 ghost use Rattle.std.specs.Fmt.{decimal};
 ghost use Rattle.tcd_forms.specs.Lines.{long_elf_line, long_plan_line, long_cert_line, long_script_line, long_source_line, at_key, elf_line, plan_line, cert_line, script_line, source_line, long_layout_line, long_cells_line, long_tasks_line, layout_line, long_object_line, object_line, field_fault, link_line};

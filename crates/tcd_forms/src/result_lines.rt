@@ -1,4 +1,4 @@
-// The printed lines on success: runs, files that were written, and certified needs.
+// The printed lines on results: runs, files that were written, certified needs, and refusals.
 ghost use Rattle.std.specs.Prelude.{◌≡◌, ◌++◌, ◌∷◌, [], length, codes, IfOk, ◌<◌, OnOk};
 ghost use Rattle.std.specs.Fmt.{decimal};
 ghost use Rattle.depth_cert.specs.Nodes.{count_points};

@@ -188,7 +188,7 @@ pub fn write_cover_words(b: &Bounds, words: &[u32], out: &mut Val)
     add_words(b, out, words);
 }
 
-/// Returns true if a value is the multiples of 2^`step` in `lo..=last`.
+/// Returns true if a value is this Span.
 #[inline(always)]
 pub fn is_the_span(v: &Val, lo: u32, last: u32, step: u8) -> bool
     ensures { IsTrue result ↔ (v.now ≡ Span lo last step) }

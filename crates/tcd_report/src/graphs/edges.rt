@@ -31,7 +31,7 @@ pub(crate) struct Edges {
     pub(crate) irq: Handlers,
     /// Room for addresses in the order in which they are found.
     pub(crate) found: Vec<u32>,
-    /// Room for the addresses after entered frames returned, one for each frame.
+    /// Room for return addresses, one for each entered frame that may return.
     pub(crate) returns: Vec<u32>,
 }
 

@@ -37,7 +37,7 @@ pub(crate) fn push_called(
 }
 
 /// Fills the list with the entry of the handler of system calls if the instruction is a system
-/// call, else with nothing, in place of what it held.
+/// call, else with nothing, instead of what it held.
 pub(crate) fn set_system_call(
     all: &mut Vec<u32>,
     plan: &Plan,
@@ -54,7 +54,7 @@ pub(crate) fn set_system_call(
 }
 
 /// Fills the list with the entry of the handler of misaligned accesses if the instruction's access
-/// may be misaligned, else with nothing, in place of what it held.
+/// may be misaligned, else with nothing, instead of what it held.
 pub(crate) fn set_misaligned(
     all: &mut Vec<u32>,
     judged: &Judged,

@@ -41,8 +41,8 @@ pub(crate) fn no_handlers(alloc: Global) -> Handlers
     }
 }
 
-/// Finds the handlers of the interrupts that may come in a state, each entry once. `room` is
-/// overwritten, with one entry for each interrupt.
+/// Finds the handlers of the interrupts that may come in a state, each entry once. `room` may be
+/// overwritten.
 pub(crate) fn find_handlers(
     known: &mut Handlers,
     room: &mut Vec<u32>,
@@ -67,7 +67,7 @@ pub(crate) fn find_handlers(
     Ok(())
 }
 
-// Fills the list with the entries of the handlers of these interrupts, in place of what it held.
+// Fills the list with the entries of the handlers of these interrupts, instead of what it held.
 fn set_vectors(all: &mut Vec<u32>, plan: &Plan, irqs: &[u8]) -> Result<(), NoMemory>
     ensures { OnOk result (all.new.items ≡ vectors_in plan.now irqs.now) }
 {
