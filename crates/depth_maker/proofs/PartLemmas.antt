@@ -50,10 +50,10 @@ use Rattle.depth_maker.proofs.SpotLemmas.{back}
 use Rattle.depth_maker.proofs.CountedLemmas.{counted_again}
 use Rattle.depth_maker.proofs.CoveredLaws.{covered_again}
 use Rattle.depth_maker.proofs.LevelSteps.{rises_then, same_level}
-use Rattle.depth_maker.specs.TableInvariant.{AreExitsRead, IsFine}
+use Rattle.depth_maker.specs.TableInvariant.{AreExitsRead, FineOn, IsFine}
 use Rattle.depth_maker.specs.VisitDuties.{DutiesJoined, Owes}
 use Rattle.depth_maker.specs.Visits.{PointJoined, AllSettled, IsVisited}
-use Rattle.depth_maker.specs.Joins.{Keeps, Joined, JoinedAlone, JoinsOn}
+use Rattle.depth_maker.specs.Joins.{IsLeft, Keeps, Joined, JoinedAlone, JoinsOn}
 use Rattle.frame_places.specs.Marks.{is_idle, is_queued, Reads, Registered, mark_for, value_for, AreKnown}
 use Rattle.frame_places.specs.Work.{all_work}
 
@@ -413,12 +413,19 @@ pub asks_again : (b : Limits) (image : ImageData) (plan : PlanData) (s m : made.
 unfolding seen
 asks_again b image plan s m y v places asks = subst (λ (a : Assignment). Asks b image plan a (place_of y) v) (λ i q. sym (same_value s.places m.places places (spot_of q)) i) asks
 
+-- nothing at all changed
+pub all_left : (g : Ground) (s : made.Table) → FineOn g s → IsLeft g s s
+all_left g s fine = record { fine = fine; keeps = keeps_all g.bounds.now g.image.now g.plan.now s; entries = refl; rest = refl }
+
+-- the visited place is the same
+pub near_left : (g : Ground) (s t : made.Table) (x : Spot) → IsLeft g s t → StandsAt s.places s.near x → StandsAt t.places t.near x
+near_left g s t x left at = subst (λ (n : ℕ). StandsAt t.places n x) (sym (left.keeps).near) ((left.keeps).numbers s.near x at)
+
 -- a join in the same places and values
-raised_again : (b : Limits) (s m t : made.Table) (y : Spot) (v : Known) → m.places.entries ≡ s.places.entries → m.near ≡ s.near → m.readers ≡ s.readers → m.covered ≡ s.covered → m.points.items ≡ s.points.items
-    → m.frames.items ≡ s.frames.items → JoinedAlone b m t y v → JoinedAlone b s t y v
-raised_again b s m t y v places near readers covered points frames rose =
+raised_again : (b : Limits) (s m t : made.Table) (y : Spot) (v : Known) → m.places.entries ≡ s.places.entries → m ≡ record s { places = m.places } → JoinedAlone b m t y v → JoinedAlone b s t y v
+raised_again b s m t y v places rest more =
+    let rose = subst (λ (x : made.Table). JoinedAlone b x t y v) rest more in
     let same : (q : Spot) → value_for m.places q ≡ value_for s.places q = λ q. same_value s.places m.places places q in
-    let known = is_some (value_for s.places y) in
     record {
       known = rose.known;
       raises = ap (λ (o : Option Known). raised b o v) (sym (same y)) ∙ rose.raises;
@@ -429,20 +436,19 @@ raised_again b s m t y v places near readers covered points frames rose =
         numbers = λ n q h. (rose.puts).numbers n q (same_number s.places m.places places n q h);
       };
       listed = rose.listed;
-      near = rose.near ∙ near;
-      readers = rose.readers ∙ readers;
-      covered = rose.covered ∙ covered;
-      points = rose.points ∙ ap (λ (o : Option Known). points_after (is_some o) m.points.items y) (same y) ∙ ap (λ (ps : List Spot). points_after known ps y) points;
-      frames = rose.frames ∙ ap (λ (o : Option Known). frames_after (is_some o) m.frames.items y) (same y) ∙ ap (λ (ks : List Key). frames_after known ks y) frames;
+      near = rose.near;
+      readers = rose.readers;
+      covered = rose.covered;
+      points = rose.points ∙ ap (λ (o : Option Known). points_after (is_some o) s.points.items y) (same y);
+      frames = rose.frames ∙ ap (λ (o : Option Known). frames_after (is_some o) s.frames.items y) (same y);
       few = rose.few;
     }
 
-pub raises_again : (g : Ground) (s m t : made.Table) (y : Spot) (v : Known) (r : Result Bool Refusal) → m.places.entries ≡ s.places.entries → m.near ≡ s.near → m.readers ≡ s.readers → m.covered ≡ s.covered
-    → m.points.items ≡ s.points.items → m.frames.items ≡ s.frames.items → Keeps g.bounds.now g.image.now g.plan.now s m → JoinsOn g m t y v r → JoinsOn g s t y v r
-raises_again g s m t y v (Ok true) places near readers covered points frames keeps h = raised_again g.bounds.now s m t y v places near readers covered points frames h
-raises_again g s m t y v (Ok false) places near readers covered points frames keeps h = record {
+pub raises_again : (g : Ground) (s m t : made.Table) (y : Spot) (v : Known) (r : Result Bool Refusal) → IsLeft g s m → JoinsOn g m t y v r → JoinsOn g s t y v r
+raises_again g s m t y v (Ok true) left h = raised_again g.bounds.now s m t y v left.entries left.rest h
+raises_again g s m t y v (Ok false) left h = record {
   fine = h.fine;
   covers = h.covers;
-  keeps = Keeps-trans g.bounds.now g.image.now g.plan.now s m t keeps h.keeps;
+  keeps = Keeps-trans g.bounds.now g.image.now g.plan.now s m t left.keeps h.keeps;
 }
-raises_again g s m t y v (Err e) places near readers covered points frames keeps h = h
+raises_again g s m t y v (Err e) left h = h

@@ -1,5 +1,5 @@
 -- What a join does to the maker's table.
-use Rattle.std.specs.Prelude.{◌≡◌, ℕ, Bool, true, false, Some, is_some, map, Result, Ok, Err}
+use Rattle.std.specs.Prelude.{◌≡◌, ℕ, Bool, true, false, Option, None, Some, is_some, map, Result, Ok, Err}
 use Rattle.indexmap.specs.IndexMap.{get}
 use Rattle.elf_image.specs.Images.{ImageData}
 use Rattle.tcd_plan.specs.PlanData.{PlanData}
@@ -18,13 +18,13 @@ use Rattle.frame_places.specs.Spots.{spot_eq}
 use Rattle.depth_maker.specs.Spots.{spot_of, place_of}
 use Rattle.frame_places.specs.Counting.{frames_after, points_after}
 use Rattle.frame_places.specs.Marks.{is_queued, mark_for, value_for, AllListed, Puts, Reads}
-use Rattle.frame_places.specs.Numbers.{KeepsNumbers}
+use Rattle.frame_places.specs.Numbers.{KeepsNumbers, StandsAt}
 use Rattle.frame_places.specs.Work.{all_work}
 use Rattle.depth_maker.specs.Counts.{AreFew}
 use Rattle.depth_maker.specs.TableLevels.{Rises}
 use Rattle.depth_maker.specs.declared.inputs_and_limits.Ground.{Ground}
 use Rattle.depth_maker.specs.declared.table.Table as made
-use Rattle.depth_maker.specs.TableInvariant.{IsFine}
+use Rattle.depth_maker.specs.TableInvariant.{FineOn, IsFine}
 use Rattle.depth_maker.specs.Answers.{AnsweredOn}
 
 -- v, which wasn't covered, was joined at y alone: y is queued now, and counted
@@ -62,6 +62,13 @@ pub record Joined (b : Limits) (image : ImageData) (plan : PlanData) (s t : made
   pub covers : CoversAt (seen t).cells (place_of y) v
   pub keeps : Keeps b image plan s t
 
+-- nothing was joined: at most there is more room for places
+pub record IsLeft (g : Ground) (s t : made.Table) : Type 0 where
+  pub fine : FineOn g t
+  pub keeps : Keeps g.bounds.now g.image.now g.plan.now s t
+  pub entries : t.places.entries ≡ s.places.entries
+  pub rest : t ≡ record s { places = t.places }
+
 -- v flows into y from some point
 abbrev pub AsksOn : Ground → made.Table → Spot → Known → Type 0
 AsksOn g t y v = Asks g.bounds.now g.image.now g.plan.now (seen t).cells (place_of y) v
@@ -69,6 +76,13 @@ AsksOn g t y v = Asks g.bounds.now g.image.now g.plan.now (seen t).cells (place_
 -- v was joined at y alone
 abbrev pub JoinedAloneOn : Ground → made.Table → made.Table → Spot → Known → Type 0
 JoinedAloneOn g s t y v = JoinedAlone g.bounds.now s t y v
+
+-- v was joined at y alone; or y has this number already, and nothing was joined; or the refusal
+-- holds
+abbrev pub AddsOn : Ground → made.Table → made.Table → Spot → Known → Result (Option ℕ) Refusal → Type 0
+AddsOn g s t y v (Ok None) = JoinedAloneOn g s t y v
+AddsOn g s t y v (Ok (Some number)) = StandsAt t.places number y × IsLeft g s t
+AddsOn g s t y v (Err e) = AnsweredOn g e
 
 -- v was joined at y: alone if the result is true; otherwise it was covered already, or more places
 -- rose

@@ -17,11 +17,9 @@ use Rattle.frame_places.specs.Marks.{value_for}
 use Rattle.depth_maker.specs.Answers.{AnsweredOn}
 use Rattle.depth_maker.specs.EnteredFrames.{EntersNone, IsPlainAt}
 use Rattle.depth_maker.specs.InterruptHandlers.{IsWithinContext}
-use Rattle.depth_maker.specs.Joins.{Keeps}
-use Rattle.depth_maker.specs.TableInvariant.{FineOn}
+use Rattle.depth_maker.specs.Joins.{IsLeft}
 use Rattle.depth_maker.specs.VisitDuties.{DutiesJoined}
 use Rattle.depth_maker.specs.Visits.{PointJoinedOn}
-use Rattle.depth_maker.specs.declared.inputs_and_limits.Ground.{Ground}
 use Rattle.depth_maker.specs.declared.inputs_and_limits.Site.{Site}
 use Rattle.depth_maker.specs.declared.interrupt_contexts.InterruptContext.{InterruptContext}
 use Rattle.depth_maker.specs.declared.table.Table as made
@@ -49,12 +47,6 @@ abbrev pub IsQuiet : Site → made.Table → Type 0
 IsQuiet v t =
     (u : State) → value_for t.places (Point v.key v.addr) ≡ Some (state u)
     → DutiesJoined (v.ground.now).bounds.now (v.ground.now).image.now (v.ground.now).plan.now t t v.key v.addr u (interrupts_of (v.ground.now).plan.now v.key u) × (u.ccpn < 256)
-
--- nothing was joined: at most there is more room
-pub record IsLeft (g : Ground) (s t : made.Table) : Type 0 where
-  pub fine : FineOn g t
-  pub keeps : Keeps g.bounds.now g.image.now g.plan.now s t
-  pub entries : t.places.entries ≡ s.places.entries
 
 -- what the point owes was joined, and its instruction enters no frame by itself; or nothing was
 -- joined; or the refusal holds

@@ -1,5 +1,5 @@
 // Joins what flows from the visited point into a place.
-ghost use Rattle.std.specs.Prelude.{◌≡◌, IfErr, None, OnOk, Some};
+ghost use Rattle.std.specs.Prelude.{◌≡◌, IfErr, None, OnOk, Some, map};
 ghost use Rattle.indexmap.specs.IndexMap.{get};
 ghost use Rattle.cfg_recover.specs.Assignments.{point};
 ghost use Rattle.depth_cert.specs.Known.{state};
@@ -11,8 +11,11 @@ ghost use Rattle.frame_places.specs.Numbers.{StandsAt};
 ghost use Rattle.frame_places.specs.Spots.{spot_eq};
 ghost use Rattle.depth_maker.specs.TableInvariant.{AreExitsRead, FineOn};
 ghost use Rattle.depth_maker.specs.TableView.{seen};
+ghost use Rattle.depth_maker.specs.Counts.{AreFew};
+ghost use Rattle.depth_maker.specs.Spots.{place_of};
 ghost use Rattle.depth_maker.specs.Answers.{AnsweredOn};
-ghost use Rattle.depth_maker.specs.Joins.{AsksOn, JoinedOn, JoinsOn};
+ghost use Rattle.depth_maker.specs.Joins.{AddsOn, AsksOn, JoinedOn, JoinsOn};
+ghost use Rattle.depth_maker.specs.declared.inputs_and_limits.Ground.{Ground};
 
 use crate::inputs_and_limits::Visit;
 use crate::table::Table;
@@ -66,8 +69,31 @@ fn join_known(
     Ok(true)
 }
 
-/// Adds the place `y` with what flows in, and counts it. If `y` is known, joins what flows in,
-/// unless it is covered. Returns whether it wasn't.
+/// Adds the place `y` with this value, which flows in, and counts it. If `y` is known, returns its
+/// number and adds nothing. It is never inlined: if `join_new` and `pass_on` each had its text, LLVM
+/// would inline neither `add_or_find` nor the pushes of `count`.
+#[inline(never)]
+pub(crate) fn add_place(
+    table: &mut Table,
+    y: Spot,
+    value: SmallKnown,
+) -> Result<Option<usize>, Refusal>
+    requires listed { AllListed table.old.places (all_work table.old.work) }
+    requires few { AreFew (map place_of table.old.points.items) table.old.frames.items }
+    ensures { (g : Ground) → FineOn g table.old → AsksOn g table.old y value
+        → AddsOn g table.old table.new y value result }
+{
+    match add_or_find(&mut table.places, &mut table.work, y, value)? {
+        None => {
+            count(false, &mut table.points, &mut table.frames, y)?;
+            Ok(None)
+        }
+        Some(number) => Ok(Some(number)),
+    }
+}
+
+/// Adds the place `y` with what flows in. If `y` is known, joins what flows in, unless it is
+/// covered. Returns whether it wasn't.
 fn join_new(
     alloc: Global,
     table: &mut Table,
@@ -88,11 +114,8 @@ fn join_new(
         unreachable!();
     };
     let value = own.value.apply(alloc, incoming)?;
-    match add_or_find(&mut table.places, &mut table.work, *y, value)? {
-        None => {
-            count(false, &mut table.points, &mut table.frames, *y)?;
-            Ok(true)
-        }
+    match add_place(table, *y, value)? {
+        None => Ok(true),
         Some(number) => join_known(alloc, table, v, number, y, incoming),
     }
 }

@@ -9,7 +9,6 @@ mod fixpoint;
 mod handlers;
 mod inputs_and_limits;
 mod interrupt_contexts;
-mod join_duty;
 mod join_entries;
 mod join_place;
 mod join_successors;

@@ -9,10 +9,11 @@ ghost use Rattle.tc_isa.specs.InBounds.{IsShape};
 
 use crate::inputs_and_limits::Site;
 use crate::interrupt_contexts::has_noted_interrupts;
+use crate::join_place::add_place;
 use crate::spelling::is_byte;
 use crate::table::Table;
 use cfg_recover::direct_target;
-use frame_places::{Refusal, Spot, add_or_find, count};
+use frame_places::{Refusal, Spot};
 use std::alloc::Global;
 use tc_isa::Shape;
 
@@ -83,12 +84,8 @@ pub(crate) fn pass_on(alloc: Global, table: &mut Table, site: &Site) -> Result<b
         unreachable!();
     };
     let value = own.value.copy()?;
-    let y = Spot::Point(site.key, to);
-    match add_or_find(&mut table.places, &mut table.work, y, value)? {
-        None => {
-            count(false, &mut table.points, &mut table.frames, y)?;
-            Ok(true)
-        }
+    match add_place(table, Spot::Point(site.key, to), value)? {
+        None => Ok(true),
         Some(_) => Ok(false),
     }
 }

@@ -1,11 +1,11 @@
-use Rattle.std.proofs.Common.{sym, ◌∙◌, ◌≡◌, subst, Some, IsTrue, ℕ}
+use Rattle.std.proofs.Common.{sym, ◌∙◌, ◌≡◌, subst, Some, IsTrue}
 use Rattle.std.specs.Prelude.{IfOk, OnOk, slice_get}
 use Rattle.frame_places.specs.declared.places.Spot.{Spot}
 use Rattle.frame_places.specs.declared.places.Spot.TheVariants.{Exit, Point}
-use Rattle.frame_places.specs.Numbers.{StandsAt}
 use Rattle.frame_places.proofs.NearbyLemmas.{nowhere, one_there, there}
 use Rattle.depth_maker.specs.EnteredFrames.{IsPlainIn}
 use Rattle.depth_maker.specs.Visits.{PointJoinedOn}
+use Rattle.depth_maker.proofs.PartLemmas.{near_left}
 use Rattle.depth_maker.proofs.PassingLaws.{visited_again}
 use Rattle.depth_maker.proofs.VisitLemmas.{duties_exit}
 use Rattle.depth_maker.proofs.visit.visit_place.Goals as goal
@@ -51,7 +51,7 @@ read_and_visit-requires-clause-near c =
     let x : Spot = Point c.in-Point.key c.in-Point.addr in
     let old = c.in-Some.field-0-1.now in
     let here = there s.places s.near x old (subst (λ (z : Spot). slice_get s.places.entries s.near ≡ Some (z, old)) c.in-Point.is (sym c.in-Some.ensures.entry)) in
-    subst (λ (n : ℕ). StandsAt c.pass_on.new.table.places n x) (sym h.keeps.near) (h.keeps.numbers s.near x here)
+    near_left c.args.ground.now s c.pass_on.new.table x h here
 
 pub returns-clause-ok : goal.returns-clause-ok
 returns-clause-ok c x stands =

@@ -1,1 +1,0 @@
-// Joins what one duty of the visited point asks for.
