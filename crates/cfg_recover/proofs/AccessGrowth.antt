@@ -9,15 +9,15 @@ use Rattle.value_domain.specs.declared.states.State.{State}
 use Rattle.value_domain.specs.Limits.{Limits}
 use Rattle.value_domain.specs.Values.{IsBelow}
 use Rattle.value_domain.specs.State.{Covers}
-use Rattle.vd_transfer.specs.Registers.{slot, arg_of, value_at}
+use Rattle.vd_transfer.specs.Registers.{slot, arg_of, register_value_at}
 use Rattle.vd_transfer.specs.EffectsOnStates.{access_of}
-use Rattle.vd_transfer.specs.Soundness.{IsSetting}
+use Rattle.vd_transfer.specs.Soundness.{IsSoundSetting}
 use Rattle.vd_transfer.proofs.SlotLaws.{slot_is}
 use Rattle.vd_transfer.proofs.HoldLaws.{arg_value}
 use Rattle.vd_transfer.proofs.OpLaws.{monotone}
 
-module _ (b : Limits) (p : PlanData) (s t : State) (low : IsSetting b p s) (high : IsSetting b p t) (c : Covers t s) where
-  pub value_grows : (r : ℕ) (o : Option ℕ) → slot r ≡ o → IsBelow (value_at p s r o) (value_at p t r o)
+module _ (b : Limits) (p : PlanData) (s t : State) (low : IsSoundSetting b p s) (high : IsSoundSetting b p t) (c : Covers t s) where
+  pub value_grows : (r : ℕ) (o : Option ℕ) → slot r ≡ o → IsBelow (register_value_at p s r o) (register_value_at p t r o)
   value_grows r None e = λ x m. m
   value_grows r (Some i) e = c.regs i (let within = (slot_is r i e).within in let all = low.regs in omega arith)
 

@@ -15,11 +15,11 @@ use Rattle.tc_encode.specs.Decoding.{decoded_of}
 use Rattle.tc_encode.specs.declared.errors.DecodeErr.{DecodeErr}
 use Rattle.tc_encode.proofs.DecodeProofs.{decode_laws}
 use Rattle.tcd_base.specs.declared.range.Range.{Range}
-use Rattle.tcd_base.specs.Ranges.{IsInOne}
+use Rattle.tcd_base.specs.Ranges.{IsInOneRange}
 use Rattle.tc_machine.specs.Safe.{SpellsAt}
 use Rattle.tc_machine.proofs.ShapeWords as machine
-use Rattle.cfg_recover.specs.Code.{IsCode, HasCode, FindsBytes, FindsCode}
-use Rattle.cfg_recover.specs.HeldBytes.{held_bytes, FindsInRom}
+use Rattle.cfg_recover.specs.Code.{IsCode, HasCode, FindsCodeInBytes, FindsCode}
+use Rattle.cfg_recover.specs.HeldBytes.{held_bytes, FindsHeldBytes}
 
 -- the bytes from x on are these
 abbrev Holds : ImageData → ℕ → List ℕ → Type 0
@@ -64,13 +64,13 @@ front_held image x n bs le h i lt =
     h i (omega arith) ∙ ap Some (sym (get_or-take n bs i 0 within))
 
 -- fewer bytes are in the range, too
-in_one_fewer : (x n m : ℕ) (rs : List Range) → m ≤ n → IsInOne x n rs → IsInOne x m rs
+in_one_fewer : (x n m : ℕ) (rs : List Range) → m ≤ n → IsInOneRange x n rs → IsInOneRange x m rs
 in_one_fewer x n m [] le h = absurd h
 in_one_fewer x n m (r ∷ rs) le (inl w) = inl (w.0, omega arith)
 in_one_fewer x n m (r ∷ rs) le (inr h) = inr (in_one_fewer x n m rs le h)
 
 -- an instruction that they begin with is there
-pub code_found : (image : ImageData) (plan : PlanData) (x m : ℕ) (bs : List ℕ) (inst : InstData) (n : ℕ) → x % 2 ≡ 0 → FindsInRom image plan x m (Some bs) → FindsBytes bs (Some (inst, n)) → IsCode image plan x (shape_of inst) n
+pub code_found : (image : ImageData) (plan : PlanData) (x m : ℕ) (bs : List ℕ) (inst : InstData) (n : ℕ) → x % 2 ≡ 0 → FindsHeldBytes image plan x m (Some bs) → FindsCodeInBytes bs (Some (inst, n)) → IsCode image plan x (shape_of inst) n
 code_found image plan x m bs inst n even at finds =
     let held = held_to image x m bs at.1 in
     let lengths = decode_laws.lengths bs inst n finds in
@@ -92,7 +92,7 @@ two_or_four : (bs : List ℕ) (inst : InstData) → Spells bs inst → (length b
 two_or_four bs inst s = (decode_laws.lengths (bs ++ []) inst (length bs) (decode_laws.spelled bs [] inst s)).2
 
 -- no instruction is spelled by a front of bytes that begin with none
-begins_none : (bs front rest : List ℕ) (inst : InstData) → FindsBytes bs None → bs ≡ front ++ rest → Spells front inst → ⊥
+begins_none : (bs front rest : List ℕ) (inst : InstData) → FindsCodeInBytes bs None → bs ≡ front ++ rest → Spells front inst → ⊥
 begins_none bs front rest inst none e s = none inst (length front) (ap (λ (l : List ℕ). decoded_of l) e ∙ decode_laws.spelled front rest inst s)
 
 some_same : (o : Option (List ℕ)) (a b : List ℕ) → o ≡ Some a → o ≡ Some b → a ≡ b
@@ -104,8 +104,8 @@ none_some o a e f = cc
 held_of : (image : ImageData) (plan : PlanData) (x n : ℕ) (bytes : List ℕ) (inst : InstData) → SpellsAt image plan x bytes inst → length bytes ≡ n → held_bytes image x n ≡ Some bytes
 held_of image plan x n bytes inst at e = held_by_length image x n bytes e at.held
 
-in_rom_of : (image : ImageData) (plan : PlanData) (x n : ℕ) (bytes : List ℕ) (inst : InstData) → SpellsAt image plan x bytes inst → length bytes ≡ n → IsInOne x n plan.rom
-in_rom_of image plan x n bytes inst at e = let P : ℕ → Type 0 = λ m. IsInOne x m plan.rom in subst P e at.in_rom
+in_rom_of : (image : ImageData) (plan : PlanData) (x n : ℕ) (bytes : List ℕ) (inst : InstData) → SpellsAt image plan x bytes inst → length bytes ≡ n → IsInOneRange x n plan.rom
+in_rom_of image plan x n bytes inst at e = let P : ℕ → Type 0 = λ m. IsInOneRange x m plan.rom in subst P e at.in_rom
 
 -- no instruction is spelled at x
 abbrev SpellsNone : ImageData → PlanData → ℕ → Type 0
@@ -115,7 +115,7 @@ has_none : (image : ImageData) (plan : PlanData) (x : ℕ) → SpellsNone image 
 has_none image plan x none has = none (has.code).bytes (has.code).inst (has.code).spells
 
 -- if four bytes are there that begin with no instruction, there is none
-none_in_four : (image : ImageData) (plan : PlanData) (x : ℕ) (bs : List ℕ) → FindsInRom image plan x 4 (Some bs) → FindsBytes bs None → SpellsNone image plan x
+none_in_four : (image : ImageData) (plan : PlanData) (x : ℕ) (bs : List ℕ) → FindsHeldBytes image plan x 4 (Some bs) → FindsCodeInBytes bs None → SpellsNone image plan x
 none_in_four image plan x bs at none bytes inst code =
     let held = held_to image x 4 bs at.1 in
     elim (two_or_four bytes inst code.spelled) [
@@ -130,7 +130,7 @@ none_in_four image plan x bs at none bytes inst code =
     ]
 
 -- if no four bytes are there, and two that begin with no instruction, there is none
-none_in_two : (image : ImageData) (plan : PlanData) (x : ℕ) (bs : List ℕ) → FindsInRom image plan x 4 None → FindsInRom image plan x 2 (Some bs) → FindsBytes bs None → SpellsNone image plan x
+none_in_two : (image : ImageData) (plan : PlanData) (x : ℕ) (bs : List ℕ) → FindsHeldBytes image plan x 4 None → FindsHeldBytes image plan x 2 (Some bs) → FindsCodeInBytes bs None → SpellsNone image plan x
 none_in_two image plan x bs no_four at none bytes inst code =
     elim (two_or_four bytes inst code.spelled) [
       | inl two ↦
@@ -140,7 +140,7 @@ none_in_two image plan x bs no_four at none bytes inst code =
     ]
 
 -- if neither four nor two bytes are there, there is no instruction
-pub none_there : (image : ImageData) (plan : PlanData) (x : ℕ) → FindsInRom image plan x 4 None → FindsInRom image plan x 2 None → FindsCode image plan x None
+pub none_there : (image : ImageData) (plan : PlanData) (x : ℕ) → FindsHeldBytes image plan x 4 None → FindsHeldBytes image plan x 2 None → FindsCode image plan x None
 none_there image plan x no_four no_two = has_none image plan x (λ bytes inst code.
     elim (two_or_four bytes inst code.spelled) [
       | inl two ↦ none_some _ bytes (no_two (in_rom_of image plan x 2 bytes inst code two)) (held_of image plan x 2 bytes inst code two)
@@ -148,12 +148,12 @@ none_there image plan x no_four no_two = has_none image plan x (λ bytes inst co
     ])
 
 -- the code at an even address, by four bytes
-pub by_four : (image : ImageData) (plan : PlanData) (x : ℕ) (bs : List ℕ) (found : Option (InstData × ℕ)) → x % 2 ≡ 0 → FindsInRom image plan x 4 (Some bs) → FindsBytes bs found → FindsCode image plan x found
+pub by_four : (image : ImageData) (plan : PlanData) (x : ℕ) (bs : List ℕ) (found : Option (InstData × ℕ)) → x % 2 ≡ 0 → FindsHeldBytes image plan x 4 (Some bs) → FindsCodeInBytes bs found → FindsCode image plan x found
 by_four image plan x bs (Some (inst, n)) even at finds = code_found image plan x 4 bs inst n even at finds
 by_four image plan x bs None even at finds = has_none image plan x (none_in_four image plan x bs at finds)
 
 -- the code at an even address, by two bytes
-pub by_two : (image : ImageData) (plan : PlanData) (x : ℕ) (bs : List ℕ) (found : Option (InstData × ℕ)) → x % 2 ≡ 0 → FindsInRom image plan x 4 None → FindsInRom image plan x 2 (Some bs) → FindsBytes bs found → FindsCode image plan x found
+pub by_two : (image : ImageData) (plan : PlanData) (x : ℕ) (bs : List ℕ) (found : Option (InstData × ℕ)) → x % 2 ≡ 0 → FindsHeldBytes image plan x 4 None → FindsHeldBytes image plan x 2 (Some bs) → FindsCodeInBytes bs found → FindsCode image plan x found
 by_two image plan x bs (Some (inst, n)) even no_four at finds = code_found image plan x 2 bs inst n even at finds
 by_two image plan x bs None even no_four at finds = has_none image plan x (none_in_two image plan x bs no_four at finds)
 

@@ -11,7 +11,7 @@ use Rattle.tc_isa.specs.declared.shapes.Cond.{Cond}
 use Rattle.tc_isa.specs.declared.shapes.Target.{Target}
 use Rattle.tc_isa.specs.declared.shapes.Shape.{Shape}
 use Rattle.tc_isa.specs.declared.shapes.Shape.TheVariants.{Load, Store, Branch, Jump, Call, Ret, Rfe, Syscall, Mtcr}
-use Rattle.tc_machine.specs.Machine.{moved}
+use Rattle.tc_machine.specs.Machine.{machine_address_ahead}
 use Rattle.value_domain.specs.declared.states.State.{State}
 use Rattle.value_domain.specs.Limits.{Limits}
 use Rattle.vd_transfer.specs.EffectsOnStates.{transfer_of, address_of}
@@ -21,22 +21,22 @@ use Rattle.depth_cert.specs.Exits.{exit_of}
 use Rattle.cfg_recover.specs.Entries.{call_key, irq_key, sys_key, aln_key, call_entry, irq_entry, sys_entry, aln_entry, irqs_of}
 use Rattle.cfg_recover.specs.LocalRules.{targets_of}
 use Rattle.store_ranges.specs.Accesses.{are_aligned}
-use Rattle.cfg_recover.specs.Duties.{Owed, owed, jump, enter, resume, leave, loaded_at, jump_on, next_of, successors_of, entered_and_back, entries_of, misaligned_at, misaligned_of, interrupts_of, leavings_of, duties_of}
+use Rattle.cfg_recover.specs.Duties.{Owed, owed, jump, enter, resume, leave, loaded_for_duties, jump_on, next_of, successors_of, entered_and_back, entries_of, misaligned_at, misaligned_of, interrupts_of, leavings_of, duties_of}
 use Rattle.cfg_recover.proofs.Members.{contained_map, contained_flat, contains_first, contains_map, contains_flat, contains_jump, only_one, owes_successor, owes_entry, owes_misaligned, owes_interrupt, owes_leaving}
 
 pub data DutyAt (b : Limits) (image : ImageData) (plan : PlanData) (key : Key) (p : ℕ) (s : State) (n : ℕ) : Shape → Owed → Type 0 where
-  next : (shape : Shape) → ((t : State) → successors_of b image plan p t shape n ≡ next_of b image plan p t shape n) → DutyAt b image plan key p s n shape (owed 4 (jump (moved p n) (transfer_of b plan shape s (loaded_at b image plan s shape))))
+  next : (shape : Shape) → ((t : State) → successors_of b image plan p t shape n ≡ next_of b image plan p t shape n) → DutyAt b image plan key p s n shape (owed 4 (jump (machine_address_ahead p n) (transfer_of b plan shape s (loaded_for_duties b image plan s shape))))
   straight :
       (test : Cond) (x : ℕ) (y : Arg) (by : ℕ) (lowers : Bool) (t : State) → refine_of b plan (Branch test x y by lowers) s false ≡ Some t
-      → DutyAt b image plan key p s n (Branch test x y by lowers) (owed 4 (jump (moved p n) t))
+      → DutyAt b image plan key p s n (Branch test x y by lowers) (owed 4 (jump (machine_address_ahead p n) t))
   taken :
       (test : Cond) (x : ℕ) (y : Arg) (by : ℕ) (lowers : Bool) (t : State) → refine_of b plan (Branch test x y by lowers) s true ≡ Some t
-      → DutyAt b image plan key p s n (Branch test x y by lowers) (owed 4 (jump (moved p by) t))
+      → DutyAt b image plan key p s n (Branch test x y by lowers) (owed 4 (jump (machine_address_ahead p by) t))
   target : (to : Target) (q : ℕ) → Contains (unwrap_or (targets_of plan s p to) []) q → DutyAt b image plan key p s n (Jump to) (owed 4 (jump q s))
   called : (to : Target) (q : ℕ) → Contains (unwrap_or (targets_of plan s p to) []) q → DutyAt b image plan key p s n (Call to) (owed 5 (enter (call_key key q) (call_entry s)))
-  called_back : (to : Target) (q : ℕ) → Contains (unwrap_or (targets_of plan s p to) []) q → DutyAt b image plan key p s n (Call to) (owed 4 (resume (call_key key q) (moved p n)))
+  called_back : (to : Target) (q : ℕ) → Contains (unwrap_or (targets_of plan s p to) []) q → DutyAt b image plan key p s n (Call to) (owed 4 (resume (call_key key q) (machine_address_ahead p n)))
   system : (tin : ℕ) → DutyAt b image plan key p s n (Syscall tin) (owed 12 (enter (sys_key plan key) (sys_entry plan key s tin)))
-  system_back : (tin : ℕ) → DutyAt b image plan key p s n (Syscall tin) (owed 4 (resume (sys_key plan key) (moved p n)))
+  system_back : (tin : ℕ) → DutyAt b image plan key p s n (Syscall tin) (owed 4 (resume (sys_key plan key) (machine_address_ahead p n)))
   misaligned :
       (shape : Shape) (size : ℕ) → ((t : State) → misaligned_of b plan key t shape ≡ misaligned_at plan key t (address_of b plan shape t) size) → are_aligned (address_of b plan shape s) size ≡ false
       → DutyAt b image plan key p s n shape (owed 10 (enter (aln_key plan key) (aln_entry plan key s)))
@@ -68,7 +68,7 @@ module _ (b : Limits) (image : ImageData) (plan : PlanData) (key : Key) (p : ℕ
   successors_at : (shape : Shape) → AreAt shape (successors_of b image plan p s shape n)
   unfolding AreAt
   successors_at (Branch test x y by lowers) =
-      both_at (Branch test x y by lowers) _ _ (side_at (Branch test x y by lowers) (moved p n) _ (straight test x y by lowers)) (side_at (Branch test x y by lowers) (moved p by) _ (taken test x y by lowers))
+      both_at (Branch test x y by lowers) _ _ (side_at (Branch test x y by lowers) (machine_address_ahead p n) _ (straight test x y by lowers)) (side_at (Branch test x y by lowers) (machine_address_ahead p by) _ (taken test x y by lowers))
   successors_at (Jump to) = λ d c.
       let r = contained_map (λ q. owed 4 (jump q s)) (unwrap_or (targets_of plan s p to) []) d c in
       subst (λ (u : Owed). DutyAt b image plan key p s n (Jump to) u) r.2 (target to r.0 r.1)
@@ -82,10 +82,10 @@ module _ (b : Limits) (image : ImageData) (plan : PlanData) (key : Key) (p : ℕ
   entries_at : (shape : Shape) → AreAt shape (entries_of plan key p s shape n)
   unfolding AreAt
   entries_at (Call to) = λ d c.
-      let r = contained_flat (λ q. entered_and_back 5 (call_key key q) (call_entry s) (moved p n)) (unwrap_or (targets_of plan s p to) []) d c in
-      both_at (Call to) (owed 5 (enter (call_key key r.0) (call_entry s)) ∷ []) (owed 4 (resume (call_key key r.0) (moved p n)) ∷ []) (one_at (Call to) _ (called to r.0 r.1)) (one_at (Call to) _ (called_back to r.0 r.1)) d r.2
+      let r = contained_flat (λ q. entered_and_back 5 (call_key key q) (call_entry s) (machine_address_ahead p n)) (unwrap_or (targets_of plan s p to) []) d c in
+      both_at (Call to) (owed 5 (enter (call_key key r.0) (call_entry s)) ∷ []) (owed 4 (resume (call_key key r.0) (machine_address_ahead p n)) ∷ []) (one_at (Call to) _ (called to r.0 r.1)) (one_at (Call to) _ (called_back to r.0 r.1)) d r.2
   entries_at (Syscall tin) =
-      both_at (Syscall tin) (owed 12 (enter (sys_key plan key) (sys_entry plan key s tin)) ∷ []) (owed 4 (resume (sys_key plan key) (moved p n)) ∷ []) (one_at (Syscall tin) _ (system tin)) (one_at (Syscall tin) _ (system_back tin))
+      both_at (Syscall tin) (owed 12 (enter (sys_key plan key) (sys_entry plan key s tin)) ∷ []) (owed 4 (resume (sys_key plan key) (machine_address_ahead p n)) ∷ []) (one_at (Syscall tin) _ (system tin)) (one_at (Syscall tin) _ (system_back tin))
   entries_at shape = none_at shape
 
   access_at : (shape : Shape) (size : ℕ) → ((t : State) → misaligned_of b plan key t shape ≡ misaligned_at plan key t (address_of b plan shape t) size) → AreAt shape (misaligned_at plan key s (address_of b plan shape s) size)
@@ -125,16 +125,16 @@ module _ (b : Limits) (image : ImageData) (plan : PlanData) (key : Key) (p : ℕ
   duty_listed _ d (next shape e) = owes_successor b image plan key p s shape n d (rw (e s) (contains_first d []))
   duty_listed _ d (straight test x y by lowers t e) =
       owes_successor b image plan key p s (Branch test x y by lowers) n d
-      (Contains-append_left (jump_on (moved p n) (refine_of b plan (Branch test x y by lowers) s false)) (jump_on (moved p by) (refine_of b plan (Branch test x y by lowers) s true)) d (contains_jump (moved p n) _ t e))
+      (Contains-append_left (jump_on (machine_address_ahead p n) (refine_of b plan (Branch test x y by lowers) s false)) (jump_on (machine_address_ahead p by) (refine_of b plan (Branch test x y by lowers) s true)) d (contains_jump (machine_address_ahead p n) _ t e))
   duty_listed _ d (taken test x y by lowers t e) =
       owes_successor b image plan key p s (Branch test x y by lowers) n d
-      (Contains-append_right (jump_on (moved p n) (refine_of b plan (Branch test x y by lowers) s false)) (jump_on (moved p by) (refine_of b plan (Branch test x y by lowers) s true)) d (contains_jump (moved p by) _ t e))
+      (Contains-append_right (jump_on (machine_address_ahead p n) (refine_of b plan (Branch test x y by lowers) s false)) (jump_on (machine_address_ahead p by) (refine_of b plan (Branch test x y by lowers) s true)) d (contains_jump (machine_address_ahead p by) _ t e))
   duty_listed _ d (target to q c) = owes_successor b image plan key p s (Jump to) n d (contains_map (λ q. owed 4 (jump q s)) _ q c)
-  duty_listed _ d (called to q c) = owes_entry b image plan key p s (Call to) n d (contains_flat (λ q. entered_and_back 5 (call_key key q) (call_entry s) (moved p n)) d q _ c (contains_first d (owed 4 (resume (call_key key q) (moved p n)) ∷ [])))
+  duty_listed _ d (called to q c) = owes_entry b image plan key p s (Call to) n d (contains_flat (λ q. entered_and_back 5 (call_key key q) (call_entry s) (machine_address_ahead p n)) d q _ c (contains_first d (owed 4 (resume (call_key key q) (machine_address_ahead p n)) ∷ [])))
   duty_listed _ d (called_back to q c) =
       owes_entry b image plan key p s (Call to) n d
-      (contains_flat (λ q. entered_and_back 5 (call_key key q) (call_entry s) (moved p n)) d q _ c (Contains-append_right (owed 5 (enter (call_key key q) (call_entry s)) ∷ []) (d ∷ []) d (contains_first d [])))
-  duty_listed _ d (system tin) = owes_entry b image plan key p s (Syscall tin) n d (contains_first d (owed 4 (resume (sys_key plan key) (moved p n)) ∷ []))
+      (contains_flat (λ q. entered_and_back 5 (call_key key q) (call_entry s) (machine_address_ahead p n)) d q _ c (Contains-append_right (owed 5 (enter (call_key key q) (call_entry s)) ∷ []) (d ∷ []) d (contains_first d [])))
+  duty_listed _ d (system tin) = owes_entry b image plan key p s (Syscall tin) n d (contains_first d (owed 4 (resume (sys_key plan key) (machine_address_ahead p n)) ∷ []))
   duty_listed _ d (system_back tin) = owes_entry b image plan key p s (Syscall tin) n d (Contains-append_right (owed 12 (enter (sys_key plan key) (sys_entry plan key s tin)) ∷ []) (d ∷ []) d (contains_first d []))
   duty_listed _ d (misaligned shape size e f) = owes_misaligned b image plan key p s shape n d (rw (e s, f) (contains_first d []))
   duty_listed _ d (interrupt shape q c) = owes_interrupt b image plan key p s shape n d (contains_map (λ q. owed 11 (enter (irq_key plan q) (irq_entry plan key s q))) (irqs_of plan s) q c)

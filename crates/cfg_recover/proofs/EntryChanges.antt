@@ -9,19 +9,19 @@ use Rattle.value_domain.specs.State.{AreValues}
 use Rattle.vd_transfer.specs.Registers.{slot}
 use Rattle.vd_transfer.specs.Changes.{state_after}
 use Rattle.depth_cert.specs.declared.keys.Key.{Key}
-use Rattle.cfg_recover.specs.Entries.{stack_of, entry_with, aln_entry, sys_entry}
+use Rattle.cfg_recover.specs.Entries.{entry_stack_of, entry_state_with, aln_entry, sys_entry}
 use Rattle.cfg_recover.specs.Changes.{system_change, handler_change, misaligned_change}
 use Rattle.cfg_recover.proofs.FlowStates.{set_values, entry_values}
 
-pub handler-is : (s : State) (sp : Val) (ccpn : ℕ) → state_after s (handler_change sp ccpn) ≡ entry_with sp false ccpn true
+pub handler-is : (s : State) (sp : Val) (ccpn : ℕ) → state_after s (handler_change sp ccpn) ≡ entry_state_with sp false ccpn true
 unfolding slot
 handler-is s sp ccpn = refl
 
-pub misaligned-is : (plan : PlanData) (key : Key) (s : State) → state_after s (misaligned_change (stack_of plan key s) s.ccpn) ≡ aln_entry plan key s
+pub misaligned-is : (plan : PlanData) (key : Key) (s : State) → state_after s (misaligned_change (entry_stack_of plan key s) s.ccpn) ≡ aln_entry plan key s
 unfolding slot
 misaligned-is plan key s = refl
 
-pub system-is : (plan : PlanData) (key : Key) (s : State) (tin : ℕ) → state_after s (system_change (stack_of plan key s) tin s) ≡ sys_entry plan key s tin
+pub system-is : (plan : PlanData) (key : Key) (s : State) (tin : ℕ) → state_after s (system_change (entry_stack_of plan key s) tin s) ≡ sys_entry plan key s tin
 unfolding slot
 system-is plan key s tin = refl
 
@@ -32,7 +32,7 @@ handler_values b s sp ccpn limits value = entry_values b sp false ccpn true limi
 
 pub misaligned_values : (b : Limits) (s : State) (sp : Val) (ccpn : ℕ) → AreLimits b → IsValue b sp → IsValue b (word_val 4) → AreValues b (state_after s (misaligned_change sp ccpn)).regs
 unfolding slot
-misaligned_values b s sp ccpn limits value four = set_values b (entry_with sp false ccpn true).regs 15 (word_val 4) (entry_values b sp false ccpn true limits value) four
+misaligned_values b s sp ccpn limits value four = set_values b (entry_state_with sp false ccpn true).regs 15 (word_val 4) (entry_values b sp false ccpn true limits value) four
 
 pub system_values : (b : Limits) (s : State) (sp : Val) (tin : ℕ) → AreValues b s.regs → IsValue b sp → IsValue b (word_val tin) → AreValues b (state_after s (system_change sp tin s)).regs
 unfolding slot

@@ -13,9 +13,9 @@ use Rattle.tc_isa.specs.declared.shapes.Op.TheVariants.{Add, Sub}
 use Rattle.tc_isa.specs.declared.shapes.Shape.{Shape}
 use Rattle.tc_isa.specs.declared.shapes.Shape.TheVariants.{Compute, Scaled, Load, Store, Branch, Rslcx, Mfcr}
 use Rattle.tc_machine.specs.declared.state.Machine.{Machine}
-use Rattle.tc_machine.specs.Machine.{reg, a10, is_of}
+use Rattle.tc_machine.specs.Machine.{reg, a10, is_interrupt_stack_used, IsMachine}
 use Rattle.tc_machine.specs.Instructions.{handler_stack}
-use Rattle.tc_machine.specs.Safe.{IsMachine, HasGlobals, Starts}
+use Rattle.tc_machine.specs.Safe.{HasGlobals, Starts}
 use Rattle.tc_machine.proofs.Words.{register_lt}
 use Rattle.value_domain.specs.declared.values.Val.{Val}
 use Rattle.value_domain.specs.declared.states.State.{State}
@@ -23,21 +23,21 @@ use Rattle.value_domain.specs.Limits.{Limits}
 use Rattle.value_domain.specs.Values.{IsMember, any_val, word_val}
 use Rattle.value_domain.specs.State.{AreBelow, Covers, is_lower_slot}
 use Rattle.vd_transfer.specs.Operations.{value_of}
-use Rattle.vd_transfer.specs.Registers.{slot, reg_of, value_at, fixed_of, set_reg, is_lower, set_arg}
+use Rattle.vd_transfer.specs.Registers.{slot, reg_of, register_value_at, fixed_of, set_reg, is_lower_register, set_arg, is_operand_register}
 use Rattle.vd_transfer.specs.EffectsOnStates.{with_base, transfer_of}
-use Rattle.vd_transfer.specs.Branches.{refine_of, state_on_side, with_lowered_counter, with_one, with_two, is_reg}
+use Rattle.vd_transfer.specs.Branches.{refine_of, state_on_side, with_lowered_counter, side_with_register, side_with_operands}
 use Rattle.vd_transfer.specs.Holding.{Holds}
-use Rattle.vd_transfer.specs.EffectsOnWords.{set_word}
+use Rattle.vd_transfer.specs.EffectsOnWords.{words_with_register}
 use Rattle.vd_transfer.proofs.RegisterLaws.{length-forgotten}
 use Rattle.vd_transfer.proofs.SlotLaws.{slot_is, not_lower}
 use Rattle.vd_transfer.proofs.HoldLaws.{same_length, holds_set, holds_narrow}
 use Rattle.depth_cert.specs.declared.keys.Key.{Key}
 use Rattle.depth_cert.specs.declared.points.Exit.{Exit}
-use Rattle.cfg_recover.specs.Entries.{stack_of, entry_with, start_state, call_entry, irq_entry, aln_entry, sys_entry}
-use Rattle.depth_cert.specs.Exits.{lower_values, exit_of, with_lower_from, after_of, ExitCovers}
+use Rattle.cfg_recover.specs.Entries.{entry_stack_of, entry_state_with, start_state, call_entry, irq_entry, aln_entry, sys_entry}
+use Rattle.depth_cert.specs.Exits.{lower_values, exit_of, with_lower_from, state_after_exit, ExitCovers}
 
 -- ---- states with the same values, or greater ones
-covered_at : (plan : PlanData) (u s : State) (w r : ℕ) (o : Option ℕ) → o ≡ slot r → length s.regs ≡ 27 → AreBelow s.regs u.regs → IsMember w (value_at plan s r o) → IsMember w (value_at plan u r o)
+covered_at : (plan : PlanData) (u s : State) (w r : ℕ) (o : Option ℕ) → o ≡ slot r → length s.regs ≡ 27 → AreBelow s.regs u.regs → IsMember w (register_value_at plan s r o) → IsMember w (register_value_at plan u r o)
 covered_at plan u s w r None e len below m = m
 covered_at plan u s w r (Some i) e len below m = below i (omega (arith, (slot_is r i (sym e)).within)) w m
 
@@ -57,7 +57,7 @@ a11_any : (plan : PlanData) (t : State) (w : ℕ) → w < 2 ^ 32 → IsMember w 
 unfolding slot
 a11_any plan t w small = any_member w small
 
-same_at : (plan : PlanData) (s t : State) (w r : ℕ) (o : Option ℕ) → t.regs ≡ s.regs → IsMember w (value_at plan s r o) → IsMember w (value_at plan t r o)
+same_at : (plan : PlanData) (s t : State) (w r : ℕ) (o : Option ℕ) → t.regs ≡ s.regs → IsMember w (register_value_at plan s r o) → IsMember w (register_value_at plan t r o)
 same_at plan s t w r (Some i) same m = subst (λ (l : List Val). IsMember w (get_or l i any_val)) (sym same) m
 same_at plan s t w r None same m = m
 
@@ -150,7 +150,7 @@ globals_start plan m k same =
 abbrev blank : Bool → ℕ → Bool → State
 blank ie ccpn lower = record { regs = replicate 27 any_val; ie = ie; ccpn = ccpn; lower = lower; locals = record { items = [] } }
 
-blank_at : (plan : PlanData) (t : State) (w r : ℕ) (o : Option ℕ) → t.regs ≡ replicate 27 any_val → o ≡ slot r → w < 2 ^ 32 → (o ≡ None → IsMember w (fixed_of plan r)) → IsMember w (value_at plan t r o)
+blank_at : (plan : PlanData) (t : State) (w r : ℕ) (o : Option ℕ) → t.regs ≡ replicate 27 any_val → o ≡ slot r → w < 2 ^ 32 → (o ≡ None → IsMember w (fixed_of plan r)) → IsMember w (register_value_at plan t r o)
 blank_at plan t w r None same e small fixed = fixed refl
 blank_at plan t w r (Some i) same e small fixed =
     let is = slot_is r i (sym e) in
@@ -158,7 +158,7 @@ blank_at plan t w r (Some i) same e small fixed =
 
 -- at an entry: words whose A10 is a member of the stack pointer's value
 pub holds_entry : (plan : PlanData) (word : ℕ → ℕ) (sp : Val) (ie ie2 : Bool) (ccpn ccpn2 : ℕ) (lower : Bool) → (IsTrue ie2 → IsTrue ie) → ccpn ≤ ccpn2 → ((r : ℕ) → r < 32 → word r < 2 ^ 32)
-    → HasGlobalWords plan word → IsMember (word 26) sp → Holds plan word ie2 ccpn2 (entry_with sp ie ccpn lower)
+    → HasGlobalWords plan word → IsMember (word 26) sp → Holds plan word ie2 ccpn2 (entry_state_with sp ie ccpn lower)
 holds_entry plan word sp ie ie2 ccpn ccpn2 lower enabled priority small globals m =
     holds_narrow plan (blank ie ccpn lower) word ie2 ccpn2 26 sp (length-replicate 27 any_val) (omega arith) m
     (record {
@@ -167,7 +167,7 @@ holds_entry plan word sp ie ie2 ccpn ccpn2 lower enabled priority small globals 
       priority = priority;
     })
 
-pub entry_length : (sp : Val) (ie : Bool) (ccpn : ℕ) (lower : Bool) → length (entry_with sp ie ccpn lower).regs ≡ 27
+pub entry_length : (sp : Val) (ie : Bool) (ccpn : ℕ) (lower : Bool) → length (entry_state_with sp ie ccpn lower).regs ≡ 27
 entry_length sp ie ccpn lower = same_length (blank ie ccpn lower) sp (slot 26) ∙ length-replicate 27 any_val
 
 -- the state at the start holds the registers of a start state of the machine
@@ -177,25 +177,25 @@ holds_start image plan m st =
     (globals_start plan m st.machine st.globals) (inl st.sp)
 
 -- the stack pointer of a handler is a member of its value
-pub stack_member : (plan : PlanData) (key : Key) (m : Machine) (s : State) (ie : Bool) (ccpn : ℕ) → is_of m.psw ≡ key.is → m.isp ≡ plan.isp → Holds plan (reg m) ie ccpn s → IsMember (handler_stack m) (stack_of plan key s)
+pub stack_member : (plan : PlanData) (key : Key) (m : Machine) (s : State) (ie : Bool) (ccpn : ℕ) → is_interrupt_stack_used m.psw ≡ key.is → m.isp ≡ plan.isp → Holds plan (reg m) ie ccpn s → IsMember (handler_stack m) (entry_stack_of plan key s)
 stack_member plan key m s ie ccpn same isp h =
     elim (cases_Bool key.is) [
       | inl t ↦ rw (same, t) (h.regs 26 (omega arith))
       | inr f ↦ rw (same, f) (inl isp)
     ]
 
-module _ (plan : PlanData) (key : Key) (s : State) (word word2 : ℕ → ℕ) (ie : Bool) (ccpn : ℕ) (h : Holds plan word ie ccpn s) (stack : IsMember (word2 26) (stack_of plan key s)) where
+module _ (plan : PlanData) (key : Key) (s : State) (word word2 : ℕ → ℕ) (ie : Bool) (ccpn : ℕ) (h : Holds plan word ie ccpn s) (stack : IsMember (word2 26) (entry_stack_of plan key s)) where
   -- at the entry of an interrupt's handler
   pub holds_irq : (p : ℕ) → ((r : ℕ) → r < 32 → word2 r < 2 ^ 32) → ((r : ℕ) → 16 ≤ r → r < 26 → word2 r ≡ word r) → Holds plan word2 false p (irq_entry plan key s p)
-  holds_irq p small same = holds_entry plan word2 (stack_of plan key s) false false p p true (λ t. t) (omega arith) small (globals_stay plan s word word2 ie ccpn (small 27 (omega arith)) same h) stack
+  holds_irq p small same = holds_entry plan word2 (entry_stack_of plan key s) false false p p true (λ t. t) (omega arith) small (globals_stay plan s word word2 ie ccpn (small 27 (omega arith)) same h) stack
 
   -- at the entry of the handler of misaligned accesses
   pub holds_aln : ((r : ℕ) → r < 32 → word2 r < 2 ^ 32) → ((r : ℕ) → 16 ≤ r → r < 26 → word2 r ≡ word r) → word2 15 ≡ 4 → Holds plan word2 false ccpn (aln_entry plan key s)
   holds_aln small same four =
-      holds_narrow plan (entry_with (stack_of plan key s) false s.ccpn true) word2 false ccpn 15 (word_val 4) (entry_length (stack_of plan key s) false s.ccpn true) (omega arith) (inl four)
-      (holds_entry plan word2 (stack_of plan key s) false false s.ccpn ccpn true (λ t. t) h.priority small (globals_stay plan s word word2 ie ccpn (small 27 (omega arith)) same h) stack)
+      holds_narrow plan (entry_state_with (entry_stack_of plan key s) false s.ccpn true) word2 false ccpn 15 (word_val 4) (entry_length (entry_stack_of plan key s) false s.ccpn true) (omega arith) (inl four)
+      (holds_entry plan word2 (entry_stack_of plan key s) false false s.ccpn ccpn true (λ t. t) h.priority small (globals_stay plan s word word2 ie ccpn (small 27 (omega arith)) same h) stack)
 
-  sys_word : (tin r : ℕ) → word2 15 ≡ tin → (r ≢ 15 → r ≢ 26 → word2 r ≡ word r) → word2 r ≡ set_word (set_word word 26 (word2 26)) 15 tin r
+  sys_word : (tin r : ℕ) → word2 15 ≡ tin → (r ≢ 15 → r ≢ 26 → word2 r ≡ word r) → word2 r ≡ words_with_register (words_with_register word 26 (word2 26)) 15 tin r
   sys_word tin r is same =
       elim (cases_eq r 15) [
         | inl d15 ↦ rw (eq-eqb r 15 d15) (ap word2 d15 ∙ is)
@@ -209,21 +209,21 @@ module _ (plan : PlanData) (key : Key) (s : State) (word word2 : ℕ → ℕ) (i
   pub holds_sys : (tin : ℕ) → length s.regs ≡ 27 → word2 27 < 2 ^ 32 → word2 15 ≡ tin → ((r : ℕ) → r < 32 → r ≢ 15 → r ≢ 26 → r ≢ 27 → word2 r ≡ word r) → Holds plan word2 false ccpn (sys_entry plan key s tin)
   unfolding slot
   holds_sys tin len small is same =
-      let t1 = set_reg s 26 (stack_of plan key s) in
+      let t1 = set_reg s 26 (entry_stack_of plan key s) in
       let t2 = set_reg t1 15 (word_val tin) in
-      let h1 : Holds plan (set_word word 26 (word2 26)) ie ccpn t1 = holds_set plan s word ie ccpn 26 (word2 26) (stack_of plan key s) len refl stack h in
-      let h2 : Holds plan (set_word (set_word word 26 (word2 26)) 15 tin) ie ccpn t2 =
-      holds_set plan t1 (set_word word 26 (word2 26)) ie ccpn 15 tin (word_val tin) (same_length s (stack_of plan key s) (slot 26) ∙ len) refl (inl refl) h1
+      let h1 : Holds plan (words_with_register word 26 (word2 26)) ie ccpn t1 = holds_set plan s word ie ccpn 26 (word2 26) (entry_stack_of plan key s) len refl stack h in
+      let h2 : Holds plan (words_with_register (words_with_register word 26 (word2 26)) 15 tin) ie ccpn t2 =
+      holds_set plan t1 (words_with_register word 26 (word2 26)) ie ccpn 15 tin (word_val tin) (same_length s (entry_stack_of plan key s) (slot 26) ∙ len) refl (inl refl) h1
       in
-      holds_same plan t2 (sys_entry plan key s tin) (set_word (set_word word 26 (word2 26)) 15 tin) word2 ie false ccpn ccpn refl (λ t. t) h2.priority small
+      holds_same plan t2 (sys_entry plan key s tin) (words_with_register (words_with_register word 26 (word2 26)) 15 tin) word2 ie false ccpn ccpn refl (λ t. t) h2.priority small
       (λ r lt n27. sys_word tin r is (λ n15 n26. same r lt n15 n26 n27)) h2
 
 pub aln_length : (plan : PlanData) (key : Key) (s : State) → length (aln_entry plan key s).regs ≡ 27
 aln_length plan key s =
-    same_length (entry_with (stack_of plan key s) false s.ccpn true) (word_val 4) (slot 15) ∙ entry_length (stack_of plan key s) false s.ccpn true
+    same_length (entry_state_with (entry_stack_of plan key s) false s.ccpn true) (word_val 4) (slot 15) ∙ entry_length (entry_stack_of plan key s) false s.ccpn true
 
 pub sys_length : (plan : PlanData) (key : Key) (s : State) (tin : ℕ) → length (sys_entry plan key s tin).regs ≡ length s.regs
-sys_length plan key s tin = same_length (set_reg s 26 (stack_of plan key s)) (word_val tin) (slot 15) ∙ same_length s (stack_of plan key s) (slot 26)
+sys_length plan key s tin = same_length (set_reg s 26 (entry_stack_of plan key s)) (word_val tin) (slot 15) ∙ same_length s (entry_stack_of plan key s) (slot 26)
 
 -- ---- exits
 -- the place of a lower register in an exit's values
@@ -232,12 +232,12 @@ lower_place r = if ltb r 8 then r else r - 10
 
 -- an exit holds the words of the lower registers, IE and CCPN
 pub record HoldsExit (word : ℕ → ℕ) (ie : Bool) (ccpn : ℕ) (x : Exit) : Type 0 where
-  pub lower : (r : ℕ) → is_lower r ≡ true → IsMember (word r) (get_or x.lower (lower_place r) any_val)
+  pub lower : (r : ℕ) → is_lower_register r ≡ true → IsMember (word r) (get_or x.lower (lower_place r) any_val)
   pub enabled : IsTrue ie → IsTrue x.ie
   pub priority : x.ccpn ≤ ccpn
 
 -- the lower registers are D0..D7 and A2..A7
-lower_cases : (r : ℕ) → is_lower r ≡ true → (r < 8) ⊎ ((18 ≤ r) × (r ≤ 23))
+lower_cases : (r : ℕ) → is_lower_register r ≡ true → (r < 8) ⊎ ((18 ≤ r) × (r ≤ 23))
 lower_cases r low =
     elim (or_cases (ltb r 8) (leb 18 r && leb r 23) low) [
       | inl d ↦ inl (ltb-true r 8 d)
@@ -273,14 +273,14 @@ module _ (regs : List Val) (len : length regs ≡ 27) where
       ∙ get_or-take 6 (drop 16 regs) (r - 18) any_val (omega arith) ∙ get_or-drop 16 regs (r - 18) any_val ∙ ap (λ i. get_or regs i any_val) from
 
 -- the values of the lower registers in a state's exit are the state's
-exit_value : (plan : PlanData) (s : State) (r : ℕ) → length s.regs ≡ 27 → is_lower r ≡ true → get_or (lower_values s.regs) (lower_place r) any_val ≡ reg_of plan s r
+exit_value : (plan : PlanData) (s : State) (r : ℕ) → length s.regs ≡ 27 → is_lower_register r ≡ true → get_or (lower_values s.regs) (lower_place r) any_val ≡ reg_of plan s r
 exit_value plan s r len low =
     elim (lower_cases r low) [
-      | inl d ↦ rw (lt-ltb r 8 d) (lower-d s.regs len r d ∙ sym (ap (value_at plan s r) (slot-d r d)))
-      | inr a ↦ rw (le-ltb r 8 (omega (arith, a.0))) (lower-a s.regs len r a.0 a.1 ∙ sym (ap (value_at plan s r) (slot-a r a.0 a.1)))
+      | inl d ↦ rw (lt-ltb r 8 d) (lower-d s.regs len r d ∙ sym (ap (register_value_at plan s r) (slot-d r d)))
+      | inr a ↦ rw (le-ltb r 8 (omega (arith, a.0))) (lower-a s.regs len r a.0 a.1 ∙ sym (ap (register_value_at plan s r) (slot-a r a.0 a.1)))
     ]
 
-lower_small : (r : ℕ) → is_lower r ≡ true → (r < 32) × (lower_place r < 14)
+lower_small : (r : ℕ) → is_lower_register r ≡ true → (r < 32) × (lower_place r < 14)
 lower_small r low =
     elim (lower_cases r low) [
       | inl d ↦ (omega arith, rw (lt-ltb r 8 d) (omega arith))
@@ -313,7 +313,7 @@ with_lower_length k lower [] = refl
 with_lower_length k lower (v ∷ vs) = ap suc (with_lower_length (k + 1) lower vs)
 
 -- the place of a lower register's value in an exit follows from its place in a state
-exit_place : (r i : ℕ) → is_lower r ≡ true → slot r ≡ Some i → cond (ltb i 8) i (i - 8) ≡ lower_place r
+exit_place : (r i : ℕ) → is_lower_register r ≡ true → slot r ≡ Some i → cond (ltb i 8) i (i - 8) ≡ lower_place r
 exit_place r i low e =
     elim (lower_cases r low) [
       | inl d ↦ let is : r ≡ i = (let f : Some r ≡ Some i = sym (slot-d r d) ∙ e in cc) in rw (← is, lt-ltb r 8 d) refl
@@ -322,21 +322,21 @@ exit_place r i low e =
           rw (← is, le-ltb (r - 2) 8 (omega (arith, a.0)), le-ltb r 8 (omega (arith, a.0))) (omega arith)
     ]
 
-module _ (plan : PlanData) (s : State) (x : Exit) (kind : ℕ) (word : ℕ → ℕ) (len : length s.regs ≡ 27) (upper : (r : ℕ) → r < 32 → is_lower r ≡ false → IsMember (word r) (reg_of plan s r)) where
-  after_at : (r : ℕ) (o : Option ℕ) → o ≡ slot r → (is_lower r ≡ true → IsMember (word r) (get_or x.lower (lower_place r) any_val)) → (is_lower r ≡ false → IsMember (word r) (value_at plan s r o)) → (o ≡ None → is_lower r ≡ false)
-      → IsMember (word r) (value_at plan (after_of s x kind) r o)
+module _ (plan : PlanData) (s : State) (x : Exit) (kind : ℕ) (word : ℕ → ℕ) (len : length s.regs ≡ 27) (upper : (r : ℕ) → r < 32 → is_lower_register r ≡ false → IsMember (word r) (reg_of plan s r)) where
+  after_at : (r : ℕ) (o : Option ℕ) → o ≡ slot r → (is_lower_register r ≡ true → IsMember (word r) (get_or x.lower (lower_place r) any_val)) → (is_lower_register r ≡ false → IsMember (word r) (register_value_at plan s r o)) → (o ≡ None → is_lower_register r ≡ false)
+      → IsMember (word r) (register_value_at plan (state_after_exit s x kind) r o)
   after_at r None e lower high none = high (none refl)
   after_at r (Some i) e lower high none =
       let is = slot_is r i (sym e) in
       let zero_on : 0 + i ≡ i = omega arith in
       rw (get_or-with_lower 0 x.lower s.regs i (omega (arith, is.within)), zero_on, is.lower)
-      (elim (cases_Bool (is_lower r)) [
+      (elim (cases_Bool (is_lower_register r)) [
         | inl t ↦ rw (t, exit_place r i t (sym e)) (lower t)
         | inr f ↦ rw f (high f)
       ])
 
-  after_holds : (ie : Bool) (ccpn : ℕ) → ((r : ℕ) → is_lower r ≡ true → IsMember (word r) (get_or x.lower (lower_place r) any_val)) → (IsTrue ie → IsTrue (after_of s x kind).ie) → (after_of s x kind).ccpn ≤ ccpn
-      → Holds plan word ie ccpn (after_of s x kind)
+  after_holds : (ie : Bool) (ccpn : ℕ) → ((r : ℕ) → is_lower_register r ≡ true → IsMember (word r) (get_or x.lower (lower_place r) any_val)) → (IsTrue ie → IsTrue (state_after_exit s x kind).ie) → (state_after_exit s x kind).ccpn ≤ ccpn
+      → Holds plan word ie ccpn (state_after_exit s x kind)
   after_holds ie ccpn lower enabled priority = record {
     regs = λ r lt. after_at r (slot r) refl (lower r) (upper r lt) (not_lower r);
     enabled = enabled;
@@ -344,14 +344,14 @@ module _ (plan : PlanData) (s : State) (x : Exit) (kind : ℕ) (word : ℕ → �
   }
 
   -- after a call the lower registers, IE and CCPN are the exit's, the upper registers the caller's
-  pub holds_after_call : (ie : Bool) (ccpn : ℕ) → kind ≡ 1 → HoldsExit word ie ccpn x → Holds plan word ie ccpn (after_of s x kind)
+  pub holds_after_call : (ie : Bool) (ccpn : ℕ) → kind ≡ 1 → HoldsExit word ie ccpn x → Holds plan word ie ccpn (state_after_exit s x kind)
   holds_after_call ie ccpn call h = after_holds ie ccpn h.lower (rw (eq-eqb kind 1 call) h.enabled) (rw (eq-eqb kind 1 call) h.priority)
 
   -- after a system call IE and CCPN are the caller's, too
-  pub holds_after_system : (ie ie2 : Bool) (ccpn ccpn2 : ℕ) → kind ≢ 1 → HoldsExit word ie2 ccpn2 x → (IsTrue ie → IsTrue s.ie) → s.ccpn ≤ ccpn → Holds plan word ie ccpn (after_of s x kind)
+  pub holds_after_system : (ie ie2 : Bool) (ccpn ccpn2 : ℕ) → kind ≢ 1 → HoldsExit word ie2 ccpn2 x → (IsTrue ie → IsTrue s.ie) → s.ccpn ≤ ccpn → Holds plan word ie ccpn (state_after_exit s x kind)
   holds_after_system ie ie2 ccpn ccpn2 other h enabled priority = after_holds ie ccpn h.lower (rw (ne_eqb kind 1 other) enabled) (rw (ne_eqb kind 1 other) priority)
 
-pub after_length : (s : State) (x : Exit) (kind : ℕ) → length (after_of s x kind).regs ≡ length s.regs
+pub after_length : (s : State) (x : Exit) (kind : ℕ) → length (state_after_exit s x kind).regs ≡ length s.regs
 after_length s x kind = with_lower_length 0 x.lower s.regs
 
 -- ---- the number of values of a state
@@ -375,11 +375,11 @@ with_arg_length : (s : State) (y : Arg) (v : Val) → length (set_arg s y v).reg
 with_arg_length s (Reg r) v = same_length s v (slot r)
 with_arg_length s (Word w) v = refl
 
-with_one_length : (s : State) (x : ℕ) (z : Option Val) → IfSome (with_one s x z) (λ t. length t.regs ≡ length s.regs)
+with_one_length : (s : State) (x : ℕ) (z : Option Val) → IfSome (side_with_register s x z) (λ t. length t.regs ≡ length s.regs)
 with_one_length s x None = tt
 with_one_length s x (Some z) = same_length s z (slot x)
 
-with_two_length : (s : State) (x : ℕ) (y : Arg) (v w : Option Val) → IfSome (with_two s x y v w) (λ t. length t.regs ≡ length s.regs)
+with_two_length : (s : State) (x : ℕ) (y : Arg) (v w : Option Val) → IfSome (side_with_operands s x y v w) (λ t. length t.regs ≡ length s.regs)
 with_two_length s x y None w = tt
 with_two_length s x y (Some v) None = tt
 with_two_length s x y (Some v) (Some w) = with_arg_length (set_reg s x v) y w ∙ same_length s v (slot x)
@@ -391,7 +391,7 @@ lowered_length b plan s x true (Some t) h = same_length t (value_of b Sub (reg_o
 
 refined_length : (b : Limits) (plan : PlanData) (s : State) (test : Cond) (x : ℕ) (y : Arg) (side : Bool) → IfSome (state_on_side b plan test x y s side) (λ t. length t.regs ≡ length s.regs)
 refined_length b plan s test x y side =
-    cond_both (is_reg x y) _ _ (λ (o : Option State). IfSome o (λ t. length t.regs ≡ length s.regs)) (λ _. with_one_length s x _) (λ _. with_two_length s x y _ _)
+    cond_both (is_operand_register x y) _ _ (λ (o : Option State). IfSome o (λ t. length t.regs ≡ length s.regs)) (λ _. with_one_length s x _) (λ _. with_two_length s x y _ _)
 
 pub refine_length : (b : Limits) (plan : PlanData) (shape : Shape) (s : State) (side : Bool) → IfSome (refine_of b plan shape s side) (λ t. length t.regs ≡ length s.regs)
 unfolding refine_of

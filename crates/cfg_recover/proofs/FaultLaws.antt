@@ -11,12 +11,12 @@ use Rattle.depth_cert.specs.Points.{IsPoint}
 use Rattle.depth_cert.specs.Nodes.{NodeData, IsNode, need_of}
 use Rattle.depth_cert.specs.Certs.{CertData, IsCert}
 use Rattle.cfg_recover.specs.Entries.{start_key}
-use Rattle.cfg_recover.specs.RulesHoldOrFail.{limits_in, RuleHolds, HoldsAtNode, Accepts, Fails, at_start, at_entry, at_point}
-use Rattle.cfg_recover.specs.FirstFaultLaws.{IsPlace, start, entry, point, FirstFaultsSay, NeedSays}
+use Rattle.cfg_recover.specs.RulesHoldOrFail.{limits_in, RuleHolds, HoldsAtNode, Accepts, RuleFails, at_start, at_entry, at_point}
+use Rattle.cfg_recover.specs.FirstFaultLaws.{IsFaultPlace, start, entry, point, FirstFaultsSay, NeedSays}
 use Rattle.cfg_recover.proofs.DutyRules.{duty_asked}
 
 -- a certificate with a fault isn't accepted
-pub fails_refutes : (image : ImageData) (plan : PlanData) (cert : CertData) (r : ℕ) (k : Key) (p : ℕ) → Fails image plan cert r k p → Accepts image plan cert → ⊥
+pub fails_refutes : (image : ImageData) (plan : PlanData) (cert : CertData) (r : ℕ) (k : Key) (p : ℕ) → RuleFails image plan cert r k p → Accepts image plan cert → ⊥
 fails_refutes image plan cert _ _ _ (at_start wrong) accepts = wrong accepts.start
 fails_refutes image plan cert _ _ _ (at_entry node member wrong) accepts = wrong (All-contains (HoldsAtNode image plan cert) cert.nodes node accepts.nodes member).entry
 fails_refutes image plan cert _ _ _ (at_point node q r member at wrong) accepts =
@@ -48,12 +48,12 @@ no_rule image plan cert node q r out =
       needs = λ shape n e. absurd (other 14 (omega arith) (omega arith) e);
     }
 
-place_of : (image : ImageData) (plan : PlanData) (cert : CertData) (r : ℕ) (k : Key) (p : ℕ) → Fails image plan cert r k p → IsPlace image plan cert r k p
+place_of : (image : ImageData) (plan : PlanData) (cert : CertData) (r : ℕ) (k : Key) (p : ℕ) → RuleFails image plan cert r k p → IsFaultPlace image plan cert r k p
 place_of image plan cert _ _ _ (at_start wrong) = start wrong
 place_of image plan cert _ _ _ (at_entry node member wrong) = entry node member wrong
 place_of image plan cert _ _ _ (at_point node q r member at wrong) = point node q r member at wrong
 
-fault_at : (image : ImageData) (plan : PlanData) (cert : CertData) (r : ℕ) (k : Key) (p : ℕ) → IsPlace image plan cert r k p → Fails image plan cert r k p
+fault_at : (image : ImageData) (plan : PlanData) (cert : CertData) (r : ℕ) (k : Key) (p : ℕ) → IsFaultPlace image plan cert r k p → RuleFails image plan cert r k p
 fault_at image plan cert _ _ _ (start wrong) = at_start wrong
 fault_at image plan cert _ _ _ (entry node member wrong) = at_entry node member wrong
 fault_at image plan cert _ _ _ (point node q r member at wrong) = at_point node q r member at wrong
@@ -66,7 +66,7 @@ pub record AreNumbers (image : ImageData) (plan : PlanData) (r : ℕ) (k : Key) 
   pub one : r ≡ 1 → (k ≡ start_key image plan) × (p ≡ image.entry)
 
 module _ (image : ImageData) (plan : PlanData) (cert : CertData) (small : image.entry < 2 ^ 32) (is_cert : IsCert cert) where
-  numbers : (r : ℕ) (k : Key) (p : ℕ) → IsPlace image plan cert r k p → AreNumbers image plan r k p
+  numbers : (r : ℕ) (k : Key) (p : ℕ) → IsFaultPlace image plan cert r k p → AreNumbers image plan r k p
   numbers _ _ _ (start wrong) = record { some = omega arith; most = omega arith; addr = small; one = λ _. (refl, refl) }
   numbers _ _ _ (entry node member wrong) =
       let is : IsNode cert.version node = All-contains (IsNode cert.version) cert.nodes node is_cert.nodes member in

@@ -5,7 +5,7 @@ use Rattle.tcd_plan.specs.PlanData.{PlanData}
 use Rattle.tc_isa.specs.Insts.{InstData}
 use Rattle.tc_isa.specs.Meanings.{shape_of}
 use Rattle.value_domain.specs.Limits.{Limits}
-use Rattle.vd_transfer.specs.EffectsOnStates.{HasRoom}
+use Rattle.vd_transfer.specs.EffectsOnStates.{EffectHasRoom}
 use Rattle.cfg_recover.specs.LocalFaults.{FindsFaultless}
 use Rattle.value_domain.specs.declared.states.State.{State}
 use Rattle.vd_transfer.specs.Registers.{slot}
@@ -26,5 +26,5 @@ same_test false true there back = back refl
 same_test false false there back = refl
 
 -- if rule 8's own part holds, there is room
-pub room_of : (b : Limits) (image : ImageData) (plan : PlanData) (key : Key) (p : ℕ) (s : State) (found : InstData × ℕ) → FindsFaultless b image plan key p s found → HasRoom b (shape_of found.0) s
+pub room_of : (b : Limits) (image : ImageData) (plan : PlanData) (key : Key) (p : ℕ) (s : State) (found : InstData × ℕ) → FindsFaultless b image plan key p s found → EffectHasRoom b (shape_of found.0) s
 room_of b image plan key p s found f = ((f.faultless 8).own (shape_of found.0) found.1 f.code).room refl

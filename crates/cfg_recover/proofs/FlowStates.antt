@@ -9,7 +9,7 @@ use Rattle.value_domain.specs.Values.{IsValue, any_val}
 use Rattle.value_domain.specs.State.{AreValues}
 use Rattle.value_domain.proofs.RangeLaws.{any_value}
 use Rattle.vd_transfer.specs.Registers.{slot}
-use Rattle.cfg_recover.specs.Entries.{entry_with}
+use Rattle.cfg_recover.specs.Entries.{entry_state_with}
 
 -- a list with the same value everywhere
 pub replicate-all : (v : Val) (n : ℕ) (vs : List Val) → length vs ≡ n → ((i : ℕ) → i < n → get_or vs i v ≡ v) → vs ≡ replicate n v
@@ -33,6 +33,6 @@ set_values b vs i v values value r h =
 pub any_values : (b : Limits) → AreLimits b → AreValues b (replicate 27 any_val)
 any_values b limits r h = let within : r < 27 = omega (arith, length-replicate 27 any_val) in rw (get_or-replicate 27 r any_val any_val within) (any_value b limits)
 
-pub entry_values : (b : Limits) (sp : Val) (ie : Bool) (ccpn : ℕ) (lower : Bool) → AreLimits b → IsValue b sp → AreValues b (entry_with sp ie ccpn lower).regs
+pub entry_values : (b : Limits) (sp : Val) (ie : Bool) (ccpn : ℕ) (lower : Bool) → AreLimits b → IsValue b sp → AreValues b (entry_state_with sp ie ccpn lower).regs
 unfolding slot
 entry_values b sp ie ccpn lower limits value = set_values b (replicate 27 any_val) 22 sp (any_values b limits) value

@@ -1,7 +1,7 @@
 -- The addresses that a list of words names.
 use Rattle.std.proofs.Common.{◌≡◌, ℕ, zero, suc, ◌+◌, ◌-◌, ◌*◌, ◌/◌, ◌<◌, ◌≤◌, inl, inr, List, [], ◌∷◌, ◌++◌, length, map, take, get_or, slice_get, Some, None, refl, sym, ap, ◌∙◌, subst, arith}
 use Rattle.std.proofs.lemmas.List.{take_more, map-append, length-map, length-take-le}
-use Rattle.value_domain.specs.Sets.{Among, Rising, sorted_insert, distinct}
+use Rattle.value_domain.specs.Sets.{Among, Rising, sorted_insert, sorted_set_of}
 use Rattle.value_domain.proofs.SetLaws.{put-eq, put-gt, put_has, length_put, distinct_same, among_distinct}
 use Rattle.value_domain.proofs.ExtentLaws.{among_append, append_left, append_right}
 
@@ -38,17 +38,17 @@ put-behind x (y ∷ z ∷ zs) r greatest other =
     put-gt x y (z ∷ zs) (omega arith) ∙ ap (λ (l : List ℕ). y ∷ l) rest
 
 -- ---- one word more
-pub distinct-next : (x : ℕ) (xs : List ℕ) → distinct (xs ++ x ∷ []) ≡ sorted_insert x (distinct xs)
-unfolding distinct
+pub distinct-next : (x : ℕ) (xs : List ℕ) → sorted_set_of (xs ++ x ∷ []) ≡ sorted_insert x (sorted_set_of xs)
+unfolding sorted_set_of
 distinct-next x xs =
     distinct_same (xs ++ x ∷ []) (x ∷ xs)
     (λ z i. elim (among_append z xs (x ∷ []) i) [ inl j ↦ inr j | inr j ↦ elim j [ inl e ↦ inl e | inr n ↦ absurd n ] ])
     (λ z i. elim i [ inl e ↦ append_right z xs (x ∷ []) (inl e) | inr j ↦ append_left z xs (x ∷ []) j ])
 
-length_distinct : (xs : List ℕ) → length (distinct xs) ≤ length xs
-unfolding distinct
+length_distinct : (xs : List ℕ) → length (sorted_set_of xs) ≤ length xs
+unfolding sorted_set_of
 length_distinct [] = omega arith
-length_distinct (x ∷ xs) = let o : length (distinct xs) ≤ length xs = length_distinct xs in omega (arith, length_put x (distinct xs))
+length_distinct (x ∷ xs) = let o : length (sorted_set_of xs) ≤ length xs = length_distinct xs in omega (arith, length_put x (sorted_set_of xs))
 
 -- the word with bit 0 cleared
 abbrev pub even_of : ℕ → ℕ
@@ -79,7 +79,7 @@ earlier_even (v ∷ vs) (suc i) r h y a =
 -- ---- the steps of the loop
 -- the addresses that the first i words name
 abbrev pub evens_of : ℕ → List ℕ → List ℕ
-evens_of i ws = distinct (map (λ w. w / 2 * 2) (take i ws))
+evens_of i ws = sorted_set_of (map (λ w. w / 2 * 2) (take i ws))
 
 pub evens_before : (ws : List ℕ) (i : ℕ) → Rising ws → i < length ws → (y : ℕ) → Among y (evens_of i ws) → y ≤ even_of (get_or ws i 0)
 evens_before ws i r h y a = earlier_even ws i r h y (among_distinct y (map even_of (take i ws)) a)
@@ -92,10 +92,10 @@ length_evens ws i h =
 
 pub evens-more : (ws : List ℕ) (i : ℕ) → i < length ws → evens_of (i + 1) ws ≡ sorted_insert (even_of (get_or ws i 0)) (evens_of i ws)
 evens-more ws i h =
-    ap (λ (l : List ℕ). distinct (map even_of l)) (take_more ws i 0 h)
-    ∙ ap distinct (map-append even_of (take i ws) (get_or ws i 0 ∷ []))
+    ap (λ (l : List ℕ). sorted_set_of (map even_of l)) (take_more ws i 0 h)
+    ∙ ap sorted_set_of (map-append even_of (take i ws) (get_or ws i 0 ∷ []))
     ∙ distinct-next (even_of (get_or ws i 0)) (map even_of (take i ws))
 
 pub evens-none : (ws : List ℕ) → evens_of 0 ws ≡ []
-unfolding distinct
+unfolding sorted_set_of
 evens-none ws = refl

@@ -9,8 +9,8 @@ use Rattle.tc_isa.specs.declared.shapes.Shape.TheVariants.{Call, Ret, Rfe, Sysca
 use Rattle.tc_machine.specs.declared.events.Cause.{Cause}
 use Rattle.tc_machine.specs.declared.events.Event.{Event}
 use Rattle.tc_machine.specs.declared.state.Machine.{Machine}
-use Rattle.tc_machine.specs.Machine.{moved}
-use Rattle.tc_machine.specs.Fetching.{fetched, size_in}
+use Rattle.tc_machine.specs.Machine.{machine_address_ahead}
+use Rattle.tc_machine.specs.Fetching.{fetched, fetched_size}
 use Rattle.tc_machine.specs.Stepping.{is_taken, step, run}
 use Rattle.depth_cert.specs.declared.points.Point.{Point}
 use Rattle.depth_cert.specs.Points.{find_point}
@@ -22,13 +22,13 @@ use Rattle.cfg_recover.specs.Duties.{Owed, duties_of}
 use Rattle.cfg_recover.specs.RulesHoldOrFail.{limits_in}
 use Rattle.cfg_recover.specs.MovesAreOwed.{InState}
 use Rattle.tc_machine.specs.Instructions.{traps}
-use Rattle.cfg_recover.specs.Frames.{Standing, frames_by, frames_after, frames_from, frames, AreHeld, HoldFrames, IsReturn}
-use Rattle.cfg_recover.specs.EdgesAreOwed.{IsOwed, EdgeOwed}
-use Rattle.cfg_recover.specs.StepEdges.{Way, to, call, irq, sys, aln, ret, rfe, way_of_shape, way_by, way_in, way_of_step}
-use Rattle.cfg_recover.specs.FrameLaws.{Meets, KeepsFrame, EdgeIs, EdgesAre, FramesNext, FramesAre, FramesSay, HeldFramesSay, GoesBack, StepOwed, EdgeSays, OwedEdgesSay}
+use Rattle.cfg_recover.specs.Frames.{Standing, frames_by, frames_after, frames_from, frames, AreFramesHeld, HoldFrames, IsReturn}
+use Rattle.cfg_recover.specs.EdgesAreOwed.{IsEdgeWayOwed, EdgeOwed}
+use Rattle.cfg_recover.specs.StepEdges.{EdgeWay, to, call, irq, sys, aln, ret, rfe, edge_way_of_shape, edge_way_by_trap, edge_way_in_fetch, edge_way_of_step}
+use Rattle.cfg_recover.specs.FrameLaws.{StepMeetsShape, KeepsFrame, EdgeIs, EdgesAre, FramesNext, FramesAre, FramesSay, HeldFramesSay, GoesBackToFrame, StepOwed, EdgeSays, OwedEdgesSay}
 
 -- ---- edges
-stays_to : (shape : Shape) (q : ℕ) → KeepsFrame shape → way_of_shape shape q ≡ to q
+stays_to : (shape : Shape) (q : ℕ) → KeepsFrame shape → edge_way_of_shape shape q ≡ to q
 stays_to (Call x) q keeps = absurd keeps
 stays_to Ret q keeps = absurd keeps
 stays_to Rfe q keeps = absurd keeps
@@ -36,20 +36,20 @@ stays_to (Syscall tin) q keeps = absurd keeps
 stays_to _ q keeps = refl
 
 module _ (m : Machine) (e : Event) where
-  interrupted : is_taken m e ≡ true → way_of_step m e ≡ irq (step m e).pc
-  interrupted t = ap (λ (b : Bool). cond b (irq (step m e).pc) (way_in m e (fetched m) (step m e).pc)) t
+  interrupted : is_taken m e ≡ true → edge_way_of_step m e ≡ irq (step m e).pc
+  interrupted t = ap (λ (b : Bool). cond b (irq (step m e).pc) (edge_way_in_fetch m e (fetched m) (step m e).pc)) t
 
-  met : (shape : Shape) (n : ℕ) → Meets m e shape n → way_of_step m e ≡ way_by m e shape (step m e).pc
+  met : (shape : Shape) (n : ℕ) → StepMeetsShape m e shape n → edge_way_of_step m e ≡ edge_way_by_trap m e shape (step m e).pc
   met shape n h =
-      ap (λ (b : Bool). cond b (irq (step m e).pc) (way_in m e (fetched m) (step m e).pc)) h.free
-      ∙ ap (λ (f : Result (Shape × ℕ) Cause). way_in m e f (step m e).pc) h.there
+      ap (λ (b : Bool). cond b (irq (step m e).pc) (edge_way_in_fetch m e (fetched m) (step m e).pc)) h.free
+      ∙ ap (λ (f : Result (Shape × ℕ) Cause). edge_way_in_fetch m e f (step m e).pc) h.there
 
-  trapped : (shape : Shape) (n : ℕ) → Meets m e shape n → traps m e shape ≡ true → way_of_step m e ≡ aln (step m e).pc
-  trapped shape n h t = met shape n h ∙ ap (λ (b : Bool). cond b (aln (step m e).pc) (way_of_shape shape (step m e).pc)) t
+  trapped : (shape : Shape) (n : ℕ) → StepMeetsShape m e shape n → traps m e shape ≡ true → edge_way_of_step m e ≡ aln (step m e).pc
+  trapped shape n h t = met shape n h ∙ ap (λ (b : Bool). cond b (aln (step m e).pc) (edge_way_of_shape shape (step m e).pc)) t
 
-  stayed : (shape : Shape) (n : ℕ) → Meets m e shape n → traps m e shape ≡ false → KeepsFrame shape → way_of_step m e ≡ to (step m e).pc
+  stayed : (shape : Shape) (n : ℕ) → StepMeetsShape m e shape n → traps m e shape ≡ false → KeepsFrame shape → edge_way_of_step m e ≡ to (step m e).pc
   stayed shape n h t keeps =
-      met shape n h ∙ ap (λ (b : Bool). cond b (aln (step m e).pc) (way_of_shape shape (step m e).pc)) t ∙ stays_to shape (step m e).pc keeps
+      met shape n h ∙ ap (λ (b : Bool). cond b (aln (step m e).pc) (edge_way_of_shape shape (step m e).pc)) t ∙ stays_to shape (step m e).pc keeps
 
   pub edge_is : EdgeIs m e
   edge_is = record {
@@ -76,13 +76,13 @@ frames_more m [] e fs = refl
 frames_more m (x ∷ es) e fs = frames_more (step m x) es e (frames_after m x fs)
 
 module _ (m : Machine) (e : Event) (f : Standing) (older : List Standing) where
-  by_way : (w : Way) → way_of_step m e ≡ w → frames_after m e (f ∷ older) ≡ frames_by m.pc (moved m.pc (size_in (fetched m))) e.irq w (f ∷ older)
-  by_way w h = ap (λ (v : Way). frames_by m.pc (moved m.pc (size_in (fetched m))) e.irq v (f ∷ older)) h
+  by_way : (w : EdgeWay) → edge_way_of_step m e ≡ w → frames_after m e (f ∷ older) ≡ frames_by m.pc (machine_address_ahead m.pc (fetched_size (fetched m))) e.irq w (f ∷ older)
+  by_way w h = ap (λ (v : EdgeWay). frames_by m.pc (machine_address_ahead m.pc (fetched_size (fetched m))) e.irq v (f ∷ older)) h
 
   -- ways that depend on the instruction's size
-  by_size : (w : Way) (shape : Shape) (n : ℕ) → way_of_step m e ≡ w → Meets m e shape n → frames_after m e (f ∷ older) ≡ frames_by m.pc (moved m.pc n) e.irq w (f ∷ older)
+  by_size : (w : EdgeWay) (shape : Shape) (n : ℕ) → edge_way_of_step m e ≡ w → StepMeetsShape m e shape n → frames_after m e (f ∷ older) ≡ frames_by m.pc (machine_address_ahead m.pc n) e.irq w (f ∷ older)
   by_size w shape n h meets =
-      by_way w h ∙ ap (λ (r : Result (Shape × ℕ) Cause). frames_by m.pc (moved m.pc (size_in r)) e.irq w (f ∷ older)) meets.there
+      by_way w h ∙ ap (λ (r : Result (Shape × ℕ) Cause). frames_by m.pc (machine_address_ahead m.pc (fetched_size r)) e.irq w (f ∷ older)) meets.there
 
   frames_next : FramesNext m e f older (frames_after m e (f ∷ older))
   frames_next = record {
@@ -105,7 +105,7 @@ frames_are image plan m = record {
 }
 
 -- ---- frames that are held
-module _ (plan : PlanData) (cert : CertData) (m : Machine) (f : Standing) (fs : List Standing) (h : AreHeld plan cert m f fs) where
+module _ (plan : PlanData) (cert : CertData) (m : Machine) (f : Standing) (fs : List Standing) (h : AreFramesHeld plan cert m f fs) where
   at_point : (node : NodeData) (o : Option Point) → find_node f.key cert.nodes ≡ Some node → find_point f.at node.points ≡ o → IsSomeAnd o (λ p. InState plan m p.state) → FramesSay plan cert m (f ∷ fs)
   at_point node None stands e inside = absurd inside
   at_point node (Some point) stands e inside =
@@ -139,13 +139,13 @@ pub held_frames_say : HeldFramesSay
 held_frames_say image plan cert held m es start fit = held_say plan cert (run m es) (frames image plan m es) (held m es start fit)
 
 -- ---- edges that are owed
-goes_back : (q : ℕ) (f : Standing) (older : List Standing) → IsReturn q (f ∷ older) → GoesBack older q
+goes_back : (q : ℕ) (f : Standing) (older : List Standing) → IsReturn q (f ∷ older) → GoesBackToFrame older q
 goes_back q f [] h = absurd h
 goes_back q f (g ∷ rest) h = record { caller = g; rest = rest; are = refl; at = h }
 
-module _ (ds : List Owed) (f : Standing) (older : List Standing) (m : Machine) (e : Event) (h : IsOwed ds f.key e.irq (f ∷ older) (step m e).pc (way_of_step m e)) where
-  owed_by : (w : Way) → way_of_step m e ≡ w → IsOwed ds f.key e.irq (f ∷ older) (step m e).pc w
-  owed_by w same = subst (λ (v : Way). IsOwed ds f.key e.irq (f ∷ older) (step m e).pc v) same h
+module _ (ds : List Owed) (f : Standing) (older : List Standing) (m : Machine) (e : Event) (h : IsEdgeWayOwed ds f.key e.irq (f ∷ older) (step m e).pc (edge_way_of_step m e)) where
+  owed_by : (w : EdgeWay) → edge_way_of_step m e ≡ w → IsEdgeWayOwed ds f.key e.irq (f ∷ older) (step m e).pc w
+  owed_by w same = subst (λ (v : EdgeWay). IsEdgeWayOwed ds f.key e.irq (f ∷ older) (step m e).pc v) same h
 
   step_owed : StepOwed ds f older m e
   step_owed = record {

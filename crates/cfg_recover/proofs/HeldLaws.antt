@@ -5,8 +5,8 @@ use Rattle.std.specs.List.{list_all}
 use Rattle.std.proofs.lemmas.Bool.{ltb-true, leb-true, lt-ltb, le-leb, and_parts}
 use Rattle.std.proofs.lemmas.Option.{slice_get_within}
 use Rattle.elf_image.specs.declared.segments.Segment.{Segment}
-use Rattle.elf_image.specs.Images.{ImageData, SegmentData, segment_data, holds, byte_in, image_byte, are_apart, all_apart}
-use Rattle.cfg_recover.specs.HeldBytes.{held_bytes, StandIn}
+use Rattle.elf_image.specs.Images.{ImageData, SegmentData, segment_data, is_held_by_segment, segments_byte, image_byte, are_apart, all_apart}
+use Rattle.cfg_recover.specs.HeldBytes.{held_bytes, SegmentHoldsBytes}
 
 or_cases : (a b : Bool) → (a || b) ≡ true → (a ≡ true) ⊎ (b ≡ true)
 or_cases true b e = inl refl
@@ -22,10 +22,10 @@ apart_one s (u ∷ us) zero t h e =
 apart_one s (u ∷ us) (suc i) t h e = apart_one s us i t (and_parts (are_apart s u) (list_all (are_apart s) us) h).1 e
 
 -- it doesn't hold an address that another one has
-not_both : (s t : SegmentData) (x : ℕ) → (nat_le (s.at + length s.bytes) t.at ≡ true) ⊎ (nat_le (t.at + length t.bytes) s.at ≡ true) → t.at ≤ x → x < t.at + length t.bytes → holds s x ≡ false
-not_both s t x o low high = by (holds s x) refl o
+not_both : (s t : SegmentData) (x : ℕ) → (nat_le (s.at + length s.bytes) t.at ≡ true) ⊎ (nat_le (t.at + length t.bytes) s.at ≡ true) → t.at ≤ x → x < t.at + length t.bytes → is_held_by_segment s x ≡ false
+not_both s t x o low high = by (is_held_by_segment s x) refl o
   where
-    by : (b : Bool) → holds s x ≡ b → (nat_le (s.at + length s.bytes) t.at ≡ true) ⊎ (nat_le (t.at + length t.bytes) s.at ≡ true) → b ≡ false
+    by : (b : Bool) → is_held_by_segment s x ≡ b → (nat_le (s.at + length s.bytes) t.at ≡ true) ⊎ (nat_le (t.at + length t.bytes) s.at ≡ true) → b ≡ false
     by false h o = refl
     by true h (inl l) =
         let p = and_parts (nat_le s.at x) (nat_lt x (s.at + length s.bytes)) h in
@@ -42,26 +42,26 @@ both : (a b : Bool) → a ≡ true → b ≡ true → (a && b) ≡ true
 both a b p q = rw (p, q) refl
 
 -- the byte at an address is the one in the segment that has the address
-byte_there : (ss : List SegmentData) (i : ℕ) (t : SegmentData) (x b : ℕ) → all_apart ss ≡ true → slice_get ss i ≡ Some t → t.at ≤ x → slice_get t.bytes (x - t.at) ≡ Some b → byte_in ss x ≡ Some b
+byte_there : (ss : List SegmentData) (i : ℕ) (t : SegmentData) (x b : ℕ) → all_apart ss ≡ true → slice_get ss i ≡ Some t → t.at ≤ x → slice_get t.bytes (x - t.at) ≡ Some b → segments_byte ss x ≡ Some b
 byte_there [] i t x b apart e low h = cc
 byte_there (s ∷ ss) zero t x b apart e low h =
     let same : s ≡ t = cc in
     let within = slice_get_within t.bytes (x - t.at) b h in
     let l : nat_le t.at x ≡ true = le-leb t.at x (omega arith) in
     let g : nat_lt x (t.at + length t.bytes) ≡ true = lt-ltb x (t.at + length t.bytes) (omega arith) in
-    let there : holds t x ≡ true = both (nat_le t.at x) (nat_lt x (t.at + length t.bytes)) l g in
-    ap (λ (u : SegmentData). cond (holds u x) (slice_get u.bytes (x - u.at)) (byte_in ss x)) same
-    ∙ ap (λ b. cond b (slice_get t.bytes (x - t.at)) (byte_in ss x)) there
+    let there : is_held_by_segment t x ≡ true = both (nat_le t.at x) (nat_lt x (t.at + length t.bytes)) l g in
+    ap (λ (u : SegmentData). cond (is_held_by_segment u x) (slice_get u.bytes (x - u.at)) (segments_byte ss x)) same
+    ∙ ap (λ b. cond b (slice_get t.bytes (x - t.at)) (segments_byte ss x)) there
     ∙ h
 byte_there (s ∷ ss) (suc i) t x b apart e low h =
     let p = and_parts (list_all (are_apart s) ss) (all_apart ss) apart in
     let within = slice_get_within t.bytes (x - t.at) b h in
     let not_here = not_both s t x (apart_one s ss i t p.0 e) low (omega arith) in
-    ap (λ b. cond b (slice_get s.bytes (x - s.at)) (byte_in ss x)) not_here
+    ap (λ b. cond b (slice_get s.bytes (x - s.at)) (segments_byte ss x)) not_here
     ∙ byte_there ss i t x b p.1 e low h
 
 -- bytes of one segment are bytes of the image
-pub held_in : (image : ImageData) (i : ℕ) (t : SegmentData) (bs : List ℕ) (x : ℕ) → all_apart image.segments ≡ true → slice_get image.segments i ≡ Some t → StandIn t x bs → held_bytes image x (length bs) ≡ Some bs
+pub held_in : (image : ImageData) (i : ℕ) (t : SegmentData) (bs : List ℕ) (x : ℕ) → all_apart image.segments ≡ true → slice_get image.segments i ≡ Some t → SegmentHoldsBytes t x bs → held_bytes image x (length bs) ≡ Some bs
 held_in image i t [] x apart e h = refl
 held_in image i t (b ∷ bs) x apart e h =
     let here : image_byte image x ≡ Some b = byte_there image.segments i t x b apart e h.0 h.1 in
@@ -76,7 +76,7 @@ segment_there (s ∷ ss) (suc i) t h e = segment_there ss i t (omega arith) e
 
 -- four bytes of a segment of the image in memory are bytes of the image as data
 pub held_four : (inside image : ImageData) (ss : List Segment) (i : ℕ) (t : Segment) (bs : List ℕ) (x : ℕ) → inside ≡ image → all_apart inside.segments ≡ true → inside.segments ≡ map segment_data ss
-    → i < length ss → t ≡ get_or ss i t → StandIn (segment_data t) x bs → length bs ≡ 4 → held_bytes image x 4 ≡ Some bs
+    → i < length ss → t ≡ get_or ss i t → SegmentHoldsBytes (segment_data t) x bs → length bs ≡ 4 → held_bytes image x 4 ≡ Some bs
 held_four inside image ss i t bs x same apart are lt at stands four =
     let there : slice_get inside.segments i ≡ Some (segment_data t) = ap (λ (l : List SegmentData). slice_get l i) are ∙ segment_there ss i t lt at in
     let held : held_bytes inside x (length bs) ≡ Some bs = held_in inside i (segment_data t) bs x apart there stands in
@@ -84,7 +84,7 @@ held_four inside image ss i t bs x same apart are lt at stands four =
 
 -- so is one byte
 pub held_byte : (inside image : ImageData) (ss : List Segment) (i : ℕ) (t : Segment) (b x : ℕ) → inside ≡ image → all_apart inside.segments ≡ true → inside.segments ≡ map segment_data ss
-    → i < length ss → t ≡ get_or ss i t → StandIn (segment_data t) x (b ∷ []) → image_byte image x ≡ Some b
+    → i < length ss → t ≡ get_or ss i t → SegmentHoldsBytes (segment_data t) x (b ∷ []) → image_byte image x ≡ Some b
 held_byte inside image ss i t b x same apart are lt at stands =
     let there : slice_get inside.segments i ≡ Some (segment_data t) = ap (λ (l : List SegmentData). slice_get l i) are ∙ segment_there ss i t lt at in
     ap (λ (d : ImageData). image_byte d x) (sym same) ∙ byte_there inside.segments i (segment_data t) x b apart there stands.0 stands.1

@@ -15,26 +15,26 @@ use Rattle.value_domain.specs.declared.states.State.{State}
 use Rattle.value_domain.specs.Limits.{Limits}
 use Rattle.value_domain.specs.Values.{any_val, word_val}
 use Rattle.vd_transfer.specs.Operations.{value_of}
-use Rattle.vd_transfer.specs.Registers.{slot, reg_of, set_at, set_reg, write_reg, is_lower, HasValue, set_arg}
+use Rattle.vd_transfer.specs.Registers.{slot, reg_of, set_at, set_reg, write_reg, is_lower_register, RegisterHasValue, set_arg, HasBaseValue, WritesNoFixedRegister, is_operand_register}
 use Rattle.vd_transfer.specs.EffectsOnStates.{with_base, transfer_of}
-use Rattle.vd_transfer.specs.Branches.{is_reg, with_one, with_two, state_on_side, with_lowered_counter, refine_of}
-use Rattle.vd_transfer.specs.Holding.{HasBaseValue, WritesNoFixedRegister}
-use Rattle.vd_transfer.specs.EffectsOnWords.{set_word, with_base_word, words_after}
-use Rattle.vd_transfer.specs.Soundness.{StaysPlain, StaysInFrame}
+use Rattle.vd_transfer.specs.Branches.{side_with_register, side_with_operands, state_on_side, with_lowered_counter, refine_of}
+use Rattle.vd_transfer.specs.EffectsOnWords.{words_with_register, with_base_word, words_after}
+use Rattle.vd_transfer.specs.Soundness.{StaysPlain}
+use Rattle.cfg_recover.specs.MovesAreOwed.{StaysInFrame}
 use Rattle.cfg_recover.proofs.Went.{set_word-other}
 
 -- If t says that the lower registers are the entry's, so does s, and their words are the same.
 abbrev pub KeepsLower : (ℕ → ℕ) → (ℕ → ℕ) → State → State → Type 0
-KeepsLower word word2 s t = t.lower ≡ true → (s.lower ≡ true) × ((r : ℕ) → is_lower r ≡ true → word2 r ≡ word r)
+KeepsLower word word2 s t = t.lower ≡ true → (s.lower ≡ true) × ((r : ℕ) → is_lower_register r ≡ true → word2 r ≡ word r)
 
 -- ---- one register
-kept_set : (word : ℕ → ℕ) (l : Bool) (dst w : ℕ) → (l && not (is_lower dst)) ≡ true → (l ≡ true) × ((r : ℕ) → is_lower r ≡ true → set_word word dst w r ≡ word r)
+kept_set : (word : ℕ → ℕ) (l : Bool) (dst w : ℕ) → (l && not (is_lower_register dst)) ≡ true → (l ≡ true) × ((r : ℕ) → is_lower_register r ≡ true → words_with_register word dst w r ≡ word r)
 kept_set word l dst w e =
-    let h = and_parts l (not (is_lower dst)) e in
-    (h.0, λ r low. set_word-other word dst w r (λ same. both_ways (is_lower dst) (not-true (is_lower dst) h.1) (ap is_lower (sym same) ∙ low)))
+    let h = and_parts l (not (is_lower_register dst)) e in
+    (h.0, λ r low. set_word-other word dst w r (λ same. both_ways (is_lower_register dst) (not-true (is_lower_register dst) h.1) (ap is_lower_register (sym same) ∙ low)))
 
 -- a write of a register keeps the lower registers, or drops the claim that they are the entry's
-keeps_write : (word word2 : ℕ → ℕ) (s t : State) (dst w : ℕ) (v : Val) → KeepsLower word word2 s t → KeepsLower word (set_word word2 dst w) s (write_reg t dst v)
+keeps_write : (word word2 : ℕ → ℕ) (s t : State) (dst w : ℕ) (v : Val) → KeepsLower word word2 s t → KeepsLower word (words_with_register word2 dst w) s (write_reg t dst v)
 keeps_write word word2 s t dst w v keeps e =
     let h = kept_set word2 t.lower dst w e in
     let k = keeps h.0 in
@@ -44,10 +44,10 @@ same_keeps : (word : ℕ → ℕ) (s : State) → KeepsLower word word s s
 same_keeps word s e = (e, λ r low. refl)
 
 -- a register without a value isn't one that has a value
-without_value : (r q : ℕ) → HasValue r → slot q ≡ None → q ≢ r
+without_value : (r q : ℕ) → RegisterHasValue r → slot q ≡ None → q ≢ r
 without_value r q has none same = both_ways (is_some (slot r)) (ap (λ n. is_some (slot n)) (sym same) ∙ ap is_some none) has
 
-valueless_set : (word : ℕ → ℕ) (dst w r : ℕ) → HasValue dst → slot r ≡ None → set_word word dst w r ≡ word r
+valueless_set : (word : ℕ → ℕ) (dst w r : ℕ) → RegisterHasValue dst → slot r ≡ None → words_with_register word dst w r ≡ word r
 valueless_set word dst w r has none = set_word-other word dst w r (without_value dst r has none)
 
 -- ---- accesses
@@ -131,17 +131,17 @@ narrowed_arg : (s t : State) (y : Arg) (v : Val) → IsNarrowed s t → IsNarrow
 narrowed_arg s t (Reg r) v h = narrowed_set s t r v h
 narrowed_arg s t (Word w) v h = h
 
-narrowed_one : (s : State) (x : ℕ) (z : Option Val) → IfSome (with_one s x z) (IsNarrowed s)
+narrowed_one : (s : State) (x : ℕ) (z : Option Val) → IfSome (side_with_register s x z) (IsNarrowed s)
 narrowed_one s x None = tt
 narrowed_one s x (Some z) = narrowed_set s s x z (record { lower = refl; locals = refl })
 
-narrowed_two : (s : State) (x : ℕ) (y : Arg) (v w : Option Val) → IfSome (with_two s x y v w) (IsNarrowed s)
+narrowed_two : (s : State) (x : ℕ) (y : Arg) (v w : Option Val) → IfSome (side_with_operands s x y v w) (IsNarrowed s)
 narrowed_two s x y None w = tt
 narrowed_two s x y (Some v) None = tt
 narrowed_two s x y (Some v) (Some w) = narrowed_arg s (set_reg s x v) y w (narrowed_set s s x v (record { lower = refl; locals = refl }))
 
 narrowed : (b : Limits) (plan : PlanData) (test : Cond) (x : ℕ) (y : Arg) (s : State) (side : Bool) → IfSome (state_on_side b plan test x y s side) (IsNarrowed s)
-narrowed b plan test x y s side = cond_both (is_reg x y) _ _ (λ (o : Option State). IfSome o (IsNarrowed s)) (λ _. narrowed_one s x _) (λ _. narrowed_two s x y _ _)
+narrowed b plan test x y s side = cond_both (is_operand_register x y) _ _ (λ (o : Option State). IfSome o (IsNarrowed s)) (λ _. narrowed_one s x _) (λ _. narrowed_two s x y _ _)
 
 -- what the states on the sides of a branch keep
 pub record IsKept (word word2 : ℕ → ℕ) (s t : State) : Type 0 where
@@ -149,7 +149,7 @@ pub record IsKept (word word2 : ℕ → ℕ) (s t : State) : Type 0 where
   pub locals : t.locals.items ≡ s.locals.items
 
 lowered_kept : (b : Limits) (plan : PlanData) (s : State) (x : ℕ) (lowers : Bool) (o : Option State) (word : ℕ → ℕ) → IfSome o (IsNarrowed s)
-    → IfSome (with_lowered_counter b plan x lowers o) (IsKept word (cond lowers (set_word word x ((word x + (2 ^ 32 - 1)) % 2 ^ 32)) word) s)
+    → IfSome (with_lowered_counter b plan x lowers o) (IsKept word (cond lowers (words_with_register word x ((word x + (2 ^ 32 - 1)) % 2 ^ 32)) word) s)
 lowered_kept b plan s x lowers None word h = tt
 lowered_kept b plan s x false (Some t) word h = record { lower = λ e. (sym h.lower ∙ e, λ r low. refl); locals = h.locals }
 lowered_kept b plan s x true (Some t) word h = record {

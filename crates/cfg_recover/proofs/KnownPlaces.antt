@@ -11,10 +11,10 @@ use Rattle.elf_image.specs.Images.{ImageData}
 use Rattle.tcd_plan.specs.PlanData.{PlanData, IsPlan}
 use Rattle.value_domain.specs.declared.states.State.{State}
 use Rattle.value_domain.specs.State.{Covers, AreValues}
-use Rattle.vd_transfer.specs.Soundness.{IsSetting}
+use Rattle.vd_transfer.specs.Soundness.{IsSoundSetting}
 use Rattle.depth_cert.specs.declared.keys.Key.{Key}
 use Rattle.depth_cert.specs.declared.points.Point.{Point}
-use Rattle.depth_cert.specs.Keys.{byte_of, number_of_key, same_key}
+use Rattle.depth_cert.specs.Keys.{cert_flag_byte, number_of_key, same_key}
 use Rattle.depth_cert.specs.Points.{find_point, IsPoint}
 use Rattle.depth_cert.specs.Nodes.{NodeData, IsNode}
 use Rattle.depth_cert.specs.Certs.{CertData, IsCert}
@@ -61,19 +61,19 @@ one_of f xs x y rising (i, lt, at) (j, less, is) same =
       ]
     ]
 
-same_flag : (a b : Bool) → eqb (byte_of a) (byte_of b) ≡ true → a ≡ b
+same_flag : (a b : Bool) → eqb (cert_flag_byte a) (cert_flag_byte b) ≡ true → a ≡ b
 same_flag false false e = refl
 same_flag true true e = refl
 same_flag false true e = cc
 same_flag true false e = cc
 
-flag_same : (a : Bool) → eqb (byte_of a) (byte_of a) ≡ true
+flag_same : (a : Bool) → eqb (cert_flag_byte a) (cert_flag_byte a) ≡ true
 flag_same false = refl
 flag_same true = refl
 
 key_tells : (k j : Key) → same_key k j ≡ true → k ≡ j
 key_tells k j e =
-    let h = and_parts (eqb k.kind j.kind && eqb k.entry j.entry && eqb k.prio j.prio) (eqb (byte_of k.is) (byte_of j.is)) e in
+    let h = and_parts (eqb k.kind j.kind && eqb k.entry j.entry && eqb k.prio j.prio) (eqb (cert_flag_byte k.is) (cert_flag_byte j.is)) e in
     let g = and_parts (eqb k.kind j.kind && eqb k.entry j.entry) (eqb k.prio j.prio) h.0 in
     let f = and_parts (eqb k.kind j.kind) (eqb k.entry j.entry) g.0 in
     let kind : k.kind ≡ j.kind = eqb-true k.kind j.kind f.0 in
@@ -165,7 +165,7 @@ limits_same plan lower upper same = sym (ap (λ v. limits_in plan (record lower 
 
 -- a state of an accepted certificate is a setting of the plan
 pub setting : (image : ImageData) (plan : PlanData) (cert : CertData) → IsPlan plan → IsCert cert → Accepts image plan cert → (node : NodeData) (q : Point) → Contains cert.nodes node → Contains node.points q
-    → IsSetting (limits_in plan cert) plan q.state
+    → IsSoundSetting (limits_in plan cert) plan q.state
 setting image plan cert ok is accepted node q has stands =
     let in_node = All-contains (IsNode cert.version) cert.nodes node is.nodes has in
     record {

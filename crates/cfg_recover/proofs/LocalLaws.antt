@@ -20,8 +20,8 @@ use Rattle.tcd_plan.specs.Regions.{IsStoreInRange}
 use Rattle.store_ranges.specs.Accesses.{AreAligned, AreStoresInRange, are_aligned}
 use Rattle.depth_cert.specs.declared.keys.Key.{Key}
 use Rattle.cfg_recover.specs.Code.{IsCode}
-use Rattle.cfg_recover.specs.LocalRules.{StoresInRange, MayAccess, LocalRule, LocalHolds}
-use Rattle.cfg_recover.specs.LocalFaults.{IsLocalFault, IsLeastBroken, FindsFaultless, StoresInRangeAt, MayAccessAt}
+use Rattle.cfg_recover.specs.LocalRules.{StoresInRange, MayAccess, LocalRule, LocalHolds, StoresInRangeAt, MayAccessAt}
+use Rattle.cfg_recover.specs.LocalFaults.{IsLocalFault, IsLeastLocalFault, FindsFaultless}
 use Rattle.cfg_recover.proofs.CodeLaws.{IsCode-one}
 
 -- ---- alignment
@@ -94,13 +94,13 @@ LocalHolds-found b image plan key p s shape n r code holds = record {
   own = λ t m other. subst (λ (x : Shape). LocalRule b plan key p s x r) (IsCode-one image plan p shape t n m code other).0 holds;
 }
 
-pub IsLocalFault-broken : (b : Limits) (image : ImageData) (plan : PlanData) (key : Key) (p : ℕ) (s : State) (shape : Shape) (n r : ℕ) → IsCode image plan p shape n → IsLeastBroken b plan key p s shape (Some r) → IsLocalFault b image plan key p s r
+pub IsLocalFault-broken : (b : Limits) (image : ImageData) (plan : PlanData) (key : Key) (p : ℕ) (s : State) (shape : Shape) (n r : ℕ) → IsCode image plan p shape n → IsLeastLocalFault b plan key p s shape (Some r) → IsLocalFault b image plan key p s r
 IsLocalFault-broken b image plan key p s shape n r code least = record {
   fails = λ holds. least.0 (holds.own shape n code);
   least = λ q lt. LocalHolds-found b image plan key p s shape n q code (least.1 q lt);
 }
 
-pub FindsFaultless-whole : (b : Limits) (image : ImageData) (plan : PlanData) (key : Key) (p : ℕ) (s : State) (inst : InstData) (n : ℕ) → IsCode image plan p (shape_of inst) n → IsLeastBroken b plan key p s (shape_of inst) None → FindsFaultless b image plan key p s (inst, n)
+pub FindsFaultless-whole : (b : Limits) (image : ImageData) (plan : PlanData) (key : Key) (p : ℕ) (s : State) (inst : InstData) (n : ℕ) → IsCode image plan p (shape_of inst) n → IsLeastLocalFault b plan key p s (shape_of inst) None → FindsFaultless b image plan key p s (inst, n)
 FindsFaultless-whole b image plan key p s inst n code whole = record {
   faultless = λ r. LocalHolds-found b image plan key p s (shape_of inst) n r code (whole r);
   code = code;

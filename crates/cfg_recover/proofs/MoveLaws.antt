@@ -4,7 +4,7 @@ use Rattle.std.specs.Prelude.{IfSome, IsSome, IsSomeAnd, Contains}
 use Rattle.std.specs.FinMap as memory_map
 use Rattle.std.proofs.lemmas.Bool.{cases_Bool, and_parts, both_ways, not-true, ltb-true, lt-ltb, eq-eqb, false≢true, cond_both}
 use Rattle.std.proofs.lemmas.List.Elements.{Contains-append_left, Contains-append_right}
-use Rattle.csa_chain.specs.MemoryBytes.{Memory, load_number, with_bytes, extend}
+use Rattle.csa_chain.specs.MemoryBytes.{Memory, load_number, with_bytes, extend_loaded_bytes}
 use Rattle.elf_image.specs.Images.{ImageData}
 use Rattle.tcd_plan.specs.PlanData.{PlanData, IsPlan}
 use Rattle.tc_isa.specs.declared.shapes.Arg.{Arg}
@@ -19,12 +19,12 @@ use Rattle.tc_isa.specs.InBounds.{IsArg, IsTarget}
 use Rattle.tc_machine.specs.declared.events.Event.{Event}
 use Rattle.tc_machine.specs.declared.events.End.TheVariants.{Running}
 use Rattle.tc_machine.specs.declared.state.Machine.{Machine}
-use Rattle.tc_machine.specs.Machine.{reg, a11, moved}
+use Rattle.tc_machine.specs.Machine.{reg, a11, machine_address_ahead, IsMachine}
 use Rattle.tc_machine.specs.Fetching.{fetched}
-use Rattle.tc_machine.specs.Instructions.{does, access_address, traps_at, target_of, core_register, traps}
+use Rattle.tc_machine.specs.Instructions.{does, access_address, is_trapping_access, target_of, core_register, traps}
 use Rattle.tc_machine.specs.Stepping.{is_taken, load_in, store_in, where_running, stored, step}
 use Rattle.tcd_plan.specs.Regions.{IsInAreas, AnswersLoad, IsStoreInRange}
-use Rattle.tc_machine.specs.Safe.{IsMachine, Fits}
+use Rattle.tc_machine.specs.Safe.{Fits}
 use Rattle.tc_machine.proofs.Steps.{with_event, step_does, stored-is}
 use Rattle.tc_machine.proofs.Stays.{stays_step, irq_lt}
 use Rattle.tc_machine.proofs.Words.{load_lt}
@@ -37,23 +37,22 @@ use Rattle.value_domain.proofs.CoverLaws.{among_member, has_step}
 use Rattle.value_domain.proofs.RangeLaws.{one_value}
 use Rattle.value_domain.proofs.SetLaws.{distinct_has}
 use Rattle.vd_transfer.specs.Registers.{slot, reg_of, arg_of, set_reg}
-use Rattle.vd_transfer.specs.EffectsOnStates.{access_of, address_of, transfer_of, ie_after}
+use Rattle.vd_transfer.specs.EffectsOnStates.{access_of, address_of, transfer_of}
+use Rattle.vd_transfer.specs.EffectsOnWords.{ie_after, word_of, words_after, ccpn_after}
 use Rattle.vd_transfer.specs.Branches.{refine_of}
 use Rattle.vd_transfer.specs.Holding.{Holds}
-use Rattle.vd_transfer.specs.EffectsOnWords.{word_of, words_after, ccpn_after}
-use Rattle.vd_transfer.specs.Soundness.{ReadsMember, IsSetting}
+use Rattle.vd_transfer.specs.Soundness.{ReadsSoundly, IsSoundSetting}
 use Rattle.vd_transfer.proofs.HoldLaws.{same_length, reg_of-other, reg_of-here, transfer_holds, branch_holds, address_holds, arg_value}
 use Rattle.vd_transfer.proofs.ValueLaws.{value_of_value}
 use Rattle.store_ranges.specs.Loads.{HoldsLoads, loaded_of}
 use Rattle.store_ranges.proofs.Covers.{map_has}
 use Rattle.store_ranges.proofs.Sound.{set_sound, span_sound}
 use Rattle.depth_cert.specs.declared.keys.Key.{Key}
-use Rattle.cfg_recover.specs.Entries.{aln_key, aln_entry, irq_key, irq_entry, call_key, call_entry, stack_of, sys_entry, irqs_of}
-use Rattle.cfg_recover.specs.LocalRules.{named_by, targets_of}
+use Rattle.cfg_recover.specs.Entries.{aln_key, aln_entry, irq_key, irq_entry, call_key, call_entry, entry_stack_of, sys_entry, irqs_of}
+use Rattle.cfg_recover.specs.LocalRules.{targets_named_by, targets_of}
 use Rattle.store_ranges.specs.Accesses.{are_aligned}
-use Rattle.cfg_recover.specs.Duties.{owed, jump, enter, entered_and_back, loaded_at, successors_of, jump_on, misaligned_at, duties_of}
-use Rattle.cfg_recover.specs.MovesAreOwed.{InState, IsAtPoint, MovesTo, Moved, MovesInFrame, TrapsOwed, InterruptsOwed, StoresHeld}
-use Rattle.cfg_recover.specs.EdgesAreOwed.{CallsOwed, SystemCallsOwed}
+use Rattle.cfg_recover.specs.Duties.{owed, jump, enter, entered_and_back, loaded_for_duties, successors_of, jump_on, misaligned_at, duties_of}
+use Rattle.cfg_recover.specs.MovesAreOwed.{InState, IsAtPoint, MovesTo, IsMoveOwed, MovesInFrame, TrapsOwed, InterruptsOwed, StoresHeld, CallsOwed, SystemCallsOwed}
 use Rattle.cfg_recover.proofs.EntryLaws.{reg_lt}
 use Rattle.cfg_recover.proofs.Points.{setting, bounded, writes, fetched_at}
 use Rattle.cfg_recover.proofs.Members.{contains_first, contains_among, contains_map, contains_flat, contains_filter, passes_each, contains_jump, owes_successor, owes_entry, owes_misaligned, owes_interrupt}
@@ -110,7 +109,7 @@ module _ {b : Limits} {image : ImageData} {plan : PlanData} {key : Key} {m : Mac
 
   -- the machine goes where the point owes a jump
   moved_to : (t : State) (word : ℕ → ℕ) (pc : ℕ) (ie : Bool) (mem : Memory) → Went m (does m e shape n) word pc ie mem → Holds plan word ie m.ccpn t → KeepsLower (reg m) word s t → t.locals.items ≡ s.locals.items
-      → word 27 ≡ reg m 27 → IsSparing image plan m.mem mem → Contains (successors_of b image plan m.pc s shape n) (owed 4 (jump pc t)) → Moved b image plan key m e s shape n
+      → word 27 ≡ reg m 27 → IsSparing image plan m.mem mem → Contains (successors_of b image plan m.pc s shape n) (owed 4 (jump pc t)) → IsMoveOwed b image plan key m e s shape n
   moved_to t word pc ie mem w h lower locals a11 sparing owes = record {
     state = t;
     owes = subst (λ q. Contains (duties_of b image plan key m.pc s shape n) (owed 4 (jump q t))) (sym (ap (λ (x : Machine). x.pc) w.is)) (owes_successor b image plan key m.pc s shape n (owed 4 (jump pc t)) owes);
@@ -118,21 +117,21 @@ module _ {b : Limits} {image : ImageData} {plan : PlanData} {key : Key} {m : Mac
   }
 
   -- the machine goes to the next instruction
-  moved_on : (input : ℕ) (mem : Memory) → GoesOn shape → input < 2 ^ 32 → ReadsMember shape input (loaded_at b image plan s shape) → ccpn_after shape m.ccpn ≡ m.ccpn → IsSparing image plan m.mem mem
-      → Contains (successors_of b image plan m.pc s shape n) (owed 4 (jump (moved m.pc n) (transfer_of b plan shape s (loaded_at b image plan s shape))))
-      → Went m (does m e shape n) (words_after shape input (reg m)) (moved m.pc n) (ie_after shape m.ie) mem → Moved b image plan key m e s shape n
+  moved_on : (input : ℕ) (mem : Memory) → GoesOn shape → input < 2 ^ 32 → ReadsSoundly shape input (loaded_for_duties b image plan s shape) → ccpn_after shape m.ccpn ≡ m.ccpn → IsSparing image plan m.mem mem
+      → Contains (successors_of b image plan m.pc s shape n) (owed 4 (jump (machine_address_ahead m.pc n) (transfer_of b plan shape s (loaded_for_duties b image plan s shape))))
+      → Went m (does m e shape n) (words_after shape input (reg m)) (machine_address_ahead m.pc n) (ie_after shape m.ie) mem → IsMoveOwed b image plan key m e s shape n
   moved_on input mem goes small reads ccpn sparing owes w =
-      let read = loaded_at b image plan s shape in
+      let read = loaded_for_duties b image plan s shape in
       let t = transfer_of b plan shape s read in
       let h : Holds plan (words_after shape input (reg m)) (ie_after shape m.ie) (ccpn_after shape m.ccpn) t =
       transfer_holds b plan shape s read (reg m) m.ie m.ccpn input (setting at) (bounded at) (writes at) goes.1 small reads at.inside
       in
-      moved_to t (words_after shape input (reg m)) (moved m.pc n) (ie_after shape m.ie) mem w (subst (λ c. Holds plan (words_after shape input (reg m)) (ie_after shape m.ie) c t) ccpn h)
+      moved_to t (words_after shape input (reg m)) (machine_address_ahead m.pc n) (ie_after shape m.ie) mem w (subst (λ c. Holds plan (words_after shape input (reg m)) (ie_after shape m.ie) c t) ccpn h)
       (keeps_lower b plan shape s read (reg m) input goes) (keeps_locals b plan shape s read goes) (keeps_valueless shape (reg m) input 27 (writes at) no_a11) sparing owes
 
 -- ---- accesses
 -- the value of an address is within the limits
-address_value : (b : Limits) (plan : PlanData) (s : State) (base : Arg) (offset : ℕ) (after : Bool) → IsSetting b plan s → IsArg base → offset < 2 ^ 32 → IsValue b (access_of b plan s base offset after)
+address_value : (b : Limits) (plan : PlanData) (s : State) (base : Arg) (offset : ℕ) (after : Bool) → IsSoundSetting b plan s → IsArg base → offset < 2 ^ 32 → IsValue b (access_of b plan s base offset after)
 address_value b plan s base offset true set is small = arg_value b plan s base set is
 address_value b plan s base offset false set is small = value_of_value b Add (arg_of plan s base) (word_val offset) set.limits (arg_value b plan s base set is) (one_value b offset set.limits small)
 
@@ -171,13 +170,13 @@ module _ {b : Limits} {image : ImageData} {plan : PlanData} {key : Key} {m : Mac
     store_in_range = (at.own 9).stores refl (access_address m base offset after) store_member
 
 -- ---- targets
-named_has : (v : Val) (w : ℕ) → IsSome (named_by v) → IsMember w v → Contains (unwrap_or (named_by v) []) (w / 2 * 2)
+named_has : (v : Val) (w : ℕ) → IsSome (targets_named_by v) → IsMember w v → Contains (unwrap_or (targets_named_by v) []) (w / 2 * 2)
 named_has (Set ws) w some m = contains_among _ (w / 2 * 2) (distinct_has (w / 2 * 2) _ (map_has (λ w. w / 2 * 2) w ws m))
 named_has (Span lo last step) w some m = absurd (let f : false ≡ true = some in cc)
 
 -- a jump or a call goes to a known target
 goes_to : (plan : PlanData) (m : Machine) (s : State) (to : Target) → IsSome (targets_of plan s m.pc to) → IsTarget to → InState plan m s → Contains (unwrap_or (targets_of plan s m.pc to) []) (target_of m to)
-goes_to plan m s (target.Rel by) some is inside = contains_first (moved m.pc by) []
+goes_to plan m s (target.Rel by) some is inside = contains_first (machine_address_ahead m.pc by) []
 goes_to plan m s (target.Abs x) some is inside = contains_first x []
 goes_to plan m s (target.Reg r) some is inside = named_has (reg_of plan s r) (reg m r) some (inside.regs r is)
 
@@ -189,14 +188,14 @@ some_at (Some x) P Q p q = (x, refl, p, q)
 
 -- that side is owed
 owes_side : (b : Limits) (image : ImageData) (plan : PlanData) (p : ℕ) (s : State) (test : Cond) (x : ℕ) (y : Arg) (by : ℕ) (lowers : Bool) (n : ℕ) (side : Bool) (t : State) → refine_of b plan (Branch test x y by lowers) s side ≡ Some t
-    → Contains (successors_of b image plan p s (Branch test x y by lowers) n) (owed 4 (jump (cond side (moved p by) (moved p n)) t))
+    → Contains (successors_of b image plan p s (Branch test x y by lowers) n) (owed 4 (jump (cond side (machine_address_ahead p by) (machine_address_ahead p n)) t))
 owes_side b image plan p s test x y by lowers n false t e =
-    Contains-append_left (jump_on (moved p n) (refine_of b plan (Branch test x y by lowers) s false)) (jump_on (moved p by) (refine_of b plan (Branch test x y by lowers) s true)) (owed 4 (jump (moved p n) t)) (contains_jump (moved p n) _ t e)
+    Contains-append_left (jump_on (machine_address_ahead p n) (refine_of b plan (Branch test x y by lowers) s false)) (jump_on (machine_address_ahead p by) (refine_of b plan (Branch test x y by lowers) s true)) (owed 4 (jump (machine_address_ahead p n) t)) (contains_jump (machine_address_ahead p n) _ t e)
 owes_side b image plan p s test x y by lowers n true t e =
-    Contains-append_right (jump_on (moved p n) (refine_of b plan (Branch test x y by lowers) s false)) (jump_on (moved p by) (refine_of b plan (Branch test x y by lowers) s true)) (owed 4 (jump (moved p by) t)) (contains_jump (moved p by) _ t e)
+    Contains-append_right (jump_on (machine_address_ahead p n) (refine_of b plan (Branch test x y by lowers) s false)) (jump_on (machine_address_ahead p by) (refine_of b plan (Branch test x y by lowers) s true)) (owed 4 (jump (machine_address_ahead p by) t)) (contains_jump (machine_address_ahead p by) _ t e)
 
 moves_branch : (b : Limits) (image : ImageData) (plan : PlanData) (key : Key) (m : Machine) (e : Event) (s : State) (test : Cond) (x : ℕ) (y : Arg) (by : ℕ) (lowers : Bool) (n : ℕ) (side : Bool)
-    → IsAtPoint b image plan key m s (Branch test x y by lowers) n → taken_of test (reg m x) (word_of (reg m) y) ≡ side → Moved b image plan key m e s (Branch test x y by lowers) n
+    → IsAtPoint b image plan key m s (Branch test x y by lowers) n → taken_of test (reg m x) (word_of (reg m) y) ≡ side → IsMoveOwed b image plan key m e s (Branch test x y by lowers) n
 moves_branch b image plan key m e s test x y by lowers n side at goes =
     let word = words_after (Branch test x y by lowers) 0 (reg m) in
     let is = bounded at in
@@ -205,8 +204,8 @@ moves_branch b image plan key m e s test x y by lowers n side at goes =
     (branch_holds b plan test x y by lowers s side (reg m) m.ie m.ccpn (setting at) is (writes at) at.inside goes)
     (keeps_branch b plan test x y by lowers s side (reg m))
     in
-    moved_to e at t.0 word (cond side (moved m.pc by) (moved m.pc n)) m.ie m.mem
-    (subst (λ u. Went m (does m e (Branch test x y by lowers) n) word (cond u (moved m.pc by) (moved m.pc n)) m.ie m.mem) goes (does-branch m at.machine e n test x y by lowers is.0))
+    moved_to e at t.0 word (cond side (machine_address_ahead m.pc by) (machine_address_ahead m.pc n)) m.ie m.mem
+    (subst (λ u. Went m (does m e (Branch test x y by lowers) n) word (cond u (machine_address_ahead m.pc by) (machine_address_ahead m.pc n)) m.ie m.mem) goes (does-branch m at.machine e n test x y by lowers is.0))
     t.2 (t.3).lower (t.3).locals (keeps_valueless (Branch test x y by lowers) (reg m) 0 27 (writes at) no_a11) (same_memory e at)
     (owes_side b image plan m.pc s test x y by lowers n side t.0 t.1)
 
@@ -241,7 +240,7 @@ moves_in_frame b image plan key m e s (Load dst base offset size signed after) n
     loads_hold b image plan address size signed at.is_plan (load_value base offset size after dst signed at).well m.mem x e.input at.machine.bytes at.memory at.rom fits.input
     (answered plan m e (Load dst base offset size signed after) n fits none (fetched_at at)) (load_member base offset size after dst signed at)
     in
-    moved_on e at (extend signed size (load_number m.mem e.input x size)) m.mem (tt, tt) small member refl (same_memory e at) (contains_first _ [])
+    moved_on e at (extend_loaded_bytes signed size (load_number m.mem e.input x size)) m.mem (tt, tt) small member refl (same_memory e at) (contains_first _ [])
     (does-load m at.machine e n base offset size after is.1 quiet dst signed is.0)
 moves_in_frame b image plan key m e s (Store src base offset size after) n at fits none stays quiet =
     let x = access_address m base offset after in
@@ -293,7 +292,7 @@ traps_owed b image plan key m e s shape n at t = absurd (false≢true t)
 pub calls_owed : CallsOwed
 calls_owed b image plan key m s to n at =
     let known = goes_to plan m s to ((at.own 5).targets refl) (bounded at) at.inside in
-    let both = λ (t : ℕ). entered_and_back 5 (call_key key t) (call_entry s) (moved m.pc n) in
+    let both = λ (t : ℕ). entered_and_back 5 (call_key key t) (call_entry s) (machine_address_ahead m.pc n) in
     record {
       entered = owes_entry b image plan key m.pc s (Call to) n _ (contains_flat both _ (target_of m to) _ known (0, omega arith, refl));
       back = owes_entry b image plan key m.pc s (Call to) n _ (contains_flat both _ (target_of m to) _ known (1, omega arith, refl));
@@ -303,7 +302,7 @@ calls_owed b image plan key m s to n at =
 pub system_calls_owed : SystemCallsOwed
 unfolding slot
 system_calls_owed b image plan key m s tin n at =
-    let sp = stack_of plan key s in
+    let sp = entry_stack_of plan key s in
     let t = set_reg s 26 sp in
     let u = sys_entry plan key s tin in
     let long : length t.regs ≡ 27 = same_length s sp (slot 26) ∙ at.regs in
@@ -339,7 +338,7 @@ taken_stores m e running taken =
 
 store_held : (b : Limits) (image : ImageData) (plan : PlanData) (key : Key) (m : Machine) (e : Event) (s : State) (shape : Shape) (n : ℕ) → IsAtPoint b image plan key m s shape n → IfSome (store_in m e (Ok (shape, n))) (IsStoreInRange plan)
 store_held b image plan key m e s (Store src base offset size after) n at =
-    cond_both (traps_at e (access_address m base offset after) size) None (Some (access_address m base offset after, size)) (λ (o : Option (ℕ × ℕ)). IfSome o (IsStoreInRange plan)) (λ _. tt) (λ _. store_in_range base offset size after src at)
+    cond_both (is_trapping_access e (access_address m base offset after) size) None (Some (access_address m base offset after, size)) (λ (o : Option (ℕ × ℕ)). IfSome o (IsStoreInRange plan)) (λ _. tt) (λ _. store_in_range base offset size after src at)
 store_held b image plan key m e s shape n at = tt
 
 pub stores_held : StoresHeld

@@ -18,13 +18,13 @@ use Rattle.value_domain.specs.Values.{any_val, IsValue}
 use Rattle.value_domain.specs.State.{AreValues}
 use Rattle.vd_transfer.specs.declared.change.Change.{Change}
 use Rattle.vd_transfer.specs.Operations.{value_of}
-use Rattle.vd_transfer.specs.Registers.{slot, is_lower, value_at, arg_of, set_at, write_reg}
-use Rattle.vd_transfer.specs.EffectsOnStates.{transfer_of, HasRoom, HasLoaded}
+use Rattle.vd_transfer.specs.Registers.{slot, is_lower_register, register_value_at, arg_of, set_at, write_reg}
+use Rattle.vd_transfer.specs.EffectsOnStates.{transfer_of, EffectHasRoom, EffectLoadsValue}
 use Rattle.vd_transfer.specs.Changes.{state_after, reg_put, kept_in}
 use Rattle.vd_transfer.proofs.ChangeLaws.{written-is, written-values, value-second, length-changed}
 use Rattle.cfg_recover.specs.declared.operation_cache.SetOperation.{SetOperation}
 use Rattle.cfg_recover.specs.declared.operation_cache.CachedOperation.{CachedOperation}
-use Rattle.cfg_recover.specs.SetOperations.{IsSetOperation, IsSameOperation, Gives, HoldsResult}
+use Rattle.cfg_recover.specs.SetOperations.{IsSetOperation, IsSameOperation, GivesCachedResult, HoldsCachedResult}
 
 -- ---- data registers
 data_slot : (r : ℕ) → r < 16 → slot r ≡ Some r
@@ -32,9 +32,9 @@ unfolding slot
 data_slot r h = rw (lt-ltb r 16 h) refl
 
 pub data_value : (plan : PlanData) (s : State) (r : ℕ) → r < 16 → arg_of plan s (Reg r) ≡ get_or s.regs r any_val
-data_value plan s r h = ap (value_at plan s r) (data_slot r h)
+data_value plan s r h = ap (register_value_at plan s r) (data_slot r h)
 
-data_lower : (r : ℕ) → r < 16 → not (is_lower r) ≡ leb 8 r
+data_lower : (r : ℕ) → r < 16 → not (is_lower_register r) ≡ leb 8 r
 data_lower r h =
     elim (cases_lt r 8) [
       | inl low ↦ rw (lt-ltb r 8 low, lt-leb 8 r low) refl
@@ -48,11 +48,11 @@ unfolding transfer_of
 computed b plan s v op dst x y = refl
 
 -- an operation loads nothing and saves no context
-pub no_load : (b : Limits) (s : State) (o : SetOperation) (v : Val) → IsSetOperation s o → HasLoaded b o.shape v
-no_load b s o v h = subst (λ (t : Shape). HasLoaded b t v) (sym h.is) tt
+pub no_load : (b : Limits) (s : State) (o : SetOperation) (v : Val) → IsSetOperation s o → EffectLoadsValue b o.shape v
+no_load b s o v h = subst (λ (t : Shape). EffectLoadsValue b t v) (sym h.is) tt
 
-pub has_room : (b : Limits) (s : State) (o : SetOperation) → IsSetOperation s o → HasRoom b o.shape s
-has_room b s o h = subst (λ (t : Shape). HasRoom b t s) (sym h.is) tt
+pub has_room : (b : Limits) (s : State) (o : SetOperation) → IsSetOperation s o → EffectHasRoom b o.shape s
+has_room b s o h = subst (λ (t : Shape). EffectHasRoom b t s) (sym h.is) tt
 
 -- the state after an operation on two sets, whatever is loaded
 operation_state : (b : Limits) (plan : PlanData) (s : State) (v : Val) (o : SetOperation) → IsSetOperation s o
@@ -79,23 +79,23 @@ put_is s c r v h =
     ∙ written-is s c r v
 
 -- the entry's result is that of this operation, if the operations are the same
-same_operation : (b : Limits) (k : CachedOperation) (o : SetOperation) → HoldsResult b k → IsSameOperation k o → Gives b k o.op
-same_operation b k o holds h = subst (λ (op : Option Op). IfSome op (Gives b k)) h.op holds
+same_operation : (b : Limits) (k : CachedOperation) (o : SetOperation) → HoldsCachedResult b k → IsSameOperation k o → GivesCachedResult b k o.op
+same_operation b k o holds h = subst (λ (op : Option Op). IfSome op (GivesCachedResult b k)) h.op holds
 
-hit_value : (b : Limits) (k : CachedOperation) (o : SetOperation) → HoldsResult b k → IsSameOperation k o → k.result ≡ value_of b o.op (Set o.x.now) (Set o.y.now)
+hit_value : (b : Limits) (k : CachedOperation) (o : SetOperation) → HoldsCachedResult b k → IsSameOperation k o → k.result ≡ value_of b o.op (Set o.x.now) (Set o.y.now)
 hit_value b k o holds h =
     (same_operation b k o holds h).gives
     ∙ ap (λ (w : Val). value_of b o.op w k.y) h.x
     ∙ ap (λ (w : Val). value_of b o.op (Set o.x.now) w) h.y
 
-pub hit_state : (b : Limits) (plan : PlanData) (s : State) (v : Val) (o : SetOperation) (k : CachedOperation) (c : Change) → IsSetOperation s o → HoldsResult b k → IsSameOperation k o
+pub hit_state : (b : Limits) (plan : PlanData) (s : State) (v : Val) (o : SetOperation) (k : CachedOperation) (c : Change) → IsSetOperation s o → HoldsCachedResult b k → IsSameOperation k o
     → state_after s (put_at s c o.dst k.result) ≡ transfer_of b plan o.shape s v
 hit_state b plan s v o k c h holds same =
     put_is s c o.dst k.result h.small
     ∙ ap (write_reg s o.dst) (hit_value b k o holds same)
     ∙ sym (operation_state b plan s v o h)
 
-pub hit_values : (b : Limits) (s : State) (o : SetOperation) (k : CachedOperation) (c : Change) → o.dst < 16 → AreValues b s.regs → HoldsResult b k → IsSameOperation k o
+pub hit_values : (b : Limits) (s : State) (o : SetOperation) (k : CachedOperation) (c : Change) → o.dst < 16 → AreValues b s.regs → HoldsCachedResult b k → IsSameOperation k o
     → AreValues b (state_after s (put_at s c o.dst k.result)).regs
 hit_values b s o k c h values holds same =
     subst (λ (t : State). AreValues b t.regs) (written-is s c o.dst k.result ∙ sym (put_is s c o.dst k.result h))

@@ -21,7 +21,7 @@ use Rattle.cfg_recover.specs.Entries.{start_key}
 use Rattle.cfg_recover.specs.LocalRules.{LocalRule}
 use Rattle.cfg_recover.specs.LocalFaults.{IsFaultless}
 use Rattle.cfg_recover.specs.Duties.{Owed, duties_of}
-use Rattle.cfg_recover.specs.RulesHoldOrFail.{limits_in, IsMet, IsNeedAbove, RuleHolds, HasNeed, HoldsAtNode, Accepts}
+use Rattle.cfg_recover.specs.RulesHoldOrFail.{limits_in, IsMet, EntryNeedRuleHolds, RuleHolds, NeedRuleHolds, HoldsAtNode, Accepts}
 
 -- ---- limits
 pub limits_are : (plan : PlanData) (version : ℕ) → AreLimits (limits_for plan version)
@@ -45,7 +45,7 @@ pub record PointHolds (image : ImageData) (plan : PlanData) (cert : CertData) (n
   pub own : (r : ℕ) → LocalRule (limits_in plan cert) plan node.key p s shape r
   pub met : (d : Owed) → Contains (duties_at image plan cert node p s shape size) d → IsMet cert node s d.duty
   pub locals : length s.locals.items ≤ node.need
-  pub entered : (d : Owed) → Contains (duties_at image plan cert node p s shape size) d → IsNeedAbove cert node s d.duty
+  pub entered : (d : Owed) → Contains (duties_at image plan cert node p s shape size) d → EntryNeedRuleHolds cert node s d.duty
   pub start : node.key ≡ start_key image plan → p ≡ image.entry → node.need ≤ plan.areas - plan.reserve
 
 pub record PointRules (image : ImageData) (plan : PlanData) (cert : CertData) (node : NodeData) (p : ℕ) (s : State) : Type 0 where
@@ -73,7 +73,7 @@ module _ (image : ImageData) (plan : PlanData) (cert : CertData) (is_cert : IsCe
       let values : AreValues (limits_in plan cert) (point.state).regs = (all 2).values refl in
       let faultless : IsFaultless (limits_in plan cert) image plan node.key point.addr point.state = λ r. (all r).own values in
       let has : HasCode image plan point.addr = (faultless 3).code refl in
-      let needs : HasNeed image plan cert node point (duties_of (limits_in plan cert) image plan node.key point.addr point.state has.shape has.size) = (all 14).needs has.shape has.size refl values faultless has.code in
+      let needs : NeedRuleHolds image plan cert node point (duties_of (limits_in plan cert) image plan node.key point.addr point.state has.shape has.size) = (all 14).needs has.shape has.size refl values faultless has.code in
       let is : IsPoint cert.version point = All-contains (IsPoint cert.version) node.points point (node_is node stands).points there in
       record {
         shape = has.shape;
@@ -85,7 +85,7 @@ module _ (image : ImageData) (plan : PlanData) (cert : CertData) (is_cert : IsCe
           own = λ r. (faultless r).own has.shape has.size has.code;
           met = λ d c. (all d.rule).covered has.shape has.size d values faultless has.code c refl;
           locals = needs.locals;
-          entered = λ d c. All-contains (λ d. IsNeedAbove cert node point.state d.duty) _ d needs.entered c;
+          entered = λ d c. All-contains (λ d. EntryNeedRuleHolds cert node point.state d.duty) _ d needs.entered c;
           start = needs.start;
         };
       }

@@ -9,11 +9,11 @@ use Rattle.value_domain.specs.declared.values.Val.{Val}
 use Rattle.value_domain.specs.declared.states.State.{State}
 use Rattle.value_domain.specs.Limits.{Limits}
 use Rattle.value_domain.specs.Values.{IsValue, any_val}
-use Rattle.vd_transfer.specs.EffectsOnStates.{HasLoaded, transfer_of}
-use Rattle.cfg_recover.specs.Duties.{loaded_at}
+use Rattle.vd_transfer.specs.EffectsOnStates.{EffectLoadsValue, transfer_of}
+use Rattle.cfg_recover.specs.Duties.{loaded_for_duties}
 
 -- any value will do, unless the instruction is a load
-pub loaded_is : (b : Limits) (shape : Shape) (v : Val) → IsValue b v → HasLoaded b shape v
+pub loaded_is : (b : Limits) (shape : Shape) (v : Val) → IsValue b v → EffectLoadsValue b shape v
 loaded_is b (Load dst base offset size signed after) v value = value
 loaded_is b _ v value = tt
 
@@ -27,11 +27,11 @@ unfolding transfer_of
 writes_none b p s (Load dst base offset size signed after) v w other = absurd (other dst base offset size signed after refl)
 writes_none b p s _ v w other = refl
 
-pub any_loaded : (b : Limits) (image : ImageData) (p : PlanData) (s : State) (shape : Shape) → LoadsNone shape → any_val ≡ loaded_at b image p s shape
+pub any_loaded : (b : Limits) (image : ImageData) (p : PlanData) (s : State) (shape : Shape) → LoadsNone shape → any_val ≡ loaded_for_duties b image p s shape
 any_loaded b image p s (Load dst base offset size signed after) other = absurd (other dst base offset size signed after refl)
 any_loaded b image p s _ other = refl
 
 -- an instruction that changes nothing keeps the state
-pub nothing_keeps : (b : Limits) (image : ImageData) (p : PlanData) (s : State) (shape : Shape) → shape ≡ Nothing → s ≡ transfer_of b p shape s (loaded_at b image p s shape)
+pub nothing_keeps : (b : Limits) (image : ImageData) (p : PlanData) (s : State) (shape : Shape) → shape ≡ Nothing → s ≡ transfer_of b p shape s (loaded_for_duties b image p s shape)
 unfolding transfer_of
-nothing_keeps b image p s shape is = subst (λ (x : Shape). s ≡ transfer_of b p x s (loaded_at b image p s x)) (sym is) refl
+nothing_keeps b image p s shape is = subst (λ (x : Shape). s ≡ transfer_of b p x s (loaded_for_duties b image p s x)) (sym is) refl

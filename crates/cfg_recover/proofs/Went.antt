@@ -1,7 +1,7 @@
 -- What instructions that stay in their frame do to the machine: registers, pc, IE and memory.
 use Rattle.std.proofs.Common.{◌≡◌, ◌≢◌, ℕ, ◌+◌, ◌-◌, ◌*◌, ◌%◌, ◌^◌, ◌<◌, inl, inr, Bool, true, false, cond, List, length, get_or, set, length-set, get_or-set_same, get_or-set_other, ltb, eqb, refl, ap, ◌∙◌, subst, arith}
 use Rattle.std.proofs.lemmas.Bool.{cases_eq, cases_lt, lt-ltb, le-ltb, eq-eqb, ne_eqb}
-use Rattle.csa_chain.specs.MemoryBytes.{Memory, load_number, with_bytes, extend}
+use Rattle.csa_chain.specs.MemoryBytes.{Memory, load_number, with_bytes, extend_loaded_bytes}
 use Rattle.tc_isa.specs.declared.shapes.Arg.{Arg}
 use Rattle.tc_isa.specs.declared.shapes.Arg.TheVariants.{Reg, Word}
 use Rattle.tc_isa.specs.declared.shapes.Cond.{Cond}
@@ -12,10 +12,9 @@ use Rattle.tc_isa.specs.Arithmetic.{alu_of, taken_of}
 use Rattle.tc_isa.specs.InBounds.{IsArg}
 use Rattle.tc_machine.specs.declared.events.Event.{Event}
 use Rattle.tc_machine.specs.declared.state.Machine.{Machine}
-use Rattle.tc_machine.specs.Machine.{reg, with_reg, moved}
-use Rattle.tc_machine.specs.Instructions.{arg, advanced, access_address, with_base, traps_at, core_register, lowered, target_of, does}
-use Rattle.tc_machine.specs.Safe.{IsMachine}
-use Rattle.vd_transfer.specs.EffectsOnWords.{set_word, word_of, access_word, with_base_word, words_after}
+use Rattle.tc_machine.specs.Machine.{reg, with_reg, machine_address_ahead, IsMachine}
+use Rattle.tc_machine.specs.Instructions.{arg, advanced, access_address, with_base, is_trapping_access, core_register, lowered, target_of, does}
+use Rattle.vd_transfer.specs.EffectsOnWords.{words_with_register, word_of, access_word, with_base_word, words_after}
 
 -- ---- registers
 -- the word of a register, in the two lists of registers
@@ -44,13 +43,13 @@ with_reg-is m r w = either m r w (ltb r 16)
     either m r w true = refl
     either m r w false = refl
 
-set_word-here : (word : ℕ → ℕ) (r w q : ℕ) → q ≡ r → set_word word r w q ≡ w
+set_word-here : (word : ℕ → ℕ) (r w q : ℕ) → q ≡ r → words_with_register word r w q ≡ w
 set_word-here word r w q same = rw (eq-eqb q r same) refl
 
-pub set_word-other : (word : ℕ → ℕ) (r w q : ℕ) → q ≢ r → set_word word r w q ≡ word q
+pub set_word-other : (word : ℕ → ℕ) (r w q : ℕ) → q ≢ r → words_with_register word r w q ≡ word q
 set_word-other word r w q apart = rw (ne_eqb q r apart) refl
 
-d_word : (d : List ℕ) (r w q : ℕ) → r < length d → get_or (set d r w) q 0 ≡ set_word (λ i. get_or d i 0) r w q
+d_word : (d : List ℕ) (r w q : ℕ) → r < length d → get_or (set d r w) q 0 ≡ words_with_register (λ i. get_or d i 0) r w q
 d_word d r w q lt =
     elim (cases_eq q r) [
       | inl same ↦ rw (eq-eqb q r same) (ap (λ i. get_or (set d r w) i 0) same ∙ get_or-set_same d r w 0 lt)
@@ -58,7 +57,7 @@ d_word d r w q lt =
     ]
 
 -- a register that is set
-reg_in-with : (d a : List ℕ) (r w q : ℕ) → length d ≡ 16 → length a ≡ 16 → r < 32 → reg_in (d_with d r w) (a_with a r w) q ≡ set_word (reg_in d a) r w q
+reg_in-with : (d a : List ℕ) (r w q : ℕ) → length d ≡ 16 → length a ≡ 16 → r < 32 → reg_in (d_with d r w) (a_with a r w) q ≡ words_with_register (reg_in d a) r w q
 reg_in-with d a r w q dl al lt =
     elim (cases_lt r 16) [
       | inl dr ↦ elim (cases_lt q 16) [
@@ -85,10 +84,10 @@ without_count false ws i w e = length-set ws i w ∙ e
 pub registers_same : (m : Machine) → IsMachine m → Registers m m (reg m)
 registers_same m k = record { d = m.d; a = m.a; d_count = (k.d).count; a_count = (k.a).count; is = refl; words = λ r. refl }
 
-set_word_agrees : (f g : ℕ → ℕ) (r w q : ℕ) → f q ≡ g q → set_word f r w q ≡ set_word g r w q
+set_word_agrees : (f g : ℕ → ℕ) (r w q : ℕ) → f q ≡ g q → words_with_register f r w q ≡ words_with_register g r w q
 set_word_agrees f g r w q e = ap (λ u. cond (eqb q r) w u) e
 
-pub registers_with : (m n : Machine) (word : ℕ → ℕ) (r w : ℕ) → r < 32 → Registers m n word → Registers m (with_reg n r w) (set_word word r w)
+pub registers_with : (m n : Machine) (word : ℕ → ℕ) (r w : ℕ) → r < 32 → Registers m n word → Registers m (with_reg n r w) (words_with_register word r w)
 registers_with m n word r w lt h = record {
   d = d_with h.d r w;
   a = a_with h.a r w;
@@ -109,11 +108,11 @@ address-is m base offset after = ap (λ x. cond after x ((x + offset) % 2 ^ 32))
 registers_base : (m : Machine) → IsMachine m → (base : Arg) (offset : ℕ) (after : Bool) → IsArg base → Registers m (with_base m base offset after) (with_base_word (reg m) base offset after)
 registers_base m k (Word w) offset after lt = registers_same m k
 registers_base m k (Reg r) offset false lt = registers_same m k
-registers_base m k (Reg r) offset true lt = registers_with m m (reg m) r (moved (reg m r) offset) lt (registers_same m k)
+registers_base m k (Reg r) offset true lt = registers_with m m (reg m) r (machine_address_ahead (reg m r) offset) lt (registers_same m k)
 
-registers_lowered : (m : Machine) → IsMachine m → (x : ℕ) (lowers : Bool) → x < 32 → Registers m (lowered m x lowers) (cond lowers (set_word (reg m) x ((reg m x + (2 ^ 32 - 1)) % 2 ^ 32)) (reg m))
+registers_lowered : (m : Machine) → IsMachine m → (x : ℕ) (lowers : Bool) → x < 32 → Registers m (lowered m x lowers) (cond lowers (words_with_register (reg m) x ((reg m x + (2 ^ 32 - 1)) % 2 ^ 32)) (reg m))
 registers_lowered m k x false lt = registers_same m k
-registers_lowered m k x true lt = registers_with m m (reg m) x (moved (reg m x) (2 ^ 32 - 1)) lt (registers_same m k)
+registers_lowered m k x true lt = registers_with m m (reg m) x (machine_address_ahead (reg m x) (2 ^ 32 - 1)) lt (registers_same m k)
 
 -- ---- instructions
 -- m with other registers, pc, IE and memory
@@ -134,60 +133,60 @@ went_by m k word word2 pc ie mem f gives same h = record { d = h.d; a = h.a; is 
 
 module _ (m : Machine) (k : IsMachine m) (e : Event) (n : ℕ) where
   -- on to the next instruction, after register r was set
-  went_set : (word word2 : ℕ → ℕ) (base : Machine) (r w : ℕ) → r < 32 → set_word word r w ≡ word2 → Registers m base word → Went m (advanced n (with_reg base r w)) word2 (moved m.pc n) m.ie m.mem
-  went_set word word2 base r w lt same h = went_by m (with_reg base r w) (set_word word r w) word2 (moved m.pc n) m.ie m.mem (advanced n) (λ d a. refl) same (registers_with m base word r w lt h)
+  went_set : (word word2 : ℕ → ℕ) (base : Machine) (r w : ℕ) → r < 32 → words_with_register word r w ≡ word2 → Registers m base word → Went m (advanced n (with_reg base r w)) word2 (machine_address_ahead m.pc n) m.ie m.mem
+  went_set word word2 base r w lt same h = went_by m (with_reg base r w) (words_with_register word r w) word2 (machine_address_ahead m.pc n) m.ie m.mem (advanced n) (λ d a. refl) same (registers_with m base word r w lt h)
 
-  pub does-compute : (op : Op) (dst : ℕ) (x y : Arg) (input : ℕ) → dst < 32 → Went m (does m e (Compute op dst x y) n) (words_after (Compute op dst x y) input (reg m)) (moved m.pc n) m.ie m.mem
+  pub does-compute : (op : Op) (dst : ℕ) (x y : Arg) (input : ℕ) → dst < 32 → Went m (does m e (Compute op dst x y) n) (words_after (Compute op dst x y) input (reg m)) (machine_address_ahead m.pc n) m.ie m.mem
   unfolding does words_after
   does-compute op dst x y input lt =
       went_set (reg m) _ m dst (alu_of op (arg m x) (arg m y)) lt
-      (ap (λ u. set_word (reg m) dst (alu_of op u (arg m y))) (arg-is m x) ∙ ap (λ u. set_word (reg m) dst (alu_of op (word_of (reg m) x) u)) (arg-is m y)) (registers_same m k)
+      (ap (λ u. words_with_register (reg m) dst (alu_of op u (arg m y))) (arg-is m x) ∙ ap (λ u. words_with_register (reg m) dst (alu_of op (word_of (reg m) x) u)) (arg-is m y)) (registers_same m k)
 
-  pub does-scaled : (dst base index j input : ℕ) → dst < 32 → Went m (does m e (Scaled dst base index j) n) (words_after (Scaled dst base index j) input (reg m)) (moved m.pc n) m.ie m.mem
+  pub does-scaled : (dst base index j input : ℕ) → dst < 32 → Went m (does m e (Scaled dst base index j) n) (words_after (Scaled dst base index j) input (reg m)) (machine_address_ahead m.pc n) m.ie m.mem
   unfolding does words_after
-  does-scaled dst base index j input lt = went_set (reg m) _ m dst (moved (reg m base) (reg m index * 2 ^ j)) lt refl (registers_same m k)
+  does-scaled dst base index j input lt = went_set (reg m) _ m dst (machine_address_ahead (reg m base) (reg m index * 2 ^ j)) lt refl (registers_same m k)
 
-  pub does-mfcr : (dst number : ℕ) → dst < 32 → Went m (does m e (Mfcr dst number) n) (words_after (Mfcr dst number) (core_register m e number) (reg m)) (moved m.pc n) m.ie m.mem
+  pub does-mfcr : (dst number : ℕ) → dst < 32 → Went m (does m e (Mfcr dst number) n) (words_after (Mfcr dst number) (core_register m e number) (reg m)) (machine_address_ahead m.pc n) m.ie m.mem
   unfolding does words_after
   does-mfcr dst number lt = went_set (reg m) _ m dst (core_register m e number) lt refl (registers_same m k)
 
-  pub does-enable : (input : ℕ) → Went m (does m e Enable n) (words_after Enable input (reg m)) (moved m.pc n) true m.mem
+  pub does-enable : (input : ℕ) → Went m (does m e Enable n) (words_after Enable input (reg m)) (machine_address_ahead m.pc n) true m.mem
   unfolding does words_after
-  does-enable input = went_by m m (reg m) (reg m) (moved m.pc n) true m.mem (λ x. record (advanced n x) { ie = true }) (λ d a. refl) refl (registers_same m k)
+  does-enable input = went_by m m (reg m) (reg m) (machine_address_ahead m.pc n) true m.mem (λ x. record (advanced n x) { ie = true }) (λ d a. refl) refl (registers_same m k)
 
-  pub does-disable : (input : ℕ) → Went m (does m e Disable n) (words_after Disable input (reg m)) (moved m.pc n) false m.mem
+  pub does-disable : (input : ℕ) → Went m (does m e Disable n) (words_after Disable input (reg m)) (machine_address_ahead m.pc n) false m.mem
   unfolding does words_after
-  does-disable input = went_by m m (reg m) (reg m) (moved m.pc n) false m.mem (λ x. record (advanced n x) { ie = false }) (λ d a. refl) refl (registers_same m k)
+  does-disable input = went_by m m (reg m) (reg m) (machine_address_ahead m.pc n) false m.mem (λ x. record (advanced n x) { ie = false }) (λ d a. refl) refl (registers_same m k)
 
-  pub does-nop : (input : ℕ) → Went m (does m e Nothing n) (words_after Nothing input (reg m)) (moved m.pc n) m.ie m.mem
+  pub does-nop : (input : ℕ) → Went m (does m e Nothing n) (words_after Nothing input (reg m)) (machine_address_ahead m.pc n) m.ie m.mem
   unfolding does words_after
-  does-nop input = went_by m m (reg m) (reg m) (moved m.pc n) m.ie m.mem (advanced n) (λ d a. refl) refl (registers_same m k)
+  does-nop input = went_by m m (reg m) (reg m) (machine_address_ahead m.pc n) m.ie m.mem (advanced n) (λ d a. refl) refl (registers_same m k)
 
   pub does-goto : (to : Target) → Went m (does m e (Jump to) n) (reg m) (target_of m to) m.ie m.mem
   unfolding does
   does-goto to = went_by m m (reg m) (reg m) (target_of m to) m.ie m.mem (λ x. record x { pc = target_of m to }) (λ d a. refl) refl (registers_same m k)
 
-  module _ (base : Arg) (offset size : ℕ) (after : Bool) (is_arg : IsArg base) (quiet : traps_at e (access_address m base offset after) size ≡ false) where
+  module _ (base : Arg) (offset size : ℕ) (after : Bool) (is_arg : IsArg base) (quiet : is_trapping_access e (access_address m base offset after) size ≡ false) where
     pub does-load : (dst : ℕ) (signed : Bool) → dst < 32
-        → Went m (does m e (Load dst base offset size signed after) n) (words_after (Load dst base offset size signed after) (extend signed size (load_number m.mem e.input (access_address m base offset after) size)) (reg m)) (moved m.pc n) m.ie m.mem
+        → Went m (does m e (Load dst base offset size signed after) n) (words_after (Load dst base offset size signed after) (extend_loaded_bytes signed size (load_number m.mem e.input (access_address m base offset after) size)) (reg m)) (machine_address_ahead m.pc n) m.ie m.mem
     unfolding does words_after
     does-load dst signed lt =
-        let w = extend signed size (load_number m.mem e.input (access_address m base offset after) size) in
+        let w = extend_loaded_bytes signed size (load_number m.mem e.input (access_address m base offset after) size) in
         rw quiet (went_set (with_base_word (reg m) base offset after) _ (with_base m base offset after) dst w lt refl (registers_base m k base offset after is_arg))
 
     pub does-store : (src input : ℕ)
-        → Went m (does m e (Store src base offset size after) n) (words_after (Store src base offset size after) input (reg m)) (moved m.pc n) m.ie (with_bytes m.mem (access_address m base offset after) (reg m src) size)
+        → Went m (does m e (Store src base offset size after) n) (words_after (Store src base offset size after) input (reg m)) (machine_address_ahead m.pc n) m.ie (with_bytes m.mem (access_address m base offset after) (reg m src) size)
     unfolding does words_after
     does-store src input =
         let mem = with_bytes m.mem (access_address m base offset after) (reg m src) size in
         rw quiet
-        (went_by m (with_base m base offset after) (with_base_word (reg m) base offset after) _ (moved m.pc n) m.ie mem (λ x. advanced n (record x { mem = mem })) (λ d a. refl) refl (registers_base m k base offset after is_arg))
+        (went_by m (with_base m base offset after) (with_base_word (reg m) base offset after) _ (machine_address_ahead m.pc n) m.ie mem (λ x. advanced n (record x { mem = mem })) (λ d a. refl) refl (registers_base m k base offset after is_arg))
 
   pub does-branch : (test : Cond) (x : ℕ) (y : Arg) (by : ℕ) (lowers : Bool) → x < 32
-      → Went m (does m e (Branch test x y by lowers) n) (words_after (Branch test x y by lowers) 0 (reg m)) (cond (taken_of test (reg m x) (word_of (reg m) y)) (moved m.pc by) (moved m.pc n)) m.ie m.mem
+      → Went m (does m e (Branch test x y by lowers) n) (words_after (Branch test x y by lowers) 0 (reg m)) (cond (taken_of test (reg m x) (word_of (reg m) y)) (machine_address_ahead m.pc by) (machine_address_ahead m.pc n)) m.ie m.mem
   unfolding does words_after
   does-branch test x y by lowers lt =
-      subst (λ u. Went m (record (lowered m x lowers) { pc = cond (taken_of test (reg m x) (arg m y)) (moved m.pc by) (moved m.pc n) }) (words_after (Branch test x y by lowers) 0 (reg m)) (cond (taken_of test (reg m x) u) (moved m.pc by) (moved m.pc n)) m.ie m.mem)
+      subst (λ u. Went m (record (lowered m x lowers) { pc = cond (taken_of test (reg m x) (arg m y)) (machine_address_ahead m.pc by) (machine_address_ahead m.pc n) }) (words_after (Branch test x y by lowers) 0 (reg m)) (cond (taken_of test (reg m x) u) (machine_address_ahead m.pc by) (machine_address_ahead m.pc n)) m.ie m.mem)
       (arg-is m y)
-      (let pc = cond (taken_of test (reg m x) (arg m y)) (moved m.pc by) (moved m.pc n) in
+      (let pc = cond (taken_of test (reg m x) (arg m y)) (machine_address_ahead m.pc by) (machine_address_ahead m.pc n) in
       went_by m (lowered m x lowers) _ _ pc m.ie m.mem (λ z. record z { pc = pc }) (λ d a. refl) refl (registers_lowered m k x lowers lt))

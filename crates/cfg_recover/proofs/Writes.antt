@@ -7,8 +7,8 @@ use Rattle.csa_chain.proofs.MemoryLaws.{get-with_bytes_other, is_mapped-with_byt
 use Rattle.elf_image.specs.Images.{ImageData}
 use Rattle.tcd_base.specs.declared.range.Range.{Range}
 use Rattle.tcd_plan.specs.declared.plans.Device.{Device}
-use Rattle.tcd_plan.specs.PlanData.{PlanData, IsPlan, all_apart, areas_range}
-use Rattle.tcd_base.specs.Ranges.{IsWithin, IsInOne}
+use Rattle.tcd_plan.specs.PlanData.{PlanData, IsPlan, are_all_ranges_apart, areas_range}
+use Rattle.tcd_base.specs.Ranges.{IsWithinRange, IsInOneRange}
 use Rattle.tcd_plan.specs.Regions.{IsInAreas, IsStoreInRange}
 use Rattle.tc_mem.specs.PlanMemory.{HoldsRom, IsPlanMemory}
 use Rattle.store_ranges.proofs.Sound.{in_ranges}
@@ -21,10 +21,10 @@ module _ (plan : PlanData) (ok : IsPlan plan) where
   devices = map (λ (d : Device). d.range) plan.devices
 
   -- no address at which a store is allowed is in rom
-  unwritten_rom : (y : ℕ) → IsInOne y 1 plan.ram ⊎ IsInOne y 1 devices → IsInOne y 1 plan.rom → ⊥
+  unwritten_rom : (y : ℕ) → IsInOneRange y 1 plan.ram ⊎ IsInOneRange y 1 devices → IsInOneRange y 1 plan.rom → ⊥
   unwritten_rom y at rom =
-      let apart : all_apart (plan.rom ++ (plan.ram ++ (devices ++ areas_range plan ∷ []))) ≡ true =
-      sym (ap all_apart (append_assoc (plan.rom ++ plan.ram) devices (areas_range plan ∷ []) ∙ append_assoc plan.rom plan.ram (devices ++ areas_range plan ∷ []))) ∙ ok.apart
+      let apart : are_all_ranges_apart (plan.rom ++ (plan.ram ++ (devices ++ areas_range plan ∷ []))) ≡ true =
+      sym (ap are_all_ranges_apart (append_assoc (plan.rom ++ plan.ram) devices (areas_range plan ∷ []) ∙ append_assoc plan.rom plan.ram (devices ++ areas_range plan ∷ []))) ∙ ok.apart
       in
       all_apart-before y plan.rom (plan.ram ++ (devices ++ areas_range plan ∷ [])) apart rom
       (elim at [
@@ -33,9 +33,9 @@ module _ (plan : PlanData) (ok : IsPlan plan) where
       ])
 
   -- nor in the save areas
-  unwritten_areas : (y : ℕ) → IsInOne y 1 plan.ram ⊎ IsInOne y 1 devices → IsInAreas plan y → ⊥
+  unwritten_areas : (y : ℕ) → IsInOneRange y 1 plan.ram ⊎ IsInOneRange y 1 devices → IsInAreas plan y → ⊥
   unwritten_areas y at inside =
-      let within : IsWithin y 1 (areas_range plan) = (inside.0, (let lt = inside.1 in omega arith)) in
+      let within : IsWithinRange y 1 (areas_range plan) = (inside.0, (let lt = inside.1 in omega arith)) in
       all_apart-before y (plan.rom ++ plan.ram ++ devices) (areas_range plan ∷ []) ok.apart
       (elim at [
         | inl ram ↦ IsInOne-front y 1 (plan.rom ++ plan.ram) devices (IsInOne-behind y 1 plan.rom plan.ram ram)
@@ -44,15 +44,15 @@ module _ (plan : PlanData) (ok : IsPlan plan) where
       (inl within)
 
   -- each address of a store is one at which a store is allowed
-  stored_at : (x n y : ℕ) → IsStoreInRange plan (x, n) → x ≤ y → y < x + n → IsInOne y 1 plan.ram ⊎ IsInOne y 1 devices
+  stored_at : (x n y : ℕ) → IsStoreInRange plan (x, n) → x ≤ y → y < x + n → IsInOneRange y 1 plan.ram ⊎ IsInOneRange y 1 devices
   stored_at x n y range low high =
       let is : x + (y - x) ≡ y = omega arith in
       elim range.1 [
-        | inl ram ↦ inl (subst (λ z. IsInOne z 1 plan.ram) is (in_one x n (y - x) plan.ram (omega arith) ram))
-        | inr device ↦ inr (subst (λ z. IsInOne z 1 devices) is (in_one x n (y - x) devices (omega arith) (in_ranges x n plan.devices device)))
+        | inl ram ↦ inl (subst (λ z. IsInOneRange z 1 plan.ram) is (in_one x n (y - x) plan.ram (omega arith) ram))
+        | inr device ↦ inr (subst (λ z. IsInOneRange z 1 devices) is (in_one x n (y - x) devices (omega arith) (in_ranges x n plan.devices device)))
       ]
 
-  outside : (x n y : ℕ) → IsStoreInRange plan (x, n) → (IsInOne y 1 plan.ram ⊎ IsInOne y 1 devices → ⊥) → (y < x) ⊎ (x + n ≤ y)
+  outside : (x n y : ℕ) → IsStoreInRange plan (x, n) → (IsInOneRange y 1 plan.ram ⊎ IsInOneRange y 1 devices → ⊥) → (y < x) ⊎ (x + n ≤ y)
   outside x n y range not_there =
       elim (cases_lt y x) [
         | inl low ↦ inl low

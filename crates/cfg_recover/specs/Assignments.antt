@@ -13,7 +13,7 @@ use Rattle.depth_cert.specs.Nodes.{NodeData}
 use Rattle.depth_cert.specs.Certs.{CertData}
 use Rattle.cfg_recover.specs.Code.{IsCode}
 use Rattle.cfg_recover.specs.Entries.{start_key, start_state}
-use Rattle.depth_cert.specs.Exits.{after_of}
+use Rattle.depth_cert.specs.Exits.{state_after_exit}
 use Rattle.cfg_recover.specs.LocalFaults.{IsFaultless}
 use Rattle.cfg_recover.specs.Duties.{Duty, jump, enter, resume, leave, Owed, duties_of}
 use Rattle.depth_cert.specs.Known.{CoversKnown, Known, joined_known, leaving, state}
@@ -40,13 +40,13 @@ known_at (point k p) n = option_map (λ q. state q.state) (find_point p n.points
 known_at (exit k) n = option_map leaving n.exit
 
 -- the frame of a place
-abbrev pub frame_of : Place → Key
-frame_of (point k p) = k
-frame_of (exit k) = k
+abbrev pub frame_of_place : Place → Key
+frame_of_place (point k p) = k
+frame_of_place (exit k) = k
 
 -- what a certificate states at a place
 abbrev pub known_in : CertData → Assignment
-known_in cert y = option_and_then (known_at y) (find (λ n. same_key n.key (frame_of y)) cert.nodes)
+known_in cert y = option_and_then (known_at y) (find (λ n. same_key n.key (frame_of_place y)) cert.nodes)
 
 -- what the assignment has at this place covers this
 pub record CoversAt (a : Assignment) (y : Place) (v : Known) : Type 0 where
@@ -58,25 +58,26 @@ pub record CoversAt (a : Assignment) (y : Place) (v : Known) : Type 0 where
 abbrev pub IsBelowAt : Assignment → Assignment → Type 0
 IsBelowAt a upper = (y : Place) (v : Known) → a y ≡ Some v → CoversAt upper y v
 
--- The least that covers both what is known so far, if anything is, and this; none for states with
--- different numbers of locals.
-abbrev pub raised : Limits → Option Known → Known → Option Known
-raised b None v = Some v
-raised b (Some w) v = joined_known b w v
+-- the least that covers both what an assignment has at a place, if anything, and this; none for
+-- states with different numbers of locals
+abbrev pub raised_at_place : Limits → Option Known → Known → Option Known
+raised_at_place b None v = Some v
+raised_at_place b (Some w) v = joined_known b w v
 
 -- Where a frame goes on after a frame that it entered, with the state after that one's exit;
 -- nowhere while no exit is known.
-abbrev pub resumed : Key → State → Key → ℕ → Option Known → Option (Place × Known)
-resumed key s k q (Some (leaving x)) = Some (point key q, state (after_of s x k.kind))
-resumed key s k q (Some (state t)) = None
-resumed key s k q None = None
+abbrev pub asked_by_resume : Key → State → Key → ℕ → Option Known → Option (Place × Known)
+asked_by_resume key s k q (Some (leaving x)) = Some (point key q, state (state_after_exit s x k.kind))
+asked_by_resume key s k q (Some (state t)) = None
+asked_by_resume key s k q None = None
 
--- where a duty of a point asks for something, and for what
-abbrev pub asked : Assignment → Key → State → Duty → Option (Place × Known)
-asked a key s (jump q t) = Some (point key q, state t)
-asked a key s (enter k t) = Some (point k k.entry, state t)
-asked a key s (resume k q) = resumed key s k q (a (exit k))
-asked a key s (leave x) = Some (exit key, leaving x)
+-- the place of an assignment at which a duty of a point asks for something, and what must be known
+-- there
+abbrev pub asked_by_duty : Assignment → Key → State → Duty → Option (Place × Known)
+asked_by_duty a key s (jump q t) = Some (point key q, state t)
+asked_by_duty a key s (enter k t) = Some (point k k.entry, state t)
+asked_by_duty a key s (resume k q) = asked_by_resume key s k q (a (exit k))
+asked_by_duty a key s (leave x) = Some (exit key, leaving x)
 
 -- a duty of a point at which no rule's own part fails
 pub record HasDuty (b : Limits) (image : ImageData) (plan : PlanData) (a : Assignment) (key : Key) (p : ℕ) (s : State) (d : Duty) : Type 0 where
@@ -96,14 +97,15 @@ pub record Asks (b : Limits) (image : ImageData) (plan : PlanData) (a : Assignme
   pub before : State
   pub duty : Duty
   pub has : HasDuty b image plan a key addr before duty
-  pub asks : asked a key before duty ≡ Some (y, v)
+  pub asks : asked_by_duty a key before duty ≡ Some (y, v)
 
--- one step of the analysis: what a duty asks for is joined into its place
+-- one step of a derivation, from one assignment to the next: what a duty asks for is joined into
+-- what is known at its place
 pub record Joins (b : Limits) (image : ImageData) (plan : PlanData) (a after : Assignment) (y : Place) : Type 0 where
   pub value : Known
   pub asks : Asks b image plan a y value
   pub known : Known
-  pub raises : raised b (a y) value ≡ Some known
+  pub raises : raised_at_place b (a y) value ≡ Some known
   pub is : (x : Place) → after x ≡ (if same_place x y then Some known else a x)
 
 -- the place where a run starts
@@ -122,6 +124,6 @@ pub record Closed (b : Limits) (image : ImageData) (plan : PlanData) (a : Assign
   pub start : CoversAt a (first_place image plan) (state (start_state plan))
   pub duties : (y : Place) (v : Known) → Asks b image plan a y v → CoversAt a y v
 
--- no point has a fault of its own
+-- no known point of the assignment has a fault of its own
 abbrev pub AllFaultless : Limits → ImageData → PlanData → Assignment → Type 0
 AllFaultless b image plan a = (k : Key) (p : ℕ) (s : State) → a (point k p) ≡ Some (state s) → IsFaultless b image plan k p s

@@ -17,14 +17,14 @@ use Rattle.cfg_recover.specs.Assignments.{Place, point, exit, Assignment, same_p
 use Rattle.depth_cert.specs.Known.{state}
 
 -- ---- limits
--- more than 2,048 frames have places
+-- the assignment has places of more than 2,048 frames, a limit past which a certificate is refused
 pub record HasManyNodes (a : Assignment) : Type 0 where
   pub keys : List Key
   pub distinct : IsDistinct same_key keys
   pub stand : (k : Key) → Contains keys k → (y : Place) × IsSome (a y) × ((y ≡ exit k) ⊎ ((p : ℕ) × (y ≡ point k p)))
   pub more : 2048 < length keys
 
--- more than 65,536 points are known
+-- the assignment knows more than 65,536 points, a limit past which a certificate is refused
 pub record HasManyPoints (a : Assignment) : Type 0 where
   pub places : List Place
   pub distinct : IsDistinct same_place places
@@ -32,89 +32,93 @@ pub record HasManyPoints (a : Assignment) : Type 0 where
   pub more : 2 ^ 16 < length places
 
 -- a limit is passed
-abbrev pub IsTooLarge : Assignment → Type 0
-IsTooLarge a = HasManyNodes a ⊎ HasManyPoints a
+abbrev pub IsPastCertLimits : Assignment → Type 0
+IsPastCertLimits a = HasManyNodes a ⊎ HasManyPoints a
 
 -- one step of the analysis passes a limit, by the point that it adds
-pub record Passes (b : Limits) (image : ImageData) (plan : PlanData) (k : Key) (p : ℕ) : Type 0 where
+pub record PassesCertLimit (b : Limits) (image : ImageData) (plan : PlanData) (k : Key) (p : ℕ) : Type 0 where
   pub before : Assignment
   pub after : Assignment
   pub derived : Derived b image plan before
-  pub within : IsTooLarge before → ⊥
+  pub within : IsPastCertLimits before → ⊥
   pub joins : Joins b image plan before after (point k p)
   pub adds : before (point k p) ≡ None
-  pub more : IsTooLarge after
+  pub more : IsPastCertLimits after
 
 -- ---- faults
 -- The rule's own part fails at a point, or states with different numbers of locals meet there.
-pub data HasFault (b : Limits) (image : ImageData) (plan : PlanData) (a : Assignment) : ℕ → Key → ℕ → Type 0 where
-  own : (r : ℕ) (k : Key) (p : ℕ) (s : State) → a (point k p) ≡ Some (state s) → IsLocalFault b image plan k p s r → HasFault b image plan a r k p
+pub data HasRefusalFault (b : Limits) (image : ImageData) (plan : PlanData) (a : Assignment) : ℕ → Key → ℕ → Type 0 where
+  own : (r : ℕ) (k : Key) (p : ℕ) (s : State) → a (point k p) ≡ Some (state s) → IsLocalFault b image plan k p s r → HasRefusalFault b image plan a r k p
   locals :
       (k : Key) (p : ℕ) (s t : State) → a (point k p) ≡ Some (state s) → Asks b image plan a (point k p) (state t) → joined_states b s t ≡ None
-      → HasFault b image plan a 8 k p
+      → HasRefusalFault b image plan a 8 k p
 
 -- a fault of a derived assignment; number 15 is for the limits
-pub data IsFault (b : Limits) (image : ImageData) (plan : PlanData) : ℕ → Key → ℕ → Type 0 where
-  derived : (a : Assignment) (r : ℕ) (k : Key) (p : ℕ) → Derived b image plan a → HasFault b image plan a r k p → IsFault b image plan r k p
-  limits : (k : Key) (p : ℕ) → Passes b image plan k p → IsFault b image plan 15 k p
+pub data IsRefusalFault (b : Limits) (image : ImageData) (plan : PlanData) : ℕ → Key → ℕ → Type 0 where
+  derived : (a : Assignment) (r : ℕ) (k : Key) (p : ℕ) → Derived b image plan a → HasRefusalFault b image plan a r k p → IsRefusalFault b image plan r k p
+  limits : (k : Key) (p : ℕ) → PassesCertLimit b image plan k p → IsRefusalFault b image plan 15 k p
 
--- the least assignment: it is derived and closed, and no derived one has a fault
-pub record IsLeast (b : Limits) (image : ImageData) (plan : PlanData) (a : Assignment) : Type 0 where
+-- the least assignment: it is derived and closed, and there is no fault for which a certificate is
+-- refused
+pub record IsLeastAssignment (b : Limits) (image : ImageData) (plan : PlanData) (a : Assignment) : Type 0 where
   pub derived : Derived b image plan a
   pub closed : Closed b image plan a
-  pub faultless : (r : ℕ) (k : Key) (p : ℕ) → IsFault b image plan r k p → ⊥
+  pub faultless : (r : ℕ) (k : Key) (p : ℕ) → IsRefusalFault b image plan r k p → ⊥
 
 -- ---- needs
 -- the point p of frame k has this state, and enters the frame t
-pub record Enters (b : Limits) (image : ImageData) (plan : PlanData) (a : Assignment) (k : Key) (p : ℕ) (s : State) (t : Key) : Type 0 where
+pub record EntersInAssignment (b : Limits) (image : ImageData) (plan : PlanData) (a : Assignment) (k : Key) (p : ℕ) (s : State) (t : Key) : Type 0 where
   pub entered : State
   pub has : HasDuty b image plan a k p s (enter t entered)
 
--- Numbers of areas for frames: at each point enough for the locals, and at each entry enough for
--- the locals, the entry, and the entered frame.
+-- these numbers of areas suffice for the frames of an assignment: at each point for the locals, at
+-- each entry for the locals, one for the entry, and the entered frame
 pub record MeetsNeeds (b : Limits) (image : ImageData) (plan : PlanData) (a : Assignment) (need : Key → ℕ) : Type 0 where
   pub locals : (k : Key) (p : ℕ) (s : State) → a (point k p) ≡ Some (state s) → length s.locals.items ≤ need k
-  pub entered : (k : Key) (p : ℕ) (s : State) (t : Key) → Enters b image plan a k p s t → length s.locals.items + 1 + need t ≤ need k
+  pub entered : (k : Key) (p : ℕ) (s : State) (t : Key) → EntersInAssignment b image plan a k p s t → length s.locals.items + 1 + need t ≤ need k
 
--- the least such numbers
+-- the least numbers of areas that meet the needs of an assignment; there are none if it is refused
+-- for a recursion
 pub record AreLeastNeeds (b : Limits) (image : ImageData) (plan : PlanData) (a : Assignment) (need : Key → ℕ) : Type 0 where
   pub meets : MeetsNeeds b image plan a need
   pub least : (other : Key → ℕ) → MeetsNeeds b image plan a other → (k : Key) → need k ≤ other k
 
--- the frame j is reached from the frame k by entries, none or more
+-- the frame j is reached from the frame k by entries that the assignment's points owe, none or more
 pub data Reaches (b : Limits) (image : ImageData) (plan : PlanData) (a : Assignment) (j : Key) : Key → Type 0 where
   here : Reaches b image plan a j j
-  by_entry : (k : Key) (p : ℕ) (s : State) (t : Key) → Enters b image plan a k p s t → Reaches b image plan a j t → Reaches b image plan a j k
+  by_entry : (k : Key) (p : ℕ) (s : State) (t : Key) → EntersInAssignment b image plan a k p s t → Reaches b image plan a j t → Reaches b image plan a j k
 
--- the point p of frame k enters a frame from which k is reached again
+-- a reason to refuse a certificate: in the assignment, the point p of frame k enters a frame from
+-- which k is reached again
 pub record Recurs (b : Limits) (image : ImageData) (plan : PlanData) (a : Assignment) (k : Key) (p : ℕ) : Type 0 where
   pub before : State
   pub into : Key
-  pub enters : Enters b image plan a k p before into
+  pub enters : EntersInAssignment b image plan a k p before into
   pub back : Reaches b image plan a k into
 
 -- points are ordered by key, then address
-abbrev pub point_number : Key → ℕ → ℕ
-point_number k p = number_of_key k * 2 ^ 32 + p
+abbrev pub refused_point_number : Key → ℕ → ℕ
+refused_point_number k p = number_of_key k * 2 ^ 32 + p
 
--- the first point that enters such a frame
-pub record RecursFirst (b : Limits) (image : ImageData) (plan : PlanData) (a : Assignment) (k : Key) (p : ℕ) : Type 0 where
+-- a recursion for which a certificate is refused: the first point that enters a frame from which
+-- its own is reached again
+pub record IsRefusedRecursion (b : Limits) (image : ImageData) (plan : PlanData) (a : Assignment) (k : Key) (p : ℕ) : Type 0 where
   pub recurs : Recurs b image plan a k p
-  pub first : (j : Key) (q : ℕ) → Recurs b image plan a j q → point_number k p ≤ point_number j q
+  pub first : (j : Key) (q : ℕ) → Recurs b image plan a j q → refused_point_number k p ≤ refused_point_number j q
 
 -- ---- the refusal
 -- No frame is reached from itself. Whatever numbers meet the needs, the start's is above the areas
 -- without the reserve.
-pub record NeedsTooMany (b : Limits) (image : ImageData) (plan : PlanData) (a : Assignment) : Type 0 where
+pub record IsRefusedNeed (b : Limits) (image : ImageData) (plan : PlanData) (a : Assignment) : Type 0 where
   pub ends : (k : Key) (p : ℕ) → Recurs b image plan a k p → ⊥
   pub above : (need : Key → ℕ) → MeetsNeeds b image plan a need → plan.areas - plan.reserve < need (start_key image plan)
 
--- A refusal names a fault of a derived assignment. If there is none, it is rule 14: at the first
--- recursion of the least assignment, or at the start, if its need is too great.
+-- with these limits, a certificate is refused: by a fault of a derived assignment or, if there is
+-- none, by rule 14 at the least one's first recursion, or at the start if its need is too great
 pub data IsRefusalWith (b : Limits) (image : ImageData) (plan : PlanData) : ℕ → Key → ℕ → Type 0 where
-  fault : (r : ℕ) (k : Key) (p : ℕ) → IsFault b image plan r k p → IsRefusalWith b image plan r k p
-  recursion : (a : Assignment) (k : Key) (p : ℕ) → IsLeast b image plan a → RecursFirst b image plan a k p → IsRefusalWith b image plan 14 k p
-  need : (a : Assignment) → IsLeast b image plan a → NeedsTooMany b image plan a → IsRefusalWith b image plan 14 (start_key image plan) image.entry
+  fault : (r : ℕ) (k : Key) (p : ℕ) → IsRefusalFault b image plan r k p → IsRefusalWith b image plan r k p
+  recursion : (a : Assignment) (k : Key) (p : ℕ) → IsLeastAssignment b image plan a → IsRefusedRecursion b image plan a k p → IsRefusalWith b image plan 14 k p
+  need : (a : Assignment) → IsLeastAssignment b image plan a → IsRefusedNeed b image plan a → IsRefusalWith b image plan 14 (start_key image plan) image.entry
 
 -- a refusal to make a certificate of this version
 abbrev pub IsRefusal : ImageData → PlanData → ℕ → ℕ → Key → ℕ → Type 0
@@ -136,13 +140,13 @@ pub data RefusalSays (b : Limits) (image : ImageData) (plan : PlanData) (r : ℕ
       (a : Assignment) (s t : State) → r ≡ 8 → Derived b image plan a → a (point k p) ≡ Some (state s) → Asks b image plan a (point k p) (state t)
       → joined_states b s t ≡ None → RefusalSays b image plan r k p
   by_limits :
-      (before after : Assignment) → r ≡ 15 → Derived b image plan before → (IsTooLarge before → ⊥) → before (point k p) ≡ None
-      → Joins b image plan before after (point k p) → IsTooLarge after → RefusalSays b image plan r k p
+      (before after : Assignment) → r ≡ 15 → Derived b image plan before → (IsPastCertLimits before → ⊥) → before (point k p) ≡ None
+      → Joins b image plan before after (point k p) → IsPastCertLimits after → RefusalSays b image plan r k p
   by_recursion :
-      (a : Assignment) (s : State) (into : Key) → r ≡ 14 → IsLeast b image plan a → Enters b image plan a k p s into → Reaches b image plan a k into
-      → ((j : Key) (q : ℕ) → Recurs b image plan a j q → point_number k p ≤ point_number j q) → RefusalSays b image plan r k p
+      (a : Assignment) (s : State) (into : Key) → r ≡ 14 → IsLeastAssignment b image plan a → EntersInAssignment b image plan a k p s into → Reaches b image plan a k into
+      → ((j : Key) (q : ℕ) → Recurs b image plan a j q → refused_point_number k p ≤ refused_point_number j q) → RefusalSays b image plan r k p
   by_need :
-      (a : Assignment) → r ≡ 14 → k ≡ start_key image plan → p ≡ image.entry → IsLeast b image plan a
+      (a : Assignment) → r ≡ 14 → k ≡ start_key image plan → p ≡ image.entry → IsLeastAssignment b image plan a
       → ((j : Key) (q : ℕ) → Recurs b image plan a j q → ⊥)
       → ((need : Key → ℕ) → MeetsNeeds b image plan a need → plan.areas - plan.reserve < need (start_key image plan))
       → RefusalSays b image plan r k p

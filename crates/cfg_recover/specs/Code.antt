@@ -8,7 +8,6 @@ use Rattle.tc_isa.specs.declared.shapes.Shape.{Shape}
 use Rattle.tc_machine.specs.Safe.{SpellsAt}
 use Rattle.tc_encode.specs.Decoding.{decoded_of}
 use Rattle.cfg_recover.specs.declared.local_rules.Located.{Located}
-use Rattle.tcd_base.specs.Bytes.{bytes_of_word}
 use Rattle.tc_encode.specs.declared.errors.DecodeErr.{DecodeErr}
 
 -- An instruction of this shape and of n bytes is at p: p is even, and the bytes are in one rom
@@ -28,9 +27,9 @@ pub record HasCode (image : ImageData) (plan : PlanData) (p : ℕ) : Type 0 wher
   pub code : IsCode image plan p shape size
 
 -- the instruction that bytes begin with, and its length, or none
-abbrev pub FindsBytes : List ℕ → Option (InstData × ℕ) → Type 0
-FindsBytes bytes (Some (inst, n)) = decoded_of bytes ≡ Ok (inst, n)
-FindsBytes bytes None = (inst : InstData) (n : ℕ) → decoded_of bytes ≡ Ok (inst, n) → ⊥
+abbrev pub FindsCodeInBytes : List ℕ → Option (InstData × ℕ) → Type 0
+FindsCodeInBytes bytes (Some (inst, n)) = decoded_of bytes ≡ Ok (inst, n)
+FindsCodeInBytes bytes None = (inst : InstData) (n : ℕ) → decoded_of bytes ≡ Ok (inst, n) → ⊥
 
 -- the instruction at an address, and its length, or none
 abbrev pub FindsCode : ImageData → PlanData → ℕ → Option (InstData × ℕ) → Type 0
@@ -43,10 +42,6 @@ LocatesCode image plan p (Some found) = IsCode image plan p found.shape found.si
 LocatesCode image plan p None = HasCode image plan p → ⊥
 
 -- the shape and the size of an instruction that was decoded, if one was
-abbrev pub located_of : Result (InstData × ℕ) DecodeErr → Option Located
-located_of (Ok (inst, n)) = Some (record { shape = shape_of inst; size = n })
-located_of (Err e) = None
-
--- the instruction that the four bytes of a word begin with
-abbrev pub located_in : ℕ → Option Located
-located_in w = located_of (decoded_of (bytes_of_word w))
+abbrev pub located_code_of : Result (InstData × ℕ) DecodeErr → Option Located
+located_code_of (Ok (inst, n)) = Some (record { shape = shape_of inst; size = n })
+located_code_of (Err e) = None

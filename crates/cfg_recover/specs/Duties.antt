@@ -7,7 +7,7 @@ use Rattle.elf_image.specs.Images.{ImageData}
 use Rattle.tcd_plan.specs.PlanData.{PlanData}
 use Rattle.tc_isa.specs.declared.shapes.Shape.{Shape}
 use Rattle.tc_isa.specs.declared.shapes.Shape.TheVariants.{Load, Store, Branch, Jump, Call, Ret, Rfe, Syscall, Mtcr}
-use Rattle.tc_machine.specs.Machine.{moved}
+use Rattle.tc_machine.specs.Machine.{machine_address_ahead}
 use Rattle.value_domain.specs.declared.values.Val.{Val}
 use Rattle.value_domain.specs.declared.states.State.{State}
 use Rattle.value_domain.specs.Limits.{Limits}
@@ -44,10 +44,10 @@ abbrev pub owed : ℕ → Duty → Owed
 owed rule duty = record { rule = rule; duty = duty }
 
 -- what a load loads; other instructions don't use it
-abbrev pub loaded_at : Limits → ImageData → PlanData → State → Shape → Val
-loaded_at b image plan s (Load dst base offset size signed after) =
+abbrev pub loaded_for_duties : Limits → ImageData → PlanData → State → Shape → Val
+loaded_for_duties b image plan s (Load dst base offset size signed after) =
     loaded_of b image plan (address_of b plan (Load dst base offset size signed after) s) size signed
-loaded_at b image plan s _ = any_val
+loaded_for_duties b image plan s _ = any_val
 
 -- a jump to each of these addresses with this state
 abbrev pub jumps_to : State → List ℕ → List Owed
@@ -60,12 +60,12 @@ jump_on q (Some s) = owed 4 (jump q s) ∷ []
 
 -- the next instruction, with the state after this one
 abbrev pub next_of : Limits → ImageData → PlanData → ℕ → State → Shape → ℕ → List Owed
-next_of b image plan p s shape n = owed 4 (jump (moved p n) (transfer_of b plan shape s (loaded_at b image plan s shape))) ∷ []
+next_of b image plan p s shape n = owed 4 (jump (machine_address_ahead p n) (transfer_of b plan shape s (loaded_for_duties b image plan s shape))) ∷ []
 
 -- the successors in the same frame (rule 4), without the one after a call or a system call
 abbrev pub successors_of : Limits → ImageData → PlanData → ℕ → State → Shape → ℕ → List Owed
 successors_of b image plan p s (Branch cond x y by lowers) n =
-    jump_on (moved p n) (refine_of b plan (Branch cond x y by lowers) s false) ++ jump_on (moved p by) (refine_of b plan (Branch cond x y by lowers) s true)
+    jump_on (machine_address_ahead p n) (refine_of b plan (Branch cond x y by lowers) s false) ++ jump_on (machine_address_ahead p by) (refine_of b plan (Branch cond x y by lowers) s true)
 successors_of b image plan p s (Jump to) n = jumps_to s (unwrap_or (targets_of plan s p to) [])
 successors_of b image plan p s (Call to) n = []
 successors_of b image plan p s Ret n = []
@@ -78,17 +78,19 @@ successors_of b image plan p s shape n = next_of b image plan p s shape n
 abbrev pub entered_and_back : ℕ → Key → State → ℕ → List Owed
 entered_and_back rule key s back = owed rule (enter key s) ∷ owed 4 (resume key back) ∷ []
 
--- the entries by the instruction itself
+-- what a point owes by a call or a system call: the entries of the called frames (rules 5 and 12),
+-- and the returns from them
 abbrev pub entries_of : PlanData → Key → ℕ → State → Shape → ℕ → List Owed
-entries_of plan key p s (Call to) n = flat_map (λ t. entered_and_back 5 (call_key key t) (call_entry s) (moved p n)) (unwrap_or (targets_of plan s p to) [])
-entries_of plan key p s (Syscall tin) n = entered_and_back 12 (sys_key plan key) (sys_entry plan key s tin) (moved p n)
+entries_of plan key p s (Call to) n = flat_map (λ t. entered_and_back 5 (call_key key t) (call_entry s) (machine_address_ahead p n)) (unwrap_or (targets_of plan s p to) [])
+entries_of plan key p s (Syscall tin) n = entered_and_back 12 (sys_key plan key) (sys_entry plan key s tin) (machine_address_ahead p n)
 entries_of plan key p s _ n = []
 
--- the entry of the handler of misaligned accesses (rule 10)
+-- the duty to enter the handler of misaligned accesses, which rule 10 asks for
 abbrev pub misaligned_entry : PlanData → Key → State → Owed
 misaligned_entry plan key s = owed 10 (enter (aln_key plan key) (aln_entry plan key s))
 
--- that entry, if some address is no multiple of the size
+-- what a point owes by an access to these addresses: the entry of the handler of misaligned
+-- accesses, if some address is no multiple of the size
 abbrev pub misaligned_at : PlanData → Key → State → Val → ℕ → List Owed
 misaligned_at plan key s at size = if are_aligned at size then [] else misaligned_entry plan key s ∷ []
 
@@ -115,14 +117,16 @@ unfoldable pub duties_of : Limits → ImageData → PlanData → Key → ℕ →
 duties_of b image plan key p s shape n =
     successors_of b image plan p s shape n ++ entries_of plan key p s shape n ++ misaligned_of b plan key s shape ++ interrupts_of plan key s ++ leavings_of key s shape
 
--- a jump to this address is owed, with some state
+-- among these duties of a point is one to jump to this address, with some state
 abbrev pub OwesJump : List Owed → ℕ → Type 0
 OwesJump ds q = (t : State) × Contains ds (owed 4 (jump q t))
-
-abbrev pub system_call_rule : ℕ
-system_call_rule = 12
 
 -- the key of the node whose entry a duty asks for
 abbrev pub key_by : Duty → List Key
 key_by (enter k t) = k ∷ []
 key_by _ = []
+
+-- among these duties of a point is one to enter a frame of this key, by this rule and with some
+-- state
+abbrev pub OwesEntry : List Owed → ℕ → Key → Type 0
+OwesEntry ds rule key = (t : State) × Contains ds (owed rule (enter key t))

@@ -1,6 +1,6 @@
 -- The frames that an instruction, an interrupt or a trap enters: their keys, and the states at
 -- their entries.
-use Rattle.std.specs.Prelude.{◌*◌, ◌^◌, ℕ, Bool, true, false, if◌then◌else◌, replicate, bit_or, nat_lt, List, filter, map, []}
+use Rattle.std.specs.Prelude.{◌*◌, ◌^◌, ℕ, Bool, true, false, if◌then◌else◌, replicate, bit_or, nat_lt, List, filter, []}
 use Rattle.depth_cert.specs.Keys.{start_kind, call_kind, irq_kind, sys_kind, aln_kind}
 use Rattle.elf_image.specs.Images.{ImageData}
 use Rattle.tcd_plan.specs.PlanData.{PlanData}
@@ -37,17 +37,18 @@ aln_key plan key = record { kind = aln_kind; entry = bit_or plan.btv (2 * 2 ^ 5)
 -- ---- states at entries
 -- The stack pointer of a handler is the interrupt stack's, or A10 (register 26) if that stack is in
 -- use.
-abbrev pub stack_of : PlanData → Key → State → Val
-stack_of plan key s = if key.is then reg_of plan s 26 else word_val plan.isp
+abbrev pub entry_stack_of : PlanData → Key → State → Val
+entry_stack_of plan key s = if key.is then reg_of plan s 26 else word_val plan.isp
 
 -- a state without locals in which only A10 is known
-abbrev pub entry_with : Val → Bool → ℕ → Bool → State
-entry_with sp ie ccpn lower =
+abbrev pub entry_state_with : Val → Bool → ℕ → Bool → State
+entry_state_with sp ie ccpn lower =
     set_reg (record { regs = replicate 27 any_val; ie = ie; ccpn = ccpn; lower = lower; locals = record { items = [] } }) 26 sp
 
--- the state at the start
+-- the state at the entry of the start frame, in which only A10, IE and CCPN are known, from the
+-- plan
 abbrev pub start_state : PlanData → State
-start_state plan = entry_with (word_val plan.sp) plan.start_ie plan.start_ccpn false
+start_state plan = entry_state_with (word_val plan.sp) plan.start_ie plan.start_ccpn false
 
 -- at the entry of a called function: the caller's state, without its locals
 abbrev pub call_entry : State → State
@@ -56,17 +57,17 @@ call_entry s = record s { lower = false; locals = record { items = [] } }
 -- At the entry of the handler of interrupt p, interrupts are off, and the lower registers are the
 -- entry's.
 abbrev pub irq_entry : PlanData → Key → State → ℕ → State
-irq_entry plan key s p = entry_with (stack_of plan key s) false p true
+irq_entry plan key s p = entry_state_with (entry_stack_of plan key s) false p true
 
 -- At the entry of the handler of misaligned accesses, D15 has the trap's number 4, too.
 abbrev pub aln_entry : PlanData → Key → State → State
-aln_entry plan key s = set_reg (entry_with (stack_of plan key s) false s.ccpn true) 15 (word_val 4)
+aln_entry plan key s = set_reg (entry_state_with (entry_stack_of plan key s) false s.ccpn true) 15 (word_val 4)
 
 -- At the entry of the handler of system calls, the state is the caller's. D15 has the number of the
 -- call.
 abbrev pub sys_entry : PlanData → Key → State → ℕ → State
 sys_entry plan key s tin =
-    record (set_reg (set_reg s 26 (stack_of plan key s)) 15 (word_val tin)) { ie = false; lower = false; locals = record { items = [] } }
+    record (set_reg (set_reg s 26 (entry_stack_of plan key s)) 15 (word_val tin)) { ie = false; lower = false; locals = record { items = [] } }
 
 -- ---- handlers
 -- the key of a handler of an interrupt or a trap
@@ -79,9 +80,5 @@ abbrev pub irqs_of : PlanData → State → List ℕ
 irqs_of plan s = if s.ie then filter (λ p. nat_lt s.ccpn p) plan.irqs else []
 
 -- the stack pointer of a handler, from A10 of the frame that it interrupts
-abbrev pub stack_with : PlanData → Key → Val → Val
-stack_with plan key sp = if key.is then sp else word_val plan.isp
-
--- the entries of the handlers of interrupts
-abbrev pub vectors_in : PlanData → List ℕ → List ℕ
-vectors_in plan irqs = map (λ p. (irq_key plan p).entry) irqs
+abbrev pub entry_stack_with : PlanData → Key → Val → Val
+entry_stack_with plan key sp = if key.is then sp else word_val plan.isp

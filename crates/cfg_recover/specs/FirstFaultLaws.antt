@@ -10,19 +10,19 @@ use Rattle.depth_cert.specs.Nodes.{NodeData}
 use Rattle.depth_cert.specs.Certs.{CertData, IsCert, find_node}
 use Rattle.cfg_recover.specs.RulesHoldOrFail.{Accepts, RuleHolds, HoldsAtStart, HoldsAtEntry, IsFirstFault, certified_need, limits_in}
 
--- The place of a fault: the start's entry for rule 1, the entry of a node for rule 2, or a point of
--- a node.
-pub data IsPlace (image : ImageData) (plan : PlanData) (cert : CertData) : ℕ → Key → ℕ → Type 0 where
-  start : (HoldsAtStart image plan cert → ⊥) → IsPlace image plan cert 1 (record { kind = 0; entry = image.entry; prio = 0; is = plan.start_is }) image.entry
-  entry : (node : NodeData) → Contains cert.nodes node → (HoldsAtEntry (limits_in plan cert) node → ⊥) → IsPlace image plan cert 2 node.key (node.key).entry
+-- a place where a rule fails: the start's entry for rule 1, a node's entry for rule 2, or a point
+-- of a node
+pub data IsFaultPlace (image : ImageData) (plan : PlanData) (cert : CertData) : ℕ → Key → ℕ → Type 0 where
+  start : (HoldsAtStart image plan cert → ⊥) → IsFaultPlace image plan cert 1 (record { kind = 0; entry = image.entry; prio = 0; is = plan.start_is }) image.entry
+  entry : (node : NodeData) → Contains cert.nodes node → (HoldsAtEntry (limits_in plan cert) node → ⊥) → IsFaultPlace image plan cert 2 node.key (node.key).entry
   point :
       (node : NodeData) (point : Point) (r : ℕ) → Contains cert.nodes node → Contains node.points point
-      → (RuleHolds image plan cert node point r → ⊥) → IsPlace image plan cert r node.key point.addr
+      → (RuleHolds image plan cert node point r → ⊥) → IsFaultPlace image plan cert r node.key point.addr
 
--- One fault comes before another, or is it: by key (by its kind, entry, prio and is), then by
--- address, then by rule.
-abbrev pub IsBefore : ℕ → Key → ℕ → ℕ → Key → ℕ → Type 0
-IsBefore r k p q j x =
+-- one fault comes before another, or has its place and rule: by key (kind, entry, prio, is), then
+-- by address, then by rule
+abbrev pub IsFaultBefore : ℕ → Key → ℕ → ℕ → Key → ℕ → Type 0
+IsFaultBefore r k p q j x =
     (number_of_key k < number_of_key j) ⊎ (number_of_key k ≡ number_of_key j) × ((p < x) ⊎ (p ≡ x) × (r ≤ q))
 
 -- The printed rule is 1 to 14 and the printed address is a word. They name a place where that rule
@@ -32,9 +32,9 @@ pub record FirstFaultSays (image : ImageData) (plan : PlanData) (cert : CertData
   pub most : r ≤ 14
   pub addr : p < 2 ^ 32
   pub one : r ≡ 1 → (k ≡ record { kind = 0; entry = image.entry; prio = 0; is = plan.start_is }) × (p ≡ image.entry)
-  pub place : IsPlace image plan cert r k p
+  pub place : IsFaultPlace image plan cert r k p
   pub start : (r ≡ 1) ⊎ HoldsAtStart image plan cert
-  pub first : (q : ℕ) (j : Key) (x : ℕ) → IsPlace image plan cert q j x → (r ≡ 1) ⊎ IsBefore r k p q j x
+  pub first : (q : ℕ) (j : Key) (x : ℕ) → IsFaultPlace image plan cert q j x → (r ≡ 1) ⊎ IsFaultBefore r k p q j x
   pub refuted : Accepts image plan cert → ⊥
 
 -- of each first fault of a certificate
@@ -43,7 +43,7 @@ FirstFaultsSay =
     (image : ImageData) (plan : PlanData) (cert : CertData) (r : ℕ) (k : Key) (p : ℕ) → image.entry < 2 ^ 32 → IsCert cert
     → IsFirstFault image plan cert r k p → FirstFaultSays image plan cert r k p
 
--- the printed need is that of the node of the start
+-- the law of the need that is printed when no fault is found: it is that of the node of the start
 abbrev pub NeedSays : Type 0
 NeedSays =
     (image : ImageData) (plan : PlanData) (cert : CertData) (node : NodeData)

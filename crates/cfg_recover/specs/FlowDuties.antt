@@ -29,27 +29,29 @@ told_jump (Some j) = jumps_to j.state j.targets.items
 abbrev pub told_jumps : List (Option Jump) → List Owed
 told_jumps jumps = flat_map told_jump jumps
 
--- A frame that is entered by a call runs on the same stack, every other one on the interrupt stack.
+-- the key of a frame that a Flow enters: by a call it runs on the same stack, in any other way on
+-- the interrupt stack
 abbrev pub entered_key : Key → ℕ → ℕ → Key
 entered_key key kind target = record { kind = kind; entry = target; prio = key.prio; is = if kind == call_kind then key.is else true }
 
 -- where an entered frame returns to, if it returns
-abbrev pub told_back : Key → Option ℕ → List Owed
-told_back key None = []
-told_back key (Some q) = owed 4 (resume key q) ∷ []
+abbrev pub told_flow_return : Key → Option ℕ → List Owed
+told_flow_return key None = []
+told_flow_return key (Some q) = owed 4 (resume key q) ∷ []
 
 -- an entry at each target, and the return from it; this rule asks for the entry
 abbrev pub told_entry : ℕ → Key → Option Enter → List Owed
 told_entry rule key None = []
 told_entry rule key (Some e) =
-    flat_map (λ t. owed rule (enter (entered_key key e.kind t) e.state) ∷ told_back (entered_key key e.kind t) e.resume) e.targets.items
+    flat_map (λ t. owed rule (enter (entered_key key e.kind t) e.state) ∷ told_flow_return (entered_key key e.kind t) e.resume) e.targets.items
 
 -- rule 5 asks for the entries of calls, rule 12 for that of a system call
 abbrev pub rule_of_entry : Option Enter → ℕ
 rule_of_entry None = 5
 rule_of_entry (Some e) = if e.kind == call_kind then 5 else 12
 
--- the state at an interrupt's entry is this one with the interrupt's priority
+-- the duties by the interrupts of a Flow: each handler is entered with this state, in which CCPN is
+-- the interrupt's priority
 abbrev pub told_irqs : PlanData → State → List ℕ → List Owed
 told_irqs plan entry irqs = map (λ p. owed 11 (enter (irq_key plan p) (record entry { ccpn = p }))) irqs
 
@@ -60,23 +62,23 @@ told_leaving key s Ret = owed 6 (leave (exit_of s)) ∷ []
 told_leaving key s Rfe = if key.kind == sys_kind then owed 7 (leave (exit_of s)) ∷ [] else []
 
 -- the duties of a point with this key and state, as the Flow has them
-abbrev pub told_by : PlanData → Key → State → Flow → List Owed
-told_by plan key s f =
+abbrev pub told_by_flow : PlanData → Key → State → Flow → List Owed
+told_by_flow plan key s f =
     told_jumps f.jumps ++ told_entry (rule_of_entry f.enter) key f.enter ++ told_entry 10 key f.aln ++ told_irqs plan f.irq_entry f.irqs.items ++ told_leaving key s f.leave
 
 -- how an instruction of this shape leaves its frame
-unfoldable pub leave_of : Shape → Leave
-leave_of shape.Ret = Ret
-leave_of shape.Rfe = Rfe
-leave_of _ = Stays
+unfoldable pub flow_leave_of : Shape → Leave
+flow_leave_of shape.Ret = Ret
+flow_leave_of shape.Rfe = Rfe
+flow_leave_of _ = Stays
 
 -- The Flow of a point at which no rule's own part fails. It has the point's duties, the state at an
 -- interrupt's entry except its CCPN, and how the frame is left.
-pub record Tells (b : Limits) (image : ImageData) (plan : PlanData) (key : Key) (p : ℕ) (s : State) (f : Flow) : Type 0 where
+pub record FlowTellsDuties (b : Limits) (image : ImageData) (plan : PlanData) (key : Key) (p : ℕ) (s : State) (f : Flow) : Type 0 where
   pub faultless : IsFaultless b image plan key p s
   pub shape : Shape
   pub size : ℕ
   pub code : IsCode image plan p shape size
-  pub told : told_by plan key s f ≡ duties_of b image plan key p s shape size
+  pub told : told_by_flow plan key s f ≡ duties_of b image plan key p s shape size
   pub entry : f.irq_entry ≡ irq_entry plan key s 0
-  pub leaves : f.leave ≡ leave_of shape
+  pub leaves : f.leave ≡ flow_leave_of shape

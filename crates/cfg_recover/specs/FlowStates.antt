@@ -15,7 +15,7 @@ abbrev pub EntersWithValues : Limits → Option Enter → Type 0
 EntersWithValues b entry = IfSome entry (λ e. AreValues b (e.state).regs)
 
 -- each state has values of the plan's lattice
-pub record HasValues (b : Limits) (f : Flow) : Type 0 where
+pub record FlowHasValues (b : Limits) (f : Flow) : Type 0 where
   pub jumps : All (JumpsWithValues b) f.jumps
   pub enter : EntersWithValues b f.enter
   pub misaligned : EntersWithValues b f.aln

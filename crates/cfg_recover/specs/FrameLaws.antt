@@ -9,7 +9,7 @@ use Rattle.tc_isa.specs.declared.shapes.Shape.{Shape}
 use Rattle.tc_isa.specs.declared.shapes.Shape.TheVariants.{Load, Store, Call, Ret, Rfe, Syscall}
 use Rattle.tc_machine.specs.declared.events.Event.{Event}
 use Rattle.tc_machine.specs.declared.state.Machine.{Machine}
-use Rattle.tc_machine.specs.Machine.{reg, is_of, moved}
+use Rattle.tc_machine.specs.Machine.{reg, is_interrupt_stack_used, machine_address_ahead}
 use Rattle.tc_machine.specs.Fetching.{fetched}
 use Rattle.tc_machine.specs.Instructions.{access_address, traps}
 use Rattle.tc_machine.specs.Stepping.{is_taken, step, run}
@@ -23,17 +23,17 @@ use Rattle.depth_cert.specs.Certs.{CertData, find_node}
 use Rattle.cfg_recover.specs.Code.{IsCode}
 use Rattle.cfg_recover.specs.Duties.{Owed, jump, duties_of}
 use Rattle.cfg_recover.specs.RulesHoldOrFail.{limits_in}
-use Rattle.cfg_recover.specs.Frames.{Standing, frames, entered, going_on, HoldFrames}
-use Rattle.cfg_recover.specs.EdgesAreOwed.{EdgesOwed, Enters}
-use Rattle.cfg_recover.specs.StepEdges.{to, call, irq, sys, aln, ret, rfe, way_of_step, edge_of_step}
+use Rattle.cfg_recover.specs.Frames.{Standing, frames, entered_frame_at, frame_going_on, HoldFrames}
+use Rattle.cfg_recover.specs.EdgesAreOwed.{EdgesOwed, OwesEntryAt}
+use Rattle.cfg_recover.specs.StepEdges.{to, call, irq, sys, aln, ret, rfe, edge_way_of_step, edge_of_step}
 
 -- ---- steps
--- the machine takes no interrupt, and the instruction at its pc has this shape and n bytes
-pub record Meets (m : Machine) (e : Event) (shape : Shape) (n : ℕ) : Type 0 where
+-- no interrupt is taken in this step, and the instruction at pc has this shape and n bytes
+pub record StepMeetsShape (m : Machine) (e : Event) (shape : Shape) (n : ℕ) : Type 0 where
   pub free : is_taken m e ≡ false
   pub there : fetched m ≡ Ok (shape, n)
 
--- the instruction neither enters nor leaves a frame
+-- an instruction of this shape neither enters nor leaves a frame
 abbrev pub KeepsFrame : Shape → Type 0
 KeepsFrame (Call x) = ⊥
 KeepsFrame Ret = ⊥
@@ -52,16 +52,16 @@ pub record EdgeIs (m : Machine) (e : Event) : Type 0 where
       (src : ℕ) (base : Arg) (offset size : ℕ) (after : Bool)
       → traps m e (Store src base offset size after) ≡ (e.aln && not (access_address m base offset after % size == 0))
   pub at : (edge_of_step m e).at ≡ m.pc
-  pub same : (edge_of_step m e).way ≡ way_of_step m e
-  pub interrupted : is_taken m e ≡ true → way_of_step m e ≡ irq (step m e).pc
-  pub misaligned : (shape : Shape) (n : ℕ) → Meets m e shape n → traps m e shape ≡ true → way_of_step m e ≡ aln (step m e).pc
-  pub called : (x : Target) (n : ℕ) → Meets m e (Call x) n → way_of_step m e ≡ call (step m e).pc
-  pub system : (tin n : ℕ) → Meets m e (Syscall tin) n → way_of_step m e ≡ sys (step m e).pc
-  pub returned : (n : ℕ) → Meets m e Ret n → way_of_step m e ≡ ret
-  pub resumed : (n : ℕ) → Meets m e Rfe n → way_of_step m e ≡ rfe
-  pub stayed : (shape : Shape) (n : ℕ) → Meets m e shape n → traps m e shape ≡ false → KeepsFrame shape → way_of_step m e ≡ to (step m e).pc
+  pub same : (edge_of_step m e).way ≡ edge_way_of_step m e
+  pub interrupted : is_taken m e ≡ true → edge_way_of_step m e ≡ irq (step m e).pc
+  pub misaligned : (shape : Shape) (n : ℕ) → StepMeetsShape m e shape n → traps m e shape ≡ true → edge_way_of_step m e ≡ aln (step m e).pc
+  pub called : (x : Target) (n : ℕ) → StepMeetsShape m e (Call x) n → edge_way_of_step m e ≡ call (step m e).pc
+  pub system : (tin n : ℕ) → StepMeetsShape m e (Syscall tin) n → edge_way_of_step m e ≡ sys (step m e).pc
+  pub returned : (n : ℕ) → StepMeetsShape m e Ret n → edge_way_of_step m e ≡ ret
+  pub resumed : (n : ℕ) → StepMeetsShape m e Rfe n → edge_way_of_step m e ≡ rfe
+  pub stayed : (shape : Shape) (n : ℕ) → StepMeetsShape m e shape n → traps m e shape ≡ false → KeepsFrame shape → edge_way_of_step m e ≡ to (step m e).pc
 
--- at every step
+-- the law of what edges are, at every step of every machine
 abbrev pub EdgesAre : Type 0
 EdgesAre = (m : Machine) (e : Event) → EdgeIs m e
 
@@ -72,21 +72,21 @@ EdgesAre = (m : Machine) (e : Event) → EdgeIs m e
 -- the interrupt stack. An interrupt brings its priority; all other entries keep that of the frame
 -- that enters.
 pub record FramesNext (m : Machine) (e : Event) (f : Standing) (older next : List Standing) : Type 0 where
-  pub interrupted : is_taken m e ≡ true → next ≡ entered 2 (step m e).pc e.irq true ∷ going_on f m.pc ∷ older
+  pub interrupted : is_taken m e ≡ true → next ≡ entered_frame_at 2 (step m e).pc e.irq true ∷ frame_going_on f m.pc ∷ older
   pub misaligned :
-      (shape : Shape) (n : ℕ) → Meets m e shape n → traps m e shape ≡ true
-      → next ≡ entered 4 (step m e).pc (f.key).prio true ∷ going_on f m.pc ∷ older
+      (shape : Shape) (n : ℕ) → StepMeetsShape m e shape n → traps m e shape ≡ true
+      → next ≡ entered_frame_at 4 (step m e).pc (f.key).prio true ∷ frame_going_on f m.pc ∷ older
   pub called :
-      (x : Target) (n : ℕ) → Meets m e (Call x) n
-      → next ≡ entered 1 (step m e).pc (f.key).prio (f.key).is ∷ going_on f (moved m.pc n) ∷ older
+      (x : Target) (n : ℕ) → StepMeetsShape m e (Call x) n
+      → next ≡ entered_frame_at 1 (step m e).pc (f.key).prio (f.key).is ∷ frame_going_on f (machine_address_ahead m.pc n) ∷ older
   pub system :
-      (tin n : ℕ) → Meets m e (Syscall tin) n
-      → next ≡ entered 3 (step m e).pc (f.key).prio true ∷ going_on f (moved m.pc n) ∷ older
-  pub returned : (n : ℕ) → Meets m e Ret n → next ≡ older
-  pub resumed : (n : ℕ) → Meets m e Rfe n → next ≡ older
+      (tin n : ℕ) → StepMeetsShape m e (Syscall tin) n
+      → next ≡ entered_frame_at 3 (step m e).pc (f.key).prio true ∷ frame_going_on f (machine_address_ahead m.pc n) ∷ older
+  pub returned : (n : ℕ) → StepMeetsShape m e Ret n → next ≡ older
+  pub resumed : (n : ℕ) → StepMeetsShape m e Rfe n → next ≡ older
   pub stayed :
-      (shape : Shape) (n : ℕ) → Meets m e shape n → traps m e shape ≡ false → KeepsFrame shape
-      → next ≡ going_on f (step m e).pc ∷ older
+      (shape : Shape) (n : ℕ) → StepMeetsShape m e shape n → traps m e shape ≡ false → KeepsFrame shape
+      → next ≡ frame_going_on f (step m e).pc ∷ older
 
 -- At the start there is one frame, of the start's key, and each event of a run makes the next
 -- frames.
@@ -110,7 +110,7 @@ pub record FramesSay (plan : PlanData) (cert : CertData) (m : Machine) (all : Li
   pub older : List Standing
   pub are : all ≡ newest ∷ older
   pub at : newest.at ≡ m.pc
-  pub stack : is_of m.psw ≡ (newest.key).is
+  pub stack : is_interrupt_stack_used m.psw ≡ (newest.key).is
   pub node : NodeData
   pub stands : find_node newest.key cert.nodes ≡ Some node
   pub point : Point
@@ -134,8 +134,8 @@ HeldFramesSay =
 
 -- ---- what edges that are owed say
 
--- there is an older frame, and it goes on at this address
-pub record GoesBack (older : List Standing) (q : ℕ) : Type 0 where
+-- there is an older frame, and a return goes back to it at this address
+pub record GoesBackToFrame (older : List Standing) (q : ℕ) : Type 0 where
   pub caller : Standing
   pub rest : List Standing
   pub are : older ≡ caller ∷ rest
@@ -145,18 +145,18 @@ pub record GoesBack (older : List Standing) (q : ℕ) : Type 0 where
 -- interrupt or of a misaligned access, of a call or a system call, or a jump in the frame. RET and
 -- RFE go back to the frame before.
 pub record StepOwed (ds : List Owed) (newest : Standing) (older : List Standing) (m : Machine) (e : Event) : Type 0 where
-  pub interrupted : is_taken m e ≡ true → Enters ds 11 2 (step m e).pc e.irq true
-  pub misaligned : (shape : Shape) (n : ℕ) → Meets m e shape n → traps m e shape ≡ true → Enters ds 10 4 (step m e).pc (newest.key).prio true
-  pub called : (x : Target) (n : ℕ) → Meets m e (Call x) n → Enters ds 5 1 (step m e).pc (newest.key).prio (newest.key).is
-  pub system : (tin n : ℕ) → Meets m e (Syscall tin) n → Enters ds 12 3 (step m e).pc (newest.key).prio true
-  pub returned : (n : ℕ) → Meets m e Ret n → GoesBack older (step m e).pc
-  pub resumed : (n : ℕ) → Meets m e Rfe n → GoesBack older (step m e).pc
+  pub interrupted : is_taken m e ≡ true → OwesEntryAt ds 11 2 (step m e).pc e.irq true
+  pub misaligned : (shape : Shape) (n : ℕ) → StepMeetsShape m e shape n → traps m e shape ≡ true → OwesEntryAt ds 10 4 (step m e).pc (newest.key).prio true
+  pub called : (x : Target) (n : ℕ) → StepMeetsShape m e (Call x) n → OwesEntryAt ds 5 1 (step m e).pc (newest.key).prio (newest.key).is
+  pub system : (tin n : ℕ) → StepMeetsShape m e (Syscall tin) n → OwesEntryAt ds 12 3 (step m e).pc (newest.key).prio true
+  pub returned : (n : ℕ) → StepMeetsShape m e Ret n → GoesBackToFrame older (step m e).pc
+  pub resumed : (n : ℕ) → StepMeetsShape m e Rfe n → GoesBackToFrame older (step m e).pc
   pub stayed :
-      (shape : Shape) (n : ℕ) → Meets m e shape n → traps m e shape ≡ false → KeepsFrame shape
+      (shape : Shape) (n : ℕ) → StepMeetsShape m e shape n → traps m e shape ≡ false → KeepsFrame shape
       → (t : State) × Contains ds (record { rule = 4; duty = jump (step m e).pc t })
 
--- The newest frame is at a point at pc, where the image has an instruction, and that point owes the
--- step.
+-- the law of an owed edge, for one step: the newest frame is at a point at pc, where the image has
+-- an instruction, and that point owes the step
 pub record EdgeSays (image : ImageData) (plan : PlanData) (cert : CertData) (m : Machine) (e : Event) (all : List Standing) : Type 0 where
   pub newest : Standing
   pub older : List Standing
@@ -171,7 +171,7 @@ pub record EdgeSays (image : ImageData) (plan : PlanData) (cert : CertData) (m :
   pub code : IsCode image plan m.pc shape size
   pub owed : StepOwed (duties_of (limits_in plan cert) image plan newest.key m.pc point.state shape size) newest older m e
 
--- at each step of every run from every start state
+-- the law of what owed edges say, at each step of every run from every start state
 abbrev pub OwedEdgesSay : Type 0
 OwedEdgesSay =
     (image : ImageData) (plan : PlanData) (cert : CertData) → EdgesOwed image plan cert

@@ -4,15 +4,15 @@ use Rattle.elf_image.specs.Images.{ImageData}
 use Rattle.tcd_plan.specs.PlanData.{PlanData}
 use Rattle.tc_machine.specs.declared.events.Event.{Event}
 use Rattle.tc_machine.specs.declared.state.Machine.{Machine}
-use Rattle.tc_machine.specs.Machine.{is_of, moved}
-use Rattle.tc_machine.specs.Fetching.{fetched, size_in}
+use Rattle.tc_machine.specs.Machine.{is_interrupt_stack_used, machine_address_ahead}
+use Rattle.tc_machine.specs.Fetching.{fetched, fetched_size}
 use Rattle.tc_machine.specs.Stepping.{step}
 use Rattle.depth_cert.specs.declared.keys.Key.{Key}
 use Rattle.depth_cert.specs.Points.{find_point}
 use Rattle.depth_cert.specs.Certs.{CertData, find_node}
 use Rattle.cfg_recover.specs.Entries.{start_key, call_key, handler_key}
 use Rattle.cfg_recover.specs.MovesAreOwed.{InState}
-use Rattle.cfg_recover.specs.StepEdges.{Way, aln, call, irq, ret, rfe, sys, to, way_of_step}
+use Rattle.cfg_recover.specs.StepEdges.{EdgeWay, aln, call, irq, ret, rfe, sys, to, edge_way_of_step}
 
 -- ---- frames
 -- a frame of a run: its key, and the address at which it is or goes on
@@ -38,7 +38,7 @@ frames_left (f ∷ fs) = fs
 
 -- The frames, the newest first, after a step from p. A call and a system call return to the next
 -- instruction, an interrupt and a misaligned access to p itself.
-abbrev pub frames_by : ℕ → ℕ → ℕ → Way → List Standing → List Standing
+abbrev pub frames_by : ℕ → ℕ → ℕ → EdgeWay → List Standing → List Standing
 frames_by p next prio (to q) fs = frames_at q fs
 frames_by p next prio (call q) fs = frames_entered (λ k. call_key k q) next q fs
 frames_by p next prio (irq q) fs = frames_entered (λ k. handler_key 2 q prio) p q fs
@@ -49,7 +49,7 @@ frames_by p next prio rfe fs = frames_left fs
 
 -- the frames after one step of the machine
 abbrev pub frames_after : Machine → Event → List Standing → List Standing
-frames_after m e fs = frames_by m.pc (moved m.pc (size_in (fetched m))) e.irq (way_of_step m e) fs
+frames_after m e fs = frames_by m.pc (machine_address_ahead m.pc (fetched_size (fetched m))) e.irq (edge_way_of_step m e) fs
 
 -- the frames after the steps of a run, from those before it
 abbrev pub frames_from : Machine → List Event → List Standing → List Standing
@@ -62,30 +62,30 @@ frames image plan m es = frames_from m es (record { key = start_key image plan; 
 
 -- ---- what an accepted certificate says about frames
 -- a node's point at this address has a state that holds the machine
-abbrev pub LiesAt : PlanData → CertData → Machine → Standing → Type 0
-LiesAt plan cert m f = IsSomeAnd (find_node f.key cert.nodes) (λ n. IsSomeAnd (find_point f.at n.points) (λ p. InState plan m p.state))
+abbrev pub FrameLiesAtPoint : PlanData → CertData → Machine → Standing → Type 0
+FrameLiesAtPoint plan cert m f = IsSomeAnd (find_node f.key cert.nodes) (λ n. IsSomeAnd (find_point f.at n.points) (λ p. InState plan m p.state))
 
 -- The newest frame is at the machine's pc, each frame has a node, the newest one's point holds the
 -- machine, and `is` of its key is PSW.IS.
-pub record AreHeld (plan : PlanData) (cert : CertData) (m : Machine) (f : Standing) (fs : List Standing) : Type 0 where
+pub record AreFramesHeld (plan : PlanData) (cert : CertData) (m : Machine) (f : Standing) (fs : List Standing) : Type 0 where
   pub at : f.at ≡ m.pc
   pub nodes : All (λ g. IsSome (find_node g.key cert.nodes)) (f ∷ fs)
-  pub point : LiesAt plan cert m f
-  pub is : is_of m.psw ≡ (f.key).is
+  pub point : FrameLiesAtPoint plan cert m f
+  pub is : is_interrupt_stack_used m.psw ≡ (f.key).is
 
 -- there is a newest frame, and the frames are held
 abbrev pub HoldFrames : PlanData → CertData → Machine → List Standing → Type 0
 HoldFrames plan cert m [] = ⊥
-HoldFrames plan cert m (f ∷ fs) = AreHeld plan cert m f fs
+HoldFrames plan cert m (f ∷ fs) = AreFramesHeld plan cert m f fs
 
 -- the frame that is entered at an address: kind 1 by a call, 2 by an interrupt, 3 by a system call,
 -- 4 by a misaligned access
-abbrev pub entered : ℕ → ℕ → ℕ → Bool → Standing
-entered kind at prio is = record { key = record { kind = kind; entry = at; prio = prio; is = is }; at = at }
+abbrev pub entered_frame_at : ℕ → ℕ → ℕ → Bool → Standing
+entered_frame_at kind at prio is = record { key = record { kind = kind; entry = at; prio = prio; is = is }; at = at }
 
 -- a frame that goes on at an address
-abbrev pub going_on : Standing → ℕ → Standing
-going_on f at = record { key = f.key; at = at }
+abbrev pub frame_going_on : Standing → ℕ → Standing
+frame_going_on f at = record { key = f.key; at = at }
 
 -- the frame before the newest one goes on at an address
 abbrev pub IsReturn : ℕ → List Standing → Type 0

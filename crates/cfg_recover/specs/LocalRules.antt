@@ -8,36 +8,35 @@ use Rattle.tc_isa.specs.declared.shapes.Target.{Target}
 use Rattle.tc_isa.specs.declared.shapes.Target.TheVariants as target
 use Rattle.tc_isa.specs.declared.shapes.Shape.{Shape}
 use Rattle.tc_isa.specs.declared.shapes.Shape.TheVariants.{Load, Store, Jump, Call, Ret, Rfe, Syscall}
-use Rattle.tc_machine.specs.Machine.{moved}
+use Rattle.tc_machine.specs.Machine.{machine_address_ahead}
 use Rattle.value_domain.specs.declared.values.Val.{Val}
 use Rattle.value_domain.specs.declared.values.Val.TheVariants.{Set, Span}
 use Rattle.value_domain.specs.declared.states.State.{State}
 use Rattle.value_domain.specs.Limits.{Limits}
-use Rattle.value_domain.specs.Sets.{distinct}
-use Rattle.vd_transfer.specs.Registers.{reg_of}
-use Rattle.vd_transfer.specs.EffectsOnStates.{address_of, HasRoom}
-use Rattle.vd_transfer.specs.Holding.{WritesNoFixedRegister}
+use Rattle.value_domain.specs.Sets.{sorted_set_of}
+use Rattle.vd_transfer.specs.Registers.{reg_of, WritesNoFixedRegister}
+use Rattle.vd_transfer.specs.EffectsOnStates.{address_of, EffectHasRoom}
 use Rattle.store_ranges.specs.Accesses.{AreStoresInRange, are_aligned}
 use Rattle.depth_cert.specs.declared.keys.Key.{Key}
 use Rattle.cfg_recover.specs.Code.{IsCode, HasCode}
 
 -- ---- targets
--- The addresses that a register's words name, in ascending order, each once: bit 0 is dropped. A
--- span is no list of targets.
-abbrev pub named_by : Val → Option (List ℕ)
-named_by (Set ws) = Some (distinct (map (λ w. w / 2 * 2) ws))
-named_by (Span lo last step) = None
+-- the targets that a value's words name, with bit 0 cleared, in ascending order, each once; none
+-- for a span
+abbrev pub targets_named_by : Val → Option (List ℕ)
+targets_named_by (Set ws) = Some (sorted_set_of (map (λ w. w / 2 * 2) ws))
+targets_named_by (Span lo last step) = None
 
--- the targets of a jump or a call at p, if they are known
+-- the targets of a jump or a call at p, which rule 5's own part asks to be known
 abbrev pub targets_of : PlanData → State → ℕ → Target → Option (List ℕ)
-targets_of plan s p (target.Rel by) = Some (moved p by ∷ [])
+targets_of plan s p (target.Rel by) = Some (machine_address_ahead p by ∷ [])
 targets_of plan s p (target.Abs x) = Some (x ∷ [])
-targets_of plan s p (target.Reg r) = named_by (reg_of plan s r)
+targets_of plan s p (target.Reg r) = targets_named_by (reg_of plan s r)
 
--- The only target of a jump or a call at p, whatever the registers hold; none if it goes by a
--- register.
+-- a target that rule 5's own part knows without any register: the only one of a jump or a call at
+-- p; none if it goes by a register
 abbrev pub direct_target : ℕ → Target → Option ℕ
-direct_target p (target.Rel by) = Some (moved p by)
+direct_target p (target.Rel by) = Some (machine_address_ahead p by)
 direct_target p (target.Abs x) = Some x
 direct_target p (target.Reg r) = None
 
@@ -61,8 +60,8 @@ MayReturnFromException key s Rfe =
     (length s.locals.items ≡ 0) × ((((key.kind ≡ irq_kind) ⊎ (key.kind ≡ aln_kind)) × (s.lower ≡ true)) ⊎ (key.kind ≡ sys_kind))
 MayReturnFromException key s _ = Unit {0}
 
--- Rule 9: each possible store is in one ram range or one device range as a whole, and doesn't pass
--- 2^32.
+-- the own part of rule 9: each possible store is in one ram range or one device range as a whole,
+-- and doesn't pass 2^32
 abbrev pub StoresInRange : Limits → PlanData → State → Shape → Type 0
 StoresInRange b plan s (Store src base offset size after) = AreStoresInRange plan (address_of b plan (Store src base offset size after) s) size
 StoresInRange b plan s _ = Unit {0}
@@ -88,7 +87,7 @@ pub record LocalRule (b : Limits) (plan : PlanData) (key : Key) (p : ℕ) (s : S
   pub targets : r ≡ 5 → KnowsTargets plan s p shape
   pub returns : r ≡ 6 → MayReturn key s shape
   pub exceptions : r ≡ 7 → MayReturnFromException key s shape
-  pub room : r ≡ 8 → HasRoom b shape s
+  pub room : r ≡ 8 → EffectHasRoom b shape s
   pub stores : r ≡ 9 → StoresInRange b plan s shape
   pub accesses : r ≡ 10 → MayAccess b plan s shape
   pub system : r ≡ 12 → MayCallSystem plan shape
@@ -99,3 +98,18 @@ pub record LocalRule (b : Limits) (plan : PlanData) (key : Key) (p : ℕ) (s : S
 pub record LocalHolds (b : Limits) (image : ImageData) (plan : PlanData) (key : Key) (p : ℕ) (s : State) (r : ℕ) : Type 0 where
   pub code : r ≡ 3 → HasCode image plan p
   pub own : (shape : Shape) (n : ℕ) → IsCode image plan p shape n → LocalRule b plan key p s shape r
+
+-- ---- rules 9 and 10, by the addresses of the access
+
+-- the own part of rule 9, by the addresses of the access: each possible store is in one ram range
+-- or one device range as a whole
+abbrev pub StoresInRangeAt : PlanData → Val → Shape → Type 0
+StoresInRangeAt plan at (Store src base offset size after) = AreStoresInRange plan at size
+StoresInRangeAt plan at _ = Unit {0}
+
+-- the own part of rule 10, by the addresses of the access: each is a multiple of the size, or the
+-- plan states the trap of misaligned accesses
+abbrev pub MayAccessAt : PlanData → Val → Shape → Type 0
+MayAccessAt plan at (Load dst base offset size signed after) = (are_aligned at size ≡ true) ⊎ (plan.aln ≡ true)
+MayAccessAt plan at (Store src base offset size after) = (are_aligned at size ≡ true) ⊎ (plan.aln ≡ true)
+MayAccessAt plan at _ = Unit {0}

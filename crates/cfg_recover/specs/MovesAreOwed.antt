@@ -4,30 +4,31 @@ use Rattle.std.specs.Prelude.{◌≡◌, ◌≢◌, ◌*◌, ◌^◌, ℕ, true,
 use Rattle.elf_image.specs.Images.{ImageData}
 use Rattle.tcd_plan.specs.PlanData.{PlanData, IsPlan}
 use Rattle.tc_isa.specs.declared.shapes.Shape.{Shape}
-use Rattle.tc_isa.specs.declared.shapes.Shape.TheVariants.{Syscall}
+use Rattle.tc_isa.specs.declared.shapes.Shape.TheVariants.{Syscall, Call, Ret, Rfe, Rslcx, Svlcx, Bisr, Mtcr}
 use Rattle.tc_machine.specs.declared.events.Event.{Event}
 use Rattle.tc_machine.specs.declared.events.End.TheVariants.{Running}
 use Rattle.tc_machine.specs.declared.state.Machine.{Machine}
-use Rattle.tc_machine.specs.Machine.{reg, a11, moved}
-use Rattle.tc_machine.specs.Instructions.{does, traps}
+use Rattle.tc_machine.specs.Machine.{reg, a11, machine_address_ahead, IsMachine}
+use Rattle.tc_machine.specs.Instructions.{does, traps, target_of}
 use Rattle.tc_machine.specs.Stepping.{is_taken, stored}
 use Rattle.tcd_plan.specs.Regions.{IsInAreas, IsStoreInRange}
-use Rattle.tc_machine.specs.Safe.{IsMachine, Fits}
+use Rattle.tc_machine.specs.Safe.{Fits}
 use Rattle.value_domain.specs.declared.states.State.{State}
 use Rattle.value_domain.specs.Limits.{Limits, AreLimits}
 use Rattle.value_domain.specs.State.{AreValues}
-use Rattle.vd_transfer.specs.Registers.{reg_of, is_lower}
+use Rattle.vd_transfer.specs.Registers.{reg_of, is_lower_register}
 use Rattle.value_domain.specs.Values.{word_val}
 use Rattle.vd_transfer.specs.Holding.{Holds}
 use Rattle.depth_cert.specs.declared.keys.Key.{Key}
 use Rattle.cfg_recover.specs.Code.{IsCode}
-use Rattle.cfg_recover.specs.Entries.{irq_key, aln_key, irq_entry, aln_entry}
+use Rattle.cfg_recover.specs.Entries.{irq_key, aln_key, irq_entry, aln_entry, call_key, call_entry}
 use Rattle.cfg_recover.specs.LocalRules.{LocalRule}
 use Rattle.cfg_recover.specs.Duties.{owed, jump, enter, resume, duties_of}
 use Rattle.tc_mem.specs.PlanMemory.{HoldsRom, IsPlanMemory}
-use Rattle.vd_transfer.specs.Soundness.{StaysInFrame}
+use Rattle.cfg_recover.specs.StepEdges.{to}
+use Rattle.tc_isa.specs.declared.shapes.Target.{Target}
 
--- the state holds the machine's registers, IE and CCPN
+-- a machine is in a state of a point: the state holds its registers, IE and CCPN
 abbrev pub InState : PlanData → Machine → State → Type 0
 InState plan m s = Holds plan (reg m) m.ie m.ccpn s
 
@@ -52,7 +53,7 @@ pub record IsAtPoint (b : Limits) (image : ImageData) (plan : PlanData) (key : K
 -- are the entry's, they don't change.
 pub record MovesTo (image : ImageData) (plan : PlanData) (m n : Machine) (s t : State) : Type 0 where
   pub inside : InState plan n t
-  pub lower : t.lower ≡ true → (s.lower ≡ true) × ((r : ℕ) → is_lower r ≡ true → reg n r ≡ reg m r)
+  pub lower : t.lower ≡ true → (s.lower ≡ true) × ((r : ℕ) → is_lower_register r ≡ true → reg n r ≡ reg m r)
   pub locals : t.locals.items ≡ s.locals.items
   pub a11 : a11 n ≡ a11 m
   pub psw : n.psw ≡ m.psw
@@ -70,17 +71,29 @@ pub record MovesTo (image : ImageData) (plan : PlanData) (m n : Machine) (s t : 
 
 -- A step inside a frame goes where the point owes a jump, and the jump's state holds the machine
 -- then.
-pub record Moved (b : Limits) (image : ImageData) (plan : PlanData) (key : Key) (m : Machine) (e : Event) (s : State) (shape : Shape) (n : ℕ) : Type 0 where
+pub record IsMoveOwed (b : Limits) (image : ImageData) (plan : PlanData) (key : Key) (m : Machine) (e : Event) (s : State) (shape : Shape) (n : ℕ) : Type 0 where
   pub state : State
   pub owes : Contains (duties_of b image plan key m.pc s shape n) (owed 4 (jump (does m e shape n).pc state))
   pub moves : MovesTo image plan m (does m e shape n) s state
+
+-- the effect of the instruction leaves the frame and its contexts as they are
+abbrev pub StaysInFrame : Shape → Type 0
+StaysInFrame (Call target) = ⊥
+StaysInFrame Ret = ⊥
+StaysInFrame Rfe = ⊥
+StaysInFrame Svlcx = ⊥
+StaysInFrame Rslcx = ⊥
+StaysInFrame (Bisr c) = ⊥
+StaysInFrame (Syscall tin) = ⊥
+StaysInFrame (Mtcr src number) = ⊥
+StaysInFrame _ = Unit {0}
 
 -- at every point: a step that stays in its frame, without an interrupt or a trap
 abbrev pub MovesInFrame : Type 0
 MovesInFrame =
     (b : Limits) (image : ImageData) (plan : PlanData) (key : Key) (m : Machine) (e : Event) (s : State) (shape : Shape) (n : ℕ)
     → IsAtPoint b image plan key m s shape n → Fits plan m e → is_taken m e ≡ false → StaysInFrame shape → traps m e shape ≡ false
-    → Moved b image plan key m e s shape n
+    → IsMoveOwed b image plan key m e s shape n
 
 -- if an access traps, the point owes the entry of its handler
 abbrev pub TrapsOwed : Type 0
@@ -89,10 +102,10 @@ TrapsOwed =
     → IsAtPoint b image plan key m s shape n → traps m e shape ≡ true
     → Contains (duties_of b image plan key m.pc s shape n) (owed 10 (enter (aln_key plan key) (aln_entry plan key s)))
 
--- The handler of system calls is entered at BTV with class 6 in bits 7:5. It runs at the priority
--- of the frame that calls, on the interrupt stack.
-abbrev pub system_handler : PlanData → Key → Key
-system_handler plan key = record { kind = 3; entry = bit_or plan.btv (6 * 2 ^ 5); prio = key.prio; is = true }
+-- the key of the handler of system calls: its entry is BTV with class 6 in bits 7:5, its priority
+-- that of the frame that calls, on the interrupt stack
+abbrev pub owed_system_handler : PlanData → Key → Key
+owed_system_handler plan key = record { kind = 3; entry = bit_or plan.btv (6 * 2 ^ 5); prio = key.prio; is = true }
 
 -- At a system call, rule 12 asks for the entry of its handler, and rule 4 for the next instruction
 -- after the handler's return. At the entry D15 is the call's number, A10 is the interrupt stack's
@@ -100,8 +113,8 @@ system_handler plan key = record { kind = 3; entry = bit_or plan.btv (6 * 2 ^ 5)
 -- other registers and CCPN are as they were.
 pub record SystemCallOwed (b : Limits) (image : ImageData) (plan : PlanData) (key : Key) (m : Machine) (s : State) (tin n : ℕ) : Type 0 where
   pub state : State
-  pub entered : Contains (duties_of b image plan key m.pc s (Syscall tin) n) (owed 12 (enter (system_handler plan key) state))
-  pub back : Contains (duties_of b image plan key m.pc s (Syscall tin) n) (owed 4 (resume (system_handler plan key) (moved m.pc n)))
+  pub entered : Contains (duties_of b image plan key m.pc s (Syscall tin) n) (owed 12 (enter (owed_system_handler plan key) state))
+  pub back : Contains (duties_of b image plan key m.pc s (Syscall tin) n) (owed 4 (resume (owed_system_handler plan key) (machine_address_ahead m.pc n)))
   pub number : reg_of plan state 15 ≡ word_val tin
   pub stack : reg_of plan state 26 ≡ (if key.is then reg_of plan s 26 else word_val plan.isp)
   pub others : (r : ℕ) → r ≢ 15 → r ≢ 26 → reg_of plan state r ≡ reg_of plan s r
@@ -117,8 +130,25 @@ InterruptsOwed =
     → IsAtPoint b image plan key m s shape n → Fits plan m e → is_taken m e ≡ true
     → Contains (duties_of b image plan key m.pc s shape n) (owed 11 (enter (irq_key plan e.irq) (irq_entry plan key s e.irq)))
 
--- each store of a step is in range
+-- a law of moves: whatever a machine at a point stores in its next step is in range
 abbrev pub StoresHeld : Type 0
 StoresHeld =
     (b : Limits) (image : ImageData) (plan : PlanData) (key : Key) (m : Machine) (e : Event) (s : State) (shape : Shape) (n : ℕ)
     → IsAtPoint b image plan key m s shape n → IfSome (stored m e) (IsStoreInRange plan)
+
+-- the point owes the entry that a call goes to, and the return from it
+pub record CallOwed (b : Limits) (image : ImageData) (plan : PlanData) (key : Key) (m : Machine) (s : State) (to : Target) (n : ℕ) : Type 0 where
+  pub entered : Contains (duties_of b image plan key m.pc s (Call to) n) (owed 5 (enter (call_key key (target_of m to)) (call_entry s)))
+  pub back : Contains (duties_of b image plan key m.pc s (Call to) n) (owed 4 (resume (call_key key (target_of m to)) (machine_address_ahead m.pc n)))
+
+-- a law of moves: each point with a call owes the entry where the machine goes, and the return
+abbrev pub CallsOwed : Type 0
+CallsOwed =
+    (b : Limits) (image : ImageData) (plan : PlanData) (key : Key) (m : Machine) (s : State) (to : Target) (n : ℕ)
+    → IsAtPoint b image plan key m s (Call to) n → CallOwed b image plan key m s to n
+
+-- a law of moves: each point with a system call owes the handler's entry, and the return
+abbrev pub SystemCallsOwed : Type 0
+SystemCallsOwed =
+    (b : Limits) (image : ImageData) (plan : PlanData) (key : Key) (m : Machine) (s : State) (tin n : ℕ)
+    → IsAtPoint b image plan key m s (Syscall tin) n → SystemCallOwed b image plan key m s tin n

@@ -15,39 +15,40 @@ use Rattle.depth_cert.specs.Nodes.{NodeData, need_of}
 use Rattle.depth_cert.specs.Certs.{CertData, find_node}
 use Rattle.cfg_recover.specs.Code.{IsCode}
 use Rattle.cfg_recover.specs.Entries.{start_key, start_state}
-use Rattle.depth_cert.specs.Exits.{after_of, ExitCovers}
+use Rattle.depth_cert.specs.Exits.{state_after_exit, ExitCovers}
 use Rattle.cfg_recover.specs.LocalRules.{LocalHolds}
 use Rattle.cfg_recover.specs.LocalFaults.{IsFaultless}
 use Rattle.cfg_recover.specs.Duties.{Duty, jump, enter, resume, leave, Owed, duties_of}
 
--- the limits of values in a certificate
+-- the limits with which the rules hold or fail: those of the plan and of the certificate's version
 abbrev pub limits_in : PlanData → CertData → Limits
 limits_in plan cert = limits_for plan cert.version
 
 -- ---- points that cover a state, and duties that are met
--- the node has a point at this address, and its state covers this one
+-- the node of a certificate has a point at this address, and its state covers this one
 abbrev pub HasPoint : NodeData → ℕ → State → Type 0
 HasPoint node q s = IsSomeAnd (find_point q node.points) (λ p. Covers p.state s)
 
--- a duty of a point with this state is met by the certificate
+-- a rule's duty is met: what a point with this state owes is in the certificate's nodes, points and
+-- exits; else the rule fails
 abbrev pub IsMet : CertData → NodeData → State → Duty → Type 0
 IsMet cert node s (jump q t) = HasPoint node q t
 IsMet cert node s (enter k t) = IsSomeAnd (find_node k cert.nodes) (λ n. HasPoint n k.entry t)
-IsMet cert node s (resume k q) = IfSome (find_node k cert.nodes) (λ n. IfSome n.exit (λ x. HasPoint node q (after_of s x k.kind)))
+IsMet cert node s (resume k q) = IfSome (find_node k cert.nodes) (λ n. IfSome n.exit (λ x. HasPoint node q (state_after_exit s x k.kind)))
 IsMet cert node s (leave x) = IsSomeAnd node.exit (λ y. ExitCovers y x)
 
 -- ---- needs
--- A node's need is at least the sum of its locals' areas, one area for the entry, and the need of
--- the node that it enters.
-abbrev pub IsNeedAbove : CertData → NodeData → State → Duty → Type 0
-IsNeedAbove cert node s (enter k t) = IfSome (find_node k cert.nodes) (λ n. length s.locals.items + 1 + n.need ≤ node.need)
-IsNeedAbove cert node s _ = Unit {0}
+-- rule 14 holds at a duty to enter: the node's need is at least its locals' areas, one for the
+-- entry, and the entered node's need
+abbrev pub EntryNeedRuleHolds : CertData → NodeData → State → Duty → Type 0
+EntryNeedRuleHolds cert node s (enter k t) = IfSome (find_node k cert.nodes) (λ n. length s.locals.items + 1 + n.need ≤ node.need)
+EntryNeedRuleHolds cert node s _ = Unit {0}
 
 -- What rule 14 asks at a point: the need is enough for the locals and for each entry. At the entry
 -- of the start frame, the need is at most the areas without the reserve.
-pub record HasNeed (image : ImageData) (plan : PlanData) (cert : CertData) (node : NodeData) (point : Point) (duties : List Owed) : Type 0 where
+pub record NeedRuleHolds (image : ImageData) (plan : PlanData) (cert : CertData) (node : NodeData) (point : Point) (duties : List Owed) : Type 0 where
   pub locals : length (point.state).locals.items ≤ node.need
-  pub entered : All (λ d. IsNeedAbove cert node point.state d.duty) duties
+  pub entered : All (λ d. EntryNeedRuleHolds cert node point.state d.duty) duties
   pub start : node.key ≡ start_key image plan → point.addr ≡ image.entry → node.need ≤ plan.areas - plan.reserve
 
 -- ---- rules
@@ -64,27 +65,29 @@ pub record RuleHolds (image : ImageData) (plan : PlanData) (cert : CertData) (no
   pub needs :
       (shape : Shape) (n : ℕ) → r ≡ 14 → AreValues (limits_in plan cert) (point.state).regs
       → IsFaultless (limits_in plan cert) image plan node.key point.addr point.state → IsCode image plan point.addr shape n
-      → HasNeed image plan cert node point (duties_of (limits_in plan cert) image plan node.key point.addr point.state shape n)
+      → NeedRuleHolds image plan cert node point (duties_of (limits_in plan cert) image plan node.key point.addr point.state shape n)
 
--- rule 1: there is a node of the start frame, and its point at the entry covers the start state
+-- rule 1 holds: the certificate has a node of the start frame, and its point at the entry covers
+-- the start state
 abbrev pub HoldsAtStart : ImageData → PlanData → CertData → Type 0
 HoldsAtStart image plan cert = IsSomeAnd (find_node (start_key image plan) cert.nodes) (λ n. HasPoint n image.entry (start_state plan))
 
--- rule 2 at a node's entry: there is a point, and the exit's values are of the plan's lattice
+-- rule 2 holds at a node's entry: there is a point, and the exit's values are of the plan's
+-- lattice; else the rule fails there
 pub record HoldsAtEntry (b : Limits) (node : NodeData) : Type 0 where
   pub point : IsSome (find_point (node.key).entry node.points)
   pub exit : IfSome node.exit (λ x. AreValues b x.lower)
 
--- A rule fails at a key and an address: rule 1 at the start, rule 2 at a node's entry, or a rule at
--- a point.
-pub data Fails (image : ImageData) (plan : PlanData) (cert : CertData) : ℕ → Key → ℕ → Type 0 where
-  at_start : (HoldsAtStart image plan cert → ⊥) → Fails image plan cert 1 (start_key image plan) image.entry
-  at_entry : (node : NodeData) → Contains cert.nodes node → (HoldsAtEntry (limits_in plan cert) node → ⊥) → Fails image plan cert 2 node.key (node.key).entry
+-- a rule fails in a certificate, at a key and an address: rule 1 at the start, rule 2 at a node's
+-- entry, or a rule at a point
+pub data RuleFails (image : ImageData) (plan : PlanData) (cert : CertData) : ℕ → Key → ℕ → Type 0 where
+  at_start : (HoldsAtStart image plan cert → ⊥) → RuleFails image plan cert 1 (start_key image plan) image.entry
+  at_entry : (node : NodeData) → Contains cert.nodes node → (HoldsAtEntry (limits_in plan cert) node → ⊥) → RuleFails image plan cert 2 node.key (node.key).entry
   at_point :
       (node : NodeData) (point : Point) (r : ℕ) → Contains cert.nodes node → Contains node.points point → (RuleHolds image plan cert node point r → ⊥)
-      → Fails image plan cert r node.key point.addr
+      → RuleFails image plan cert r node.key point.addr
 
--- all rules hold at all points of a node
+-- all rules hold at a node of a certificate: rule 2 at its entry, and each rule at each point
 pub record HoldsAtNode (image : ImageData) (plan : PlanData) (cert : CertData) (node : NodeData) : Type 0 where
   pub entry : HoldsAtEntry (limits_in plan cert) node
   pub points : All (λ p. (r : ℕ) → RuleHolds image plan cert node p r) node.points
@@ -95,17 +98,17 @@ pub record Accepts (image : ImageData) (plan : PlanData) (cert : CertData) : Typ
   pub nodes : All (HoldsAtNode image plan cert) cert.nodes
 
 -- ---- the first fault
--- faults are ordered by key, then address, then rule
+-- the order of rules that fail, for the first fault: by key, then by address, then by rule
 abbrev pub fault_number : ℕ → Key → ℕ → ℕ
 fault_number r k p = (number_of_key k * 2 ^ 32 + p) * 2 ^ 4 + r
 
--- A fault of rule 1 comes before all others. If rule 1 holds, the first fault is the least by key,
--- address and rule.
+-- the first rule that fails in a certificate: rule 1 comes before all others; if it holds, the
+-- first is the least by key, address and rule
 pub record IsFirstFault (image : ImageData) (plan : PlanData) (cert : CertData) (r : ℕ) (k : Key) (p : ℕ) : Type 0 where
-  pub fails : Fails image plan cert r k p
+  pub fails : RuleFails image plan cert r k p
   pub start : (r ≡ 1) ⊎ HoldsAtStart image plan cert
-  pub least : (q : ℕ) (j : Key) (x : ℕ) → Fails image plan cert q j x → (r ≡ 1) ⊎ (fault_number r k p ≤ fault_number q j x)
+  pub least : (q : ℕ) (j : Key) (x : ℕ) → RuleFails image plan cert q j x → (r ≡ 1) ⊎ (fault_number r k p ≤ fault_number q j x)
 
--- the need that a certificate states for the start
+-- the need that a certificate has if its rules hold: that of its node of the start, 0 without one
 abbrev pub certified_need : ImageData → PlanData → CertData → ℕ
 certified_need image plan cert = need_of (find_node (start_key image plan) cert.nodes)

@@ -16,7 +16,7 @@ use Rattle.cfg_recover.specs.declared.operation_cache.CachedOperation.{CachedOpe
 use Rattle.cfg_recover.specs.declared.operation_cache.OperationCache.{OperationCache}
 
 -- an operand's value in a state is the set of these words
-pub record IsOperand (s : State) (r : Arg) (ws : List ℕ) : Type 0 where
+pub record IsSetOperand (s : State) (r : Arg) (ws : List ℕ) : Type 0 where
   pub value : (plan : PlanData) → arg_of plan s r ≡ Set ws
   pub words : AreWords ws
 
@@ -26,8 +26,8 @@ pub record IsSetOperation (s : State) (o : SetOperation) : Type 0 where
   pub left : Arg
   pub right : Arg
   pub is : o.shape ≡ Compute o.op o.dst left right
-  pub x : IsOperand s left o.x.now
-  pub y : IsOperand s right o.y.now
+  pub x : IsSetOperand s left o.x.now
+  pub y : IsSetOperand s right o.y.now
   pub small : o.dst < 16
 
 -- an entry of the cache has this operation on these sets
@@ -37,17 +37,17 @@ pub record IsSameOperation (k : CachedOperation) (o : SetOperation) : Type 0 whe
   pub y : k.y ≡ Set o.y.now
 
 -- the result is that of this operation on the entry's operands, and a value of the limits
-pub record Gives (b : Limits) (k : CachedOperation) (op : Op) : Type 0 where
+pub record GivesCachedResult (b : Limits) (k : CachedOperation) (op : Op) : Type 0 where
   pub gives : k.result ≡ value_of b op k.x k.y
   pub value : IsValue b k.result
 
 -- an entry is empty, or has the result of its operation
-abbrev pub HoldsResult : Limits → CachedOperation → Type 0
-HoldsResult b k = IfSome k.op (Gives b k)
+abbrev pub HoldsCachedResult : Limits → CachedOperation → Type 0
+HoldsCachedResult b k = IfSome k.op (GivesCachedResult b k)
 
 -- each entry is empty, or has the result of its operation
-pub record HoldsResults (b : Limits) (cache : OperationCache) : Type 0 where
-  pub zero : HoldsResult b cache.zero
-  pub one : HoldsResult b cache.one
-  pub two : HoldsResult b cache.two
-  pub three : HoldsResult b cache.three
+pub record HoldsCachedResults (b : Limits) (cache : OperationCache) : Type 0 where
+  pub zero : HoldsCachedResult b cache.zero
+  pub one : HoldsCachedResult b cache.one
+  pub two : HoldsCachedResult b cache.two
+  pub three : HoldsCachedResult b cache.three

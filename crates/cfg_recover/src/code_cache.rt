@@ -4,12 +4,12 @@ ghost use Rattle.std.specs.Coded.{Coded-set};
 ghost use Rattle.elf_image.specs.Images.{image_byte};
 ghost use Rattle.tc_isa.specs.InBounds.{IsShape};
 ghost use Rattle.tc_encode.specs.Decoding.{decoded_of};
-ghost use Rattle.cfg_recover.specs.Code.{LocatesCode, located_of, located_in};
-ghost use Rattle.cfg_recover.specs.KnownCodes.{IsKnown};
+ghost use Rattle.cfg_recover.specs.Code.{LocatesCode, located_code_of};
+ghost use Rattle.cfg_recover.specs.KnownCodes.{located_code_in, IsKnownCode};
 
 use crate::decoded_inst::decoded_at;
 use crate::local_rules::Located;
-use crate::rom_code::{byte_at, four_in_rom};
+use crate::rom_code::{code_byte_at, four_in_rom};
 use elf_image::Image;
 use tc_encode::decode;
 use tc_isa::shape;
@@ -29,7 +29,7 @@ pub struct KnownCodes {
 pub(crate) struct KnownCode {
     word: u32,
     found: Option<Located>,
-    ghost known: { IsKnown word found } by { Coded-set found-code found (located_in word) },
+    ghost known: { IsKnownCode word found } by { Coded-set found-code found (located_code_in word) },
 }
 
 impl KnownCodes {
@@ -56,7 +56,7 @@ impl KnownCodes {
             return decoded_at(image, plan, addr);
         };
         let word = code_word(bytes);
-        let place = place_of(word);
+        let place = code_cache_place(word);
         let known = self.codes[place];
         if known.word == word {
             return known.found;
@@ -72,7 +72,7 @@ impl KnownCodes {
     pub fn byte(&mut self, image: &Image, addr: u32) -> Option<u8>
         ensures byte { result ≡ image_byte image.now addr }
     {
-        byte_at(image, addr, &mut self.near)
+        code_byte_at(image, addr, &mut self.near)
     }
 
     /// Returns true if the image holds this byte at this address.
@@ -99,26 +99,26 @@ fn known_code(word: u32) -> KnownCode
     KnownCode { word, found }
 }
 
-/// The word of the instruction that four bytes begin with. If the first byte is even, the
-/// instruction has two bytes, and the word is those two alone.
+/// Returns the word by which the cache knows the instruction that four bytes begin with. An even
+/// first byte means two bytes, and the word is those two alone.
 #[inline(always)]
 fn code_word(bytes: [u8; 4]) -> u32
-    ensures { located_in result ≡ located_of (decoded_of bytes) }
+    ensures { located_code_in result ≡ located_code_of (decoded_of bytes) }
 {
-    are_bytes(&bytes);
+    code_cache_byte_bounds(&bytes);
     let word = u32::from_le_bytes(bytes);
     if word % 2 == 1 { word } else { word % 0x1_0000 }
 }
 
 /// Establishes that bytes are below 256, which their type says.
-fn are_bytes(bytes: &[u8])
+fn code_cache_byte_bounds(bytes: &[u8])
     ensures { (k : ℕ) → slice_index bytes.now k < 2 ^ 8 }
 {}
 
 /// The place of a word: the highest byte of its product with 01010101. Except for carries, this is
 /// the sum of the word's bytes.
 #[inline(always)]
-fn place_of(word: u32) -> usize
+fn code_cache_place(word: u32) -> usize
     ensures { result < 256 }
 {
     (word.wrapping_mul(0x0101_0101) / 0x100_0000) as usize

@@ -5,7 +5,7 @@ ghost use Rattle.value_domain.specs.State.{AreValues};
 ghost use Rattle.vd_transfer.specs.Changes.{state_after};
 ghost use Rattle.cfg_recover.specs.Changes as changes;
 ghost use Rattle.cfg_recover.specs.Entries as entries;
-ghost use Rattle.cfg_recover.specs.Entries.{stack_of, entry_with, aln_entry, sys_entry};
+ghost use Rattle.cfg_recover.specs.Entries.{entry_stack_of, entry_state_with, aln_entry, sys_entry};
 
 use arrayvec::ArrayVec;
 use depth_cert::Key;
@@ -39,8 +39,8 @@ pub fn system_change(b: &Bounds, plan: &Plan, key: &Key, s: &State, tin: u8) -> 
     ensures values { AreValues b.now (state_after s.now result).regs }
 {
     let mut c = call_change(b, s);
-    c.first = put_register(A10, stack(b, plan, key, s));
-    c.second = put_register(D15, constant(b, u32::from(tin)));
+    c.first = put_register(A10, handler_entry_stack(b, plan, key, s));
+    c.second = put_register(D15, entry_constant(b, u32::from(tin)));
     c.ie = false;
     c
 }
@@ -49,11 +49,11 @@ pub fn system_change(b: &Bounds, plan: &Plan, key: &Key, s: &State, tin: u8) -> 
 pub fn handler_change(b: &Bounds, plan: &Plan, key: &Key, s: &State, ccpn: u8) -> Change
     requires { AreValues b.now s.now.regs }
     ensures entry { state_after s.now result
-        ≡ entry_with (stack_of plan.now key.now s.now) false ccpn true }
+        ≡ entry_state_with (entry_stack_of plan.now key.now s.now) false ccpn true }
     ensures values { AreValues b.now (state_after s.now result).regs }
 {
     let _most_words = b.most_words();
-    handler_with(s, stack(b, plan, key, s), ccpn)
+    handler_with(s, handler_entry_stack(b, plan, key, s), ccpn)
 }
 
 /// The change at the entry of the handler of misaligned accesses.
@@ -63,11 +63,12 @@ pub fn misaligned_change(b: &Bounds, plan: &Plan, key: &Key, s: &State) -> Chang
     ensures values { AreValues b.now (state_after s.now result).regs }
 {
     let _most_words = b.most_words();
-    let mut c = handler_with(s, stack(b, plan, key, s), s.ccpn);
-    c.second = put_register(D15, constant(b, ALN_TIN));
+    let mut c = handler_with(s, handler_entry_stack(b, plan, key, s), s.ccpn);
+    c.second = put_register(D15, entry_constant(b, ALN_TIN));
     c
 }
 
+/// The change at the entry of a handler with this stack pointer and CCPN.
 fn handler_with(s: &State, sp: Val, ccpn: u8) -> Change
     ensures { result ≡ changes.handler_change sp ccpn }
 {
@@ -82,9 +83,9 @@ fn handler_with(s: &State, sp: Val, ccpn: u8) -> Change
 }
 
 /// The stack pointer of a handler: the interrupt stack's, or A10 if that stack is in use.
-fn stack(b: &Bounds, plan: &Plan, key: &Key, s: &State) -> Val
+fn handler_entry_stack(b: &Bounds, plan: &Plan, key: &Key, s: &State) -> Val
     requires { AreValues b.now s.now.regs }
-    ensures stack { result ≡ stack_of plan.now key.now s.now }
+    ensures stack { result ≡ entry_stack_of plan.now key.now s.now }
     ensures value { IsValue b.now result }
 {
     let _most_words = b.most_words();
@@ -96,7 +97,8 @@ fn stack(b: &Bounds, plan: &Plan, key: &Key, s: &State) -> Val
     }
 }
 
-fn constant(b: &Bounds, x: u32) -> Val
+/// The value of a register that the entry sets to a constant.
+fn entry_constant(b: &Bounds, x: u32) -> Val
     ensures word { result ≡ word_val x }
     ensures value { IsValue b.now result }
 {

@@ -3,16 +3,16 @@ ghost use Rattle.std.specs.Prelude.{◌≡◌, Some};
 ghost use Rattle.tc_isa.specs.Meanings.{shape_of};
 ghost use Rattle.value_domain.specs.Values.{IsValue};
 ghost use Rattle.value_domain.specs.State.{AreValues};
-ghost use Rattle.store_ranges.specs.Accesses.{IsSize, are_aligned};
+ghost use Rattle.store_ranges.specs.Accesses.{IsAccessSize, are_aligned};
 ghost use Rattle.cfg_recover.specs.Duties.{entries_of, misaligned_at, misaligned_of, leavings_of};
 ghost use Rattle.cfg_recover.specs.FlowStates.{EntersWithValues};
-ghost use Rattle.cfg_recover.specs.FlowDuties.{told_entry, rule_of_entry, told_leaving, leave_of};
+ghost use Rattle.cfg_recover.specs.FlowDuties.{told_entry, rule_of_entry, told_leaving, flow_leave_of};
 
 use crate::decoded_inst::InstAt;
 use crate::entry_changes::{call_change, misaligned_change, system_change};
-use crate::flow_targets::{one, targets};
+use crate::flow_targets::{one_target, targets};
 use crate::keys::{ALN_VECTOR, SYS_VECTOR};
-use crate::states_after::{address, changed_state};
+use crate::states_after::{address, state_after_change};
 use crate::{Enter, Leave};
 use depth_cert::{ALN, CALL, Key, SYS};
 use store_ranges::aligned;
@@ -21,7 +21,13 @@ use tcd_plan::Plan;
 use value_domain::{Bounds, State, Val};
 
 /// The entries by a call or a system call.
-pub(crate) fn entry(b: &Bounds, plan: &Plan, key: &Key, s: &State, at: InstAt<'_>) -> Option<Enter>
+pub(crate) fn call_flow_entry(
+    b: &Bounds,
+    plan: &Plan,
+    key: &Key,
+    s: &State,
+    at: InstAt<'_>,
+) -> Option<Enter>
     requires { AreValues b.now s.now.regs }
     ensures entry { told_entry (rule_of_entry result) key.now result
         ≡ entries_of plan.now key.now at.entry.addr s.now
@@ -33,13 +39,13 @@ pub(crate) fn entry(b: &Bounds, plan: &Plan, key: &Key, s: &State, at: InstAt<'_
         Shape::Call { to } => Some(Enter {
             kind: CALL,
             targets: targets(plan, s, at.addr, to),
-            state: changed_state(s, &call_change(b, s)),
+            state: state_after_change(s, &call_change(b, s)),
             resume,
         }),
         Shape::Syscall { tin } => Some(Enter {
             kind: SYS,
-            targets: one(plan.btv | SYS_VECTOR),
-            state: changed_state(s, &system_change(b, plan, key, s, tin)),
+            targets: one_target(plan.btv | SYS_VECTOR),
+            state: state_after_change(s, &system_change(b, plan, key, s, tin)),
             resume,
         }),
         _ => None,
@@ -47,7 +53,7 @@ pub(crate) fn entry(b: &Bounds, plan: &Plan, key: &Key, s: &State, at: InstAt<'_
 }
 
 /// The entry of the handler of misaligned accesses, if the instruction's access may be misaligned.
-pub(crate) fn misaligned(
+pub(crate) fn misaligned_flow_entry(
     b: &Bounds,
     plan: &Plan,
     key: &Key,
@@ -60,9 +66,11 @@ pub(crate) fn misaligned(
     ensures values { EntersWithValues b.now result }
 {
     match shape(inst) {
-        Shape::Load { size, .. } => { aln_entry(b, plan, key, s, &address(b, plan, inst, s), size) }
+        Shape::Load { size, .. } => {
+            misaligned_flow_entry_at(b, plan, key, s, &address(b, plan, inst, s), size)
+        }
         Shape::Store { size, .. } => {
-            aln_entry(b, plan, key, s, &address(b, plan, inst, s), size)
+            misaligned_flow_entry_at(b, plan, key, s, &address(b, plan, inst, s), size)
         }
         _ => None,
     }
@@ -70,41 +78,48 @@ pub(crate) fn misaligned(
 
 /// The entry of the handler of misaligned accesses, unless all these addresses are multiples of the
 /// size.
-fn aln_entry(b: &Bounds, plan: &Plan, key: &Key, s: &State, at: &Val, size: u8) -> Option<Enter>
+fn misaligned_flow_entry_at(
+    b: &Bounds,
+    plan: &Plan,
+    key: &Key,
+    s: &State,
+    at: &Val,
+    size: u8,
+) -> Option<Enter>
     requires values { AreValues b.now s.now.regs }
     requires at { IsValue b.now at.now }
-    requires size { IsSize size }
+    requires size { IsAccessSize size }
     ensures entry { told_entry 10 key.now result
         ≡ misaligned_at plan.now key.now s.now at.now size }
     ensures values { EntersWithValues b.now result }
 {
-    if is_aligned(b, at, size) {
+    if is_flow_access_aligned(b, at, size) {
         return None;
     }
     Some(Enter {
         kind: ALN,
-        targets: one(plan.btv | ALN_VECTOR),
-        state: changed_state(s, &misaligned_change(b, plan, key, s)),
+        targets: one_target(plan.btv | ALN_VECTOR),
+        state: state_after_change(s, &misaligned_change(b, plan, key, s)),
         resume: None,
     })
 }
 
 /// Returns true if each address is a multiple of the size.
-pub fn is_aligned(b: &Bounds, at: &Val, size: u8) -> bool
+pub fn is_flow_access_aligned(b: &Bounds, at: &Val, size: u8) -> bool
     requires at { IsValue b.now at.now }
-    requires size { IsSize size }
+    requires size { IsAccessSize size }
     ensures { result ≡ are_aligned at.now size }
 {
     let _most_words = b.most_words();
     aligned(at, size)
 }
 
-/// How the instruction leaves its frame, if it does.
-#[tactic(auto, unfolding(crate::specs::FlowDuties::leave_of))]
-pub(crate) fn leaving(key: &Key, s: &State, inst: &Inst) -> Leave
+/// Returns how the instruction leaves its own frame: by RET, by RFE, or not at all.
+#[tactic(auto, unfolding(crate::specs::FlowDuties::flow_leave_of))]
+pub(crate) fn flow_leave(key: &Key, s: &State, inst: &Inst) -> Leave
     ensures told { told_leaving key.now s.now result
         ≡ leavings_of key.now s.now (shape_of inst.now) }
-    ensures leave { result ≡ leave_of (shape_of inst.now) }
+    ensures leave { result ≡ flow_leave_of (shape_of inst.now) }
 {
     match shape(inst) {
         Shape::Ret => Leave::Ret,

@@ -17,6 +17,7 @@ pub fn interrupts(plan: &Plan, s: &State) -> ArrayVec<u8, 32>
     }
 }
 
+/// The interrupts of a list whose priority is above CCPN.
 fn irqs_above(irqs: &[u8], ccpn: u8) -> ArrayVec<u8, 32>
     requires { length irqs.now ≤ 32 }
     ensures { result.items ≡ filter (λ p. nat_lt ccpn p) irqs.now }

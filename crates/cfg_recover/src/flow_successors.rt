@@ -6,16 +6,16 @@ ghost use Rattle.value_domain.specs.declared.states.State.{State};
 ghost use Rattle.value_domain.specs.Values.{IsValue};
 ghost use Rattle.value_domain.specs.State.{AreValues};
 ghost use Rattle.vd_transfer.specs.Changes.{state_after};
-ghost use Rattle.vd_transfer.specs.EffectsOnStates.{HasRoom, address_of, transfer_of};
+ghost use Rattle.vd_transfer.specs.EffectsOnStates.{EffectHasRoom, address_of, transfer_of};
 ghost use Rattle.vd_transfer.specs.Branches.{refine_of};
-ghost use Rattle.cfg_recover.specs.Duties.{jump_on, loaded_at, next_of, successors_of};
+ghost use Rattle.cfg_recover.specs.Duties.{jump_on, loaded_for_duties, next_of, successors_of};
 ghost use Rattle.cfg_recover.specs.FlowStates.{JumpsWithValues};
 ghost use Rattle.cfg_recover.specs.FlowDuties.{told_jump, told_jumps};
 
 use crate::Jump;
 use crate::decoded_inst::InstAt;
-use crate::flow_targets::{one, targets};
-use crate::states_after::{changed_state, refine};
+use crate::flow_targets::{one_target, targets};
+use crate::states_after::{refine, state_after_change};
 use arrayvec::ArrayVec;
 use elf_image::Image;
 use store_ranges::{LoadKind, write_load};
@@ -33,7 +33,7 @@ pub(crate) fn successors(
     at: InstAt<'_>,
 ) -> [Option<Jump>; 2]
     requires values { AreValues b.now s.now.regs }
-    requires room { HasRoom b.now (shape_of at.inst.now) s.now }
+    requires room { EffectHasRoom b.now (shape_of at.inst.now) s.now }
     ensures values { All (JumpsWithValues b.now) result }
     ensures jumps { told_jumps result
         ≡ successors_of b.now image.now plan.now at.entry.addr s.now
@@ -42,8 +42,8 @@ pub(crate) fn successors(
     let next = at.addr.wrapping_add(at.size);
     match shape(at.inst) {
         Shape::Branch { by, .. } => [
-            side(b, plan, at.inst, s, false, next),
-            side(b, plan, at.inst, s, true, at.addr.wrapping_add(by)),
+            successor_on_side(b, plan, at.inst, s, false, next),
+            successor_on_side(b, plan, at.inst, s, true, at.addr.wrapping_add(by)),
         ],
         Shape::Jump { to } => [
             Some(Jump {
@@ -54,12 +54,19 @@ pub(crate) fn successors(
         ],
         Shape::Call { .. } | Shape::Ret | Shape::Rfe | Shape::Syscall { .. } | Shape::Mtcr { .. } =>
             [None, None],
-        _ => [Some(step(b, image, plan, s, at)), None],
+        _ => [Some(successor_by_step(b, image, plan, s, at)), None],
     }
 }
 
 /// The jump on a side of a branch, if that side is possible.
-fn side(b: &Bounds, plan: &Plan, inst: &Inst, s: &State, taken: bool, to: u32) -> Option<Jump>
+fn successor_on_side(
+    b: &Bounds,
+    plan: &Plan,
+    inst: &Inst,
+    s: &State,
+    taken: bool,
+    to: u32,
+) -> Option<Jump>
     requires { AreValues b.now s.now.regs }
     ensures values { JumpsWithValues b.now result }
     ensures jump { told_jump result
@@ -67,34 +74,34 @@ fn side(b: &Bounds, plan: &Plan, inst: &Inst, s: &State, taken: bool, to: u32) -
 {
     let state = refine(b, plan, inst, s, taken)?;
     Some(Jump {
-        targets: one(to),
+        targets: one_target(to),
         state,
     })
 }
 
 /// The jump to the next instruction.
-fn step(b: &Bounds, image: &Image, plan: &Plan, s: &State, at: InstAt<'_>) -> Jump
+fn successor_by_step(b: &Bounds, image: &Image, plan: &Plan, s: &State, at: InstAt<'_>) -> Jump
     requires values { AreValues b.now s.now.regs }
-    requires room { HasRoom b.now (shape_of at.inst.now) s.now }
+    requires room { EffectHasRoom b.now (shape_of at.inst.now) s.now }
     ensures values { JumpsWithValues b.now (Some result) }
     ensures jump { told_jump (Some result)
         ≡ next_of b.now image.now plan.now at.entry.addr s.now
         (shape_of at.entry.inst.now) at.entry.size }
 {
     let mut c = unchanged(s);
-    step_change(b, image, plan, shape(at.inst), s, &mut c);
+    successor_change(b, image, plan, shape(at.inst), s, &mut c);
     Jump {
-        targets: one(at.addr.wrapping_add(at.size)),
-        state: changed_state(s, &c),
+        targets: one_target(at.addr.wrapping_add(at.size)),
+        state: state_after_change(s, &c),
     }
 }
 
-/// Writes what an instruction of this shape loads from these addresses into `out`.
-fn write_loaded(b: &Bounds, image: &Image, plan: &Plan, shape: Shape, at: &Val, out: &mut Val)
+/// Writes into `out` what an instruction of this shape loads from these addresses.
+fn write_flow_load(b: &Bounds, image: &Image, plan: &Plan, shape: Shape, at: &Val, out: &mut Val)
     requires shape { IsShape shape }
     requires value { IsValue b.now at.now }
     ensures loaded { (s : State) → at.now ≡ address_of b.now plan.now shape s
-        → out.new ≡ loaded_at b.now image.now plan.now s shape }
+        → out.new ≡ loaded_for_duties b.now image.now plan.now s shape }
     ensures value { IsValue b.now out.new }
 {
     let _most_words = b.most_words();
@@ -106,9 +113,10 @@ fn write_loaded(b: &Bounds, image: &Image, plan: &Plan, shape: Shape, at: &Val, 
     }
 }
 
-/// Writes the change that keeps a state. Mostly a state has no locals, and then none are copied.
+/// Writes the change by which a point's successor keeps the state. Mostly a state has no locals,
+/// and then none are copied.
 #[inline(always)]
-fn keep_all(s: &State, c: &mut Change)
+fn keep_successor_state(s: &State, c: &mut Change)
     ensures { state_after s.now c.new ≡ s.now }
 {
     if !s.locals.is_empty() {
@@ -128,20 +136,27 @@ fn keep_all(s: &State, c: &mut Change)
 /// Writes into `c` how an instruction of this shape changes the state, whatever `c` was. The
 /// instruction stays in its frame and isn't a branch or a jump. If it saves a lower context, there
 /// is room for it; if it restores one, there is one.
-pub fn step_change(b: &Bounds, image: &Image, plan: &Plan, shape: Shape, s: &State, c: &mut Change)
+pub fn successor_change(
+    b: &Bounds,
+    image: &Image,
+    plan: &Plan,
+    shape: Shape,
+    s: &State,
+    c: &mut Change,
+)
     requires shape { IsShape shape }
     requires values { AreValues b.now s.now.regs }
-    requires room { HasRoom b.now shape s.now }
+    requires room { EffectHasRoom b.now shape s.now }
     ensures change { state_after s.now c.new
         ≡ transfer_of b.now plan.now shape s.now
-        (loaded_at b.now image.now plan.now s.now shape) }
+        (loaded_for_duties b.now image.now plan.now s.now shape) }
     ensures values { AreValues b.now (state_after s.now c.new).regs }
 {
     match shape {
-        Shape::Nothing => keep_all(s, c),
+        Shape::Nothing => keep_successor_state(s, c),
         Shape::Load { .. } => {
             write_address(b, plan, shape, s, &mut c.second.value);
-            write_loaded(b, image, plan, shape, &c.second.value, &mut c.third.value);
+            write_flow_load(b, image, plan, shape, &c.second.value, &mut c.third.value);
             change_of(b, plan, shape, s, c);
         }
         _ => change_of(b, plan, shape, s, c),

@@ -3,10 +3,10 @@ ghost use Rattle.std.specs.Prelude.{◌≡◌, ◌<◌, ◌≤◌, ◌-◌, ◌*
 ghost use Rattle.tcd_plan.specs.PlanData.{PlanData};
 ghost use Rattle.tc_isa.specs.InBounds.{IsTarget};
 ghost use Rattle.value_domain.specs.declared.states.State.{State};
-ghost use Rattle.value_domain.specs.Sets.{Among, AreWords, Rising, distinct, sorted_insert};
+ghost use Rattle.value_domain.specs.Sets.{Among, AreWords, Rising, sorted_set_of, sorted_insert};
 ghost use Rattle.vd_transfer.specs.Registers.{reg_of};
 ghost use Rattle.cfg_recover.specs.LocalRules as rules;
-ghost use Rattle.cfg_recover.specs.LocalRules.{named_by, targets_of};
+ghost use Rattle.cfg_recover.specs.LocalRules.{targets_named_by, targets_of};
 
 use arrayvec::ArrayVec;
 use tc_isa::Target;
@@ -35,24 +35,24 @@ pub fn targets(plan: &Plan, s: &State, addr: u32, to: Target) -> ArrayVec<u32, 1
     ensures { result.items ≡ unwrap_or (targets_of plan.now s.now addr to) [] }
 {
     match to {
-        Target::Rel(by) => one(addr.wrapping_add(by)),
-        Target::Abs(x) => one(x),
-        Target::Reg(r) => addresses_in(plan, s, r),
+        Target::Rel(by) => one_target(addr.wrapping_add(by)),
+        Target::Abs(x) => one_target(x),
+        Target::Reg(r) => targets_in_register(plan, s, r),
     }
 }
 
 /// The addresses that a register names. It is a function of its own, so that where no register is
 /// read no room of a value is filled.
 #[inline(never)]
-fn addresses_in(plan: &Plan, s: &State, r: u8) -> ArrayVec<u32, 128>
+fn targets_in_register(plan: &Plan, s: &State, r: u8) -> ArrayVec<u32, 128>
     requires { r < 32 }
-    ensures { result.items ≡ unwrap_or (named_by (reg_of plan.now s.now r)) [] }
+    ensures { result.items ≡ unwrap_or (targets_named_by (reg_of plan.now s.now r)) [] }
 {
-    addresses_of(&reg(plan, s, r))
+    targets_of_value(&reg(plan, s, r))
 }
 
 /// A list of one address.
-pub(crate) fn one(x: u32) -> ArrayVec<u32, 128>
+pub(crate) fn one_target(x: u32) -> ArrayVec<u32, 128>
     ensures { result.items ≡ x ∷ [] }
 {
     let mut targets = ArrayVec::new();
@@ -61,40 +61,41 @@ pub(crate) fn one(x: u32) -> ArrayVec<u32, 128>
 }
 
 /// The addresses that the words of a value name; none for a span.
-fn addresses_of(v: &Val) -> ArrayVec<u32, 128>
-    ensures { result.items ≡ unwrap_or (named_by v.now) [] }
+fn targets_of_value(v: &Val) -> ArrayVec<u32, 128>
+    ensures { result.items ≡ unwrap_or (targets_named_by v.now) [] }
 {
     match v {
-        Val::Set(words) => even_words(words.as_slice()),
+        Val::Set(words) => even_targets(words.as_slice()),
         Val::Span { .. } => ArrayVec::new(),
     }
 }
 
 /// The words with bit 0 cleared. If two neighbours become equal, one of them is left out.
-fn even_words(words: &[u32]) -> ArrayVec<u32, 128>
+fn even_targets(words: &[u32]) -> ArrayVec<u32, 128>
     requires { AreWords words.now }
-    ensures { result.items ≡ distinct (map (λ w. w / 2 * 2) words.now) }
+    ensures { result.items ≡ sorted_set_of (map (λ w. w / 2 * 2) words.now) }
 {
     let mut evened = ArrayVec::new();
     for word in words {
-        add_once(&mut evened, *word / 2 * 2);
+        add_target_once(&mut evened, *word / 2 * 2);
     }
     evened
 }
 
 /// Adds a word that isn't below the others, unless it is the last one.
-fn add_once(words: &mut ArrayVec<u32, 128>, x: u32)
+fn add_target_once(words: &mut ArrayVec<u32, 128>, x: u32)
     requires room { length words.old.items < 128 }
     requires rising { Rising words.old.items }
     requires greatest { (y : ℕ) → Among y words.old.items → y ≤ x }
     ensures { words.new.items ≡ sorted_insert x words.old.items }
 {
-    if !ends_with(words.as_slice(), x) {
+    if !is_last_target(words.as_slice(), x) {
         words.push(x);
     }
 }
 
-fn ends_with(words: &[u32], x: u32) -> bool
+/// Returns true if `x` is the last word of a list of targets.
+fn is_last_target(words: &[u32], x: u32) -> bool
     ensures { IsTrue result ↔ (slice_get words.now (length words.now - 1) ≡ Some x) }
 {
     match words.last() {

@@ -1,8 +1,7 @@
 // The laws of points, edges, frames, faults and refusals.
 ghost use Rattle.cfg_recover.specs.FirstFaultLaws.{FirstFaultsSay, NeedSays};
 ghost use Rattle.cfg_recover.specs.FrameLaws.{EdgesAre, FramesAre, HeldFramesSay, OwedEdgesSay};
-ghost use Rattle.cfg_recover.specs.MovesAreOwed.{InterruptsOwed, MovesInFrame, StoresHeld, TrapsOwed};
-ghost use Rattle.cfg_recover.specs.EdgesAreOwed.{CallsOwed, SystemCallsOwed};
+ghost use Rattle.cfg_recover.specs.MovesAreOwed.{InterruptsOwed, MovesInFrame, StoresHeld, TrapsOwed, CallsOwed, SystemCallsOwed};
 ghost use Rattle.cfg_recover.specs.RefusalLaws.{RefusalsSay};
 
 /// The laws of a machine at a point whose instruction breaks no rule by itself and whose state
@@ -28,14 +27,15 @@ pub fn frame_laws()
     ensures owed { OwedEdgesSay }
 {}
 
-/// The laws of the printed numbers. The first fault is a rule that fails and the place where it
-/// fails, before all others. The need is the one of the start's node.
+/// States the laws of first faults and of needs: a first fault names a rule that fails and where it
+/// fails, before all others; the need is that of the start's node.
 pub fn fault_laws()
     ensures first { FirstFaultsSay }
     ensures need { NeedSays }
 {}
 
-/// The law of a refusal to make a certificate: it names a rule and the very place where it fails.
+/// States the law of refusals: a refusal to make a certificate names a rule and the very place
+/// where it fails.
 pub fn refusal_laws()
     ensures { RefusalsSay }
 {}

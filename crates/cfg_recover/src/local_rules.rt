@@ -1,14 +1,13 @@
 // The own parts of rules: what each asks of a point's instruction alone, for the shapes of
 // instructions at which it can fail; and the least rule that fails at a point.
 ghost use Rattle.std.specs.Prelude.{◌≡◌, ◌<◌, ◌≤◌, ◌⊎◌, ◌↔◌, ℕ, true, length, IsTrue, IsSome, IfErr, IfOk, IfSome, None, Some, if◌then◌else◌, MatchResult};
-ghost use Rattle.tc_isa.specs.InBounds.{IsArg, IsShape, IsSize, IsTarget};
+ghost use Rattle.tc_isa.specs.InBounds.{IsArg, IsShape, IsShapeAccessSize, IsTarget};
 ghost use Rattle.tc_isa.specs.declared.shapes.Shape.TheVariants.{Ret, Rfe};
 ghost use Rattle.value_domain.specs.Values.{IsWell, word_val};
-ghost use Rattle.vd_transfer.specs.Holding.{HasBaseValue};
-ghost use Rattle.vd_transfer.specs.Registers.{HasValue};
-ghost use Rattle.cfg_recover.specs.LocalRules.{named_by, targets_of, MayReturn, MayReturnFromException};
+ghost use Rattle.vd_transfer.specs.Registers.{HasBaseValue, RegisterHasValue};
+ghost use Rattle.cfg_recover.specs.LocalRules.{targets_named_by, targets_of, MayReturn, MayReturnFromException, StoresInRangeAt, MayAccessAt};
 ghost use Rattle.store_ranges.specs.Accesses.{are_aligned};
-ghost use Rattle.cfg_recover.specs.LocalFaults.{StoresInRangeAt, MayAccessAt, IsLocalFault, IsLeastBroken, IsAccessFault, StandsFaultless, FindsFaultless};
+ghost use Rattle.cfg_recover.specs.LocalFaults.{IsLocalFault, IsLeastLocalFault, IsAccessFault, StandsFaultless, FindsFaultless};
 ghost use Rattle.elf_image.specs.Images.{ImageData};
 ghost use Rattle.tc_isa.specs.Meanings.{shape_of};
 ghost use Rattle.value_domain.specs.declared.states.State.{State};
@@ -79,7 +78,7 @@ pub fn local_check(
         return Err(NO_CODE);
     };
     let shape = shape(&found.0);
-    match first_fault(b, plan, key, s, &shape) {
+    match first_local_fault(b, plan, key, s, &shape) {
         Some(rule) => Err(rule),
         None => Ok(Located {
             shape,
@@ -132,7 +131,7 @@ pub fn check_located<'a>(
     let Some(found) = located else {
         return Err(NO_CODE);
     };
-    match first_fault(b, plan, key, s, &found.shape) {
+    match first_local_fault(b, plan, key, s, &found.shape) {
         Some(rule) => Err(rule),
         None => Ok(found),
     }
@@ -141,14 +140,15 @@ pub fn check_located<'a>(
 /// The least rule whose own part fails at an instruction.
 pub(crate) fn local_fault(b: &Bounds, plan: &Plan, key: &Key, s: &State, inst: &Inst) -> Option<u8>
     requires { AreValues b.now s.now.regs }
-    ensures { (p : ℕ) → IsLeastBroken b.now plan.now key.now p s.now (shape_of inst.now) result }
+    ensures { (p : ℕ) → IsLeastLocalFault b.now plan.now key.now p s.now
+        (shape_of inst.now) result }
 {
-    first_fault(b, plan, key, s, &shape(inst))
+    first_local_fault(b, plan, key, s, &shape(inst))
 }
 
 /// The least rule whose own part fails at an instruction of this shape. Three rules can fail at a
 /// store, two at a load, and at most one at each other shape.
-pub(crate) fn first_fault(
+pub(crate) fn first_local_fault(
     b: &Bounds,
     plan: &Plan,
     key: &Key,
@@ -157,36 +157,36 @@ pub(crate) fn first_fault(
 ) -> Option<u8>
     requires shape { IsShape shape.now }
     requires values { AreValues b.now s.now.regs }
-    ensures { (p : ℕ) → IsLeastBroken b.now plan.now key.now p s.now shape.now result }
+    ensures { (p : ℕ) → IsLeastLocalFault b.now plan.now key.now p s.now shape.now result }
 {
     match *shape {
-        Shape::Compute { dst, .. } => unless(has_value(dst), FIXED_REGISTER),
-        Shape::Scaled { dst, .. } => unless(has_value(dst), FIXED_REGISTER),
+        Shape::Compute { dst, .. } => rule_unless(may_write_register(dst), FIXED_REGISTER),
+        Shape::Scaled { dst, .. } => rule_unless(may_write_register(dst), FIXED_REGISTER),
         Shape::Load {
             dst,
             base,
             after,
             ..
         } => {
-            let loading = broken_by_access(b, plan, s, *shape);
-            loading.or(unless(loads_into_values(dst, base, after), FIXED_REGISTER))
+            let loading = local_access_fault(b, plan, s, *shape);
+            loading.or(rule_unless(loads_into_values(dst, base, after), FIXED_REGISTER))
         }
         Shape::Store { base, after, .. } => {
-            let storing = broken_by_access(b, plan, s, *shape);
-            storing.or(unless(has_base_value(base, after), FIXED_REGISTER))
+            let storing = local_access_fault(b, plan, s, *shape);
+            storing.or(rule_unless(has_base_value(base, after), FIXED_REGISTER))
         }
-        Shape::Branch { x, lowers, .. } => unless(lowers_a_value(x, lowers), FIXED_REGISTER),
-        Shape::Jump { to } => unless(knows_target(plan, s, to), UNKNOWN_TARGETS),
-        Shape::Call { to } => unless(knows_target(plan, s, to), UNKNOWN_TARGETS),
-        Shape::Ret => unless(may_return(key, s), BAD_RETURN),
-        Shape::Rfe => unless(may_return_from_exception(key, s), BAD_EXCEPTION_RETURN),
-        Shape::Svlcx => unless(may_save(b, s), BAD_LOCALS),
-        Shape::Rslcx => unless(may_restore(s), BAD_LOCALS),
-        Shape::Bisr { .. } => unless(may_save(b, s), BAD_LOCALS),
+        Shape::Branch { x, lowers, .. } => rule_unless(lowers_a_value(x, lowers), FIXED_REGISTER),
+        Shape::Jump { to } => rule_unless(knows_target(plan, s, to), UNKNOWN_TARGETS),
+        Shape::Call { to } => rule_unless(knows_target(plan, s, to), UNKNOWN_TARGETS),
+        Shape::Ret => rule_unless(may_return(key, s), BAD_RETURN),
+        Shape::Rfe => rule_unless(may_return_from_exception(key, s), BAD_EXCEPTION_RETURN),
+        Shape::Svlcx => rule_unless(may_save(b, s), BAD_LOCALS),
+        Shape::Rslcx => rule_unless(may_restore(s), BAD_LOCALS),
+        Shape::Bisr { .. } => rule_unless(may_save(b, s), BAD_LOCALS),
         Shape::Enable => None,
         Shape::Disable => None,
-        Shape::Syscall { .. } => unless(may_call_system(plan), NO_SYSTEM_CALLS),
-        Shape::Mfcr { dst, .. } => unless(has_value(dst), FIXED_REGISTER),
+        Shape::Syscall { .. } => rule_unless(may_call_system(plan), NO_SYSTEM_CALLS),
+        Shape::Mfcr { dst, .. } => rule_unless(may_write_register(dst), FIXED_REGISTER),
         Shape::Mtcr { .. } => Some(FIXED_REGISTER),
         Shape::Nothing => None,
     }
@@ -194,27 +194,27 @@ pub(crate) fn first_fault(
 
 /// Returns a rule, or `None` if its condition holds.
 #[inline(always)]
-pub fn unless(holds: bool, rule: u8) -> Option<u8>
+pub fn rule_unless(holds: bool, rule: u8) -> Option<u8>
     ensures { result ≡ (if holds then None else Some rule) }
 {
     if holds { None } else { Some(rule) }
 }
 
 /// Tries rule 9, then rule 10, for an access.
-fn broken_by_access(b: &Bounds, plan: &Plan, s: &State, shape: Shape) -> Option<u8>
+fn local_access_fault(b: &Bounds, plan: &Plan, s: &State, shape: Shape) -> Option<u8>
     requires shape { IsShape shape }
     requires values { AreValues b.now s.now.regs }
     ensures { IsAccessFault b.now plan.now s.now shape result }
 {
-    match only_address(b, plan, s, shape) {
-        Some(x) => broken_at_word(plan, x, shape),
-        None => broken_at_value(b, plan, s, shape),
+    match rule_address_by_shape(b, plan, s, shape) {
+        Some(x) => local_fault_at_word(plan, x, shape),
+        None => local_fault_at_value(b, plan, s, shape),
     }
 }
 
 /// The address of a load or a store, if its base has only one word.
 #[tactic(auto, unfolding(vd_transfer::specs::EffectsOnStates::address_of))]
-fn only_address(b: &Bounds, plan: &Plan, s: &State, shape: Shape) -> Option<u32>
+fn rule_address_by_shape(b: &Bounds, plan: &Plan, s: &State, shape: Shape) -> Option<u32>
     requires shape { IsShape shape }
     requires values { AreValues b.now s.now.regs }
     ensures { IfSome result (λ x. address_of b.now plan.now shape s.now ≡ word_val x) }
@@ -225,19 +225,21 @@ fn only_address(b: &Bounds, plan: &Plan, s: &State, shape: Shape) -> Option<u32>
             offset,
             after,
             ..
-        } => only_access(b, plan, s, base, offset, after),
+        } => rule_address_by_base(b, plan, s, base, offset, after),
         Shape::Store {
             base,
             offset,
             after,
             ..
-        } => only_access(b, plan, s, base, offset, after),
+        } => rule_address_by_base(b, plan, s, base, offset, after),
         _ => None,
     }
 }
 
+/// Returns the address that the own parts of rules 9 and 10 test, if the base register of the
+/// access has only one word.
 #[inline(always)]
-fn only_access(
+fn rule_address_by_base(
     b: &Bounds,
     plan: &Plan,
     s: &State,
@@ -260,7 +262,7 @@ fn only_access(
 }
 
 /// Tries the rules for an access with one address.
-pub(crate) fn broken_at_word(plan: &Plan, x: u32, shape: Shape) -> Option<u8>
+pub(crate) fn local_fault_at_word(plan: &Plan, x: u32, shape: Shape) -> Option<u8>
     requires shape { IsShape shape }
     ensures { (b : Limits) (s : State) → address_of b plan.now shape s ≡ word_val x
         → IsAccessFault b plan.now s shape result }
@@ -277,7 +279,7 @@ pub(crate) fn broken_at_word(plan: &Plan, x: u32, shape: Shape) -> Option<u8>
 /// Tries the rules for an access with any addresses. It is a function of its own, so that an access
 /// with one address makes no value.
 #[inline(never)]
-pub(crate) fn broken_at_value(b: &Bounds, plan: &Plan, s: &State, shape: Shape) -> Option<u8>
+pub(crate) fn local_fault_at_value(b: &Bounds, plan: &Plan, s: &State, shape: Shape) -> Option<u8>
     requires shape { IsShape shape }
     requires values { AreValues b.now s.now.regs }
     ensures { IsAccessFault b.now plan.now s.now shape result }
@@ -300,12 +302,13 @@ pub(crate) fn knows_target(plan: &Plan, s: &State, to: Target) -> bool
 {
     match to {
         Target::Rel(_) | Target::Abs(_) => true,
-        Target::Reg(r) => is_list(&reg(plan, s, r)),
+        Target::Reg(r) => is_known_target_list(&reg(plan, s, r)),
     }
 }
 
-fn is_list(v: &Val) -> bool
-    ensures { IsTrue result ↔ IsSome (named_by v.now) }
+/// Rule 5, at a jump or a call by a register: its value is a Set, a known list of targets.
+fn is_known_target_list(v: &Val) -> bool
+    ensures { IsTrue result ↔ IsSome (targets_named_by v.now) }
 {
     match v {
         Val::Set(_) => true,
@@ -325,9 +328,10 @@ pub(crate) fn may_return(key: &Key, s: &State) -> bool
 pub(crate) fn may_return_from_exception(key: &Key, s: &State) -> bool
     ensures { IsTrue result ↔ MayReturnFromException key.now s.now Rfe }
 {
-    has_no_locals(s) && is_done(key, s)
+    has_no_locals(s) && may_handler_return(key, s)
 }
 
+/// Rules 6 and 7: the frame has restored all lower contexts.
 fn has_no_locals(s: &State) -> bool
     ensures { IsTrue result ↔ (length s.now.locals.items ≡ 0) }
 {
@@ -337,7 +341,7 @@ fn has_no_locals(s: &State) -> bool
 /// Returns true if the handler's registers allow its return. The caller of a system call expects
 /// other registers. The handler of an interrupt or of a misaligned access may come anywhere, so its
 /// lower registers must be those of its entry.
-fn is_done(key: &Key, s: &State) -> bool
+fn may_handler_return(key: &Key, s: &State) -> bool
     ensures { IsTrue result
         ↔ ((((key.now.kind ≡ 2) ⊎ (key.now.kind ≡ 4)) × (s.now.lower ≡ true))
         ⊎ (key.now.kind ≡ 3)) }
@@ -412,17 +416,19 @@ pub(crate) fn may_access_at(plan: &Plan, x: u32, shape: Shape) -> bool
     }
 }
 
+/// Rule 10, for an access of this size with only one address.
 fn is_allowed_at(plan: &Plan, x: u32, size: u8) -> bool
-    requires { IsSize size }
+    requires { IsShapeAccessSize size }
     ensures { IsTrue result
         ↔ ((are_aligned (word_val x) size ≡ true) ⊎ (plan.now.aln ≡ true)) }
 {
     plan.aln || x % u32::from(size) == 0
 }
 
+/// Rule 10, for an access of this size.
 fn is_allowed(plan: &Plan, at: &Val, size: u8) -> bool
     requires well { IsWell at.now }
-    requires size { IsSize size }
+    requires size { IsShapeAccessSize size }
     ensures { IsTrue result ↔ ((are_aligned at.now size ≡ true) ⊎ (plan.now.aln ≡ true)) }
 {
     plan.aln || aligned(at, size)
@@ -437,34 +443,37 @@ pub(crate) fn may_call_system(plan: &Plan) -> bool
 
 // Rule 13: the instruction isn't MTCR, and writes none of A0, A1, A8, A9 and A11.
 
-/// Returns true if a state has a value for each register that a load writes.
+/// Tests rule 13 for a load: true if none of the registers that it writes is one of the fixed
+/// registers.
 pub(crate) fn loads_into_values(dst: u8, base: Arg, after: bool) -> bool
-    ensures { IsTrue result ↔ (HasValue dst × HasBaseValue base after) }
+    ensures { IsTrue result ↔ (RegisterHasValue dst × HasBaseValue base after) }
 {
-    has_value(dst) && has_base_value(base, after)
+    may_write_register(dst) && has_base_value(base, after)
 }
 
-/// Returns true if a state has a value for the register that a branch decrements, if it does.
+/// Tests rule 13 for a branch: true if it decrements no register, or one that isn't fixed.
 pub(crate) fn lowers_a_value(x: u8, lowers: bool) -> bool
-    ensures { IsTrue result ↔ (IsTrue lowers → HasValue x) }
+    ensures { IsTrue result ↔ (IsTrue lowers → RegisterHasValue x) }
 {
-    !lowers || has_value(x)
+    !lowers || may_write_register(x)
 }
 
-/// Returns true if a state has a value for the base register, if the access increases it.
+/// Tests rule 13 for the base of a load or a store: true if the access doesn't increase it, or it
+/// isn't one of the fixed registers.
 pub(crate) fn has_base_value(base: Arg, after: bool) -> bool
     ensures { IsTrue result ↔ HasBaseValue base after }
 {
     match base {
-        Arg::Reg(r) => !after || has_value(r),
+        Arg::Reg(r) => !after || may_write_register(r),
         Arg::Word(_) => true,
     }
 }
 
-/// Returns true if a state has a value for the register.
+/// Tests rule 13 for one register: true unless it is one of the fixed ones, A0, A1, A8, A9 and A11,
+/// for which a state has no value.
 #[tactic(auto, unfolding(vd_transfer::specs::Registers::slot))]
-pub(crate) fn has_value(r: u8) -> bool
-    ensures { IsTrue result ↔ HasValue r }
+pub(crate) fn may_write_register(r: u8) -> bool
+    ensures { IsTrue result ↔ RegisterHasValue r }
 {
     r < 16 || 18 <= r && r <= 23 || r == 26 || 28 <= r && r <= 31
 }

@@ -7,11 +7,11 @@ ghost use Rattle.value_domain.specs.State.{AreValues};
 ghost use Rattle.tc_isa.specs.InBounds.{IsShape};
 ghost use Rattle.vd_transfer.specs.Changes.{state_after};
 ghost use Rattle.vd_transfer.specs.EffectsOnStates.{transfer_of};
-ghost use Rattle.cfg_recover.specs.SetOperations.{IsOperand, IsSetOperation, IsSameOperation, HoldsResult, HoldsResults};
+ghost use Rattle.cfg_recover.specs.SetOperations.{IsSetOperand, IsSetOperation, IsSameOperation, HoldsCachedResult, HoldsCachedResults};
 
 use tc_isa::{Arg, Op, Shape};
 use tcd_plan::Plan;
-use value_domain::{Bounds, State, Val, set_span, set_words};
+use value_domain::{Bounds, State, Val, copy_to, set_words};
 use vd_transfer::{Change, change_of};
 
 /// Operands with fewer words aren't cached: comparing and copying them would cost as much as the
@@ -51,7 +51,7 @@ pub struct OperationCache {
 }
 
 /// Whether a value is the set of these words.
-fn is_the_set(v: &Val, words: &[u32]) -> bool
+fn is_cached_set(v: &Val, words: &[u32]) -> bool
     ensures { IsTrue result ↔ (v.now ≡ Set words.now) }
 {
     match v {
@@ -60,19 +60,9 @@ fn is_the_set(v: &Val, words: &[u32]) -> bool
     }
 }
 
-/// Overwrites `out` with a copy of a value. If both are of one kind, only its parts are written.
-fn copy_value(v: &Val, out: &mut Val)
-    ensures { out.new ≡ v.now }
-{
-    match v {
-        Val::Set(words) => set_words(out, words.as_slice()),
-        Val::Span { lo, last, step } => set_span(out, *lo, *last, *step),
-    }
-}
-
 /// The words of a data register's value, if that is a set of many words.
-fn many_words(s: &State, r: Arg) -> Option<&[u32]>
-    ensures { IfSome result (λ ws. IsOperand s.now r ws.now) }
+fn cacheable_words(s: &State, r: Arg) -> Option<&[u32]>
+    ensures { IfSome result (λ ws. IsSetOperand s.now r ws.now) }
 {
     let Arg::Reg(r) = r else {
         return None;
@@ -105,8 +95,8 @@ fn set_operation(shape: Shape, s: &State) -> Option<SetOperation<'_>>
     if dst >= 16 {
         return None;
     }
-    let x = many_words(s, x)?;
-    let y = many_words(s, y)?;
+    let x = cacheable_words(s, x)?;
+    let y = cacheable_words(s, y)?;
     Some(SetOperation {
         shape,
         op,
@@ -120,7 +110,7 @@ impl CachedOperation {
     /// An empty entry.
     #[inline(never)]
     fn empty() -> CachedOperation
-        ensures { (b : Limits) → HoldsResult b result }
+        ensures { (b : Limits) → HoldsCachedResult b result }
     {
         CachedOperation {
             op: None,
@@ -136,8 +126,8 @@ impl CachedOperation {
     {
         match self.op {
             Some(op) => op == operation.op
-                && is_the_set(&self.x, operation.x)
-                && is_the_set(&self.y, operation.y),
+                && is_cached_set(&self.x, operation.x)
+                && is_cached_set(&self.y, operation.y),
             None => false,
         }
     }
@@ -156,17 +146,17 @@ impl CachedOperation {
         requires shape { IsShape operation.shape }
         requires values { AreValues b.now s.now.regs }
         requires operation { IsSetOperation s.now operation }
-        requires results { HoldsResult b.now self.old }
+        requires results { HoldsCachedResult b.now self.old }
         ensures change { (loaded : Val) → state_after s.now c.new
             ≡ transfer_of b.now plan.now operation.entry.shape s.now loaded }
         ensures values { AreValues b.now (state_after s.now c.new).regs }
-        ensures results { HoldsResult b.now self.new }
+        ensures results { HoldsCachedResult b.now self.new }
     {
         let _regs = &s.regs[..];
         let place = operation.dst as usize;
         if self.has(operation) {
             c.keep(s);
-            copy_value(&self.result, &mut c.second.value);
+            copy_to(&self.result, &mut c.second.value);
             c.second.at = Some(place);
             c.lower = s.lower && operation.dst >= 8;
             return;
@@ -176,7 +166,7 @@ impl CachedOperation {
         if c.second.at == Some(place) && c.third.at.is_none() {
             set_words(&mut self.x, operation.x);
             set_words(&mut self.y, operation.y);
-            copy_value(&c.second.value, &mut self.result);
+            copy_to(&c.second.value, &mut self.result);
             self.op = Some(operation.op);
         }
     }
@@ -186,7 +176,7 @@ impl OperationCache {
     /// A cache without results.
     #[inline(always)]
     pub fn empty() -> OperationCache
-        ensures { (b : Limits) → HoldsResults b result }
+        ensures { (b : Limits) → HoldsCachedResults b result }
     {
         OperationCache {
             zero: CachedOperation::empty(),
@@ -209,11 +199,11 @@ impl OperationCache {
     ) -> bool
         requires shape { IsShape shape }
         requires values { AreValues b.now s.now.regs }
-        requires results { HoldsResults b.now self.old }
+        requires results { HoldsCachedResults b.now self.old }
         ensures change { IsTrue result → (loaded : Val) → state_after s.now c.new
             ≡ transfer_of b.now plan.now shape s.now loaded }
         ensures values { IsTrue result → AreValues b.now (state_after s.now c.new).regs }
-        ensures results { HoldsResults b.now self.new }
+        ensures results { HoldsCachedResults b.now self.new }
     {
         let Some(operation) = set_operation(shape, s) else {
             return false;

@@ -1,14 +1,14 @@
 // The instruction at an address of an image.
 ghost use Rattle.std.specs.Prelude.{◌≡◌, ◌≤◌, ◌+◌, ◌^◌, ◌↔◌, [], ◌∷◌, IsTrue, IfSome};
-ghost use Rattle.tcd_base.specs.Ranges.{IsInOne};
+ghost use Rattle.tcd_base.specs.Ranges.{IsInOneRange};
 ghost use Rattle.elf_image.specs.Images.{image_byte, segment_data};
-ghost use Rattle.cfg_recover.specs.HeldBytes.{held_bytes, StandIn, FindsInRom};
-ghost use Rattle.cfg_recover.specs.Code.{FindsBytes, FindsCode};
+ghost use Rattle.cfg_recover.specs.HeldBytes.{held_bytes, SegmentHoldsBytes, FindsHeldBytes};
+ghost use Rattle.cfg_recover.specs.Code.{FindsCodeInBytes, FindsCode};
 
 use elf_image::{Image, Segment};
 use tc_encode::decode;
 use tc_isa::Inst;
-use tcd_base::any_holds;
+use tcd_base::is_in_any_range;
 use tcd_plan::Plan;
 
 /// The instruction at an address, and its length. The address is even; the bytes are in one rom
@@ -21,9 +21,9 @@ pub fn code_at(image: &Image, plan: &Plan, addr: u32) -> Option<(Inst, u32)>
     }
     let mut near = 0;
     match four_in_rom(image, plan, addr, &mut near) {
-        Some(bytes) => inst_in(&bytes),
+        Some(bytes) => code_in_bytes(&bytes),
         None => match two_in_rom(image, plan, addr) {
-            Some(bytes) => inst_in(&bytes),
+            Some(bytes) => code_in_bytes(&bytes),
             None => None,
         },
     }
@@ -38,10 +38,10 @@ pub(crate) fn four_in_rom(
     addr: u32,
     near: &mut usize,
 ) -> Option<[u8; 4]>
-    ensures { FindsInRom image.now plan.now addr 4 result }
+    ensures { FindsHeldBytes image.now plan.now addr 4 result }
 {
-    if is_in_rom(plan, addr, 4) {
-        four_bytes(image, addr, near)
+    if is_code_in_rom(plan, addr, 4) {
+        four_code_bytes(image, addr, near)
     } else {
         None
     }
@@ -50,10 +50,10 @@ pub(crate) fn four_in_rom(
 /// Two bytes of the image in one rom range.
 #[inline(always)]
 fn two_in_rom(image: &Image, plan: &Plan, addr: u32) -> Option<[u8; 2]>
-    ensures { FindsInRom image.now plan.now addr 2 result }
+    ensures { FindsHeldBytes image.now plan.now addr 2 result }
 {
-    if is_in_rom(plan, addr, 2) {
-        two_bytes(image, addr)
+    if is_code_in_rom(plan, addr, 2) {
+        two_code_bytes(image, addr)
     } else {
         None
     }
@@ -61,48 +61,48 @@ fn two_in_rom(image: &Image, plan: &Plan, addr: u32) -> Option<[u8; 2]>
 
 /// Returns true if `count` bytes from the address on are in one rom range.
 #[inline(always)]
-fn is_in_rom(plan: &Plan, addr: u32, count: u32) -> bool
-    ensures decides { IsTrue result ↔ IsInOne addr count plan.now.rom }
+fn is_code_in_rom(plan: &Plan, addr: u32, count: u32) -> bool
+    ensures decides { IsTrue result ↔ IsInOneRange addr count plan.now.rom }
     ensures fits { IsTrue result → addr + count ≤ 2 ^ 32 }
 {
-    any_holds(plan.rom.as_slice(), addr, count)
+    is_in_any_range(plan.rom.as_slice(), addr, count)
 }
 
 /// Four bytes of the image, if segments hold them. The segment with the number `near` is tried
 /// first: mostly it holds all four, as it held the last ones.
 #[inline(always)]
-fn four_bytes(image: &Image, addr: u32, near: &mut usize) -> Option<[u8; 4]>
+fn four_code_bytes(image: &Image, addr: u32, near: &mut usize) -> Option<[u8; 4]>
     requires { addr + 4 ≤ 2 ^ 32 }
     ensures { result ≡ held_bytes image.now addr 4 }
 {
     if let Some(segment) = image.segments.get(*near) {
-        if let Some(bytes) = four_of(segment, addr) {
+        if let Some(bytes) = four_code_bytes_of(segment, addr) {
             return Some(bytes);
         }
     }
-    four_anywhere(image, addr, near)
+    four_code_bytes_anywhere(image, addr, near)
 }
 
 /// Four bytes of the image, if segments hold them. All segments are tried. If one holds all four
 /// bytes, `near` becomes its number.
 #[inline(never)]
-fn four_anywhere(image: &Image, addr: u32, near: &mut usize) -> Option<[u8; 4]>
+fn four_code_bytes_anywhere(image: &Image, addr: u32, near: &mut usize) -> Option<[u8; 4]>
     requires { addr + 4 ≤ 2 ^ 32 }
     ensures { result ≡ held_bytes image.now addr 4 }
 {
     for (number, segment) in image.segments.iter().enumerate() {
-        if let Some(bytes) = four_of(segment, addr) {
+        if let Some(bytes) = four_code_bytes_of(segment, addr) {
             *near = number;
             return Some(bytes);
         }
     }
-    four_apart(image, addr)
+    four_code_bytes_apart(image, addr)
 }
 
 /// Four bytes of a segment from an address on, if it holds them all.
 #[inline(always)]
-fn four_of(segment: &Segment, addr: u32) -> Option<[u8; 4]>
-    ensures { IfSome result (StandIn (segment_data segment.now) addr) }
+fn four_code_bytes_of(segment: &Segment, addr: u32) -> Option<[u8; 4]>
+    ensures { IfSome result (SegmentHoldsBytes (segment_data segment.now) addr) }
 {
     if addr < segment.at {
         return None;
@@ -118,7 +118,7 @@ fn four_of(segment: &Segment, addr: u32) -> Option<[u8; 4]>
 /// Four bytes of the image, if segments hold them. Each byte is looked for by itself, since
 /// segments may meet within the four.
 #[inline(never)]
-fn four_apart(image: &Image, addr: u32) -> Option<[u8; 4]>
+fn four_code_bytes_apart(image: &Image, addr: u32) -> Option<[u8; 4]>
     requires { addr + 4 ≤ 2 ^ 32 }
     ensures { result ≡ held_bytes image.now addr 4 }
 {
@@ -132,25 +132,25 @@ fn four_apart(image: &Image, addr: u32) -> Option<[u8; 4]>
 /// The byte of the image at an address. The segment with the number `near` is tried first, and
 /// `near` becomes the number of the one that holds the byte.
 #[inline(always)]
-pub(crate) fn byte_at(image: &Image, addr: u32, near: &mut usize) -> Option<u8>
+pub(crate) fn code_byte_at(image: &Image, addr: u32, near: &mut usize) -> Option<u8>
     ensures { result ≡ image_byte image.now addr }
 {
     if let Some(segment) = image.segments.get(*near) {
-        if let Some(byte) = byte_of(segment, addr) {
+        if let Some(byte) = code_byte_of(segment, addr) {
             return Some(byte);
         }
     }
-    byte_anywhere(image, addr, near)
+    code_byte_anywhere(image, addr, near)
 }
 
 /// The byte of the image at an address. All segments are tried. If one holds the byte, `near`
 /// becomes its number.
 #[inline(never)]
-fn byte_anywhere(image: &Image, addr: u32, near: &mut usize) -> Option<u8>
+fn code_byte_anywhere(image: &Image, addr: u32, near: &mut usize) -> Option<u8>
     ensures { result ≡ image_byte image.now addr }
 {
     for (number, segment) in image.segments.iter().enumerate() {
-        if let Some(byte) = byte_of(segment, addr) {
+        if let Some(byte) = code_byte_of(segment, addr) {
             *near = number;
             return Some(byte);
         }
@@ -160,8 +160,8 @@ fn byte_anywhere(image: &Image, addr: u32, near: &mut usize) -> Option<u8>
 
 /// The byte of a segment at an address, if it holds it.
 #[inline(always)]
-fn byte_of(segment: &Segment, addr: u32) -> Option<u8>
-    ensures { IfSome result (λ b. StandIn (segment_data segment.now) addr (b ∷ [])) }
+fn code_byte_of(segment: &Segment, addr: u32) -> Option<u8>
+    ensures { IfSome result (λ b. SegmentHoldsBytes (segment_data segment.now) addr (b ∷ [])) }
 {
     if addr < segment.at {
         return None;
@@ -176,7 +176,7 @@ fn byte_of(segment: &Segment, addr: u32) -> Option<u8>
 
 /// Two bytes of the image, if segments hold them.
 #[inline(always)]
-fn two_bytes(image: &Image, addr: u32) -> Option<[u8; 2]>
+fn two_code_bytes(image: &Image, addr: u32) -> Option<[u8; 2]>
     requires { addr + 2 ≤ 2 ^ 32 }
     ensures { result ≡ held_bytes image.now addr 2 }
 {
@@ -187,8 +187,8 @@ fn two_bytes(image: &Image, addr: u32) -> Option<[u8; 2]>
 
 /// The instruction that the bytes begin with, and its length.
 #[inline(always)]
-fn inst_in(bytes: &[u8]) -> Option<(Inst, u32)>
-    ensures { FindsBytes bytes.now result }
+fn code_in_bytes(bytes: &[u8]) -> Option<(Inst, u32)>
+    ensures { FindsCodeInBytes bytes.now result }
 {
     match decode(bytes) {
         Ok(found) => Some((found.0, found.1 as u32)),

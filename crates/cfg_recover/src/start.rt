@@ -25,6 +25,7 @@ pub fn start_state(plan: &Plan) -> State
     }
 }
 
+/// The values of the 27 registers at the start, before A10 is set: all are unknown.
 pub(crate) fn any_regs() -> [Val; 27]
     ensures { result ≡ replicate 27 any_val }
 {

@@ -3,7 +3,7 @@ ghost use Rattle.std.specs.Prelude.{◌≡◌, IfSome};
 ghost use Rattle.value_domain.specs.Values.{IsValue};
 ghost use Rattle.value_domain.specs.State.{AreValues};
 ghost use Rattle.tc_isa.specs.Meanings.{shape_of};
-ghost use Rattle.vd_transfer.specs.EffectsOnStates.{HasRoom, address_of, transfer_of};
+ghost use Rattle.vd_transfer.specs.EffectsOnStates.{EffectHasRoom, address_of, transfer_of};
 ghost use Rattle.vd_transfer.specs.Branches.{refine_of};
 ghost use Rattle.vd_transfer.specs.Changes.{state_after};
 
@@ -12,7 +12,7 @@ use tcd_plan::Plan;
 use value_domain::{Bounds, State, Val, copy_locals};
 use vd_transfer::{Change, address_by, change_of, change_on, changed_value, unchanged};
 
-/// The addresses that a load or a store may access.
+/// Returns the addresses that a load or a store may access, as one value.
 pub fn address(b: &Bounds, plan: &Plan, inst: &Inst, s: &State) -> Val
     requires { AreValues b.now s.now.regs }
     ensures address { result ≡ address_of b.now plan.now (shape_of inst.now) s.now }
@@ -21,7 +21,8 @@ pub fn address(b: &Bounds, plan: &Plan, inst: &Inst, s: &State) -> Val
     address_by(b, plan, shape(inst), s)
 }
 
-/// The state on a side of a branch, or `None` if that side isn't possible.
+/// Builds the state after a branch on one of its sides, or gives `None` if that side isn't
+/// possible.
 pub fn refine(b: &Bounds, plan: &Plan, inst: &Inst, s: &State, side: bool) -> Option<State>
     requires { AreValues b.now s.now.regs }
     ensures refine { result ≡ refine_of b.now plan.now (shape_of inst.now) s.now side }
@@ -29,7 +30,7 @@ pub fn refine(b: &Bounds, plan: &Plan, inst: &Inst, s: &State, side: bool) -> Op
 {
     let mut c = unchanged(s);
     if change_on(b, plan, shape(inst), s, side, &mut c) {
-        Some(changed_state(s, &c))
+        Some(state_after_change(s, &c))
     } else {
         None
     }
@@ -41,22 +42,22 @@ pub fn refine(b: &Bounds, plan: &Plan, inst: &Inst, s: &State, side: bool) -> Op
 pub fn transfer(b: &Bounds, plan: &Plan, inst: &Inst, s: &State, loaded: &Val) -> State
     requires values { AreValues b.now s.now.regs }
     requires loaded { IsValue b.now loaded.now }
-    requires room { HasRoom b.now (shape_of inst.now) s.now }
+    requires room { EffectHasRoom b.now (shape_of inst.now) s.now }
     ensures transfer { result ≡ transfer_of b.now plan.now (shape_of inst.now) s.now loaded.now }
     ensures values { AreValues b.now result.regs }
 {
     let mut c = unchanged(s);
     c.third.value = loaded.copy();
     change_of(b, plan, shape(inst), s, &mut c);
-    changed_state(s, &c)
+    state_after_change(s, &c)
 }
 
-/// The state that a change makes of another.
-pub fn changed_state(s: &State, c: &Change) -> State
+/// Builds the whole state that a change makes of another.
+pub fn state_after_change(s: &State, c: &Change) -> State
     ensures { result ≡ state_after s.now c.now }
 {
     State {
-        regs: changed_regs(s, c),
+        regs: regs_after_change(s, c),
         ie: c.ie,
         ccpn: c.ccpn,
         lower: c.lower,
@@ -64,7 +65,8 @@ pub fn changed_state(s: &State, c: &Change) -> State
     }
 }
 
-fn changed_regs(s: &State, c: &Change) -> [Val; 27]
+/// The values of the 27 registers in the state that a change makes of another.
+fn regs_after_change(s: &State, c: &Change) -> [Val; 27]
     ensures { result ≡ (state_after s.now c.now).regs }
 {
     let _regs = &s.regs[..];

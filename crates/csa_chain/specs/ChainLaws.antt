@@ -1,11 +1,14 @@
 -- The laws of chains: what a save, a restore and a store do to the free list and the used list.
-use Rattle.std.specs.Prelude.{◌≡◌, ℕ, ◌+◌, ◌<◌, ◌≤◌, ◌⊎◌, ◌^◌, List, ◌∷◌, length, slice_index, Some, []}
+use Rattle.std.specs.Prelude.{◌≡◌, ℕ, ◌+◌, ◌<◌, ◌≤◌, ◌⊎◌, ◌^◌, List, ◌∷◌, length, slice_index, Some, ◌≢◌, []}
 use Rattle.std.specs.List.{AllByRecursion}
 use Rattle.csa_chain.specs.MemoryBytes.{Memory, with_words, with_bytes}
 use Rattle.csa_chain.specs.Chain.{link_in, link_address, area_word, chain}
 use Rattle.csa_chain.specs.ContextWordLaws.{ContextsStay}
-use Rattle.csa_chain.specs.SeveralChains.{AreApart}
-use Rattle.csa_chain.specs.MemoryChanges.{AgreeOn}
+use Rattle.std.specs.FinMap as map
+
+-- no link is on both chains, the used one and the free one
+abbrev pub AreApart : List ℕ → List ℕ → Type 0
+AreApart used free = AllByRecursion (λ l. AllByRecursion (λ k. k ≢ l) used) free
 
 -- A save: 16 words are written to the first free area, the first of them the old PCXI. The new PCXI
 -- names that area, and the new FCX the area that its word 0 named. So the first link of the free
@@ -37,6 +40,10 @@ StoreMisses =
     chain mem pcxi ≡ Some used → chain mem fcx ≡ Some free → MissesAreas x n used → MissesAreas x n free →
     (chain (with_bytes mem x w n) pcxi ≡ Some used) × (chain (with_bytes mem x w n) fcx ≡ Some free)
     × ContextsStay used mem (with_bytes mem x w n) × ContextsStay free mem (with_bytes mem x w n)
+
+-- the two memories have equal bytes in the areas of these links
+abbrev pub AgreeOn : List ℕ → Memory → Memory → Type 0
+AgreeOn links old new = AllByRecursion (λ l. (i : ℕ) → i < 64 → map.get new (link_address l + i) ≡ map.get old (link_address l + i)) links
 
 -- A change outside the areas of a chain leaves it as it is.
 abbrev pub StoreLeaves : Memory → Memory → ℕ → List ℕ → Type 0

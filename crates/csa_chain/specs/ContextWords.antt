@@ -1,8 +1,7 @@
 -- The word PCXI in both layouts, and the words of the upper and the lower context.
-use Rattle.std.specs.Prelude.{ℕ, ◌+◌, ◌*◌, ◌/◌, ◌%◌, ◌^◌, Bool, ◌==◌, if◌then◌else◌, List, ◌∷◌, slice_index, ◌&&◌, ◌||◌, nat_lt, nat_le, ◌≡◌, ◌<◌, []}
+use Rattle.std.specs.Prelude.{ℕ, ◌+◌, ◌*◌, ◌/◌, ◌%◌, ◌^◌, Bool, ◌==◌, if◌then◌else◌, List, ◌∷◌, slice_index, ◌&&◌, ◌||◌, nat_lt, nat_le, []}
 use Rattle.tcd_base.specs.declared.core_version.Core.{Core}
 use Rattle.tcd_base.specs.declared.core_version.Core.TheVariants.{V13, V16}
-use Rattle.csa_chain.specs.Chain.{link_in}
 
 -- ---- PCXI
 -- The word with these fields and all other bits zero. V13: PCPN in bits 31:24, PIE in 23, UL in 22,
@@ -18,7 +17,7 @@ abbrev pub pcpn_of : Core → ℕ → ℕ
 pcpn_of V13 word = word / 2 ^ 24 % 2 ^ 8
 pcpn_of V16 word = word / 2 ^ 22 % 2 ^ 8
 
--- the bit PIE in each layout: interrupts were enabled
+-- the bit PIE of a context's word PCXI, in each layout: interrupts were enabled
 abbrev pub pie_of : Core → ℕ → Bool
 pie_of V13 word = word / 2 ^ 23 % 2 == 1
 pie_of V16 word = word / 2 ^ 21 % 2 == 1
@@ -29,8 +28,8 @@ ul_of V13 word = word / 2 ^ 22 % 2 == 1
 ul_of V16 word = word / 2 ^ 20 % 2 == 1
 
 -- the word with this link in bits 19:0, and its other bits as they are
-abbrev pub with_link : ℕ → ℕ → ℕ
-with_link word link = word / 2 ^ 20 * 2 ^ 20 + link
+abbrev pub word_with_link : ℕ → ℕ → ℕ
+word_with_link word link = word / 2 ^ 20 * 2 ^ 20 + link
 
 -- ---- what a save writes
 -- The 16 words of the upper context: PCXI, PSW, A10, A11, D8 to D11, A12 to A15, D12 to D15
@@ -70,8 +69,8 @@ a_after_upper words a =
     ∷ slice_index a 8 ∷ slice_index a 9 ∷ slice_index words 2 ∷ slice_index words 3
     ∷ slice_index words 8 ∷ slice_index words 9 ∷ slice_index words 10 ∷ slice_index words 11 ∷ []
 
--- D0 to D15 after a lower context is restored: D0 to D7 are the context's (TriCore 1 architecture
--- manual, volume 1, context management).
+-- D0 to D15 after the words of a lower context are restored: D0 to D7 are the context's (TriCore 1
+-- architecture manual, volume 1, context management)
 abbrev pub d_after_lower : List ℕ → List ℕ → List ℕ
 d_after_lower words d =
     slice_index words 4 ∷ slice_index words 5 ∷ slice_index words 6 ∷ slice_index words 7
@@ -89,28 +88,18 @@ a_after_lower words a =
     ∷ slice_index a 12 ∷ slice_index a 13 ∷ slice_index a 14 ∷ slice_index a 15 ∷ []
 
 -- ---- the registers of each context
--- Dr is in the upper context
+-- an upper context has the register Dr
 abbrev pub is_upper_d : ℕ → Bool
 is_upper_d r = nat_le 8 r
 
--- Dr is in the lower context
+-- a lower context has the register Dr
 abbrev pub is_lower_d : ℕ → Bool
 is_lower_d r = nat_lt r 8
 
--- Ar is in the upper context; A11 is in both contexts, A0, A1, A8 and A9 are in none
+-- an upper context has the register Ar; A11 is in both contexts, A0, A1, A8 and A9 are in none
 abbrev pub is_upper_a : ℕ → Bool
 is_upper_a r = nat_le 10 r
 
--- Ar is in the lower context
+-- a lower context has the register Ar
 abbrev pub is_lower_a : ℕ → Bool
 is_lower_a r = (nat_le 2 r && nat_le r 7) || (r == 11)
-
--- A word PCXI that is built from fields has these fields.
-abbrev pub FieldsComeBack : Type 0
-FieldsComeBack =
-    (core : Core) (pcpn : ℕ) (pie ul : Bool) (link : ℕ) → pcpn < 2 ^ 8 → link < 2 ^ 20 →
-    (pcpn_of core (pcxi_word_of core pcpn pie ul link) ≡ pcpn)
-    × (pie_of core (pcxi_word_of core pcpn pie ul link) ≡ pie)
-    × (ul_of core (pcxi_word_of core pcpn pie ul link) ≡ ul)
-    × (link_in (pcxi_word_of core pcpn pie ul link) ≡ link)
-    × (pcxi_word_of core pcpn pie ul link < 2 ^ 32)

@@ -3,9 +3,8 @@ ghost use Rattle.std.specs.Prelude.{ℕ, List};
 ghost use Rattle.csa_chain.specs.MemoryBytes.{Memory};
 ghost use Rattle.csa_chain.specs.ChainLaws.{SaveMoves, RestoreMoves, StoreMisses, StoreLeaves};
 ghost use Rattle.csa_chain.specs.SeveralChains.{OwnerSaves, OwnerRestores};
-ghost use Rattle.csa_chain.specs.MemoryChanges.{WordsComeBack, BytesStay, WordsStay};
-ghost use Rattle.csa_chain.specs.ContextWordLaws.{UpperComesBack, LowerComesBack};
-ghost use Rattle.csa_chain.specs.ContextWords.{FieldsComeBack};
+ghost use Rattle.csa_chain.specs.MemoryChanges.{WordsComeBack, BytesStay};
+ghost use Rattle.csa_chain.specs.ContextWordLaws.{WordsStay, UpperComesBack, LowerComesBack, FieldsComeBack};
 
 /// The laws of chains: what a save, a restore and a store do to the free list and the used list.
 pub fn chain_laws()

@@ -5,42 +5,42 @@ use Rattle.std.proofs.lemmas.List.Elements.{All-nil, All-push}
 use Rattle.std.specs.List.{All, flat_map}
 use Rattle.tcd_base.specs.Bytes.{bytes_of_word}
 use Rattle.tcd_base.specs.Place.{Place, place_between}
-use Rattle.tcd_base.specs.FieldReaders.{u8_at, u32_at, many_at}
+use Rattle.tcd_base.specs.FieldReaders.{u8_at, u32_at, many_fields_at}
 use Rattle.tcd_base.proofs.FieldReads.{bind_ok}
 use Rattle.value_domain.specs.declared.states.State.{State}
 use Rattle.value_domain.specs.VersionLimits.{most_locals_of}
 use Rattle.depth_cert.specs.declared.keys.Key.{Key}
 use Rattle.depth_cert.specs.declared.points.Point.{Point}
-use Rattle.depth_cert.specs.Keys.{byte_of, key_number, number_of_key, IsKey}
+use Rattle.depth_cert.specs.Keys.{cert_flag_byte, key_number, number_of_key, IsKey}
 use Rattle.depth_cert.specs.Points.{IsState, IsPoint, ArePoints, addresses}
-use Rattle.depth_cert.specs.Grammar.{checked, is_above, last_of, flag_at, values_at, locals_at, state_at, address_after, point_after, key_after, point_count_at, points_at}
+use Rattle.depth_cert.specs.Grammar.{checked_cert_field, is_above_last_read, last_number_read, flag_at, values_at, locals_at, state_at, address_after, point_after, key_after, point_count_at, points_at}
 use Rattle.depth_cert.specs.Spelling.{bytes_of_value, bytes_of_state, bytes_of_point, bytes_of_key}
 use Rattle.depth_cert.proofs.ManyLaws.{rising_map_push}
 use Rattle.tcd_base.proofs.PassedLaws.{AreBytes, Passed, passed_bytes, passed_both, ok_pair, byte_passed, word_passed, many_passed}
 use Rattle.depth_cert.proofs.GrammarLaws.{next, checked_passed, flag_passed, values_passed}
 
 -- ---- points
-flat_map-flags : (xs : List Bool) → flat_map (λ x. byte_of x ∷ []) xs ≡ map byte_of xs
+flat_map-flags : (xs : List Bool) → flat_map (λ x. cert_flag_byte x ∷ []) xs ≡ map cert_flag_byte xs
 flat_map-flags [] = refl
-flat_map-flags (x ∷ xs) = ap (λ (l : List ℕ). byte_of x ∷ l) (flat_map-flags xs)
+flat_map-flags (x ∷ xs) = ap (λ (l : List ℕ). cert_flag_byte x ∷ l) (flat_map-flags xs)
 
 locals_passed : (version : ℕ) (front rest : List ℕ) (ls : List Bool) (q : Place) → AreBytes rest → locals_at version (place_between front rest) ≡ Ok (ls, q)
-    → Passed (length ls ∷ map byte_of ls) front rest q × (length ls ≤ most_locals_of version)
+    → Passed (length ls ∷ map cert_flag_byte ls) front rest q × (length ls ≤ most_locals_of version)
 unfolding locals_at
 locals_passed version front rest ls q bytes e =
     let b = bind_ok (u8_at (place_between front rest)) _ _ e in
     let n : ℕ = b.0.0 in
     let h = byte_passed front rest n b.0.1 bytes b.1 in
-    let c = bind_ok (checked 5 (leb n (most_locals_of version)) (place_between front rest) b.0) _ _ b.2 in
+    let c = bind_ok (checked_cert_field 5 (leb n (most_locals_of version)) (place_between front rest) b.0) _ _ b.2 in
     let t = checked_passed 5 (leb n (most_locals_of version)) (place_between front rest) b.0 c.0 c.1 in
-    let left : many_at (λ before. flag_at) n [] b.0.1 ≡ Ok (ls, q) = rw t.1 c.2 in
-    let m = many_passed (λ before. flag_at) (λ x. byte_of x ∷ []) (λ ls. Unit {0}) (λ before front rest x q bytes good e. (flag_passed front rest x q bytes e, tt)) n [] ls (front ++ n ∷ []) h.0.after q (passed_bytes h.0 bytes) tt (next (many_at (λ before. flag_at) n []) _ h.0 left) in
+    let left : many_fields_at (λ before. flag_at) n [] b.0.1 ≡ Ok (ls, q) = rw t.1 c.2 in
+    let m = many_passed (λ before. flag_at) (λ x. cert_flag_byte x ∷ []) (λ ls. Unit {0}) (λ before front rest x q bytes good e. (flag_passed front rest x q bytes e, tt)) n [] ls (front ++ n ∷ []) h.0.after q (passed_bytes h.0 bytes) tt (next (many_fields_at (λ before. flag_at) n []) _ h.0 left) in
     let count : length ls ≡ n = ap length m.is ∙ m.count in
-    let part : flat_map (λ x. byte_of x ∷ []) m.items ≡ map byte_of ls = flat_map-flags m.items ∙ ap (map byte_of) (sym m.is) in
+    let part : flat_map (λ x. cert_flag_byte x ∷ []) m.items ≡ map cert_flag_byte ls = flat_map-flags m.items ∙ ap (map cert_flag_byte) (sym m.is) in
     let most : n ≤ most_locals_of version = leb-true _ _ t.0 in
-    (subst (λ k. Passed (k ∷ map byte_of ls) front rest q) (sym count) (passed_both h.0 (subst (λ (l : List ℕ). Passed l (front ++ n ∷ []) h.0.after q) part m.passed)), omega arith)
+    (subst (λ k. Passed (k ∷ map cert_flag_byte ls) front rest q) (sym count) (passed_both h.0 (subst (λ (l : List ℕ). Passed l (front ++ n ∷ []) h.0.after q) part m.passed)), omega arith)
 
-state_bytes : (s : State) → byte_of s.ie ∷ s.ccpn ∷ byte_of s.lower ∷ length s.locals.items ∷ map byte_of s.locals.items ++ flat_map bytes_of_value s.regs ≡ bytes_of_state s
+state_bytes : (s : State) → cert_flag_byte s.ie ∷ s.ccpn ∷ cert_flag_byte s.lower ∷ length s.locals.items ∷ map cert_flag_byte s.locals.items ++ flat_map bytes_of_value s.regs ≡ bytes_of_state s
 unfolding bytes_of_state
 state_bytes s = refl
 
@@ -81,16 +81,16 @@ point_passed : (version : ℕ) (before : List Point) (front rest : List ℕ) (p 
     → Passed (bytes_of_point p) front rest q × ArePointsOf version (before ++ p ∷ [])
 unfolding point_after address_after
 point_passed version before front rest p q bytes good e =
-    let addr = bind_ok (address_after (last_of (addresses before)) (place_between front rest)) _ _ e in
+    let addr = bind_ok (address_after (last_number_read (addresses before)) (place_between front rest)) _ _ e in
     let word = bind_ok (u32_at (place_between front rest)) _ _ addr.1 in
-    let t = checked_passed 3 (is_above (last_of (addresses before)) word.0.0) (place_between front rest) word.0 addr.0 word.2 in
+    let t = checked_passed 3 (is_above_last_read (last_number_read (addresses before)) word.0.0) (place_between front rest) word.0 addr.0 word.2 in
     let h1 = word_passed front rest addr.0.0 addr.0.1 bytes (word.1 ∙ ap (λ (v : ℕ × Place). Ok v) t.1) in
     let state = bind_ok (state_at version addr.0.1) _ _ addr.2 in
     let h2 = state_passed version _ h1.0.after state.0.0 state.0.1 (passed_bytes h1.0 bytes) (next (state_at version) _ h1.0 state.1) in
     let made : Point = record { addr = addr.0.0; state = state.0.0 } in
     let f = ok_pair made p state.0.1 q state.2 in
     let all : Passed (bytes_of_point made) front rest state.0.1 = subst (λ (l : List ℕ). Passed l front rest state.0.1) (point_bytes made) (passed_both h1.0 h2.0) in
-    let above : is_above (last_of (addresses before)) addr.0.0 ≡ true = subst (λ (v : ℕ × Place). is_above (last_of (addresses before)) v.0 ≡ true) t.1 t.0 in (
+    let above : is_above_last_read (last_number_read (addresses before)) addr.0.0 ≡ true = subst (λ (v : ℕ × Place). is_above_last_read (last_number_read (addresses before)) v.0 ≡ true) t.1 t.0 in (
       subst (λ (r : Place). Passed (bytes_of_point p) front rest r) f.1 (subst (λ (t : Point). Passed (bytes_of_point t) front rest state.0.1) f.0 all),
       subst (λ (t : Point). ArePointsOf version (before ++ t ∷ [])) f.0 (record {
         rising = rising_map_push (λ p. p.addr) before made good.rising above;
@@ -109,29 +109,29 @@ points_passed version used front rest ps q bytes e =
     let h = word_passed front rest n b.0.1 bytes (word.1 ∙ ap (λ (v : ℕ × Place). Ok v) t.1) in
     let few : used + n ≤ 2 ^ 16 = leb-true _ _ (subst (λ (v : ℕ × Place). leb (used + v.0) (2 ^ 16) ≡ true) t.1 t.0) in
     let m = many_passed (point_after version) bytes_of_point (ArePointsOf version) (point_passed version) n [] ps (front ++ bytes_of_word n) h.0.after q (passed_bytes h.0 bytes)
-    (record { rising = λ k h. absurd (omega arith); each = All-nil (IsPoint version) }) (next (many_at (point_after version) n []) _ h.0 b.2) in
+    (record { rising = λ k h. absurd (omega arith); each = All-nil (IsPoint version) }) (next (many_fields_at (point_after version) n []) _ h.0 b.2) in
     let count : length ps ≡ n = ap length m.is ∙ m.count in
     let items : Passed (flat_map bytes_of_point ps) (front ++ bytes_of_word n) h.0.after q = subst (λ (l : List Point). Passed (flat_map bytes_of_point l) (front ++ bytes_of_word n) h.0.after q) (sym m.is) m.passed in
     (subst (λ k. Passed (bytes_of_word k ++ flat_map bytes_of_point ps) front rest q) (sym count) (passed_both h.0 items), m.good, omega arith)
 
 -- ---- nodes
-key_bytes : (k : Key) → k.kind ∷ bytes_of_word k.entry ++ (k.prio ∷ byte_of k.is ∷ []) ≡ bytes_of_key k
+key_bytes : (k : Key) → k.kind ∷ bytes_of_word k.entry ++ (k.prio ∷ cert_flag_byte k.is ∷ []) ≡ bytes_of_key k
 unfolding bytes_of_key
 key_bytes k = refl
 
-is_byte : (n : ℕ) → n ≤ 1 → n ≡ byte_of (eqb n 1)
+is_byte : (n : ℕ) → n ≤ 1 → n ≡ cert_flag_byte (eqb n 1)
 is_byte zero h = refl
 is_byte (suc zero) h = refl
 is_byte (suc (suc n)) h = absurd (omega arith)
 
 pub key_passed : (last : Option ℕ) (front rest : List ℕ) (k : Key) (q : Place) → AreBytes rest → key_after last (place_between front rest) ≡ Ok (k, q)
-    → Passed (bytes_of_key k) front rest q × IsKey k × (is_above last (number_of_key k) ≡ true)
+    → Passed (bytes_of_key k) front rest q × IsKey k × (is_above_last_read last (number_of_key k) ≡ true)
 unfolding key_after
 key_passed last front rest k q bytes e =
     let kind = bind_ok (u8_at (place_between front rest)) _ _ e in
     let h1 = byte_passed front rest kind.0.0 kind.0.1 bytes kind.1 in
     let b1 = passed_bytes h1.0 bytes in
-    let kept = bind_ok (checked 4 (leb kind.0.0 4) (place_between front rest) kind.0) _ _ kind.2 in
+    let kept = bind_ok (checked_cert_field 4 (leb kind.0.0 4) (place_between front rest) kind.0) _ _ kind.2 in
     let t1 = checked_passed 4 (leb kind.0.0 4) (place_between front rest) kind.0 kept.0 kept.1 in
     let same : kind.0.0 ≡ kept.0.0 = ap (λ (v : ℕ × Place). v.0) t1.1 in
     let at : kind.0.1 ≡ kept.0.1 = ap (λ (v : ℕ × Place). v.1) t1.1 in
@@ -143,13 +143,13 @@ key_passed last front rest k q bytes e =
     let b3 = passed_bytes h3.0 b2 in
     let is = bind_ok (u8_at prio.0.1) _ _ prio.2 in
     let h4 = byte_passed _ h3.0.after is.0.0 is.0.1 b3 (next u8_at _ h3.0 is.1) in
-    let above = bind_ok (checked 3 (is_above last (key_number kept.0.0 entry.0.0 prio.0.0 is.0.0)) (place_between front rest) is.0) _ _ is.2 in
-    let t2 = checked_passed 3 (is_above last (key_number kept.0.0 entry.0.0 prio.0.0 is.0.0)) (place_between front rest) is.0 above.0 above.1 in
-    let flag = bind_ok (checked 4 (leb above.0.0 1) prio.0.1 above.0) _ _ above.2 in
+    let above = bind_ok (checked_cert_field 3 (is_above_last_read last (key_number kept.0.0 entry.0.0 prio.0.0 is.0.0)) (place_between front rest) is.0) _ _ is.2 in
+    let t2 = checked_passed 3 (is_above_last_read last (key_number kept.0.0 entry.0.0 prio.0.0 is.0.0)) (place_between front rest) is.0 above.0 above.1 in
+    let flag = bind_ok (checked_cert_field 4 (leb above.0.0 1) prio.0.1 above.0) _ _ above.2 in
     let t3 = checked_passed 4 (leb above.0.0 1) prio.0.1 above.0 flag.0 flag.1 in
     let one : is.0 ≡ flag.0 = t2.1 ∙ t3.1 in
     let low : is.0.0 ≤ 1 = leb-true _ _ (subst (λ (v : ℕ × Place). leb v.0 1 ≡ true) (sym t2.1) t3.0) in
-    let byte : is.0.0 ≡ byte_of (eqb is.0.0 1) = is_byte is.0.0 low in
+    let byte : is.0.0 ≡ cert_flag_byte (eqb is.0.0 1) = is_byte is.0.0 low in
     let made : Key = record { kind = kept.0.0; entry = entry.0.0; prio = prio.0.0; is = eqb flag.0.0 1 } in
     let f = ok_pair made k flag.0.1 q flag.2 in
     let made2 : Key = record { kind = kind.0.0; entry = entry.0.0; prio = prio.0.0; is = eqb is.0.0 1 } in
@@ -160,6 +160,6 @@ key_passed last front rest k q bytes e =
     let kind_low : kind.0.0 ≤ 4 = leb-true _ _ t1.0 in (
       subst (λ (r : Place). Passed (bytes_of_key k) front rest r) end (subst (λ (x : Key). Passed (bytes_of_key x) front rest is.0.1) g all),
       subst IsKey g (record { kind = kind_low; entry = h2.1; prio = h3.1 }),
-      subst (λ (x : Key). is_above last (number_of_key x) ≡ true) g
-          (ap (λ n. is_above last (key_number kind.0.0 entry.0.0 prio.0.0 n)) (sym byte) ∙ ap (λ n. is_above last (key_number n entry.0.0 prio.0.0 is.0.0)) same ∙ t2.0),
+      subst (λ (x : Key). is_above_last_read last (number_of_key x) ≡ true) g
+          (ap (λ n. is_above_last_read last (key_number kind.0.0 entry.0.0 prio.0.0 n)) (sym byte) ∙ ap (λ n. is_above_last_read last (key_number n entry.0.0 prio.0.0 is.0.0)) same ∙ t2.0),
     )

@@ -3,7 +3,7 @@ use Rattle.std.proofs.Common.{◌≡◌, ℕ, suc, ◌+◌, ◌*◌, ◌^◌, �
 use Rattle.std.specs.List.{find}
 use Rattle.std.specs.Prelude.{None}
 use Rattle.depth_cert.specs.declared.keys.Key.{Key}
-use Rattle.depth_cert.specs.Keys.{byte_of, key_number, number_of_key, IsKey}
+use Rattle.depth_cert.specs.Keys.{cert_flag_byte, key_number, number_of_key, IsKey}
 
 -- what is found is in the list, and passes the test
 pub found_in : {X : Type 0} (p : X → Bool) (xs : List X) (x : X) → find p xs ≡ Some x → Contains xs x × (p x ≡ true)
@@ -14,11 +14,11 @@ found_in p (y ∷ ys) x h =
       | false ↦ λ e g. let rest = found_in p ys x g in ((suc (rest.0).0, (let lt = (rest.0).1 in omega arith), (rest.0).2), rest.1)
     ] refl h
 
-byte_lt : (b : Bool) → byte_of b < 2
+byte_lt : (b : Bool) → cert_flag_byte b < 2
 byte_lt true = omega arith
 byte_lt false = omega arith
 
-byte_same : (a b : Bool) → byte_of a ≡ byte_of b → a ≡ b
+byte_same : (a b : Bool) → cert_flag_byte a ≡ cert_flag_byte b → a ≡ b
 byte_same true true e = refl
 byte_same false false e = refl
 byte_same true false e = absurd (let f : 1 ≡ 0 = e in omega arith)
@@ -41,5 +41,5 @@ made kind entry prio is = record { kind = kind; entry = entry; prio = prio; is =
 pub one_number : (j k : Key) → IsKey j → IsKey k → number_of_key j ≡ number_of_key k → j ≡ k
 unfolding made
 one_number j k hj hk e =
-    let p = number_parts j.kind j.entry j.prio (byte_of j.is) k.kind k.entry k.prio (byte_of k.is) hj.entry hj.prio (byte_lt j.is) hk.entry hk.prio (byte_lt k.is) e in
+    let p = number_parts j.kind j.entry j.prio (cert_flag_byte j.is) k.kind k.entry k.prio (cert_flag_byte k.is) hj.entry hj.prio (byte_lt j.is) hk.entry hk.prio (byte_lt k.is) e in
     ap (λ x. made x j.entry j.prio j.is) p.0 ∙ ap (λ x. made k.kind x j.prio j.is) p.1 ∙ ap (λ x. made k.kind k.entry x j.is) p.2 ∙ ap (λ x. made k.kind k.entry k.prio x) (byte_same j.is k.is p.3)

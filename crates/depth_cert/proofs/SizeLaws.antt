@@ -11,13 +11,13 @@ use Rattle.value_domain.specs.declared.states.State.{State}
 use Rattle.tcd_base.specs.Bytes.{bytes_of_word}
 use Rattle.depth_cert.specs.declared.points.Exit.{Exit}
 use Rattle.depth_cert.specs.declared.points.Point.{Point}
-use Rattle.depth_cert.specs.Keys.{byte_of}
-use Rattle.depth_cert.specs.Points.{IsWellOf, IsState, IsPoint}
+use Rattle.depth_cert.specs.Keys.{cert_flag_byte}
+use Rattle.depth_cert.specs.Points.{IsWellCertValue, IsState, IsPoint}
 use Rattle.depth_cert.specs.Exits.{IsExit}
 use Rattle.depth_cert.specs.Nodes.{NodeData, IsNode, count_points}
 use Rattle.depth_cert.specs.Certs.{CertData, IsCert}
-use Rattle.value_domain.specs.Values.{is_any}
-use Rattle.depth_cert.specs.Spelling.{bytes_of_value, bytes_of_state, bytes_of_point, bytes_of_key, bytes_of_exit, bytes_of_node, bytes_of}
+use Rattle.value_domain.specs.Values.{is_any_span}
+use Rattle.depth_cert.specs.Spelling.{bytes_of_value, bytes_of_state, bytes_of_point, bytes_of_key, bytes_of_exit, bytes_of_node, bytes_of_cert}
 use Rattle.depth_cert.proofs.GrammarLaws.{width_le, most_le}
 
 -- parts of at most n bytes each
@@ -29,21 +29,21 @@ span_most : (b : Bool) (lo last step : ℕ) → length (cond b (0 ∷ []) ((240 
 span_most true lo last step = omega arith
 span_most false lo last step = omega arith
 
-value_most : (version : ℕ) (v : Val) → IsWellOf version v → length (bytes_of_value v) ≤ 513
+value_most : (version : ℕ) (v : Val) → IsWellCertValue version v → length (bytes_of_value v) ≤ 513
 unfolding bytes_of_value
 value_most version (Set ws) h =
     let words = parts_most bytes_of_word 4 ws (λ k d lt. omega arith) in
     omega (arith, h.1, (width_le version).1)
-value_most version (Span lo last step) h = span_most (is_any lo last step) lo last step
+value_most version (Span lo last step) h = span_most (is_any_span lo last step) lo last step
 
-values_most : (version : ℕ) (vs : List Val) → All (IsWellOf version) vs → length (flat_map bytes_of_value vs) ≤ length vs * 513
+values_most : (version : ℕ) (vs : List Val) → All (IsWellCertValue version) vs → length (flat_map bytes_of_value vs) ≤ length vs * 513
 values_most version vs h = parts_most bytes_of_value 513 vs (λ k d lt. value_most version (get_or vs k d) (h k d lt))
 
 state_most : (version : ℕ) (s : State) → IsState version s → length (bytes_of_state s) ≤ 13863
 unfolding bytes_of_state
 state_most version s h =
     let values = values_most version s.regs h.values in
-    omega (arith, h.regs, h.locals, most_le version, length-map s.locals.items byte_of, length-append (map byte_of s.locals.items) (flat_map bytes_of_value s.regs))
+    omega (arith, h.regs, h.locals, most_le version, length-map s.locals.items cert_flag_byte, length-append (map cert_flag_byte s.locals.items) (flat_map bytes_of_value s.regs))
 
 point_most : (version : ℕ) (p : Point) → IsPoint version p → length (bytes_of_point p) ≤ 13867
 unfolding bytes_of_point
@@ -73,6 +73,6 @@ nodes_most version (n ∷ ns) h =
     omega (arith, ap length (flat_map-cons bytes_of_node n ns), length-append (bytes_of_node n) (flat_map bytes_of_node ns), sum_by-cons (λ (x : NodeData). length x.points) n ns)
 
 -- a certificate has at most 2^30 bytes
-pub cert_most : (c : CertData) → IsCert c → length (bytes_of c) ≤ 2 ^ 30
-unfolding bytes_of
+pub cert_most : (c : CertData) → IsCert c → length (bytes_of_cert c) ≤ 2 ^ 30
+unfolding bytes_of_cert
 cert_most c h = let nodes = nodes_most c.version c.nodes h.nodes in omega (arith, h.few, h.points)

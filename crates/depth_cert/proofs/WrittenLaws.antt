@@ -10,16 +10,16 @@ use Rattle.std.specs.List.Sorted.{IsStrictlyIncreasing}
 use Rattle.tcd_base.specs.declared.errors.FormErr.{FormErr}
 use Rattle.tcd_base.specs.Bytes.{bytes_of_half, bytes_of_word}
 use Rattle.tcd_base.specs.Place.{Place, place_between}
-use Rattle.tcd_base.specs.FieldReaders.{◌>>=◌, u8_at, u16_at, u32_at, many_at}
+use Rattle.tcd_base.specs.FieldReaders.{◌>>=◌, u8_at, u16_at, u32_at, many_fields_at}
 use Rattle.tcd_base.proofs.FieldReads.{u8_at-between, u16_at-between, u32_at-between}
 use Rattle.value_domain.specs.declared.values.Val.{Val}
 use Rattle.value_domain.specs.declared.values.Val.TheVariants.{Set, Span}
 use Rattle.value_domain.specs.Sets.{AreWords, Rising}
-use Rattle.value_domain.specs.Values.{any_val, count_in, is_any}
+use Rattle.value_domain.specs.Values.{any_val, count_in, is_any_span}
 use Rattle.value_domain.specs.VersionLimits.{most_words_of}
-use Rattle.depth_cert.specs.Keys.{byte_of}
-use Rattle.depth_cert.specs.Points.{IsWellOf}
-use Rattle.depth_cert.specs.Grammar.{checked, is_above, last_of, is_span, flag_at, word_after, set_at, span_at, value_at, values_at}
+use Rattle.depth_cert.specs.Keys.{cert_flag_byte}
+use Rattle.depth_cert.specs.Points.{IsWellCertValue}
+use Rattle.depth_cert.specs.Grammar.{checked_cert_field, is_above_last_read, last_number_read, is_cert_span, flag_at, set_word_after, set_at, span_at, value_at, values_at}
 use Rattle.depth_cert.specs.Spelling.{bytes_of_value}
 use Rattle.depth_cert.proofs.ManyLaws.{is_above-last}
 use Rattle.depth_cert.proofs.GrammarLaws.{width_le}
@@ -45,7 +45,7 @@ seq {A} {B} r f a b x y first second = record {
 }
 
 -- a field that passes its test
-pub test : (kind : ℕ) (good : Bool) (start : Place) (n : ℕ) → good ≡ true → IsRead (λ p. checked kind good start (n, p)) [] n
+pub test : (kind : ℕ) (good : Bool) (start : Place) (n : ℕ) → good ≡ true → IsRead (λ p. checked_cert_field kind good start (n, p)) [] n
 test kind good start n e = record { at = λ front rest. rw e ((done n).at front rest) }
 
 pub byte : (n : ℕ) → IsRead u8_at (n ∷ []) n
@@ -60,8 +60,8 @@ word n h = record { at = λ front rest. u32_at-between front n rest h }
 -- ---- many items
 pub many_read : {A : Type 0} (item : List A → Place → Result (A × Place) FormErr) (spell : A → List ℕ) (all : List A)
     → ((before : List A) (x : A) (after : List A) → all ≡ before ++ (x ∷ after) → IsRead (item before) (spell x) x)
-    → (before ys : List A) (n : ℕ) → all ≡ before ++ ys → length ys ≡ n → IsRead (many_at item n before) (flat_map spell ys) all
-unfolding many_at
+    → (before ys : List A) (n : ℕ) → all ≡ before ++ ys → length ys ≡ n → IsRead (many_fields_at item n before) (flat_map spell ys) all
+unfolding many_fields_at
 many_read {A} item spell all each before [] zero e len = let same : before ≡ all = sym (append-nil before) ∙ sym e in subst (λ (l : List A). IsRead (λ p. Ok (before, p)) [] l) same (done before)
 many_read item spell all each before [] (suc n) e len = absurd (omega arith)
 many_read item spell all each before (y ∷ ys) zero e len = absurd (omega arith)
@@ -75,7 +75,7 @@ one_of P all before x after h e =
     let within : length before < length all = rw (e, length-append before (x ∷ after)) (omega arith) in
     subst P (ap (λ (l : List _). get_or l (length before) x) e ∙ get_or-append_seam before x after x) (h (length before) x within)
 
-above_before : (before : List ℕ) (x : ℕ) (after : List ℕ) → IsStrictlyIncreasing (before ++ (x ∷ after)) → is_above (last_of before) x ≡ true
+above_before : (before : List ℕ) (x : ℕ) (after : List ℕ) → IsStrictlyIncreasing (before ++ (x ∷ after)) → is_above_last_read (last_number_read before) x ≡ true
 above_before [] x after h = refl
 above_before (y ∷ ys) x after h =
     let before : List ℕ = y ∷ ys in
@@ -85,32 +85,32 @@ above_before (y ∷ ys) x after h =
     let rises = h (length before - 1) (omega (arith, length-append before (x ∷ after))) in
     is_above-last before x (omega arith) ∙ lt-ltb _ _ (omega arith)
 
-pub above_map : {A : Type 0} (f : A → ℕ) (all before : List A) (x : A) (after : List A) → IsStrictlyIncreasing (map f all) → all ≡ before ++ (x ∷ after) → is_above (last_of (map f before)) (f x) ≡ true
+pub above_map : {A : Type 0} (f : A → ℕ) (all before : List A) (x : A) (after : List A) → IsStrictlyIncreasing (map f all) → all ≡ before ++ (x ∷ after) → is_above_last_read (last_number_read (map f before)) (f x) ≡ true
 above_map f all before x after h e =
     above_before (map f before) (f x) (map f after) (subst IsStrictlyIncreasing (ap (map f) e ∙ map-append f before (x ∷ after)) h)
 
 -- ---- values
-pub flag : (x : Bool) → IsRead flag_at (byte_of x ∷ []) x
+pub flag : (x : Bool) → IsRead flag_at (cert_flag_byte x ∷ []) x
 unfolding flag_at
 flag true = seq u8_at _ (1 ∷ []) [] 1 true (byte 1) (λ start. done true)
 flag false = seq u8_at _ (0 ∷ []) [] 0 false (byte 0) (λ start. done false)
 
-word_read : (all before : List ℕ) (x : ℕ) (after : List ℕ) → IsStrictlyIncreasing all → All (λ w. w < 2 ^ 32) all → all ≡ before ++ (x ∷ after) → IsRead (word_after before) (bytes_of_word x) x
-unfolding word_after
+word_read : (all before : List ℕ) (x : ℕ) (after : List ℕ) → IsStrictlyIncreasing all → All (λ w. w < 2 ^ 32) all → all ≡ before ++ (x ∷ after) → IsRead (set_word_after before) (bytes_of_word x) x
+unfolding set_word_after
 word_read all before x after rising below e =
-    let above : is_above (last_of before) x ≡ true = above_before before x after (subst IsStrictlyIncreasing e rising) in
-    subst (λ (l : List ℕ). IsRead (λ p. u32_at p >>= λ w. checked 4 (is_above (last_of before) w.0) p w) l x) (append-nil (bytes_of_word x))
-    (seq u32_at (λ p w. checked 4 (is_above (last_of before) w.0) p w) (bytes_of_word x) [] x x (word x (one_of (λ w. w < 2 ^ 32) all before x after below e)) (λ start. test 4 (is_above (last_of before) x) start x above))
+    let above : is_above_last_read (last_number_read before) x ≡ true = above_before before x after (subst IsStrictlyIncreasing e rising) in
+    subst (λ (l : List ℕ). IsRead (λ p. u32_at p >>= λ w. checked_cert_field 4 (is_above_last_read (last_number_read before) w.0) p w) l x) (append-nil (bytes_of_word x))
+    (seq u32_at (λ p w. checked_cert_field 4 (is_above_last_read (last_number_read before) w.0) p w) (bytes_of_word x) [] x x (word x (one_of (λ w. w < 2 ^ 32) all before x after below e)) (λ start. test 4 (is_above_last_read (last_number_read before) x) start x above))
 
 set_read : (version : ℕ) (ws : List ℕ) → IsStrictlyIncreasing ws → All (λ w. w < 2 ^ 32) ws → IsRead (set_at (length ws)) (flat_map bytes_of_word ws) (Set ws)
 unfolding set_at
 set_read version ws rising below =
-    subst (λ (l : List ℕ). IsRead (λ p. many_at word_after (length ws) [] p >>= λ ws. Ok (Set ws.0, ws.1)) l (Set ws)) (append-nil (flat_map bytes_of_word ws))
-    (seq (many_at word_after (length ws) []) (λ p ws. Ok (Set ws.0, ws.1)) (flat_map bytes_of_word ws) [] ws (Set ws)
-    (many_read word_after bytes_of_word ws (λ before x after e. word_read ws before x after rising below e) [] ws (length ws) refl refl)
+    subst (λ (l : List ℕ). IsRead (λ p. many_fields_at set_word_after (length ws) [] p >>= λ ws. Ok (Set ws.0, ws.1)) l (Set ws)) (append-nil (flat_map bytes_of_word ws))
+    (seq (many_fields_at set_word_after (length ws) []) (λ p ws. Ok (Set ws.0, ws.1)) (flat_map bytes_of_word ws) [] ws (Set ws)
+    (many_read set_word_after bytes_of_word ws (λ before x after e. word_read ws before x after rising below e) [] ws (length ws) refl refl)
     (λ start. done (Set ws)))
 
-span_read : (version step : ℕ) (start : Place) (lo last : ℕ) → lo < 2 ^ 32 → last < 2 ^ 32 → is_span version lo last step ≡ true → IsRead (span_at version step start) (bytes_of_word lo ++ bytes_of_word last) (Span lo last step)
+span_read : (version step : ℕ) (start : Place) (lo last : ℕ) → lo < 2 ^ 32 → last < 2 ^ 32 → is_cert_span version lo last step ≡ true → IsRead (span_at version step start) (bytes_of_word lo ++ bytes_of_word last) (Span lo last step)
 unfolding span_at
 span_read version step start lo last small below good =
     subst (λ (l : List ℕ). IsRead (span_at version step start) (bytes_of_word lo ++ l) (Span lo last step)) (append-nil (bytes_of_word last))
@@ -140,16 +140,16 @@ lo_small =
     (λ lo last h b. omega arith)
     (λ lo last h b. omega arith)
 
-pub value_cases : (version : ℕ) (v : Val) → IsWellOf version v → IsRead (value_at version) (bytes_of_value v) v
+pub value_cases : (version : ℕ) (v : Val) → IsWellCertValue version v → IsRead (value_at version) (bytes_of_value v) v
 unfolding value_at bytes_of_value
 value_cases version (Set ws) h =
     let not_zero : eqb (length ws) 0 ≡ false = ne_eqb _ _ (λ same. let s : length ws ≡ 0 = same in omega (arith, h.0.some)) in
     let in_width : leb (length ws) (most_words_of version) ≡ true = le-leb _ _ h.1 in
     seq u8_at _ (length ws ∷ []) (flat_map bytes_of_word ws) (length ws) (Set ws) (byte (length ws))
     (λ start. record { at = λ front rest. rw (not_zero, in_width) ((set_read version ws (rising_words ws h.0) (below_words ws h.0)).at front rest) })
-value_cases version (Span lo last step) h = by_any (is_any lo last step) version lo last step h refl
+value_cases version (Span lo last step) h = by_any (is_any_span lo last step) version lo last step h refl
   where
-    by_any : (any : Bool) (version lo last step : ℕ) → IsWellOf version (Span lo last step) → is_any lo last step ≡ any
+    by_any : (any : Bool) (version lo last step : ℕ) → IsWellCertValue version (Span lo last step) → is_any_span lo last step ≡ any
         → IsRead (value_at version) (cond any (0 ∷ []) ((240 + step) ∷ bytes_of_word lo ++ bytes_of_word last)) (Span lo last step)
     by_any true version lo last step h e =
         let parts = and_parts (eqb lo 0 && eqb last 4294967295) (eqb step 0) e in
@@ -166,11 +166,11 @@ value_cases version (Span lo last step) h = by_any (is_any lo last step) version
         let high : leb (240 + step) 242 ≡ true = le-leb _ _ (omega (arith, h.0)) in
         let step_is : 240 + step - 240 ≡ step = omega arith in
         let many : ltb (most_words_of version) (count_in lo last step) ≡ true = lt-ltb _ _ h.1 in
-        let good : is_span version lo last step ≡ true = rw (many, e) refl in
+        let good : is_cert_span version lo last step ≡ true = rw (many, e) refl in
         seq u8_at _ ((240 + step) ∷ []) (bytes_of_word lo ++ bytes_of_word last) (240 + step) (Span lo last step) (byte (240 + step))
         (λ start. record { at = λ front rest. rw (not_zero, past, low, high, step_is) ((span_read version step start lo last (lo_small step h.0 lo last (omega (arith, h.1)) h.2) h.2 good).at front rest) })
 
-pub values_read : (version n : ℕ) (vs : List Val) → All (IsWellOf version) vs → length vs ≡ n → IsRead (values_at version n) (flat_map bytes_of_value vs) vs
+pub values_read : (version n : ℕ) (vs : List Val) → All (IsWellCertValue version) vs → length vs ≡ n → IsRead (values_at version n) (flat_map bytes_of_value vs) vs
 unfolding values_at
 values_read version n vs each len =
-    many_read (λ before. value_at version) bytes_of_value vs (λ before v after e. value_cases version v (one_of (IsWellOf version) vs before v after each e)) [] vs n refl len
+    many_read (λ before. value_at version) bytes_of_value vs (λ before v after e. value_cases version v (one_of (IsWellCertValue version) vs before v after each e)) [] vs n refl len

@@ -15,8 +15,8 @@ pub record CertData : Type 0 where
 abbrev pub key_numbers : List NodeData → List ℕ
 key_numbers ns = map (λ n. number_of_key n.key) ns
 
--- the order and the limits of a certificate: nodes by ascending key, at most 2,048 of them with at
--- most 65,536 points
+-- what holds of a certificate, its order and limits: nodes by ascending key, at most 2,048 of them
+-- with at most 65,536 points
 pub record IsCert (c : CertData) : Type 0 where
   pub version : (c.version ≡ 1) ⊎ (c.version ≡ 2)
   pub few : length c.nodes ≤ 2048

@@ -25,24 +25,24 @@ sys_kind = 3
 abbrev pub aln_kind : ℕ
 aln_kind = 4
 
--- how a frame is entered: at the start, or by a call, an interrupt, a system call, or a misaligned
--- access
-abbrev pub kind_words : ℕ → List ℕ
-kind_words kind =
+-- the kind of a key as text, which says how its frame is entered: at the start, or by a call, an
+-- interrupt, a system call, or a misaligned access
+abbrev pub key_kind_words : ℕ → List ℕ
+key_kind_words kind =
     if kind == start_kind then codes "start "
     else if kind == call_kind then codes "call "
     else if kind == irq_kind then codes "irq "
     else if kind == sys_kind then codes "sys "
     else codes "aln "
 
--- the kind of a key, and a blank
-unfoldable pub kind_text : ℕ → List ℕ
-kind_text kind = kind_words kind
+-- the kind of a key as text, with a blank at its end
+unfoldable pub key_kind_text : ℕ → List ℕ
+key_kind_text kind = key_kind_words kind
 
--- a truth value as a byte
-abbrev pub byte_of : Bool → ℕ
-byte_of true = 1
-byte_of false = 0
+-- a truth value as a byte of a certificate, or in the number of a key
+abbrev pub cert_flag_byte : Bool → ℕ
+cert_flag_byte true = 1
+cert_flag_byte false = 0
 
 -- a key as one number: keys are ordered by kind, then entry, then prio, then is
 abbrev pub key_number : ℕ → ℕ → ℕ → ℕ → ℕ
@@ -50,11 +50,11 @@ key_number kind entry prio is = ((kind * 2 ^ 32 + entry) * 2 ^ 8 + prio) * 2 ^ 8
 
 -- the number of a key, by which keys are ordered
 abbrev pub number_of_key : Key → ℕ
-number_of_key k = key_number k.kind k.entry k.prio (byte_of k.is)
+number_of_key k = key_number k.kind k.entry k.prio (cert_flag_byte k.is)
 
 -- two keys are equal
 abbrev pub same_key : Key → Key → Bool
-same_key k j = k.kind == j.kind && k.entry == j.entry && k.prio == j.prio && byte_of k.is == byte_of j.is
+same_key k j = k.kind == j.kind && k.entry == j.entry && k.prio == j.prio && cert_flag_byte k.is == cert_flag_byte j.is
 
 -- the kind of the key is one of start, call, irq, sys and aln
 pub record IsKey (k : Key) : Type 0 where

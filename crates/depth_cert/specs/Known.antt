@@ -19,7 +19,8 @@ CoversKnown (leaving y) (leaving x) = ExitCovers y x
 CoversKnown (state u) (leaving x) = ⊥
 CoversKnown (leaving y) (state s) = ⊥
 
--- the least that covers both; none for states with different numbers of locals
+-- the join of what is known at a place: the least that covers both; none for states with different
+-- numbers of locals
 abbrev pub joined_known : Limits → Known → Known → Option Known
 joined_known b (state s) (state t) = option_map state (joined_states b s t)
 joined_known b (leaving x) (leaving y) = Some (leaving (joined_exit b x y))
@@ -27,14 +28,14 @@ joined_known b (state s) (leaving y) = None
 joined_known b (leaving x) (state t) = None
 
 -- the lower bound of CCPN in a state or an exit
-abbrev pub priority_of : Known → ℕ
-priority_of (state s) = s.ccpn
-priority_of (leaving x) = x.ccpn
+abbrev pub known_priority : Known → ℕ
+known_priority (state s) = s.ccpn
+known_priority (leaving x) = x.ccpn
 
 -- u is the known state; nothing is said of an exit
-abbrev pub IsStateAt : Known → State → Type 0
-IsStateAt (state s) u = u ≡ s
-IsStateAt (leaving x) u = Unit {0}
+abbrev pub IsKnownState : Known → State → Type 0
+IsKnownState (state s) u = u ≡ s
+IsKnownState (leaving x) u = Unit {0}
 
 -- no exit is known
 abbrev pub IsNoExit : Known → Type 0
@@ -42,7 +43,7 @@ IsNoExit (state s) = Unit {0}
 IsNoExit (leaving x) = ⊥
 
 -- the known exit, if any
-abbrev pub exit_at : Option Known → Option exits.Exit
-exit_at None = None
-exit_at (Some (state s)) = None
-exit_at (Some (leaving x)) = Some x
+abbrev pub exit_if_known : Option Known → Option exits.Exit
+exit_if_known None = None
+exit_if_known (Some (state s)) = None
+exit_if_known (Some (leaving x)) = Some x

@@ -10,15 +10,16 @@ use Rattle.value_domain.specs.Values.{count_in}
 use Rattle.value_domain.specs.VersionLimits.{most_words_of, most_locals_of}
 use Rattle.depth_cert.specs.declared.points.Point.{Point}
 
--- a well-formed value of the version: a Set within its width, or a Span of more members than that
-abbrev pub IsWellOf : ℕ → Val → Type 0
-IsWellOf version (Set ws) = AreWords ws × (length ws ≤ most_words_of version)
-IsWellOf version (Span lo last step) = (step ≤ 2) × (most_words_of version < count_in lo last step) × (last < 2 ^ 32)
+-- a value that a point's state or an exit can have in the version: a Set of at most the version's
+-- greatest number of words, or a well-formed Span of more members than that
+abbrev pub IsWellCertValue : ℕ → Val → Type 0
+IsWellCertValue version (Set ws) = AreWords ws × (length ws ≤ most_words_of version)
+IsWellCertValue version (Span lo last step) = (step ≤ 2) × (most_words_of version < count_in lo last step) × (last < 2 ^ 32)
 
--- a state that a certificate of the version can have
+-- what holds of a point's state: a certificate of the version can have it
 pub record IsState (version : ℕ) (s : State) : Type 0 where
   pub regs : length s.regs ≡ 27
-  pub values : All (IsWellOf version) s.regs
+  pub values : All (IsWellCertValue version) s.regs
   pub ccpn : s.ccpn < 2 ^ 8
   pub locals : length s.locals.items ≤ most_locals_of version
 

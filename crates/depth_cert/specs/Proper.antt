@@ -9,7 +9,7 @@ use Rattle.depth_cert.specs.Nodes.{NodeData}
 
 -- a state at the limits: 27 values of the plan's lattice, and no more locals than the version
 -- allows
-pub record IsProper (b : Limits) (s : State) : Type 0 where
+pub record IsProperState (b : Limits) (s : State) : Type 0 where
   pub regs : length s.regs ≡ 27
   pub values : AreValues b s.regs
   pub few : length s.locals.items ≤ b.most_locals
@@ -21,7 +21,7 @@ pub record IsProperExit (b : Limits) (x : Exit) : Type 0 where
 
 -- what is known is within the limits
 abbrev pub IsProperKnown : Limits → Known → Type 0
-IsProperKnown b (state s) = IsProper b s
+IsProperKnown b (state s) = IsProperState b s
 IsProperKnown b (leaving x) = IsProperExit b x
 
 -- the values of a node are well-formed

@@ -8,20 +8,20 @@ use Rattle.value_domain.specs.declared.states.State.{State}
 use Rattle.depth_cert.specs.declared.keys.Key.{Key}
 use Rattle.depth_cert.specs.declared.points.Exit.{Exit}
 use Rattle.depth_cert.specs.declared.points.Point.{Point}
-use Rattle.depth_cert.specs.Keys.{byte_of}
+use Rattle.depth_cert.specs.Keys.{cert_flag_byte}
 use Rattle.depth_cert.specs.Nodes.{NodeData}
 use Rattle.depth_cert.specs.Certs.{CertData}
-use Rattle.value_domain.specs.Values.{is_any}
+use Rattle.value_domain.specs.Values.{is_any_span}
 
 -- a Set as its number of words and these; any word as 0; a Span as its step plus 240, and its ends
 unfoldable pub bytes_of_value : Val → List ℕ
 bytes_of_value (Set ws) = length ws ∷ flat_map bytes_of_word ws
-bytes_of_value (Span lo last step) = if is_any lo last step then 0 ∷ [] else (240 + step) ∷ bytes_of_word lo ++ bytes_of_word last
+bytes_of_value (Span lo last step) = if is_any_span lo last step then 0 ∷ [] else (240 + step) ∷ bytes_of_word lo ++ bytes_of_word last
 
 -- ie, ccpn, lower, the number of locals and the locals, and the registers' values
 unfoldable pub bytes_of_state : State → List ℕ
 bytes_of_state s =
-    byte_of s.ie ∷ s.ccpn ∷ byte_of s.lower ∷ length s.locals.items ∷ map byte_of s.locals.items ++ flat_map bytes_of_value s.regs
+    cert_flag_byte s.ie ∷ s.ccpn ∷ cert_flag_byte s.lower ∷ length s.locals.items ∷ map cert_flag_byte s.locals.items ++ flat_map bytes_of_value s.regs
 
 -- the address and the state
 unfoldable pub bytes_of_point : Point → List ℕ
@@ -29,12 +29,12 @@ bytes_of_point p = bytes_of_word p.addr ++ bytes_of_state p.state
 
 -- the kind, the entry, the priority, and PSW.IS
 unfoldable pub bytes_of_key : Key → List ℕ
-bytes_of_key k = k.kind ∷ bytes_of_word k.entry ++ (k.prio ∷ byte_of k.is ∷ [])
+bytes_of_key k = k.kind ∷ bytes_of_word k.entry ++ (k.prio ∷ cert_flag_byte k.is ∷ [])
 
 -- 0 for no exit; else 1, ie, ccpn, and the values of the lower registers
 unfoldable pub bytes_of_exit : Option Exit → List ℕ
 bytes_of_exit None = 0 ∷ []
-bytes_of_exit (Some e) = 1 ∷ byte_of e.ie ∷ e.ccpn ∷ flat_map bytes_of_value e.lower
+bytes_of_exit (Some e) = 1 ∷ cert_flag_byte e.ie ∷ e.ccpn ∷ flat_map bytes_of_value e.lower
 
 -- the key, the need, the exit, the number of points and the points
 unfoldable pub bytes_of_node : NodeData → List ℕ
@@ -42,5 +42,5 @@ bytes_of_node n =
     bytes_of_key n.key ++ (bytes_of_half n.need ++ (bytes_of_exit n.exit ++ (bytes_of_word (length n.points) ++ flat_map bytes_of_point n.points)))
 
 -- the magic word, the version, the number of nodes and the nodes
-unfoldable pub bytes_of : CertData → List ℕ
-bytes_of c = bytes_of_word 0x43444354 ++ (bytes_of_half c.version ++ (bytes_of_half (length c.nodes) ++ flat_map bytes_of_node c.nodes))
+unfoldable pub bytes_of_cert : CertData → List ℕ
+bytes_of_cert c = bytes_of_word 0x43444354 ++ (bytes_of_half c.version ++ (bytes_of_half (length c.nodes) ++ flat_map bytes_of_node c.nodes))

@@ -1,6 +1,6 @@
 // Reads the head of a certificate, and its nodes.
 ghost use Rattle.std.specs.Prelude.{◌≡◌, ◌≤◌, ◌+◌, ◌^◌, ◌-◌, ◌⊎◌, [], length, true, Ok, Err, IfOk, IfErr};
-ghost use Rattle.tcd_base.specs.FieldReaders.{Reads, many_at};
+ghost use Rattle.tcd_base.specs.FieldReaders.{ReadsField, many_fields_at};
 ghost use Rattle.depth_cert.specs.Answers.{IsFaultOf};
 ghost use Rattle.depth_cert.specs.Grammar.{magic_at, version_at, node_count_at, node_after, certificate_of};
 ghost use Rattle.depth_cert.specs.Nodes.{count_points};
@@ -8,7 +8,9 @@ ghost use Rattle.depth_cert.specs.Nodes.{count_points};
 use crate::node_reader::read_node;
 use crate::{CertErr, Node};
 use std::alloc::Global;
-use tcd_base::{ABOVE_LIMIT, BAD_MAGIC, Cursor, FormErr, TRAILING, fault, read_u16, read_u32};
+use tcd_base::{
+    ABOVE_LIMIT, BAD_MAGIC, Cursor, FormErr, TRAILING, form_err_at, read_u16, read_u32,
+};
 
 /// The magic bytes 54 43 44 43, as a little-endian word.
 pub(crate) const MAGIC: u32 = 0x4344_4354;
@@ -20,13 +22,13 @@ const MOST_NODES: u16 = 2048;
 #[tactic(auto, unfolding(crate::specs::Grammar::magic_at))]
 pub fn read_magic(c: &mut Cursor<'_>) -> Result<u32, FormErr>
     requires { length c.old.bytes ≤ 2 ^ 30 }
-    ensures read { Reads result c.new (magic_at c.old) }
+    ensures read { ReadsField result c.new (magic_at c.old) }
     ensures bytes { c.new.bytes ≡ c.old.bytes }
 {
     let start = c.place();
     let magic = read_u32(c)?;
     if magic != MAGIC {
-        return Err(fault(BAD_MAGIC, start));
+        return Err(form_err_at(BAD_MAGIC, start));
     }
     Ok(magic)
 }
@@ -35,7 +37,7 @@ pub fn read_magic(c: &mut Cursor<'_>) -> Result<u32, FormErr>
 #[tactic(auto, unfolding(crate::specs::Grammar::version_at))]
 pub fn read_version(c: &mut Cursor<'_>) -> Result<u8, FormErr>
     requires { length c.old.bytes ≤ 2 ^ 30 }
-    ensures read { Reads result c.new (version_at c.old) }
+    ensures read { ReadsField result c.new (version_at c.old) }
     ensures known { IfOk result (λ v. (v ≡ 1) ⊎ (v ≡ 2)) }
     ensures bytes { c.new.bytes ≡ c.old.bytes }
 {
@@ -44,7 +46,7 @@ pub fn read_version(c: &mut Cursor<'_>) -> Result<u8, FormErr>
     if version == 1 || version == 2 {
         Ok(version as u8)
     } else {
-        Err(fault(BAD_MAGIC, start))
+        Err(form_err_at(BAD_MAGIC, start))
     }
 }
 
@@ -52,18 +54,19 @@ pub fn read_version(c: &mut Cursor<'_>) -> Result<u8, FormErr>
 #[tactic(auto, unfolding(crate::specs::Grammar::node_count_at))]
 pub fn read_node_count(c: &mut Cursor<'_>) -> Result<u16, FormErr>
     requires { length c.old.bytes ≤ 2 ^ 30 }
-    ensures read { Reads result c.new (node_count_at c.old) }
+    ensures read { ReadsField result c.new (node_count_at c.old) }
     ensures bytes { c.new.bytes ≡ c.old.bytes }
 {
     let start = c.place();
     let count = read_u16(c)?;
     if count > MOST_NODES {
-        return Err(fault(ABOVE_LIMIT, start));
+        return Err(form_err_at(ABOVE_LIMIT, start));
     }
     Ok(count)
 }
 
-fn read_nodes(
+/// Reads all nodes of a certificate, as many as its head says.
+fn read_cert_nodes(
     alloc: Global,
     c: &mut Cursor<'_>,
     version: u8,
@@ -71,21 +74,22 @@ fn read_nodes(
 ) -> Result<Vec<Node>, CertErr>
     requires { length c.old.bytes ≤ 2 ^ 30 }
     ensures ok { IfOk result
-        (λ ns. many_at (node_after version) count [] c.old ≡ Ok (ns.items, c.new)) }
-    ensures err { IfErr result (IsFaultOf (many_at (node_after version) count [] c.old)) }
+        (λ ns. many_fields_at (node_after version) count [] c.old ≡ Ok (ns.items, c.new)) }
+    ensures err { IfErr result (IsFaultOf (many_fields_at (node_after version) count [] c.old)) }
     ensures bytes { c.new.bytes ≡ c.old.bytes }
 {
     let mut nodes = Vec::new(alloc);
     let mut used = 0;
     for _i in 0..count {
         let node = read_node(alloc, c, version, &nodes, used)?;
-        used += count_of(&node);
+        used += count_cert_node_points(&node);
         nodes.push(node)?;
     }
     Ok(nodes)
 }
 
-fn count_of(node: &Node) -> usize
+/// Returns the number of points of a node of the certificate that is read.
+fn count_cert_node_points(node: &Node) -> usize
     ensures { result ≡ length node.now.points }
 {
     node.points.len()
@@ -94,7 +98,7 @@ fn count_of(node: &Node) -> usize
 /// Reads the version and the nodes of the certificate that the bytes spell, or returns their first
 /// fault.
 #[tactic(auto, unfolding(crate::specs::Grammar::certificate_of, crate::specs::Grammar::cert_at))]
-pub(crate) fn read_parts(alloc: Global, bytes: &[u8]) -> Result<(u8, Vec<Node>), CertErr>
+pub(crate) fn read_cert_parts(alloc: Global, bytes: &[u8]) -> Result<(u8, Vec<Node>), CertErr>
     requires { length bytes.now ≤ 2 ^ 30 }
     ensures ok { IfOk result
         (λ r. certificate_of bytes.now ≡ Ok (record { version = r.0; nodes = r.1.items })) }
@@ -104,10 +108,10 @@ pub(crate) fn read_parts(alloc: Global, bytes: &[u8]) -> Result<(u8, Vec<Node>),
     let _magic = read_magic(&mut c)?;
     let version = read_version(&mut c)?;
     let count = read_node_count(&mut c)?;
-    let nodes = read_nodes(alloc, &mut c, version, count)?;
+    let nodes = read_cert_nodes(alloc, &mut c, version, count)?;
     let end = c.place();
     if end != bytes.len() {
-        return Err(CertErr::Bad(fault(TRAILING, end)));
+        return Err(CertErr::Bad(form_err_at(TRAILING, end)));
     }
     Ok((version, nodes))
 }

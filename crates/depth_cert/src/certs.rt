@@ -4,9 +4,9 @@ ghost use Rattle.std.specs.Option.{option_map};
 ghost use Rattle.depth_cert.specs.declared.errors.CertErr.TheVariants.{NoMemory};
 ghost use Rattle.depth_cert.specs.Answers.{IsFaultOf};
 
-use crate::cert_reader::{MAGIC, read_parts};
+use crate::cert_reader::{MAGIC, read_cert_parts};
 use crate::keys::number_of;
-use crate::lookup::{node_at, node_place};
+use crate::lookup::{looked_up_node, node_lookup_place};
 use crate::writing::write_nodes;
 use crate::{CertErr, Key, Node};
 use std::alloc::Global;
@@ -33,24 +33,24 @@ impl Model for Cert {
 impl Cert {
     ghost use Rattle.depth_cert.specs.Certs.{find_node};
     ghost use Rattle.depth_cert.specs.Grammar.{certificate_of};
-    ghost use Rattle.depth_cert.specs.Spelling.{bytes_of};
+    ghost use Rattle.depth_cert.specs.Spelling.{bytes_of_cert};
 
-    /// Reads the certificate that the bytes spell, or returns their first fault.
+    /// Makes a `Cert` of the bytes that spell a certificate, or returns their first fault.
     pub fn read(alloc: Global, bytes: &[u8]) -> Result<Cert, CertErr>
         requires { length bytes.now ≤ 2 ^ 30 }
         ensures ok { IfOk result (λ c. certificate_of bytes.now ≡ Ok c) }
         ensures err { IfErr result (IsFaultOf (certificate_of bytes.now)) }
 
         // No other bytes spell it.
-        ensures one { IfOk result (λ c. bytes_of c ≡ bytes.now) }
+        ensures one { IfOk result (λ c. bytes_of_cert c ≡ bytes.now) }
     {
-        let (version, nodes) = read_parts(alloc, bytes)?;
+        let (version, nodes) = read_cert_parts(alloc, bytes)?;
         Ok(Cert { version, nodes })
     }
 
-    /// Writes the bytes that spell the certificate: at most 1,073,741,824.
+    /// Writes the bytes that spell this `Cert`: at most 1,073,741,824.
     pub fn write(&self, alloc: Global) -> Result<Vec<u8>, CertErr>
-        ensures ok { IfOk result (λ out. out.items ≡ bytes_of self.now) }
+        ensures ok { IfOk result (λ out. out.items ≡ bytes_of_cert self.now) }
         ensures small { IfOk result (λ out. length out.items ≤ 2 ^ 30) }
         ensures err { IfErr result (λ e. e ≡ NoMemory) }
 
@@ -62,9 +62,10 @@ impl Cert {
         Ok(out)
     }
 
-    #[tactic(auto, unfolding(crate::specs::Spelling::bytes_of))]
+    /// Returns the bytes that spell this `Cert`.
+    #[tactic(auto, unfolding(crate::specs::Spelling::bytes_of_cert))]
     fn spell(&self, alloc: Global) -> Result<Vec<u8>, tcd_base::NoMemory>
-        ensures { IfOk result (λ out. out.items ≡ bytes_of self.now) }
+        ensures { IfOk result (λ out. out.items ≡ bytes_of_cert self.now) }
     {
         let mut out = Vec::new(alloc);
         put_u32(&mut out, MAGIC)?;
@@ -74,13 +75,13 @@ impl Cert {
         Ok(out)
     }
 
-    /// Returns the node of a key, or `None` if there is none.
+    /// Returns the node of a key in this `Cert`, or `None` if there is none.
     pub fn node(&self, key: &Key) -> Option<&Node>
         ensures { option_map (λ n. n.now) result ≡ find_node key.now self.now.nodes }
     {
         let number = number_of(key);
         let nodes = self.nodes.as_slice();
-        let at = node_place(nodes, number);
-        node_at(nodes, number, at)
+        let at = node_lookup_place(nodes, number);
+        looked_up_node(nodes, number, at)
     }
 }

@@ -1,8 +1,6 @@
 // Kinds of frames, and the keys of nodes.
-ghost use Rattle.std.specs.Prelude.{◌≡◌, ◌-◌};
-ghost use Rattle.depth_cert.specs.Keys.{kind_text, number_of_key};
-
-use crate::node_reader::number;
+ghost use Rattle.std.specs.Prelude.{◌≡◌, ◌-◌, ◌+◌};
+ghost use Rattle.depth_cert.specs.Keys.{key_kind_text, number_of_key, key_number};
 
 /// The kind of the frame in which a run starts.
 pub const START: u8 = 0;
@@ -19,11 +17,11 @@ pub const SYS: u8 = 3;
 /// The kind of frames of handlers of misaligned accesses.
 pub const ALN: u8 = 4;
 
-/// Returns a kind of frame as text, and a blank.
-#[tactic(auto, unfolding(crate::specs::Keys::kind_text))]
+/// Returns the kind of a key as text, with a blank at its end.
+#[tactic(auto, unfolding(crate::specs::Keys::key_kind_text))]
 #[inline]
-pub fn kind_text(kind: u8) -> &'static str
-    ensures { result.now ≡ kind_text kind }
+pub fn key_kind_text(kind: u8) -> &'static str
+    ensures { result.now ≡ key_kind_text kind }
 {
     match kind {
         START => "start ",
@@ -51,5 +49,13 @@ pub struct Key {
 pub fn number_of(key: &Key) -> u64
     ensures { result ≡ number_of_key key.now }
 {
-    number(key.kind, key.entry, key.prio, if key.is { 1 } else { 0 })
+    number_of_key_fields(key.kind, key.entry, key.prio, if key.is { 1 } else { 0 })
+}
+
+/// Returns the fields of a key as one number. Keys are ordered by it.
+pub(crate) fn number_of_key_fields(kind: u8, entry: u32, prio: u8, is: u8) -> u64
+    ensures { result ≡ key_number kind entry prio is }
+{
+    ((u64::from(kind) * 4_294_967_296 + u64::from(entry)) * 256 + u64::from(prio)) * 256
+        + u64::from(is)
 }

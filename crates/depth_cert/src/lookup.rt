@@ -1,4 +1,4 @@
-// Finds nodes by their keys.
+// Finds nodes by their keys, and points by their addresses.
 ghost use Rattle.std.specs.Prelude.{◌≡◌, nat_lt, ◌==◌, true, false, find, ◌<◌, ◌-◌};
 ghost use Rattle.std.specs.Option.{option_map};
 ghost use Rattle.std.specs.List.Sorted.{IsPartitionPoint, IsStrictlyIncreasing};
@@ -10,18 +10,21 @@ use crate::keys::number_of;
 use crate::{Node, Point};
 use std::marker::Model;
 
+/// Returns true if a point's address is below `addr`.
 fn is_point_below(point: &Point, addr: u32) -> bool
     ensures { result ≡ nat_lt point.now.addr addr }
 {
     point.addr < addr
 }
 
-fn is_below(node: &Node, number: u64) -> bool
+/// Returns true if a node's key is below the key of this number.
+fn is_node_key_below(node: &Node, number: u64) -> bool
     ensures { result ≡ nat_lt (number_of_key node.now.key) number }
 {
     number_of(&node.key) < number
 }
 
+/// Returns true if a node has the key of this number.
 fn is_node(node: &Node, number: u64) -> bool
     ensures { result ≡ (number_of_key node.now.key == number) }
 {
@@ -29,15 +32,16 @@ fn is_node(node: &Node, number: u64) -> bool
 }
 
 /// Returns the number of nodes whose keys are below `number`.
-pub(crate) fn node_place(nodes: &[Node], number: u64) -> usize
+pub(crate) fn node_lookup_place(nodes: &[Node], number: u64) -> usize
     requires { IsStrictlyIncreasing (key_numbers nodes.now) }
     ensures { IsPartitionPoint (λ n. nat_lt (number_of_key n.key) number ≡ true)
         (λ n. nat_lt (number_of_key n.key) number ≡ false) nodes.now result }
 {
-    nodes.partition_point(|n| is_below(n, number))
+    nodes.partition_point(|n| is_node_key_below(n, number))
 }
 
-pub(crate) fn node_at(nodes: &[Node], number: u64, at: usize) -> Option<&Node>
+/// Returns the node at index `at` if its key has this number, or `None`.
+pub(crate) fn looked_up_node(nodes: &[Node], number: u64, at: usize) -> Option<&Node>
     requires rising { IsStrictlyIncreasing (key_numbers nodes.now) }
     requires place { IsPartitionPoint (λ n. nat_lt (number_of_key n.key) number ≡ true)
         (λ n. nat_lt (number_of_key n.key) number ≡ false) nodes.now at }
@@ -50,7 +54,7 @@ pub(crate) fn node_at(nodes: &[Node], number: u64, at: usize) -> Option<&Node>
 }
 
 /// Returns the number of points whose addresses are below `addr`.
-pub(crate) fn point_place(points: &[Point], addr: u32) -> usize
+pub(crate) fn point_lookup_place(points: &[Point], addr: u32) -> usize
     requires { ArePoints points.now }
     ensures { IsPartitionPoint (λ p. nat_lt p.addr addr ≡ true)
         (λ p. nat_lt p.addr addr ≡ false) points.now result }
@@ -58,7 +62,8 @@ pub(crate) fn point_place(points: &[Point], addr: u32) -> usize
     points.partition_point(|p| is_point_below(p, addr))
 }
 
-pub(crate) fn point_at(points: &[Point], addr: u32, at: usize) -> Option<&Point>
+/// Returns the point at index `at` if it has this address, or `None`.
+pub(crate) fn looked_up_point(points: &[Point], addr: u32, at: usize) -> Option<&Point>
     requires rising { ArePoints points.now }
     requires place { IsPartitionPoint (λ p. nat_lt p.addr addr ≡ true)
         (λ p. nat_lt p.addr addr ≡ false) points.now at }

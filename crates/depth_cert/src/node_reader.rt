@@ -1,31 +1,26 @@
 // Reads the fields of nodes.
 ghost use Rattle.std.specs.Prelude.{◌≡◌, ◌≤◌, ◌<◌, ◌+◌, ◌^◌, ◌-◌, length, Ok, Err, OnOk, IfOk, IfErr};
-ghost use Rattle.tcd_base.specs.FieldReaders.{Reads};
+ghost use Rattle.tcd_base.specs.FieldReaders.{ReadsField};
 ghost use Rattle.depth_cert.specs.Answers.{IsFaultOf};
-ghost use Rattle.depth_cert.specs.Grammar.{is_above, key_after, need_at, has_exit_at, exit_at, exits_at, node_after, point_count_at};
-ghost use Rattle.depth_cert.specs.Keys.{key_number};
+ghost use Rattle.depth_cert.specs.Grammar.{is_above_last_read, key_after, need_at, has_exit_at, exit_at, optional_exit_at, node_after, point_count_at, last_number_read};
 ghost use Rattle.depth_cert.specs.Nodes.{count_points};
+ghost use Rattle.depth_cert.specs.Certs.{key_numbers};
 
-use crate::nodes::{last_number, no_exit};
+use crate::keys::{number_of, number_of_key_fields};
+use crate::nodes::{Node, no_exit};
 use crate::point_reader::{MOST_POINTS, read_points};
 use crate::value_reader::{read_flag, read_values};
-use crate::{ALN, CALL, CertErr, Exit, Key, Node, SYS};
+use crate::{ALN, CALL, CertErr, Exit, Key, SYS};
 use std::alloc::Global;
+use std::marker::Model;
 use tcd_base::{
-    ABOVE_LIMIT, BAD_ORDER, BAD_VALUE, Cursor, FormErr, fault, read_u8, read_u16, read_u32,
+    ABOVE_LIMIT, BAD_ORDER, BAD_VALUE, Cursor, FormErr, form_err_at, read_u8, read_u16, read_u32,
 };
 
-/// Returns the fields of a key as one number. Keys are ordered by it.
-pub(crate) fn number(kind: u8, entry: u32, prio: u8, is: u8) -> u64
-    ensures { result ≡ key_number kind entry prio is }
-{
-    ((u64::from(kind) * 4_294_967_296 + u64::from(entry)) * 256 + u64::from(prio)) * 256
-        + u64::from(is)
-}
-
-// Whether the number of a key is above that of the node before, if there is one.
-fn is_next(last: Option<u64>, number: u64) -> bool
-    ensures { result ≡ is_above last number }
+/// Returns true if the number of a key is above that of the node before, or if there is no node
+/// before.
+fn is_next_node_number(last: Option<u64>, number: u64) -> bool
+    ensures { result ≡ is_above_last_read last number }
 {
     match last {
         None => true,
@@ -38,23 +33,23 @@ fn is_next(last: Option<u64>, number: u64) -> bool
 #[inline]
 pub fn read_key(c: &mut Cursor<'_>, last: Option<u64>) -> Result<Key, FormErr>
     requires { length c.old.bytes ≤ 2 ^ 30 }
-    ensures read { Reads result c.new (key_after last c.old) }
+    ensures read { ReadsField result c.new (key_after last c.old) }
     ensures bytes { c.new.bytes ≡ c.old.bytes }
 {
     let start = c.place();
     let kind = read_u8(c)?;
     if kind > ALN {
-        return Err(fault(BAD_VALUE, start));
+        return Err(form_err_at(BAD_VALUE, start));
     }
     let entry = read_u32(c)?;
     let prio = read_u8(c)?;
     let at = c.place();
     let is = read_u8(c)?;
-    if !is_next(last, number(kind, entry, prio, is)) {
-        return Err(fault(BAD_ORDER, start));
+    if !is_next_node_number(last, number_of_key_fields(kind, entry, prio, is)) {
+        return Err(form_err_at(BAD_ORDER, start));
     }
     if is > 1 {
-        return Err(fault(BAD_VALUE, at));
+        return Err(form_err_at(BAD_VALUE, at));
     }
     Ok(Key {
         kind,
@@ -71,13 +66,13 @@ const MOST_NEED: u16 = 4096;
 #[tactic(auto, unfolding(crate::specs::Grammar::need_at))]
 pub fn read_need(c: &mut Cursor<'_>) -> Result<u16, FormErr>
     requires { length c.old.bytes ≤ 2 ^ 30 }
-    ensures read { Reads result c.new (need_at c.old) }
+    ensures read { ReadsField result c.new (need_at c.old) }
     ensures bytes { c.new.bytes ≡ c.old.bytes }
 {
     let start = c.place();
     let need = read_u16(c)?;
     if need > MOST_NEED {
-        return Err(fault(ABOVE_LIMIT, start));
+        return Err(form_err_at(ABOVE_LIMIT, start));
     }
     Ok(need)
 }
@@ -86,13 +81,13 @@ pub fn read_need(c: &mut Cursor<'_>) -> Result<u16, FormErr>
 #[tactic(auto, unfolding(crate::specs::Grammar::has_exit_at))]
 pub fn read_has_exit(c: &mut Cursor<'_>, kind: u8) -> Result<bool, FormErr>
     requires { length c.old.bytes ≤ 2 ^ 30 }
-    ensures read { Reads result c.new (has_exit_at kind c.old) }
+    ensures read { ReadsField result c.new (has_exit_at kind c.old) }
     ensures bytes { c.new.bytes ≡ c.old.bytes }
 {
     let start = c.place();
     let exit = read_flag(c)?;
     if exit && !(kind == CALL || kind == SYS) {
-        return Err(fault(BAD_VALUE, start));
+        return Err(form_err_at(BAD_VALUE, start));
     }
     Ok(exit)
 }
@@ -111,10 +106,11 @@ pub fn read_exit(c: &mut Cursor<'_>, version: u8, out: &mut Exit) -> Result<(), 
     Ok(())
 }
 
-#[tactic(auto, unfolding(crate::specs::Grammar::exits_at))]
-fn read_exits(c: &mut Cursor<'_>, version: u8, kind: u8) -> Result<Option<Exit>, FormErr>
+/// Reads a node's exit, or `None` if the node has none.
+#[tactic(auto, unfolding(crate::specs::Grammar::optional_exit_at))]
+fn read_optional_exit(c: &mut Cursor<'_>, version: u8, kind: u8) -> Result<Option<Exit>, FormErr>
     requires { length c.old.bytes ≤ 2 ^ 30 }
-    ensures read { Reads result c.new (exits_at version kind c.old) }
+    ensures read { ReadsField result c.new (optional_exit_at version kind c.old) }
     ensures bytes { c.new.bytes ≡ c.old.bytes }
 {
     if !read_has_exit(c, kind)? {
@@ -142,9 +138,9 @@ pub(crate) fn read_node(
     ensures few { IfOk result (λ n. used + length n.points ≤ 2 ^ 16) }
     ensures bytes { c.new.bytes ≡ c.old.bytes }
 {
-    let key = read_key(c, last_number(before))?;
+    let key = read_key(c, last_node_number(before))?;
     let need = read_need(c)?;
-    let exit = read_exits(c, version, key.kind)?;
+    let exit = read_optional_exit(c, version, key.kind)?;
     let points = read_points(alloc, c, version, used)?;
     Ok(Node {
         key,
@@ -160,14 +156,24 @@ pub(crate) fn read_node(
 pub fn read_point_count(c: &mut Cursor<'_>, used: usize) -> Result<u32, FormErr>
     requires short { length c.old.bytes ≤ 2 ^ 30 }
     requires used { used ≤ 2 ^ 16 }
-    ensures read { Reads result c.new (point_count_at used c.old) }
+    ensures read { ReadsField result c.new (point_count_at used c.old) }
     ensures few { IfOk result (λ n. used + n ≤ 2 ^ 16) }
     ensures bytes { c.new.bytes ≡ c.old.bytes }
 {
     let start = c.place();
     let count = read_u32(c)?;
     if used as u64 + u64::from(count) > MOST_POINTS {
-        return Err(fault(ABOVE_LIMIT, start));
+        return Err(form_err_at(ABOVE_LIMIT, start));
     }
     Ok(count)
+}
+
+/// Returns the number of the key of the last node that was read, if there is one.
+pub(crate) fn last_node_number(nodes: &[Node]) -> Option<u64>
+    ensures { result ≡ last_number_read (key_numbers nodes.now) }
+{
+    match nodes.last() {
+        None => None,
+        Some(node) => Some(number_of(&node.key)),
+    }
 }

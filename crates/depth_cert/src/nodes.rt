@@ -2,11 +2,8 @@
 ghost use Rattle.std.specs.Prelude.{◌≡◌, false};
 ghost use Rattle.std.specs.Option.{option_map};
 ghost use Rattle.depth_cert.specs.Points.{ArePoints, find_point};
-ghost use Rattle.depth_cert.specs.Grammar.{last_of};
-ghost use Rattle.depth_cert.specs.Certs.{key_numbers};
 
-use crate::keys::number_of;
-use crate::lookup::{point_at, point_place};
+use crate::lookup::{looked_up_point, point_lookup_place};
 use crate::{Exit, Key, Point};
 use std::marker::Model;
 use value_domain::Val;
@@ -34,23 +31,13 @@ impl Model for Node {
 }
 
 impl Node {
-    /// Returns the point at an address, or `None` if there is none.
+    /// Returns the point of this `Node` at an address, or `None` if there is none.
     pub fn point(&self, addr: u32) -> Option<&Point>
         ensures { option_map (λ p. p.now) result ≡ find_point addr self.now.points }
     {
         let points = self.points.as_slice();
-        let at = point_place(points, addr);
-        point_at(points, addr, at)
-    }
-}
-
-/// Returns the number of the last node's key, if there is a node.
-pub(crate) fn last_number(nodes: &[Node]) -> Option<u64>
-    ensures { result ≡ last_of (key_numbers nodes.now) }
-{
-    match nodes.last() {
-        None => None,
-        Some(node) => Some(number_of(&node.key)),
+        let at = point_lookup_place(points, addr);
+        looked_up_point(points, addr, at)
     }
 }
 

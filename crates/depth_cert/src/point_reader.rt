@@ -1,7 +1,7 @@
 // Reads the fields of points.
 ghost use Rattle.std.specs.Prelude.{◌≡◌, ◌≤◌, ◌+◌, ◌^◌, ◌-◌, [], length, vec_len, true, Ok, Err, OnOk, IfOk, IfErr};
-ghost use Rattle.tcd_base.specs.FieldReaders.{Reads, many_at};
-ghost use Rattle.depth_cert.specs.Grammar.{flag_at, locals_at, state_at, address_after, points_at, is_above};
+ghost use Rattle.tcd_base.specs.FieldReaders.{ReadsField, many_fields_at};
+ghost use Rattle.depth_cert.specs.Grammar.{flag_at, locals_at, state_at, address_after, points_at, is_above_last_read};
 ghost use Rattle.depth_cert.specs.Answers.{IsFaultOf};
 ghost use Rattle.depth_cert.specs.Points.{ArePoints};
 
@@ -10,7 +10,7 @@ use crate::value_reader::{read_flag, read_values};
 use crate::{CertErr, Point};
 use arrayvec::ArrayVec;
 use std::alloc::Global;
-use tcd_base::{ABOVE_LIMIT, BAD_ORDER, Cursor, FormErr, fault, read_u8, read_u32};
+use tcd_base::{ABOVE_LIMIT, BAD_ORDER, Cursor, FormErr, form_err_at, read_u8, read_u32};
 use value_domain::{State, Val};
 
 /// Reads a list of flags: their number, at most 4 in version 1 and 8 in version 2, and each flag.
@@ -25,18 +25,19 @@ pub fn read_locals(c: &mut Cursor<'_>, version: u8) -> Result<ArrayVec<bool, 8>,
     let count = read_u8(c)?;
     let most = if version == 1 { 4 } else { 8 };
     if count > most {
-        return Err(fault(ABOVE_LIMIT, start));
+        return Err(form_err_at(ABOVE_LIMIT, start));
     }
     read_flags(c, count)
 }
 
-#[tactic(auto, unfolding(tcd_base::specs::FieldReaders::many_at))]
+/// Reads `count` flags of a state's local areas.
+#[tactic(auto, unfolding(tcd_base::specs::FieldReaders::many_fields_at))]
 fn read_flags(c: &mut Cursor<'_>, count: u8) -> Result<ArrayVec<bool, 8>, FormErr>
     requires short { length c.old.bytes ≤ 2 ^ 30 }
     requires few { count ≤ 8 }
     ensures ok { IfOk result
-        (λ l. many_at (λ before. flag_at) count [] c.old ≡ Ok (l.items, c.new)) }
-    ensures err { IfErr result (λ e. many_at (λ before. flag_at) count [] c.old ≡ Err e) }
+        (λ l. many_fields_at (λ before. flag_at) count [] c.old ≡ Ok (l.items, c.new)) }
+    ensures err { IfErr result (λ e. many_fields_at (λ before. flag_at) count [] c.old ≡ Err e) }
     ensures bytes { c.new.bytes ≡ c.old.bytes }
 {
     let mut flags = ArrayVec::new();
@@ -63,7 +64,7 @@ pub fn read_state(c: &mut Cursor<'_>, version: u8, out: &mut State) -> Result<()
 }
 
 /// Returns a point at an address, whose state knows nothing.
-fn blank(addr: u32) -> Point
+fn blank_point_for_reading(addr: u32) -> Point
     ensures { result.addr ≡ addr }
 {
     Point {
@@ -78,9 +79,10 @@ fn blank(addr: u32) -> Point
     }
 }
 
-// Whether an address is above that of the point before, if there is one.
-fn is_next(last: Option<u32>, addr: u32) -> bool
-    ensures { result ≡ is_above last addr }
+/// Returns true if a point's address is above that of the point before, or if there is no point
+/// before.
+fn is_next_point_address(last: Option<u32>, addr: u32) -> bool
+    ensures { result ≡ is_above_last_read last addr }
 {
     match last {
         None => true,
@@ -93,14 +95,14 @@ fn is_next(last: Option<u32>, addr: u32) -> bool
 #[inline]
 pub fn read_address(c: &mut Cursor<'_>, last: Option<u32>) -> Result<u32, FormErr>
     requires { length c.old.bytes ≤ 2 ^ 30 }
-    ensures read { Reads result c.new (address_after last c.old) }
-    ensures next { IfOk result (λ addr. is_above last addr ≡ true) }
+    ensures read { ReadsField result c.new (address_after last c.old) }
+    ensures next { IfOk result (λ addr. is_above_last_read last addr ≡ true) }
     ensures bytes { c.new.bytes ≡ c.old.bytes }
 {
     let start = c.place();
     let addr = read_u32(c)?;
-    if !is_next(last, addr) {
-        return Err(fault(BAD_ORDER, start));
+    if !is_next_point_address(last, addr) {
+        return Err(form_err_at(BAD_ORDER, start));
     }
     Ok(addr)
 }
@@ -130,7 +132,7 @@ pub(crate) fn read_points(
     for _i in 0..count {
         let addr = read_address(c, last)?;
         last = Some(addr);
-        points.push(blank(addr))?;
+        points.push(blank_point_for_reading(addr))?;
         let at = points.len() - 1;
         read_state(c, version, &mut points[at].state)?;
     }

@@ -1,12 +1,12 @@
 // Reads the fields of values.
 ghost use Rattle.std.specs.Prelude.{◌≡◌, ◌≤◌, ◌<◌, ◌^◌, ◌-◌, ◌∷◌, [], IsTrue, ℕ, length, Ok, Err, OnOk, IfOk, IfErr, true};
-ghost use Rattle.tcd_base.specs.FieldReaders.{Reads};
+ghost use Rattle.tcd_base.specs.FieldReaders.{ReadsField};
 ghost use Rattle.value_domain.specs.declared.values.Val.TheVariants.{Set, Span};
 ghost use Rattle.std.specs.List.Sorted.{IsStrictlyIncreasing};
-ghost use Rattle.depth_cert.specs.Grammar.{flag_at, word_after, set_at, span_at, value_at, values_at, is_above, is_span, last_of};
+ghost use Rattle.depth_cert.specs.Grammar.{flag_at, set_word_after, set_at, span_at, value_at, values_at, is_above_last_read, is_cert_span, last_number_read};
 
 use arrayvec::ArrayVec;
-use tcd_base::{BAD_VALUE, Cursor, FormErr, fault, read_u8, read_u32};
+use tcd_base::{BAD_VALUE, Cursor, FormErr, form_err_at, read_u8, read_u32};
 use value_domain::{Val, count_of, set_span, set_words, write_any};
 
 /// The first byte of a Span is this plus its step.
@@ -18,39 +18,40 @@ const LAST_SPAN: u8 = 242;
 /// A Set of no more words than these is read through room for as many, which is soon filled.
 const FEW_WORDS: u8 = 8;
 
-/// Reads a flag: a byte 0 or 1. Any other byte is a `BAD_VALUE`.
+/// Reads the truth value of a certificate's field: a byte 0 or 1. Any other byte is a `BAD_VALUE`.
 #[tactic(auto, unfolding(crate::specs::Grammar::flag_at))]
 pub fn read_flag(c: &mut Cursor<'_>) -> Result<bool, FormErr>
     requires { length c.old.bytes ≤ 2 ^ 30 }
-    ensures read { Reads result c.new (flag_at c.old) }
+    ensures read { ReadsField result c.new (flag_at c.old) }
     ensures bytes { c.new.bytes ≡ c.old.bytes }
 {
     let at = c.place();
     let byte = read_u8(c)?;
     if byte > 1 {
-        return Err(fault(BAD_VALUE, at));
+        return Err(form_err_at(BAD_VALUE, at));
     }
     Ok(byte == 1)
 }
 
-/// Returns true if a word is above the last of those before it.
-fn is_next(before: &[u32], x: u32) -> bool
-    ensures { result ≡ is_above (last_of before.now) x }
+/// Returns true if a word is above the last of those before it, or if there are none before it.
+fn is_next_set_word(before: &[u32], x: u32) -> bool
+    ensures { result ≡ is_above_last_read (last_number_read before.now) x }
 {
     before.is_empty() || before[before.len() - 1] < x
 }
 
-#[tactic(auto, unfolding(crate::specs::Grammar::word_after))]
-fn read_word(c: &mut Cursor<'_>, before: &[u32]) -> Result<u32, FormErr>
+/// Reads a word of a Set, which is above those before it.
+#[tactic(auto, unfolding(crate::specs::Grammar::set_word_after))]
+fn read_set_word(c: &mut Cursor<'_>, before: &[u32]) -> Result<u32, FormErr>
     requires { length c.old.bytes ≤ 2 ^ 30 }
-    ensures read { Reads result c.new (word_after before.now c.old) }
-    ensures next { IfOk result (λ w. is_above (last_of before.now) w ≡ true) }
+    ensures read { ReadsField result c.new (set_word_after before.now c.old) }
+    ensures next { IfOk result (λ w. is_above_last_read (last_number_read before.now) w ≡ true) }
     ensures bytes { c.new.bytes ≡ c.old.bytes }
 {
     let at = c.place();
     let word = read_u32(c)?;
-    if !is_next(before, word) {
-        return Err(fault(BAD_VALUE, at));
+    if !is_next_set_word(before, word) {
+        return Err(form_err_at(BAD_VALUE, at));
     }
     Ok(word)
 }
@@ -69,15 +70,15 @@ fn read_set<const N: usize>(c: &mut Cursor<'_>, n: usize, out: &mut Val) -> Resu
 {
     let mut words: ArrayVec<u32, N> = ArrayVec::new();
     for _i in 0..n {
-        let word = read_word(c, words.as_slice())?;
+        let word = read_set_word(c, words.as_slice())?;
         words.push(word);
     }
-    put_set(words.as_slice(), out);
+    make_read_set(words.as_slice(), out);
     Ok(())
 }
 
 /// Makes a value the Set of ascending words.
-fn put_set(words: &[u32], out: &mut Val)
+fn make_read_set(words: &[u32], out: &mut Val)
     requires some { 1 ≤ length words.now }
     requires few { length words.now ≤ 128 }
     requires rising { IsStrictlyIncreasing words.now }
@@ -108,16 +109,17 @@ fn read_span(
 {
     let lo = read_u32(c)?;
     let last = read_u32(c)?;
-    if !is_span(version, lo, last, step) {
-        return Err(fault(BAD_VALUE, start));
+    if !is_cert_span(version, lo, last, step) {
+        return Err(form_err_at(BAD_VALUE, start));
     }
     set_span(out, lo, last, step);
     Ok(())
 }
 
-fn is_span(version: u8, lo: u32, last: u32, step: u8) -> bool
+/// Returns true if a certificate of the version spells these ends and this step as a Span.
+fn is_cert_span(version: u8, lo: u32, last: u32, step: u8) -> bool
     requires { step ≤ 2 }
-    ensures { result ≡ is_span version lo last step }
+    ensures { result ≡ is_cert_span version lo last step }
 {
     let width = if version == 1 { 64 } else { 128 };
     width < count_of(lo, last, step) && !(lo == 0 && last == u32::MAX && step == 0)
@@ -145,7 +147,7 @@ pub fn read_value(c: &mut Cursor<'_>, version: u8, out: &mut Val) -> Result<(), 
         return read_set::<128>(c, byte as usize, out);
     }
     if byte < SPAN || byte > LAST_SPAN {
-        return Err(fault(BAD_VALUE, start));
+        return Err(form_err_at(BAD_VALUE, start));
     }
     read_span(c, version, byte - SPAN, start, out)
 }

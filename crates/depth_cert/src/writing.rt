@@ -2,7 +2,7 @@
 ghost use Rattle.std.specs.Prelude.{◌≡◌, ◌≤◌, ◌<◌, ◌+◌, ◌^◌, ◌∷◌, [], ◌++◌, ◌⊎◌, length, map, OnOk, IfSome};
 ghost use Rattle.std.specs.List.{All, flat_map};
 ghost use Rattle.tcd_base.specs.Bytes.{bytes_of_word};
-ghost use Rattle.depth_cert.specs.Keys.{byte_of};
+ghost use Rattle.depth_cert.specs.Keys.{cert_flag_byte};
 ghost use Rattle.depth_cert.specs.Spelling.{bytes_of_value, bytes_of_state, bytes_of_point, bytes_of_key, bytes_of_exit, bytes_of_node};
 ghost use Rattle.depth_cert.specs.Nodes.{IsNode, count_points};
 ghost use Rattle.value_domain.specs.Values.{IsWell};
@@ -13,20 +13,23 @@ use crate::{Exit, Key, Node, Point};
 use tcd_base::{NoMemory, put_u16, put_u32};
 use value_domain::{State, Val};
 
-fn put_u8(out: &mut Vec<u8>, x: u8) -> Result<(), NoMemory>
+/// Appends a byte to those of a certificate.
+fn write_cert_byte(out: &mut Vec<u8>, x: u8) -> Result<(), NoMemory>
     ensures { OnOk result (out.new.items ≡ out.old.items ++ x ∷ []) }
 {
     out.push(x)?;
     Ok(())
 }
 
-fn put_flag(out: &mut Vec<u8>, x: bool) -> Result<(), NoMemory>
-    ensures { OnOk result (out.new.items ≡ out.old.items ++ byte_of x ∷ []) }
+/// Appends a truth value to the bytes of a certificate, as 0 or 1.
+fn write_cert_flag(out: &mut Vec<u8>, x: bool) -> Result<(), NoMemory>
+    ensures { OnOk result (out.new.items ≡ out.old.items ++ cert_flag_byte x ∷ []) }
 {
-    put_u8(out, if x { 1 } else { 0 })
+    write_cert_byte(out, if x { 1 } else { 0 })
 }
 
-fn write_words(out: &mut Vec<u8>, words: &[u32]) -> Result<(), NoMemory>
+/// Appends the words of a Set, one after another.
+fn write_set_words(out: &mut Vec<u8>, words: &[u32]) -> Result<(), NoMemory>
     ensures { OnOk result (out.new.items ≡ out.old.items ++ flat_map bytes_of_word words.now) }
 {
     for w in words {
@@ -35,24 +38,26 @@ fn write_words(out: &mut Vec<u8>, words: &[u32]) -> Result<(), NoMemory>
     Ok(())
 }
 
+/// Appends the bytes that spell a Set: the number of its words, and these.
 #[tactic(auto, unfolding(crate::specs::Spelling::bytes_of_value))]
 fn write_set(out: &mut Vec<u8>, words: &[u32]) -> Result<(), NoMemory>
     requires { length words.now ≤ 128 }
     ensures { OnOk result (out.new.items ≡ out.old.items ++ bytes_of_value (Set words.now)) }
 {
-    put_u8(out, words.len() as u8)?;
-    write_words(out, words)
+    write_cert_byte(out, words.len() as u8)?;
+    write_set_words(out, words)
 }
 
+/// Appends the bytes that spell a Span: its step plus 240, and its ends; 0 for any word.
 #[tactic(auto, unfolding(crate::specs::Spelling::bytes_of_value))]
 fn write_span(out: &mut Vec<u8>, lo: u32, last: u32, step: u8) -> Result<(), NoMemory>
     requires { step ≤ 2 }
     ensures { OnOk result (out.new.items ≡ out.old.items ++ bytes_of_value (Span lo last step)) }
 {
     if lo == 0 && last == u32::MAX && step == 0 {
-        return put_u8(out, 0);
+        return write_cert_byte(out, 0);
     }
-    put_u8(out, SPAN + step)?;
+    write_cert_byte(out, SPAN + step)?;
     put_u32(out, lo)?;
     put_u32(out, last)
 }
@@ -79,11 +84,12 @@ pub fn write_values(out: &mut Vec<u8>, values: &[Val]) -> Result<(), NoMemory>
     Ok(())
 }
 
+/// Appends the flags of a state's local areas, a byte each.
 fn write_flags(out: &mut Vec<u8>, flags: &[bool]) -> Result<(), NoMemory>
-    ensures { OnOk result (out.new.items ≡ out.old.items ++ map byte_of flags.now) }
+    ensures { OnOk result (out.new.items ≡ out.old.items ++ map cert_flag_byte flags.now) }
 {
     for f in flags {
-        put_flag(out, *f)?;
+        write_cert_flag(out, *f)?;
     }
     Ok(())
 }
@@ -94,11 +100,11 @@ pub fn write_state(out: &mut Vec<u8>, s: &State) -> Result<(), NoMemory>
     requires { All IsWell s.now.regs }
     ensures { OnOk result (out.new.items ≡ out.old.items ++ bytes_of_state s.now) }
 {
-    put_flag(out, s.ie)?;
-    put_u8(out, s.ccpn)?;
-    put_flag(out, s.lower)?;
+    write_cert_flag(out, s.ie)?;
+    write_cert_byte(out, s.ccpn)?;
+    write_cert_flag(out, s.lower)?;
     let locals = s.locals.as_slice();
-    put_u8(out, locals.len() as u8)?;
+    write_cert_byte(out, locals.len() as u8)?;
     write_flags(out, locals)?;
     write_values(out, &s.regs)
 }
@@ -112,15 +118,15 @@ fn write_point(out: &mut Vec<u8>, p: &Point) -> Result<(), NoMemory>
     write_state(out, &p.state)
 }
 
-/// Appends the bytes that spell a key.
+/// Writes a key in a certificate: appends the bytes that spell it.
 #[tactic(auto, unfolding(crate::specs::Spelling::bytes_of_key))]
 pub fn write_key(out: &mut Vec<u8>, key: &Key) -> Result<(), NoMemory>
     ensures { OnOk result (out.new.items ≡ out.old.items ++ bytes_of_key key.now) }
 {
-    put_u8(out, key.kind)?;
+    write_cert_byte(out, key.kind)?;
     put_u32(out, key.entry)?;
-    put_u8(out, key.prio)?;
-    put_flag(out, key.is)
+    write_cert_byte(out, key.prio)?;
+    write_cert_flag(out, key.is)
 }
 
 /// Appends the bytes that spell an exit, or that there is none.
@@ -130,11 +136,11 @@ pub fn write_exit(out: &mut Vec<u8>, exit: &Option<Exit>) -> Result<(), NoMemory
     ensures { OnOk result (out.new.items ≡ out.old.items ++ bytes_of_exit exit.now) }
 {
     match exit {
-        None => put_u8(out, 0),
+        None => write_cert_byte(out, 0),
         Some(e) => {
-            put_u8(out, 1)?;
-            put_flag(out, e.ie)?;
-            put_u8(out, e.ccpn)?;
+            write_cert_byte(out, 1)?;
+            write_cert_flag(out, e.ie)?;
+            write_cert_byte(out, e.ccpn)?;
             write_values(out, &e.lower)
         }
     }
@@ -164,6 +170,7 @@ fn write_node(out: &mut Vec<u8>, node: &Node) -> Result<(), NoMemory>
     write_points(out, &node.points)
 }
 
+/// Appends the bytes that spell the nodes of a certificate, one after another.
 pub(crate) fn write_nodes(out: &mut Vec<u8>, version: u8, nodes: &[Node]) -> Result<(), NoMemory>
     requires version { (version ≡ 1) ⊎ (version ≡ 2) }
     requires nodes { All (IsNode version) nodes.now }

@@ -7,7 +7,7 @@ use Rattle.value_domain.specs.declared.states.State.{State}
 use Rattle.value_domain.specs.Values.{any_val, IsWell}
 use Rattle.value_domain.specs.State.{AreWell, is_lower_slot}
 use Rattle.depth_cert.specs.declared.points.Exit.{Exit}
-use Rattle.depth_cert.specs.Exits.{with_lower_from, after_of}
+use Rattle.depth_cert.specs.Exits.{with_lower_from, state_after_exit}
 
 pub any_well : IsWell any_val
 any_well = (omega arith, omega arith, omega arith)
@@ -35,5 +35,5 @@ from_well i lower [] l w r h = absurd (omega arith)
 from_well i lower (v ∷ vs) l w zero h = place_well i (if ltb i 8 then i else i - 8) lower v l (w 0 (omega arith))
 from_well i lower (v ∷ vs) l w (suc r) h = from_well (i + 1) lower vs l (tail_well v vs w) r (omega arith)
 
-pub after_well : (s : State) (x : Exit) (kind : ℕ) → AreWell s.regs → AreWell x.lower → AreWell (after_of s x kind).regs
+pub after_well : (s : State) (x : Exit) (kind : ℕ) → AreWell s.regs → AreWell x.lower → AreWell (state_after_exit s x kind).regs
 after_well s x kind w l = from_well 0 x.lower s.regs l w

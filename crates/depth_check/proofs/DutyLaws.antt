@@ -20,7 +20,7 @@ use Rattle.depth_cert.specs.Certs.{CertData, find_node}
 use Rattle.cfg_recover.specs.declared.flows.Enter.{Enter}
 use Rattle.cfg_recover.specs.declared.flows.Leave.{Leave}
 use Rattle.cfg_recover.specs.declared.flows.Leave.TheVariants.{Stays, Ret, Rfe}
-use Rattle.vd_transfer.specs.EffectsOnStates.{HasRoom, address_of}
+use Rattle.vd_transfer.specs.EffectsOnStates.{EffectHasRoom, address_of}
 use Rattle.cfg_recover.specs.declared.local_rules.Located.{Located}
 use Rattle.cfg_recover.specs.LocalFaults.{StandsFaultless}
 use Rattle.cfg_recover.specs.Entries.{irq_key, irq_entry, aln_key, aln_entry, irqs_of}
@@ -28,9 +28,9 @@ use Rattle.depth_cert.specs.Exits.{exit_of}
 use Rattle.cfg_recover.specs.LocalRules.{MayAccess}
 use Rattle.store_ranges.specs.Accesses.{are_aligned}
 use Rattle.cfg_recover.specs.Duties.{Owed, owed, jump, enter, resume, leave, jumps_to, successors_of, entries_of, misaligned_at, misaligned_of, interrupts_of, leavings_of, duties_of}
-use Rattle.cfg_recover.specs.FlowDuties.{entered_key, told_back, told_irqs, told_leaving, leave_of}
+use Rattle.cfg_recover.specs.FlowDuties.{entered_key, told_flow_return, told_irqs, told_leaving, flow_leave_of}
 use Rattle.cfg_recover.specs.RulesHoldOrFail.{HasPoint}
-use Rattle.depth_check.specs.LeastBroken.{Finds, least_of, unless}
+use Rattle.depth_check.specs.LeastBroken.{FindsLeastBroken, lesser_broken_rule, broken_rule_unless}
 use Rattle.depth_check.specs.DutiesHold.{DutyHolds, DutiesHold, HasPoints, GoesOn, HasExit, LeavingHolds}
 use Rattle.depth_check.proofs.LeastLaws.{found_by, found_both, found_same}
 
@@ -41,10 +41,10 @@ All-left P xs ys h k d lt = subst P (get_or_append_left xs ys d k lt) (h k d (om
 pub All-right : {X : Type 0} (P : X → Type 0) (xs ys : List X) → All P (xs ++ ys) → All P ys
 All-right P xs ys h k d lt = subst P (get_or-append-add xs ys k d) (h (length xs + k) d (omega (arith, length-append xs ys)))
 
-pub duties_append : (cert : CertData) (node : NodeData) (s : State) (xs ys : List Owed) (a b : Option ℕ) → Finds (DutiesHold cert node s xs) a → Finds (DutiesHold cert node s ys) b
-    → Finds (DutiesHold cert node s (xs ++ ys)) (least_of a b)
+pub duties_append : (cert : CertData) (node : NodeData) (s : State) (xs ys : List Owed) (a b : Option ℕ) → FindsLeastBroken (DutiesHold cert node s xs) a → FindsLeastBroken (DutiesHold cert node s ys) b
+    → FindsLeastBroken (DutiesHold cert node s (xs ++ ys)) (lesser_broken_rule a b)
 duties_append cert node s xs ys a b f g =
-    found_same (λ q. DutiesHold cert node s xs q × DutiesHold cert node s ys q) (DutiesHold cert node s (xs ++ ys)) (least_of a b)
+    found_same (λ q. DutiesHold cert node s xs q × DutiesHold cert node s ys q) (DutiesHold cert node s (xs ++ ys)) (lesser_broken_rule a b)
     (λ q h. All-append (DutyHolds cert node s q) xs ys h.0 h.1)
     (λ q h. (All-left (DutyHolds cert node s q) xs ys h, All-right (DutyHolds cert node s q) xs ys h))
     (found_both (DutiesHold cert node s xs) (DutiesHold cert node s ys) a b f g)
@@ -66,19 +66,19 @@ jump_from cert node s t q (x ∷ xs) e h =
     (jump_from cert node s t q xs e (All-tail (DutyHolds cert node s q) (owed 4 (jump x t)) (jumps_to t xs) h))
 
 -- jumps with one state, from the test of all of them
-pub points_found : (cert : CertData) (node : NodeData) (s t : State) (xs : List ℕ) (b : Bool) → (IsTrue b ↔ HasPoints node t xs) → Finds (DutiesHold cert node s (jumps_to t xs)) (unless b 4)
+pub points_found : (cert : CertData) (node : NodeData) (s t : State) (xs : List ℕ) (b : Bool) → (IsTrue b ↔ HasPoints node t xs) → FindsLeastBroken (DutiesHold cert node s (jumps_to t xs)) (broken_rule_unless b 4)
 points_found cert node s t xs b d =
-    found_same (λ q. 4 ≡ q → HasPoints node t xs) (DutiesHold cert node s (jumps_to t xs)) (unless b 4) (λ q h. jump_to cert node s t q xs h) (λ q h e. jump_from cert node s t q xs e h)
+    found_same (λ q. 4 ≡ q → HasPoints node t xs) (DutiesHold cert node s (jumps_to t xs)) (broken_rule_unless b 4) (λ q h. jump_to cert node s t q xs h) (λ q h e. jump_from cert node s t q xs e h)
     (found_by b 4 (HasPoints node t xs) (omega arith) d)
 
 -- a single jump
-pub point_found : (cert : CertData) (node : NodeData) (s t : State) (x : ℕ) (b : Bool) → (IsTrue b ↔ HasPoint node x t) → Finds (DutiesHold cert node s (owed 4 (jump x t) ∷ [])) (unless b 4)
+pub point_found : (cert : CertData) (node : NodeData) (s t : State) (x : ℕ) (b : Bool) → (IsTrue b ↔ HasPoint node x t) → FindsLeastBroken (DutiesHold cert node s (owed 4 (jump x t) ∷ [])) (broken_rule_unless b 4)
 point_found cert node s t x b d =
     points_found cert node s t (x ∷ []) b
     ((λ y. All-cons (λ y. HasPoint node y t) x [] (d.0 y) (All-nil (λ y. HasPoint node y t))), (λ h. d.1 (All-head (λ y. HasPoint node y t) x [] h)))
 
 -- no duty
-pub nothing_found : (cert : CertData) (node : NodeData) (s : State) → Finds (DutiesHold cert node s []) None
+pub nothing_found : (cert : CertData) (node : NodeData) (s : State) → FindsLeastBroken (DutiesHold cert node s []) None
 nothing_found cert node s = λ q. All-nil (DutyHolds cert node s q)
 
 -- ---- entries
@@ -92,12 +92,12 @@ enter_to : (cert : CertData) (node : NodeData) (s : State) (rule : ℕ) (key : K
 enter_to cert node s rule key entry back n q found h = record { met = λ e. rw found ((h.0).0 e); need = λ e. rw found ((h.0).1 (sym e)) }
 
 back_to : (cert : CertData) (node : NodeData) (s : State) (rule : ℕ) (key : Key) (entry : State) (back : Option ℕ) (n : NodeData) (q : ℕ) → find_node key cert.nodes ≡ Some n
-    → EntryHolds node s rule key entry back n q → DutiesHold cert node s (told_back key back) q
+    → EntryHolds node s rule key entry back n q → DutiesHold cert node s (told_flow_return key back) q
 back_to cert node s rule key entry None n q found h = All-nil (DutyHolds cert node s q)
 back_to cert node s rule key entry (Some at) n q found h =
     All-cons (DutyHolds cert node s q) (owed 4 (resume key at)) [] (record { met = λ e. rw found (h.1 e); need = λ e. tt }) (All-nil (DutyHolds cert node s q))
 
-back_from : (cert : CertData) (node : NodeData) (s : State) (key : Key) (back : Option ℕ) (n : NodeData) (q : ℕ) → find_node key cert.nodes ≡ Some n → DutiesHold cert node s (told_back key back) q
+back_from : (cert : CertData) (node : NodeData) (s : State) (key : Key) (back : Option ℕ) (n : NodeData) (q : ℕ) → find_node key cert.nodes ≡ Some n → DutiesHold cert node s (told_flow_return key back) q
     → 4 ≡ q → GoesOn node s n key.kind back
 back_from cert node s key None n q found h e = tt
 back_from cert node s key (Some at) n q found h e = rw found at ((All-head (DutyHolds cert node s q) (owed 4 (resume key at)) [] h).met e)
@@ -105,32 +105,32 @@ back_from cert node s key (Some at) n q found h e = rw found at ((All-head (Duty
 -- the entered node exists
 pub entry_found : (cert : CertData) (node : NodeData) (s : State) (rule : ℕ) (key : Key) (entry : State) (back : Option ℕ) (n : NodeData) (into need on : Bool) → find_node key cert.nodes ≡ Some n
     → rule ≤ 14 → (IsTrue into ↔ HasPoint n key.entry entry) → (IsTrue need ↔ (length s.locals.items + 1 + n.need ≤ node.need)) → (IsTrue on ↔ GoesOn node s n key.kind back)
-    → Finds (DutiesHold cert node s (owed rule (enter key entry) ∷ told_back key back)) (least_of (least_of (unless into rule) (unless need 14)) (unless on 4))
+    → FindsLeastBroken (DutiesHold cert node s (owed rule (enter key entry) ∷ told_flow_return key back)) (lesser_broken_rule (lesser_broken_rule (broken_rule_unless into rule) (broken_rule_unless need 14)) (broken_rule_unless on 4))
 entry_found cert node s rule key entry back n into need on found small i d a =
-    found_same (EntryHolds node s rule key entry back n) (DutiesHold cert node s (owed rule (enter key entry) ∷ told_back key back)) (least_of (least_of (unless into rule) (unless need 14)) (unless on 4))
-    (λ q h. All-cons (DutyHolds cert node s q) (owed rule (enter key entry)) (told_back key back) (enter_to cert node s rule key entry back n q found h) (back_to cert node s rule key entry back n q found h))
+    found_same (EntryHolds node s rule key entry back n) (DutiesHold cert node s (owed rule (enter key entry) ∷ told_flow_return key back)) (lesser_broken_rule (lesser_broken_rule (broken_rule_unless into rule) (broken_rule_unless need 14)) (broken_rule_unless on 4))
+    (λ q h. All-cons (DutyHolds cert node s q) (owed rule (enter key entry)) (told_flow_return key back) (enter_to cert node s rule key entry back n q found h) (back_to cert node s rule key entry back n q found h))
     (λ q h.
-    let first = All-head (DutyHolds cert node s q) (owed rule (enter key entry)) (told_back key back) h in
-    let rest = All-tail (DutyHolds cert node s q) (owed rule (enter key entry)) (told_back key back) h in
+    let first = All-head (DutyHolds cert node s q) (owed rule (enter key entry)) (told_flow_return key back) h in
+    let rest = All-tail (DutyHolds cert node s q) (owed rule (enter key entry)) (told_flow_return key back) h in
     (((λ e. rw found at (first.met e)), (λ e. rw found at (first.need (sym e)))), back_from cert node s key back n q found rest))
     (found_both (λ q. (rule ≡ q → HasPoint n key.entry entry) × (14 ≡ q → length s.locals.items + 1 + n.need ≤ node.need)) (λ q. 4 ≡ q → GoesOn node s n key.kind back)
-    (least_of (unless into rule) (unless need 14)) (unless on 4)
-    (found_both (λ q. rule ≡ q → HasPoint n key.entry entry) (λ q. 14 ≡ q → length s.locals.items + 1 + n.need ≤ node.need) (unless into rule) (unless need 14)
+    (lesser_broken_rule (broken_rule_unless into rule) (broken_rule_unless need 14)) (broken_rule_unless on 4)
+    (found_both (λ q. rule ≡ q → HasPoint n key.entry entry) (λ q. 14 ≡ q → length s.locals.items + 1 + n.need ≤ node.need) (broken_rule_unless into rule) (broken_rule_unless need 14)
     (found_by into rule (HasPoint n key.entry entry) small i) (found_by need 14 (length s.locals.items + 1 + n.need ≤ node.need) (omega arith) d))
     (found_by on 4 (GoesOn node s n key.kind back) (omega arith) a))
 
 -- the entered node doesn't exist
-back_missing : (cert : CertData) (node : NodeData) (s : State) (key : Key) (back : Option ℕ) (q : ℕ) → find_node key cert.nodes ≡ None → DutiesHold cert node s (told_back key back) q
+back_missing : (cert : CertData) (node : NodeData) (s : State) (key : Key) (back : Option ℕ) (q : ℕ) → find_node key cert.nodes ≡ None → DutiesHold cert node s (told_flow_return key back) q
 back_missing cert node s key None q missing = All-nil (DutyHolds cert node s q)
 back_missing cert node s key (Some at) q missing =
     All-cons (DutyHolds cert node s q) (owed 4 (resume key at)) [] (record { met = λ e. rw missing tt; need = λ e. tt }) (All-nil (DutyHolds cert node s q))
 
 pub entry_missing : (cert : CertData) (node : NodeData) (s : State) (rule : ℕ) (key : Key) (entry : State) (back : Option ℕ) → find_node key cert.nodes ≡ None → rule ≤ 14
-    → Finds (DutiesHold cert node s (owed rule (enter key entry) ∷ told_back key back)) (Some rule)
+    → FindsLeastBroken (DutiesHold cert node s (owed rule (enter key entry) ∷ told_flow_return key back)) (Some rule)
 entry_missing cert node s rule key entry back missing small = record {
-  broken = λ h. rw missing at ((All-head (DutyHolds cert node s rule) (owed rule (enter key entry)) (told_back key back) h).met refl);
+  broken = λ h. rw missing at ((All-head (DutyHolds cert node s rule) (owed rule (enter key entry)) (told_flow_return key back) h).met refl);
   least = λ q lt.
-      All-cons (DutyHolds cert node s q) (owed rule (enter key entry)) (told_back key back) (record { met = λ e. absurd (omega arith); need = λ e. rw missing tt })
+      All-cons (DutyHolds cert node s q) (owed rule (enter key entry)) (told_flow_return key back) (record { met = λ e. absurd (omega arith); need = λ e. rw missing tt })
       (back_missing cert node s key back q missing);
   known = small;
 }
@@ -141,10 +141,10 @@ called t targets back = record { kind = 1; targets = record { items = targets };
 
 -- the entries of a list of targets
 abbrev pub told_to : ℕ → Key → Enter → List ℕ → List Owed
-told_to rule key e targets = flat_map (λ t. owed rule (enter (entered_key key e.kind t) e.state) ∷ told_back (entered_key key e.kind t) e.resume) targets
+told_to rule key e targets = flat_map (λ t. owed rule (enter (entered_key key e.kind t) e.state) ∷ told_flow_return (entered_key key e.kind t) e.resume) targets
 
 abbrev told_at : ℕ → Key → Enter → ℕ → List Owed
-told_at rule key e t = owed rule (enter (entered_key key e.kind t) e.state) ∷ told_back (entered_key key e.kind t) e.resume
+told_at rule key e t = owed rule (enter (entered_key key e.kind t) e.state) ∷ told_flow_return (entered_key key e.kind t) e.resume
 
 told_to_more : (rule : ℕ) (key : Key) (e : Enter) (targets : List ℕ) (i : ℕ) → i < length targets → told_to rule key e (take (i + 1) targets) ≡ told_to rule key e (take i targets) ++ told_at rule key e (get_or targets i 0)
 told_to_more rule key e targets i lt =
@@ -159,34 +159,34 @@ told_irqs_more plan entry irqs i lt =
     ∙ map-append (λ p. owed 11 (enter (irq_key plan p) (record entry { ccpn = p }))) (take i irqs) (get_or irqs i 0 ∷ [])
 
 -- a further part of a list
-duties_more : (cert : CertData) (node : NodeData) (s : State) (xs ys zs : List Owed) (found one o : Option ℕ) → zs ≡ xs ++ ys → o ≡ least_of found one
-    → Finds (DutiesHold cert node s xs) found → Finds (DutiesHold cert node s ys) one → Finds (DutiesHold cert node s zs) o
+duties_more : (cert : CertData) (node : NodeData) (s : State) (xs ys zs : List Owed) (found one o : Option ℕ) → zs ≡ xs ++ ys → o ≡ lesser_broken_rule found one
+    → FindsLeastBroken (DutiesHold cert node s xs) found → FindsLeastBroken (DutiesHold cert node s ys) one → FindsLeastBroken (DutiesHold cert node s zs) o
 duties_more cert node s xs ys zs found one o same is f g =
-    subst (λ l. Finds (DutiesHold cert node s l) o) (sym same) (subst (λ u. Finds (DutiesHold cert node s (xs ++ ys)) u) (sym is) (duties_append cert node s xs ys found one f g))
+    subst (λ l. FindsLeastBroken (DutiesHold cert node s l) o) (sym same) (subst (λ u. FindsLeastBroken (DutiesHold cert node s (xs ++ ys)) u) (sym is) (duties_append cert node s xs ys found one f g))
 
 pub entries_more : (cert : CertData) (node : NodeData) (s : State) (rule : ℕ) (key entered : Key) (e : Enter) (targets : List ℕ) (i : ℕ) (found one o : Option ℕ) → i < length targets
-    → entered ≡ entered_key key e.kind (get_or targets i 0) → o ≡ least_of found one → Finds (DutiesHold cert node s (told_to rule key e (take i targets))) found
-    → Finds (DutiesHold cert node s (owed rule (enter entered e.state) ∷ told_back entered e.resume)) one → Finds (DutiesHold cert node s (told_to rule key e (take (i + 1) targets))) o
+    → entered ≡ entered_key key e.kind (get_or targets i 0) → o ≡ lesser_broken_rule found one → FindsLeastBroken (DutiesHold cert node s (told_to rule key e (take i targets))) found
+    → FindsLeastBroken (DutiesHold cert node s (owed rule (enter entered e.state) ∷ told_flow_return entered e.resume)) one → FindsLeastBroken (DutiesHold cert node s (told_to rule key e (take (i + 1) targets))) o
 entries_more cert node s rule key entered e targets i found one o lt k is f g =
     duties_more cert node s (told_to rule key e (take i targets)) (told_at rule key e (get_or targets i 0)) (told_to rule key e (take (i + 1) targets)) found one o (told_to_more rule key e targets i lt) is f
-    (subst (λ (j : Key). Finds (DutiesHold cert node s (owed rule (enter j e.state) ∷ told_back j e.resume)) one) k g)
+    (subst (λ (j : Key). FindsLeastBroken (DutiesHold cert node s (owed rule (enter j e.state) ∷ told_flow_return j e.resume)) one) k g)
 
 pub entries_done : (cert : CertData) (node : NodeData) (s : State) (rule : ℕ) (key : Key) (e : Enter) (targets : List ℕ) (i : ℕ) (found : Option ℕ) → length targets ≤ i
-    → Finds (DutiesHold cert node s (told_to rule key e (take i targets))) found → Finds (DutiesHold cert node s (told_to rule key e targets)) found
-entries_done cert node s rule key e targets i found le f = subst (λ (l : List ℕ). Finds (DutiesHold cert node s (told_to rule key e l)) found) (take_all i targets le) f
+    → FindsLeastBroken (DutiesHold cert node s (told_to rule key e (take i targets))) found → FindsLeastBroken (DutiesHold cert node s (told_to rule key e targets)) found
+entries_done cert node s rule key e targets i found le f = subst (λ (l : List ℕ). FindsLeastBroken (DutiesHold cert node s (told_to rule key e l)) found) (take_all i targets le) f
 
 pub interrupts_more : (cert : CertData) (node : NodeData) (s : State) (plan : PlanData) (entry now : State) (key : Key) (irqs : List ℕ) (i : ℕ) (found one o : Option ℕ) → i < length irqs
-    → key ≡ irq_key plan (get_or irqs i 0) → record now { ccpn = 0 } ≡ record entry { ccpn = 0 } → o ≡ least_of found one → Finds (DutiesHold cert node s (told_irqs plan entry (take i irqs))) found
-    → Finds (DutiesHold cert node s (owed 11 (enter key (record now { ccpn = get_or irqs i 0 })) ∷ [])) one → Finds (DutiesHold cert node s (told_irqs plan entry (take (i + 1) irqs))) o
+    → key ≡ irq_key plan (get_or irqs i 0) → record now { ccpn = 0 } ≡ record entry { ccpn = 0 } → o ≡ lesser_broken_rule found one → FindsLeastBroken (DutiesHold cert node s (told_irqs plan entry (take i irqs))) found
+    → FindsLeastBroken (DutiesHold cert node s (owed 11 (enter key (record now { ccpn = get_or irqs i 0 })) ∷ [])) one → FindsLeastBroken (DutiesHold cert node s (told_irqs plan entry (take (i + 1) irqs))) o
 interrupts_more cert node s plan entry now key irqs i found one o lt k same is f g =
     duties_more cert node s (told_irqs plan entry (take i irqs)) (owed 11 (enter (irq_key plan (get_or irqs i 0)) (record entry { ccpn = get_or irqs i 0 })) ∷ []) (told_irqs plan entry (take (i + 1) irqs)) found one o
     (told_irqs_more plan entry irqs i lt) is f
-    (subst (λ (j : Key). Finds (DutiesHold cert node s (owed 11 (enter j (record entry { ccpn = get_or irqs i 0 })) ∷ [])) one) k
-    (subst (λ (t : State). Finds (DutiesHold cert node s (owed 11 (enter key t) ∷ [])) one) (ap (λ (t : State). record t { ccpn = get_or irqs i 0 }) same) g))
+    (subst (λ (j : Key). FindsLeastBroken (DutiesHold cert node s (owed 11 (enter j (record entry { ccpn = get_or irqs i 0 })) ∷ [])) one) k
+    (subst (λ (t : State). FindsLeastBroken (DutiesHold cert node s (owed 11 (enter key t) ∷ [])) one) (ap (λ (t : State). record t { ccpn = get_or irqs i 0 }) same) g))
 
 pub interrupts_done : (cert : CertData) (node : NodeData) (s : State) (plan : PlanData) (entry : State) (irqs : List ℕ) (i : ℕ) (found : Option ℕ) → length irqs ≤ i
-    → Finds (DutiesHold cert node s (told_irqs plan entry (take i irqs))) found → Finds (DutiesHold cert node s (told_irqs plan entry irqs)) found
-interrupts_done cert node s plan entry irqs i found le f = subst (λ (l : List ℕ). Finds (DutiesHold cert node s (told_irqs plan entry l)) found) (take_all i irqs le) f
+    → FindsLeastBroken (DutiesHold cert node s (told_irqs plan entry (take i irqs))) found → FindsLeastBroken (DutiesHold cert node s (told_irqs plan entry irqs)) found
+interrupts_done cert node s plan entry irqs i found le f = subst (λ (l : List ℕ). FindsLeastBroken (DutiesHold cert node s (told_irqs plan entry l)) found) (take_all i irqs le) f
 
 -- ---- leavings
 leave_to : (cert : CertData) (node : NodeData) (s : State) (rule q : ℕ) → (rule ≡ q → HasExit node s) → DutiesHold cert node s (owed rule (leave (exit_of s)) ∷ []) q
@@ -209,26 +209,26 @@ leaving_from cert node s Stays q h = tt
 leaving_from cert node s Ret q h = leave_from cert node s 6 q h
 leaving_from cert node s Rfe q h = λ sys. leave_from cert node s 7 q (rw (eq-eqb _ _ sys) at h)
 
-pub leaving_found : (cert : CertData) (node : NodeData) (s : State) (l : Leave) (o : Option ℕ) → Finds (LeavingHolds node s l) o → Finds (DutiesHold cert node s (told_leaving node.key s l)) o
+pub leaving_found : (cert : CertData) (node : NodeData) (s : State) (l : Leave) (o : Option ℕ) → FindsLeastBroken (LeavingHolds node s l) o → FindsLeastBroken (DutiesHold cert node s (told_leaving node.key s l)) o
 leaving_found cert node s l o f =
     found_same (LeavingHolds node s l) (DutiesHold cert node s (told_leaving node.key s l)) o (λ q h. leaving_to cert node s l q h) (λ q h. leaving_from cert node s l q h) f
 
 -- from an instruction's shape
-leavings-is : (key : Key) (s : State) (shape : Shape) → told_leaving key s (leave_of shape) ≡ leavings_of key s shape
-unfolding leave_of
+leavings-is : (key : Key) (s : State) (shape : Shape) → told_leaving key s (flow_leave_of shape) ≡ leavings_of key s shape
+unfolding flow_leave_of
 leavings-is key s (Compute op dst x y) = refl
 leavings-is key s _ = refl
 
-pub shape_found : (cert : CertData) (node : NodeData) (s : State) (shape : Shape) (o : Option ℕ) → Finds (LeavingHolds node s (leave_of shape)) o → Finds (DutiesHold cert node s (leavings_of node.key s shape)) o
+pub shape_found : (cert : CertData) (node : NodeData) (s : State) (shape : Shape) (o : Option ℕ) → FindsLeastBroken (LeavingHolds node s (flow_leave_of shape)) o → FindsLeastBroken (DutiesHold cert node s (leavings_of node.key s shape)) o
 shape_found cert node s shape o f =
-    subst (λ (l : List Owed). Finds (DutiesHold cert node s l) o) (leavings-is node.key s shape) (leaving_found cert node s (leave_of shape) o f)
+    subst (λ (l : List Owed). FindsLeastBroken (DutiesHold cert node s l) o) (leavings-is node.key s shape) (leaving_found cert node s (flow_leave_of shape) o f)
 
 -- ---- all parts
 pub parts_found : (b : Limits) (image : ImageData) (plan : PlanData) (cert : CertData) (node : NodeData) (p : ℕ) (s : State) (shape : Shape) (n : ℕ) (jumps entered misaligned interrupts leaving : Option ℕ)
-    → Finds (DutiesHold cert node s (successors_of b image plan p s shape n)) jumps → Finds (DutiesHold cert node s (entries_of plan node.key p s shape n)) entered
-    → Finds (DutiesHold cert node s (misaligned_of b plan node.key s shape)) misaligned → Finds (DutiesHold cert node s (interrupts_of plan node.key s)) interrupts
-    → Finds (DutiesHold cert node s (leavings_of node.key s shape)) leaving
-    → Finds (DutiesHold cert node s (duties_of b image plan node.key p s shape n)) (least_of (least_of (least_of (least_of jumps entered) misaligned) interrupts) leaving)
+    → FindsLeastBroken (DutiesHold cert node s (successors_of b image plan p s shape n)) jumps → FindsLeastBroken (DutiesHold cert node s (entries_of plan node.key p s shape n)) entered
+    → FindsLeastBroken (DutiesHold cert node s (misaligned_of b plan node.key s shape)) misaligned → FindsLeastBroken (DutiesHold cert node s (interrupts_of plan node.key s)) interrupts
+    → FindsLeastBroken (DutiesHold cert node s (leavings_of node.key s shape)) leaving
+    → FindsLeastBroken (DutiesHold cert node s (duties_of b image plan node.key p s shape n)) (lesser_broken_rule (lesser_broken_rule (lesser_broken_rule (lesser_broken_rule jumps entered) misaligned) interrupts) leaving)
 unfolding duties_of
 parts_found b image plan cert node p s shape n jumps entered misaligned interrupts leaving j e m i l =
     let js = successors_of b image plan p s shape n in
@@ -239,7 +239,7 @@ parts_found b image plan cert node p s shape n jumps entered misaligned interrup
     (duties_append cert node s (js ++ es ++ ms) is _ interrupts (duties_append cert node s (js ++ es) ms _ misaligned (duties_append cert node s js es jumps entered j e) m) i) l
 
 -- there is room if the instruction breaks no rule by itself
-pub room_at : (b : Limits) (image : ImageData) (plan : PlanData) (key : Key) (p : ℕ) (s : State) (found : Located) → StandsFaultless b image plan key p s found → HasRoom b found.shape s
+pub room_at : (b : Limits) (image : ImageData) (plan : PlanData) (key : Key) (p : ℕ) (s : State) (found : Located) → StandsFaultless b image plan key p s found → EffectHasRoom b found.shape s
 room_at b image plan key p s found f = ((f.faultless 8).own found.shape found.size f.code).room refl
 
 -- without an interrupt there is no duty

@@ -10,16 +10,15 @@ use Rattle.elf_image.specs.Images.{ImageData}
 use Rattle.tcd_plan.specs.PlanData.{PlanData, IsPlan, global_of}
 use Rattle.tc_machine.specs.declared.events.End.TheVariants.{Running}
 use Rattle.tc_machine.specs.declared.state.Machine.{Machine}
-use Rattle.tc_machine.specs.Machine.{reg, a11, is_of}
+use Rattle.tc_machine.specs.Machine.{reg, a11, is_interrupt_stack_used, IsMachine}
 use Rattle.tc_machine.specs.SavesAndRestores.{context_of, saved, save}
 use Rattle.tcd_plan.specs.Regions.{IsMappedBy}
-use Rattle.tc_machine.specs.Safe.{IsMachine}
 use Rattle.tc_machine.proofs.Words.{register_lt}
 use Rattle.tc_machine.proofs.PlanLaws.{HoldsRom-written}
 use Rattle.tc_machine.proofs.Saves.{save-is}
 use Rattle.tc_machine.proofs.Areas.{HasFree, has_free, Areas-saved}
 use Rattle.value_domain.specs.declared.states.State.{State}
-use Rattle.value_domain.specs.State.{ImpliedBy}
+use Rattle.value_domain.specs.State.{FlagsImpliedBy}
 use Rattle.vd_transfer.specs.Holding.{Holds}
 use Rattle.depth_cert.specs.declared.keys.Key.{Key}
 use Rattle.depth_cert.specs.declared.points.Point.{Point}
@@ -51,7 +50,7 @@ pub record Begins (plan : PlanData) (cert : CertData) (m : Machine) (frame : Fra
   pub found : find_point pc node.points ≡ Some point
   pub inside : Holds plan (reg_of d a) ie ccpn point.state
   pub none : length (point.state).locals.items ≡ 0
-  pub is : is_of psw ≡ (node.key).is
+  pub is : is_interrupt_stack_used psw ≡ (node.key).is
   pub lower : LowerSame (reg m) (reg_of d a)
   pub goes_on :
       (word : ℕ → ℕ) (ie : Bool) (ccpn : ℕ) → UpperSame (reg m) word → word 27 < 2 ^ 32 → Leaves m.ie m.ccpn node (reg m) word ie ccpn
@@ -66,7 +65,7 @@ saved_pcxi m = pcxi_word_of m.core m.ccpn m.ie true (link_in m.fcx)
 pub IsPlanMemory-written : (plan : PlanData) (mem : Memory) (x : ℕ) (ws : List ℕ) → IsPlanMemory plan mem → IsPlanMemory plan (with_words mem x ws)
 IsPlanMemory-written plan mem x ws h = λ y. subst (λ b. (b ≡ true) ↔ IsMappedBy plan y) (sym (is_mapped-with_words mem x ws y)) (h y)
 
-pub implied_none : (fs : List Bool) → length fs ≡ 0 → ImpliedBy fs []
+pub implied_none : (fs : List Bool) → length fs ≡ 0 → FlagsImpliedBy fs []
 implied_none [] h = tt
 implied_none (f ∷ fs) h = absurd (omega arith)
 
@@ -122,7 +121,7 @@ module _ (image : ImageData) (plan : PlanData) (ok : IsPlan plan) (cert : CertDa
               stands = k.stands;
               same_back = b.a11_is;
               need = omega arith;
-              is = ap is_of (word words free 1 (omega arith) words.psw) ∙ k.is;
+              is = ap is_interrupt_stack_used (word words free 1 (omega arith) words.psw) ∙ k.is;
               upper = λ j lt ne. upper_saved words free j lt;
               globals = globals;
               goes_on = λ w ie2 ccpn2 upper small leaves.

@@ -16,13 +16,13 @@ use Rattle.depth_cert.specs.Certs.{CertData, IsCert, find_node}
 use Rattle.value_domain.specs.State.{Covers}
 use Rattle.cfg_recover.specs.LocalFaults.{IsFaultless}
 use Rattle.cfg_recover.specs.Entries.{start_key, start_state}
-use Rattle.cfg_recover.specs.RulesHoldOrFail.{limits_in, RuleHolds, HasPoint, HoldsAtStart, HoldsAtEntry, HoldsAtNode, Accepts, Fails, at_start, at_entry, at_point, fault_number, IsFirstFault}
+use Rattle.cfg_recover.specs.RulesHoldOrFail.{limits_in, RuleHolds, HasPoint, HoldsAtStart, HoldsAtEntry, HoldsAtNode, Accepts, RuleFails, at_start, at_entry, at_point, fault_number, IsFirstFault}
 use Rattle.cfg_recover.proofs.FaultLaws as faults
 use Rattle.depth_check.specs.NodeFaults.{IsNodeFault}
 use Rattle.depth_check.proofs.NodeLaws.{place_of}
 
 -- ---- a fault refutes an accepted certificate
-pub fails_refutes : (image : ImageData) (plan : PlanData) (cert : CertData) (r : ℕ) (k : Key) (p : ℕ) → Fails image plan cert r k p → Accepts image plan cert → ⊥
+pub fails_refutes : (image : ImageData) (plan : PlanData) (cert : CertData) (r : ℕ) (k : Key) (p : ℕ) → RuleFails image plan cert r k p → Accepts image plan cert → ⊥
 fails_refutes = faults.fails_refutes
 
 -- ---- the first fault
@@ -55,7 +55,7 @@ module _ (image : ImageData) (plan : PlanData) (cert : CertData) (is_cert : IsCe
       ]
 
   least_of_all : (i : ℕ) (node : NodeData) (r p q : ℕ) (j : Key) (x : ℕ) → i < length nodes → node ≡ get_or nodes i node → All (HoldsAtNode image plan cert) (take i nodes) → IsNodeFault image plan cert node r p
-      → Fails image plan cert q j x → fault_number r node.key p ≤ fault_number q j x
+      → RuleFails image plan cert q j x → fault_number r node.key p ≤ fault_number q j x
   least_of_all i node r p _ _ _ lt at before f (at_start wrong) = absurd (wrong start)
   least_of_all i node r p _ _ _ lt at before f (at_entry other member wrong) =
       least_at i node other r p 2 ((other.key).entry) lt at before f member (λ h. wrong h.entry)

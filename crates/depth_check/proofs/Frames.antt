@@ -11,11 +11,11 @@ use Rattle.tcd_base.specs.declared.core_version.Core.{Core}
 use Rattle.tcd_plan.specs.PlanData.{PlanData, global_of}
 use Rattle.tc_machine.specs.declared.events.End.TheVariants.{Running}
 use Rattle.tc_machine.specs.declared.state.Machine.{Machine}
-use Rattle.tc_machine.specs.Machine.{reg, a11, is_of}
+use Rattle.tc_machine.specs.Machine.{reg, a11, is_interrupt_stack_used}
 use Rattle.tc_mem.specs.PlanMemory.{HoldsRom, IsPlanMemory}
 use Rattle.tc_machine.proofs.Areas.{Areas}
-use Rattle.value_domain.specs.State.{ImpliedBy}
-use Rattle.vd_transfer.specs.Registers.{is_lower}
+use Rattle.value_domain.specs.State.{FlagsImpliedBy}
+use Rattle.vd_transfer.specs.Registers.{is_lower_register}
 use Rattle.vd_transfer.specs.Holding.{Holds}
 use Rattle.depth_cert.specs.declared.points.Exit.{Exit}
 use Rattle.depth_cert.specs.declared.points.Point.{Point}
@@ -46,10 +46,10 @@ oldest_first (f ∷ fs) = oldest_first fs ++ f ∷ []
 -- ---- registers
 -- the lower registers are the same; all others except A11 are the same
 abbrev pub LowerSame : (ℕ → ℕ) → (ℕ → ℕ) → Type 0
-LowerSame word0 word = (r : ℕ) → is_lower r ≡ true → word r ≡ word0 r
+LowerSame word0 word = (r : ℕ) → is_lower_register r ≡ true → word r ≡ word0 r
 
 abbrev pub UpperSame : (ℕ → ℕ) → (ℕ → ℕ) → Type 0
-UpperSame word0 word = (r : ℕ) → r < 32 → is_lower r ≡ false → r ≢ 27 → word r ≡ word0 r
+UpperSame word0 word = (r : ℕ) → r < 32 → is_lower_register r ≡ false → r ≢ 27 → word r ≡ word0 r
 
 -- How a frame may end: by RET, with the exit's values; by RFE of a system call, with those and the
 -- status of PCXI; and by RFE of another handler, with the lower registers of its entry and the
@@ -66,7 +66,7 @@ pub record Resumed (plan : PlanData) (suspended : Frame) (back : ℕ) (word : �
   pub point : Point
   pub found : find_point (back / 2 * 2) (suspended.node).points ≡ Some point
   pub even : back / 2 * 2 ≡ back
-  pub flags : ImpliedBy (point.state).locals.items (oldest_first suspended.flags)
+  pub flags : FlagsImpliedBy (point.state).locals.items (oldest_first suspended.flags)
   pub inside : Holds plan word ie ccpn point.state
   pub lower_kept : (point.state).lower ≡ true → LowerSame suspended.word0 word
 
@@ -102,7 +102,7 @@ pub record Entry (plan : PlanData) (cert : CertData) (core : Core) (mem : Memory
   pub stands : Stands cert suspended.node
   pub same_back : back ≡ back0
   pub need : 1 + length suspended.locals + node.need ≤ (suspended.node).need
-  pub is : is_of (area_word mem entry 1) ≡ ((suspended.node).key).is
+  pub is : is_interrupt_stack_used (area_word mem entry 1) ≡ ((suspended.node).key).is
   pub upper : (j : ℕ) → j < 14 → j ≢ 1 → area_word mem entry (suc (suc j)) ≡ word0 (get_or upper_regs j 0)
   pub globals : (j : ℕ) → j < 4 → word0 (get_or global_regs j 0) ≡ global_of plan (get_or global_regs j 0)
   pub goes_on :
@@ -141,8 +141,8 @@ pub record Invariant (image : ImageData) (plan : PlanData) (cert : CertData) (mo
   pub point : Point
   pub found : find_point m.pc (frame.node).points ≡ Some point
   pub inside : InState plan m point.state
-  pub flags : ImpliedBy (point.state).locals.items (oldest_first frame.flags)
-  pub is : is_of m.psw ≡ ((frame.node).key).is
+  pub flags : FlagsImpliedBy (point.state).locals.items (oldest_first frame.flags)
+  pub is : is_interrupt_stack_used m.psw ≡ ((frame.node).key).is
   pub lower_kept : (point.state).lower ≡ true → LowerSame frame.word0 (reg m)
   pub frames : Frames plan cert most m.core m.mem m.pcxi (a11 m) frame below
   pub free : List ℕ
@@ -195,7 +195,7 @@ module _ (plan : PlanData) (cert : CertData) (most : ℕ) (core : Core) where
         stands = h.stands;
         same_back = h.same_back;
         need = h.need;
-        is = ap is_of (area_word_same same 1 (omega arith)) ∙ h.is;
+        is = ap is_interrupt_stack_used (area_word_same same 1 (omega arith)) ∙ h.is;
         upper = λ j lt ne. area_word_same same (suc (suc j)) (omega arith) ∙ h.upper j lt ne;
         globals = h.globals;
         goes_on = h.goes_on;
@@ -260,7 +260,7 @@ length-Locals core mem pcxi back word0 (f ∷ fs) (l ∷ ls) h = ap suc (length-
 length-Locals core mem pcxi back word0 [] (l ∷ ls) h = absurd h
 length-Locals core mem pcxi back word0 (f ∷ fs) [] h = absurd h
 
-pub length-ImpliedBy : (fs gs : List Bool) → ImpliedBy fs gs → length fs ≡ length gs
+pub length-ImpliedBy : (fs gs : List Bool) → FlagsImpliedBy fs gs → length fs ≡ length gs
 length-ImpliedBy [] [] h = refl
 length-ImpliedBy (f ∷ fs) (g ∷ gs) h = ap suc (length-ImpliedBy fs gs h.1)
 length-ImpliedBy [] (g ∷ gs) h = absurd h
@@ -270,7 +270,7 @@ pub length-oldest_first : (fs : List Bool) → length (oldest_first fs) ≡ leng
 length-oldest_first [] = refl
 length-oldest_first (f ∷ fs) = let rest = length-oldest_first fs in let more = length-append (oldest_first fs) (f ∷ []) in omega arith
 
-pub ImpliedBy-trans : (fs gs hs : List Bool) → ImpliedBy fs gs → ImpliedBy gs hs → ImpliedBy fs hs
+pub ImpliedBy-trans : (fs gs hs : List Bool) → FlagsImpliedBy fs gs → FlagsImpliedBy gs hs → FlagsImpliedBy fs hs
 ImpliedBy-trans [] [] [] a b = tt
 ImpliedBy-trans (f ∷ fs) (g ∷ gs) (h ∷ hs) a b = (λ e. b.0 (a.0 e), ImpliedBy-trans fs gs hs a.1 b.1)
 ImpliedBy-trans [] (g ∷ gs) hs a b = absurd a

@@ -7,9 +7,8 @@ use Rattle.csa_chain.proofs.ContextLaws.{reg_of}
 use Rattle.elf_image.specs.Images.{ImageData}
 use Rattle.tcd_plan.specs.PlanData.{PlanData}
 use Rattle.tc_machine.specs.declared.state.Machine.{Machine}
-use Rattle.tc_machine.specs.Machine.{reg, a10, is_of, handler_psw}
-use Rattle.tc_machine.specs.Instructions.{handler_stack}
-use Rattle.tc_machine.specs.Safe.{IsMachine, AreRegisters}
+use Rattle.tc_machine.specs.Machine.{reg, a10, is_interrupt_stack_used, AreRegisters, IsMachine}
+use Rattle.tc_machine.specs.Instructions.{handler_psw, handler_stack}
 use Rattle.tc_machine.proofs.Words.{register_lt, AreRegisters-set}
 use Rattle.value_domain.specs.declared.states.State.{State}
 use Rattle.value_domain.specs.declared.values.Val.{Val}
@@ -17,8 +16,8 @@ use Rattle.value_domain.specs.Values.{IsMember, any_val, word_val}
 use Rattle.vd_transfer.specs.Registers.{slot, set_at}
 use Rattle.depth_cert.specs.Nodes.{NodeData}
 use Rattle.depth_cert.specs.Certs.{CertData, IsCert}
-use Rattle.cfg_recover.specs.Entries.{irq_key, sys_key, aln_key, irq_entry, sys_entry, aln_entry, stack_of, entry_with, handler_key}
-use Rattle.depth_cert.specs.Exits.{after_of}
+use Rattle.cfg_recover.specs.Entries.{irq_key, sys_key, aln_key, irq_entry, sys_entry, aln_entry, entry_stack_of, entry_state_with, handler_key}
+use Rattle.depth_cert.specs.Exits.{state_after_exit}
 use Rattle.cfg_recover.specs.RulesHoldOrFail.{Accepts}
 use Rattle.cfg_recover.proofs.EntryLaws.{holds_covered, holds_irq, holds_aln, holds_sys, entry_length, aln_length, sys_length, stack_member, holds_after_system}
 use Rattle.depth_check.proofs.Frames.{Frame, LowerSame, UpperSame, Leaves, by_return, from_system, from_handler, Resumed, Invariant, length-ImpliedBy}
@@ -27,7 +26,7 @@ use Rattle.depth_check.proofs.Enter.{Begins}
 use Rattle.cfg_recover.proofs.PointLaws.{Found}
 use Rattle.depth_check.proofs.Entries.{lower_not, if_some, PointFor, after, again, upper_in}
 
-handler_is : (psw : ℕ) → is_of (handler_psw psw) ≡ true
+handler_is : (psw : ℕ) → is_interrupt_stack_used (handler_psw psw) ≡ true
 handler_is psw = eq-eqb _ _ (bit psw)
   where
     bit : (psw : ℕ) → (psw / 2 ^ 14 * 2 ^ 14 + 2 * 2 ^ 10 + 2 ^ 9 + psw % 2 ^ 8) / 2 ^ 9 % 2 ≡ 1
@@ -38,7 +37,7 @@ set_none : (s : State) (v : Val) (o : Option ℕ) → length (set_at s v o).loca
 set_none s v (Some i) = refl
 set_none s v None = refl
 
-pub entry_none : (sp : Val) (ie : Bool) (ccpn : ℕ) (lower : Bool) → length (entry_with sp ie ccpn lower).locals.items ≡ 0
+pub entry_none : (sp : Val) (ie : Bool) (ccpn : ℕ) (lower : Bool) → length (entry_state_with sp ie ccpn lower).locals.items ≡ 0
 entry_none sp ie ccpn lower = set_none (record { regs = replicate 27 any_val; ie = ie; ccpn = ccpn; lower = lower; locals = record { items = [] } }) sp (slot 26)
 
 -- A0 to A15 at the entry of a handler
@@ -62,12 +61,12 @@ module _ (image : ImageData) (plan : PlanData) (cert : CertData) (most : ℕ) (i
       handler_small : (r : ℕ) → reg_of d (handler_a m back) r < 2 ^ 32
       handler_small r =
           reg_of_lt d (handler_a m back) ds
-          (AreRegisters-set (set m.a 11 back) 10 (handler_stack m) (cond_both (is_of m.psw) (a10 m) m.isp (λ w. w < 2 ^ 32) (λ _. register_lt m.a words.a 10) (λ _. words.isp)) (AreRegisters-set m.a 11 back small words.a)) r
+          (AreRegisters-set (set m.a 11 back) 10 (handler_stack m) (cond_both (is_interrupt_stack_used m.psw) (a10 m) m.isp (λ w. w < 2 ^ 32) (λ _. register_lt m.a words.a 10) (λ _. words.isp)) (AreRegisters-set m.a 11 back small words.a)) r
 
       handler_lower : LowerSame (reg m) (reg_of d (handler_a m back))
       handler_lower r low = handler_same r (lower_not r 15 refl low) (lower_not r 26 refl low) (lower_not r 27 refl low)
 
-      handler_member : IsMember (reg_of d (handler_a m back) 26) (stack_of plan (frame.node).key (k.point).state)
+      handler_member : IsMember (reg_of d (handler_a m back) 26) (entry_stack_of plan (frame.node).key (k.point).state)
       handler_member = rw handler_sp (stack_member plan (frame.node).key m (k.point).state m.ie m.ccpn k.is k.isp k.inside)
 
       handler_address : (r : ℕ) → 16 ≤ r → r < 26 → reg_of d (handler_a m back) r ≡ reg m r
@@ -95,10 +94,10 @@ module _ (image : ImageData) (plan : PlanData) (cert : CertData) (most : ℕ) (i
             point = at.point;
             found = rw k.biv at.found;
             inside =
-                holds_covered plan (at.point).state (irq_entry plan (frame.node).key (k.point).state irq) (reg_of m.d (handler_a m m.pc)) false irq at.covers (entry_length (stack_of plan (frame.node).key (k.point).state) false irq true)
+                holds_covered plan (at.point).state (irq_entry plan (frame.node).key (k.point).state irq) (reg_of m.d (handler_a m m.pc)) false irq at.covers (entry_length (entry_stack_of plan (frame.node).key (k.point).state) false irq true)
                 (holds_irq plan (frame.node).key (k.point).state (reg m) (reg_of m.d (handler_a m m.pc)) m.ie m.ccpn k.inside (handler_member m.d words.d same m.pc words.pc) irq (λ r lt. handler_small m.d words.d same m.pc words.pc r)
                 (handler_address m.d words.d same m.pc words.pc));
-            none = length-ImpliedBy ((at.point).state).locals.items ((irq_entry plan (frame.node).key (k.point).state irq).locals.items) (at.covers).locals ∙ entry_none (stack_of plan (frame.node).key (k.point).state) false irq true;
+            none = length-ImpliedBy ((at.point).state).locals.items ((irq_entry plan (frame.node).key (k.point).state irq).locals.items) (at.covers).locals ∙ entry_none (entry_stack_of plan (frame.node).key (k.point).state) false irq true;
             is = handler_is m.psw ∙ sym (ap (λ k. k.is) found.key);
             lower = handler_lower m.d words.d same m.pc words.pc;
             goes_on = goes_back node (inl (ap (λ k. k.kind) found.key));
@@ -139,7 +138,7 @@ module _ (image : ImageData) (plan : PlanData) (cert : CertData) (most : ℕ) (i
                 (λ r lt. handler_small (set m.d 15 4) ds same m.pc words.pc r) (handler_address (set m.d 15 4) ds same m.pc words.pc) (trap_tin 4 four m.pc words.pc (handler_a m m.pc)));
             none =
                 length-ImpliedBy ((at.point).state).locals.items ((aln_entry plan (frame.node).key (k.point).state).locals.items) (at.covers).locals
-                ∙ set_none (entry_with (stack_of plan (frame.node).key (k.point).state) false ((k.point).state).ccpn true) (word_val 4) (slot 15) ∙ entry_none (stack_of plan (frame.node).key (k.point).state) false ((k.point).state).ccpn true;
+                ∙ set_none (entry_state_with (entry_stack_of plan (frame.node).key (k.point).state) false ((k.point).state).ccpn true) (word_val 4) (slot 15) ∙ entry_none (entry_stack_of plan (frame.node).key (k.point).state) false ((k.point).state).ccpn true;
             is = handler_is m.psw ∙ sym (ap (λ k. k.is) found.key);
             lower = handler_lower (set m.d 15 4) ds same m.pc words.pc;
             goes_on = goes_back node (inr (ap (λ k. k.kind) found.key));
@@ -147,7 +146,7 @@ module _ (image : ImageData) (plan : PlanData) (cert : CertData) (most : ℕ) (i
 
     -- ---- a system call
     module _ (tin : ℕ) (tin_small : tin < 2 ^ 32) (back : ℕ) (small : back < 2 ^ 32) (node : NodeData) (found : Found image plan cert is_cert accepted (sys_key plan (frame.node).key) node)
-        (at : PointFor node (bit_or plan.btv (6 * 2 ^ 5)) (sys_entry plan (frame.node).key (k.point).state tin)) (exits : IfSome node.exit (λ x. PointFor frame.node back (after_of (k.point).state x 3)))
+        (at : PointFor node (bit_or plan.btv (6 * 2 ^ 5)) (sys_entry plan (frame.node).key (k.point).state tin)) (exits : IfSome node.exit (λ x. PointFor frame.node back (state_after_exit (k.point).state x 3)))
         (room : length ((k.point).state).locals.items + 1 + node.need ≤ (frame.node).need) where
       sys_kind : (node.key).kind ≡ 3
       sys_kind = ap (λ k. k.kind) found.key
@@ -155,7 +154,7 @@ module _ (image : ImageData) (plan : PlanData) (cert : CertData) (most : ℕ) (i
       sys_goes_on : (word : ℕ → ℕ) (ie : Bool) (ccpn : ℕ) → UpperSame (reg m) word → word 27 < 2 ^ 32 → Leaves m.ie m.ccpn node (reg m) word ie ccpn → Resumed plan frame back word ie ccpn
       sys_goes_on word ie ccpn upper a11_small (by_return x is kind h) = let three = sys_kind in absurd (omega arith)
       sys_goes_on word ie ccpn upper a11_small (from_system x ie2 ccpn2 is kind h enabled priority) =
-          after image plan cert most is_cert accepted m words frame below k regs x 3 back word ie ccpn (if_some (λ x. PointFor frame.node back (after_of (k.point).state x 3)) node.exit x exits is)
+          after image plan cert most is_cert accepted m words frame below k regs x 3 back word ie ccpn (if_some (λ x. PointFor frame.node back (state_after_exit (k.point).state x 3)) node.exit x exits is)
           (holds_after_system plan (k.point).state x 3 word regs (upper_in image plan cert most is_cert accepted m words frame below k regs word upper a11_small) ie ie2 ccpn ccpn2 (omega arith) h
           (λ t. (k.inside).enabled (sym enabled ∙ t)) (rw priority (k.inside).priority))
       sys_goes_on word ie ccpn upper a11_small (from_handler kind lower enabled priority) =

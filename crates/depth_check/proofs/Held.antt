@@ -8,14 +8,14 @@ use Rattle.tcd_base.specs.declared.core_version.Core.{Core}
 use Rattle.tcd_plan.specs.PlanData.{PlanData, IsPlan}
 use Rattle.tc_machine.specs.declared.events.Event.{Event}
 use Rattle.tc_machine.specs.declared.state.Machine.{Machine}
-use Rattle.tc_machine.specs.Machine.{a11}
+use Rattle.tc_machine.specs.Machine.{a11, IsMachine}
 use Rattle.tc_machine.specs.Stepping.{run}
-use Rattle.tc_machine.specs.Safe.{IsMachine, Fits}
+use Rattle.tc_machine.specs.Safe.{Fits}
 use Rattle.tc_machine.proofs.Stays.{stays_run}
 use Rattle.depth_cert.specs.Points.{find_point}
 use Rattle.depth_cert.specs.Certs.{CertData, IsCert, find_node}
 use Rattle.cfg_recover.specs.RulesHoldOrFail.{Accepts, certified_need}
-use Rattle.cfg_recover.specs.Frames.{Standing, LiesAt, HoldFrames}
+use Rattle.cfg_recover.specs.Frames.{Standing, FrameLiesAtPoint, HoldFrames}
 use Rattle.cfg_recover.specs.EdgesAreOwed.{EdgeOwed}
 use Rattle.cfg_recover.specs.MovesAreOwed.{InState}
 use Rattle.depth_check.specs.AcceptedPromises.{AcceptedHoldsFrames, AcceptedOwesEdges}
@@ -34,7 +34,7 @@ module _ (image : ImageData) (plan : PlanData) (cert : CertData) (most : ℕ) wh
   all_stand core mem pcxi back pc frame (s ∷ below) stands h (suc i) d lt =
       all_stand core mem (area_word mem frame.area 0) (area_word mem frame.area 3) frame.back s below (h.1).stands h.2 i d (omega arith)
 
-  lies_at : (m : Machine) (frame : Frame) (below : List Frame) → Invariant image plan cert most m frame below → LiesAt plan cert m (record { key = (frame.node).key; at = m.pc })
+  lies_at : (m : Machine) (frame : Frame) (below : List Frame) → Invariant image plan cert most m frame below → FrameLiesAtPoint plan cert m (record { key = (frame.node).key; at = m.pc })
   lies_at m frame below k =
       subst (λ o. IsSomeAnd o (λ n. IsSomeAnd (find_point m.pc n.points) (λ p. InState plan m p.state))) (sym k.stands)
       (subst (λ o. IsSomeAnd o (λ p. InState plan m p.state)) (sym k.found) k.inside)

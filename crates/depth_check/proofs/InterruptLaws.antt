@@ -24,7 +24,7 @@ use Rattle.depth_cert.specs.Points.{find_point}
 use Rattle.depth_cert.specs.Nodes.{NodeData}
 use Rattle.depth_cert.specs.Certs.{CertData, find_node}
 use Rattle.cfg_recover.specs.Code.{HasCode}
-use Rattle.cfg_recover.specs.Entries.{irq_key, irq_entry, entry_with, stack_of, irqs_of, stack_with}
+use Rattle.cfg_recover.specs.Entries.{irq_key, irq_entry, entry_state_with, entry_stack_of, irqs_of, entry_stack_with}
 use Rattle.cfg_recover.specs.LocalFaults.{IsFaultless}
 use Rattle.cfg_recover.specs.Duties.{Owed, owed, enter, successors_of, entries_of, misaligned_of, interrupts_of, leavings_of, duties_of}
 use Rattle.cfg_recover.specs.FlowDuties.{told_irqs}
@@ -33,11 +33,10 @@ use Rattle.cfg_recover.proofs.EntryLaws.{entry_length}
 use Rattle.cfg_recover.proofs.EntryChanges.{handler-is}
 use Rattle.depth_check.specs.declared.last_interrupts.InterruptContext.{InterruptContext}
 use Rattle.depth_check.specs.declared.last_interrupts.LastInterrupts.{LastInterrupts}
-use Rattle.depth_check.specs.LeastBroken.{Finds}
+use Rattle.depth_check.specs.LeastBroken.{FindsLeastBroken}
 use Rattle.depth_cert.specs.Proper.{IsWellNode}
 use Rattle.depth_check.specs.DutiesHold.{DutyHolds, DutiesHold}
-use Rattle.depth_check.specs.Interrupts.{IsContext, IsBelowContext, InterruptsHold, HoldsInContext, AreWellStacks, LastInterruptsHold}
-use Rattle.depth_check.specs.PassingInstructions.{HoldsWith}
+use Rattle.depth_check.specs.Interrupts.{IsContext, IsBelowContext, InterruptsHold, HoldsInContext, AreWellStacks, LastInterruptsHold, InterruptsHoldWith}
 use Rattle.depth_check.proofs.AfterLaws.{at_well}
 use Rattle.depth_check.proofs.DutyLaws.{All-left, All-right}
 use Rattle.depth_check.proofs.RuleLaws.{holds_from}
@@ -70,12 +69,12 @@ stacks_below true false v w x e h = absurd (let no : false ≡ true = e in cc)
 stacks_below false true v w x e h = absurd (let no : true ≡ false = e in cc)
 stacks_below false false v w x e h = λ z m. m
 
-stack_below : (plan : PlanData) (key other : Key) (sp : Val) (t : State) → key.is ≡ other.is → (IsTrue key.is → IsBelow (slice_index_or t.regs 22 any_val) sp) → IsBelow (stack_of plan other t) (stack_with plan key sp)
+stack_below : (plan : PlanData) (key other : Key) (sp : Val) (t : State) → key.is ≡ other.is → (IsTrue key.is → IsBelow (slice_index_or t.regs 22 any_val) sp) → IsBelow (entry_stack_of plan other t) (entry_stack_with plan key sp)
 unfolding slot
 stack_below plan key other sp t e h = stacks_below other.is key.is (slice_index_or t.regs 22 any_val) sp (word_val plan.isp) e h
 
 -- the entries that hold in a state hold with its own A10
-own_stack : (plan : PlanData) (cert : CertData) (node : NodeData) (s : State) → InterruptsHold plan cert node s → HoldsWith plan cert node s (slice_index_or s.regs 22 any_val)
+own_stack : (plan : PlanData) (cert : CertData) (node : NodeData) (s : State) → InterruptsHold plan cert node s → InterruptsHoldWith plan cert node s (slice_index_or s.regs 22 any_val)
 unfolding slot
 own_stack plan cert node s h = h
 
@@ -89,26 +88,26 @@ own_value b s t v w e lt at same values =
     let is : w ≡ slice_index_or t.regs 22 any_val = own_is s.regs t.regs v w (ap (λ (u : State). u.regs) e) lt at same in
     subst (IsValue b) (sym is) (values 22 (subst (λ (u : State). 22 < length u.regs) e lt))
 
-pub own_holds : (plan : PlanData) (cert : CertData) (node : NodeData) (s t : State) (v w : Val) → s ≡ t → 22 < length s.regs → v ≡ get_or s.regs 22 v → w ≡ v → InterruptsHold plan cert node t → HoldsWith plan cert node t w
+pub own_holds : (plan : PlanData) (cert : CertData) (node : NodeData) (s t : State) (v w : Val) → s ≡ t → 22 < length s.regs → v ≡ get_or s.regs 22 v → w ≡ v → InterruptsHold plan cert node t → InterruptsHoldWith plan cert node t w
 own_holds plan cert node s t v w e lt at same holds =
     let is : w ≡ slice_index_or t.regs 22 any_val = own_is s.regs t.regs v w (ap (λ (u : State). u.regs) e) lt at same in
-    subst (HoldsWith plan cert node t) (sym is) (own_stack plan cert node t holds)
+    subst (InterruptsHoldWith plan cert node t) (sym is) (own_stack plan cert node t holds)
 
 -- the duties of the entries with another A10
-told_stack : (plan : PlanData) (is : Bool) (s entry : State) (sp : Val) (n : ℕ) (irqs : List ℕ) → entry ≡ entry_with sp false n true → irqs ≡ irqs_of plan s → IsTrue is
-    → told_irqs plan entry irqs ≡ map (λ p. owed 11 (enter (irq_key plan p) (entry_with (if is then sp else word_val plan.isp) false p true))) (irqs_of plan s)
+told_stack : (plan : PlanData) (is : Bool) (s entry : State) (sp : Val) (n : ℕ) (irqs : List ℕ) → entry ≡ entry_state_with sp false n true → irqs ≡ irqs_of plan s → IsTrue is
+    → told_irqs plan entry irqs ≡ map (λ p. owed 11 (enter (irq_key plan p) (entry_state_with (if is then sp else word_val plan.isp) false p true))) (irqs_of plan s)
 unfolding slot
-told_stack plan true s entry sp n irqs e f on = ap (λ (t : State). told_irqs plan t irqs) e ∙ ap (λ (l : List ℕ). told_irqs plan (entry_with sp false n true) l) f
+told_stack plan true s entry sp n irqs e f on = ap (λ (t : State). told_irqs plan t irqs) e ∙ ap (λ (l : List ℕ). told_irqs plan (entry_state_with sp false n true) l) f
 told_stack plan false s entry sp n irqs e f on = absurd (let no : false ≡ true = on in cc)
 
 -- so the entries hold with it
-pub other_stack : (plan : PlanData) (cert : CertData) (node : NodeData) (s entry : State) (sp : Val) (n : ℕ) (irqs : List ℕ) → entry ≡ entry_with sp false n true → irqs ≡ irqs_of plan s → IsTrue (node.key).is
-    → Finds (DutiesHold cert node s (told_irqs plan entry irqs)) None → HoldsWith plan cert node s sp
+pub other_stack : (plan : PlanData) (cert : CertData) (node : NodeData) (s entry : State) (sp : Val) (n : ℕ) (irqs : List ℕ) → entry ≡ entry_state_with sp false n true → irqs ≡ irqs_of plan s → IsTrue (node.key).is
+    → FindsLeastBroken (DutiesHold cert node s (told_irqs plan entry irqs)) None → InterruptsHoldWith plan cert node s sp
 other_stack plan cert node s entry sp n irqs e f on h q = subst (λ (l : List Owed). DutiesHold cert node s l q) (told_stack plan (node.key).is s entry sp n irqs e f on) (h q)
 
 -- a change that puts A10 alone, over unknown values, gives the state at an entry
 pub entered_state : (s : State) (sp : Val) (n : ℕ) (p q r : Put) (l : ArrayVec Bool) → p ≡ reg_put 26 sp → q ≡ no_put → r ≡ no_put → l ≡ record { items = [] }
-    → state_after s (record { base = Any; first = p; second = q; third = r; ie = false; ccpn = n; lower = true; locals = l }) ≡ entry_with sp false n true
+    → state_after s (record { base = Any; first = p; second = q; third = r; ie = false; ccpn = n; lower = true; locals = l }) ≡ entry_state_with sp false n true
 entered_state s sp n p q r l e f g h =
     let made : Put → Put → Put → ArrayVec Bool → State = λ a b c d. state_after s (record { base = Any; first = a; second = b; third = c; ie = false; ccpn = n; lower = true; locals = d }) in
     ap (λ (x : Put). made x q r l) e
@@ -134,7 +133,7 @@ put_below vs v w i r lt h =
     ]
 
 -- the state at an entry with a greater A10 covers the state with a smaller one
-entry_covers : (v w : Val) (p : ℕ) → IsBelow w v → Covers (entry_with v false p true) (entry_with w false p true)
+entry_covers : (v w : Val) (p : ℕ) → IsBelow w v → Covers (entry_state_with v false p true) (entry_state_with w false p true)
 unfolding slot
 entry_covers v w p h = record {
   regs = λ r lt. put_below (replicate 27 any_val) v w 22 r (omega (arith, length-replicate 27 any_val)) h;
@@ -175,17 +174,17 @@ less_needed cert node other s t q room keys entry less (p ∷ ps) f le more h =
     (less_needed cert node other s t q room keys entry less ps f le more rest)
 
 -- the entries hold in each state below a context in which they hold
-pub below_context : (plan : PlanData) (cert : CertData) (node other : NodeData) (context : InterruptContext) (s t : State) → IsContext context node s → IsBelowContext context other t → HoldsWith plan cert node s context.sp → InterruptsHold plan cert other t
+pub below_context : (plan : PlanData) (cert : CertData) (node other : NodeData) (context : InterruptContext) (s t : State) → IsContext context node s → IsBelowContext context other t → InterruptsHoldWith plan cert node s context.sp → InterruptsHold plan cert other t
 below_context plan cert node other context s t a b h q =
     let like = b.like in
     let irqs : irqs_of plan s ≡ irqs_of plan t = ap (λ (x : Bool). taken plan x s.ccpn) (sym a.ie ∙ like.ie) ∙ ap (λ (n : ℕ). taken plan t.ie n) (sym a.ccpn ∙ like.ccpn) in
-    let v = stack_with plan node.key context.sp in
-    let w = stack_of plan other.key t in
+    let v = entry_stack_with plan node.key context.sp in
+    let w = entry_stack_of plan other.key t in
     let low : IsBelow w v = stack_below plan node.key other.key context.sp t (sym a.is ∙ like.is) (λ y. b.sp (a.is ∙ y)) in
-    less_needed cert node other s t q context.spare (λ p. irq_key plan p) (λ p. entry_with v false p true) (λ p. irq_entry plan other.key t p) (irqs_of plan t)
-    (λ p upper c. covers_trans upper (entry_with v false p true) (entry_with w false p true) (entry_length w false p true ∙ sym (entry_length v false p true)) c (entry_covers v w p low))
+    less_needed cert node other s t q context.spare (λ p. irq_key plan p) (λ p. entry_state_with v false p true) (λ p. irq_entry plan other.key t p) (irqs_of plan t)
+    (λ p upper c. covers_trans upper (entry_state_with v false p true) (entry_state_with w false p true) (entry_length w false p true ∙ sym (entry_length v false p true)) c (entry_covers v w p low))
     (omega (arith, a.spare)) like.spare
-    (subst (λ (l : List ℕ). DutiesHold cert node s (map (λ p. owed 11 (enter (irq_key plan p) (entry_with v false p true))) l) q) irqs (h q))
+    (subst (λ (l : List ℕ). DutiesHold cert node s (map (λ p. owed 11 (enter (irq_key plan p) (entry_state_with v false p true))) l) q) irqs (h q))
 
 -- A10 of the next point of a walk
 pub stack_well : (node : NodeData) (done left after : List Point) (p : Point) → IsWellNode node → node.points ≡ done ++ left → left ≡ p ∷ after → IsWell (slice_index_or (p.state).regs 22 any_val)

@@ -10,9 +10,8 @@ use Rattle.elf_image.specs.Images.{ImageData}
 use Rattle.tcd_plan.specs.PlanData.{PlanData, IsPlan, global_of}
 use Rattle.tc_machine.specs.declared.events.End.TheVariants.{Running}
 use Rattle.tc_machine.specs.declared.state.Machine.{Machine}
-use Rattle.tc_machine.specs.Machine.{reg, a11}
-use Rattle.tc_machine.specs.SavesAndRestores.{area_words, last_context, restored, restore}
-use Rattle.tc_machine.specs.Safe.{IsMachine}
+use Rattle.tc_machine.specs.Machine.{reg, a11, IsMachine}
+use Rattle.tc_machine.specs.SavesAndRestores.{saved_area_words, last_context, restored, restore}
 use Rattle.tc_machine.proofs.PlanLaws.{HoldsRom-written}
 use Rattle.tc_machine.proofs.Saves.{restore-is}
 use Rattle.tc_machine.proofs.Areas.{Areas, Areas-restored, is_freed}
@@ -37,8 +36,8 @@ globals_held plan word ie ccpn s h (suc (suc (suc zero))) lt = elim (h.regs 25 (
 globals_held plan word ie ccpn s h (suc (suc (suc (suc j)))) lt = absurd (omega arith)
 
 -- the words of an area
-pub area_words-at : (mem : Memory) (l : ℕ) (i : ℕ) → i < 16 → get_or (area_words mem l) i 0 ≡ area_word mem l i
-area_words-at mem l = below_16 (λ i. get_or (area_words mem l) i 0 ≡ area_word mem l i) refl refl refl refl refl refl refl refl refl refl refl refl refl refl refl refl
+pub area_words-at : (mem : Memory) (l : ℕ) (i : ℕ) → i < 16 → get_or (saved_area_words mem l) i 0 ≡ area_word mem l i
+area_words-at mem l = below_16 (λ i. get_or (saved_area_words mem l) i 0 ≡ area_word mem l i) refl refl refl refl refl refl refl refl refl refl refl refl refl refl refl refl
 
 -- the lower registers at the end of a frame
 HoldsExit-same : (word word' : ℕ → ℕ) (ie : Bool) (ccpn : ℕ) (x : Exit) → LowerSame word word' → HoldsExit word ie ccpn x → HoldsExit word' ie ccpn x

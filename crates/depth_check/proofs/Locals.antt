@@ -3,7 +3,7 @@ use Rattle.std.proofs.Common.{◌≡◌, ℕ, suc, ◌-◌, ◌^◌, ◌<◌, �
 use Rattle.std.proofs.lemmas.Bool.{cases_eq}
 use Rattle.csa_chain.specs.MemoryBytes.{Memory, with_words}
 use Rattle.csa_chain.specs.Chain.{link_in, link_address, area_word}
-use Rattle.csa_chain.specs.ContextWords.{pcxi_word_of, with_link, d_after_lower, a_after_lower}
+use Rattle.csa_chain.specs.ContextWords.{pcxi_word_of, word_with_link, d_after_lower, a_after_lower}
 use Rattle.csa_chain.proofs.ChainLaws.{Links, SameAreas-written, area_word-written, is_area-written}
 use Rattle.csa_chain.proofs.ContextLaws.{reg_of, lower_regs, lower_word, lower_back, link_in-pcxi_word, ul_of-pcxi_word, link_in-lt}
 use Rattle.elf_image.specs.Images.{ImageData}
@@ -11,16 +11,15 @@ use Rattle.tcd_base.specs.declared.core_version.Core.{Core}
 use Rattle.tcd_plan.specs.PlanData.{PlanData, IsPlan}
 use Rattle.tc_machine.specs.declared.events.End.TheVariants.{Running}
 use Rattle.tc_machine.specs.declared.state.Machine.{Machine}
-use Rattle.tc_machine.specs.Machine.{reg, a11}
+use Rattle.tc_machine.specs.Machine.{reg, a11, IsMachine}
 use Rattle.tc_machine.specs.SavesAndRestores.{context_of, saved, last_context, restored, restore}
-use Rattle.tc_machine.specs.Safe.{IsMachine}
 use Rattle.tc_machine.proofs.Words.{register_lt}
 use Rattle.tc_machine.proofs.PlanLaws.{HoldsRom-written}
 use Rattle.tc_machine.proofs.Saves.{restore-is}
 use Rattle.tc_machine.proofs.Stays.{stays_restore}
 use Rattle.tc_machine.proofs.Areas.{Areas, HasFree, Areas-saved, Areas-restored, is_freed}
 use Rattle.value_domain.specs.declared.states.State.{State}
-use Rattle.value_domain.specs.State.{ImpliedBy}
+use Rattle.value_domain.specs.State.{FlagsImpliedBy}
 use Rattle.vd_transfer.specs.EffectsOnStates as effects
 use Rattle.vd_transfer.specs.Holding.{Holds}
 use Rattle.vd_transfer.proofs.HoldLaws.{restore_holds}
@@ -34,13 +33,13 @@ use Rattle.depth_check.proofs.Leave.{area_words-at}
 use Rattle.depth_check.proofs.Entries.{PointFor}
 
 -- ---- flags
-ImpliedBy-push : (fs gs : List Bool) (x : Bool) → ImpliedBy fs gs → ImpliedBy (fs ++ x ∷ []) (gs ++ x ∷ [])
+ImpliedBy-push : (fs gs : List Bool) (x : Bool) → FlagsImpliedBy fs gs → FlagsImpliedBy (fs ++ x ∷ []) (gs ++ x ∷ [])
 ImpliedBy-push [] [] x h = (λ e. e, tt)
 ImpliedBy-push (f ∷ fs) (g ∷ gs) x h = (h.0, ImpliedBy-push fs gs x h.1)
 ImpliedBy-push [] (g ∷ gs) x h = absurd h
 ImpliedBy-push (f ∷ fs) [] x h = absurd h
 
-ImpliedBy-pop : (xs ys : List Bool) (f : Bool) → ImpliedBy xs (ys ++ f ∷ []) → ImpliedBy (take (length xs - 1) xs) ys × (IsTrue (get_or xs (length xs - 1) false) → IsTrue f)
+ImpliedBy-pop : (xs ys : List Bool) (f : Bool) → FlagsImpliedBy xs (ys ++ f ∷ []) → FlagsImpliedBy (take (length xs - 1) xs) ys × (IsTrue (get_or xs (length xs - 1) false) → IsTrue f)
 ImpliedBy-pop [] [] f h = absurd h
 ImpliedBy-pop [] (y ∷ ys) f h = absurd h
 ImpliedBy-pop (x ∷ []) [] f h = (tt, h.0)
@@ -105,7 +104,7 @@ module _ (image : ImageData) (plan : PlanData) (ok : IsPlan plan) (cert : CertDa
             found = at.found;
             inside = holds_covered plan (at.point).state t (reg m) ie ccpn at.covers long holds;
             flags =
-                ImpliedBy-trans _ (((k.point).state).locals.items ++ ((k.point).state).lower ∷ []) _ (subst (λ fs. ImpliedBy ((at.point).state).locals.items fs) pushed (at.covers).locals)
+                ImpliedBy-trans _ (((k.point).state).locals.items ++ ((k.point).state).lower ∷ []) _ (subst (λ fs. FlagsImpliedBy ((at.point).state).locals.items fs) pushed (at.covers).locals)
                 (ImpliedBy-push ((k.point).state).locals.items (oldest_first frame.flags) ((k.point).state).lower k.flags);
             is = k.is;
             lower_kept = λ e. k.lower_kept (sym same_lower ∙ ((at.covers).context).2 e);
@@ -123,7 +122,7 @@ module _ (image : ImageData) (plan : PlanData) (ok : IsPlan plan) (cert : CertDa
                 )
                 stay;
             free = free.rest;
-            areas = subst (λ us. Areas plan (with_words m.mem (link_address (link_in m.fcx)) (context_of m false)) (with_link m.fcx (link_in (area_word m.mem (link_in m.fcx) 0))) m.lcx us free.rest)
+            areas = subst (λ us. Areas plan (with_words m.mem (link_address (link_in m.fcx)) (context_of m false)) (word_with_link m.fcx (link_in (area_word m.mem (link_in m.fcx) 0))) m.lcx us free.rest)
                 (sym (used_pushed frame below (link_in m.fcx) (((k.point).state).lower ∷ frame.flags))) (Areas-saved m.mem m.fcx m.lcx (used_by frame below) k.free free k.areas (context_of m false) refl);
             rom = HoldsRom-written image m.mem ok (link_in m.fcx) (length (used_by frame below)) (context_of m false) free.place free.within (omega arith) k.rom;
             memory = IsPlanMemory-written plan m.mem (link_address (link_in m.fcx)) (context_of m false) k.memory;
@@ -154,7 +153,7 @@ module _ (image : ImageData) (plan : PlanData) (ok : IsPlan plan) (cert : CertDa
         let restores : restore m false ≡ restored m false = restore-is m false (λ z. local.some (sym local.named ∙ z)) (ap not local.ul) (rw local.named local.area) in
         let after_words : IsMachine (restored m false) = subst IsMachine restores (stays_restore m words false) in
         let same_a11 : area_word m.mem (link_in m.pcxi) 1 ≡ a11 m = rw local.named local.a11_is in
-        let flags = ImpliedBy-pop ((k.point).state).locals.items (oldest_first top.flags) top.flag (subst (λ fs. ImpliedBy ((k.point).state).locals.items (oldest_first fs)) top.same_flags k.flags) in
+        let flags = ImpliedBy-pop ((k.point).state).locals.items (oldest_first top.flags) top.flag (subst (λ fs. FlagsImpliedBy ((k.point).state).locals.items (oldest_first fs)) top.same_flags k.flags) in
         let popped : Frames plan cert most m.core m.mem (area_word m.mem top.area 0) (a11 m) (with_locals frame top.areas top.flags) below =
         Frames-moved plan cert most m.core m.mem m.pcxi (area_word m.mem top.area 0) (a11 m) frame below top.areas top.flags (sym (ap (under m.mem m.pcxi) top.same_areas)) top.others k.frames in
         record {

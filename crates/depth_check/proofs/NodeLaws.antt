@@ -14,10 +14,10 @@ use Rattle.depth_cert.specs.Points.{ArePoints}
 use Rattle.depth_cert.specs.Nodes.{NodeData}
 use Rattle.depth_cert.specs.Certs.{CertData}
 use Rattle.depth_cert.proofs.FindLaws.{non_decreasing}
-use Rattle.cfg_recover.specs.RulesHoldOrFail.{limits_in, RuleHolds, HoldsAtEntry, Fails, at_entry, at_point}
+use Rattle.cfg_recover.specs.RulesHoldOrFail.{limits_in, RuleHolds, HoldsAtEntry, RuleFails, at_entry, at_point}
 use Rattle.depth_check.specs.declared.nodes.Fault.{Fault}
-use Rattle.depth_check.specs.LeastBroken.{Finds}
-use Rattle.depth_check.specs.NodeFaults.{IsNodeFault, first_of}
+use Rattle.depth_check.specs.LeastBroken.{FindsLeastBroken}
+use Rattle.depth_check.specs.NodeFaults.{IsNodeFault, earlier_node_fault}
 
 -- ---- rising lists
 next_above : {A : Type 0} (f : A → ℕ) (xs : List A) (i : ℕ) (d : A) → IsStrictlyIncreasing (map f xs) → i + 1 < length xs → f (get_or xs i d) < f (get_or xs (i + 1) d)
@@ -48,7 +48,7 @@ module _ (image : ImageData) (plan : PlanData) (cert : CertData) (node : NodeDat
   is_point p c = subst (λ (l : List Point). Contains l p) same c
 
   -- a fault that comes no later than those of the point at i, if all points before hold
-  made : (i : ℕ) (point : Point) (r p : ℕ) → i < length points → point ≡ get_or points i point → All AllHold (take i points) → Fails image plan cert r node.key p
+  made : (i : ℕ) (point : Point) (r p : ℕ) → i < length points → point ≡ get_or points i point → All AllHold (take i points) → RuleFails image plan cert r node.key p
       → ((HoldsAtEntry (limits_in plan cert) node → ⊥) → p * 2 ^ 4 + r ≤ (node.key).entry * 2 ^ 4 + 2)
       → ((q : ℕ) → (RuleHolds image plan cert node point q → ⊥) → p * 2 ^ 4 + r ≤ point.addr * 2 ^ 4 + q) → p ≤ point.addr → r ≤ 14 → p < 2 ^ 32
       → IsNodeFault image plan cert node r p
@@ -70,7 +70,7 @@ module _ (image : ImageData) (plan : PlanData) (cert : CertData) (node : NodeDat
   }
 
   -- the point's own fault
-  at_this : (i : ℕ) (point : Point) (r : ℕ) → i < length points → point ≡ get_or points i point → All AllHold (take i points) → Finds (RuleHolds image plan cert node point) (Some r) → point.addr < 2 ^ 32
+  at_this : (i : ℕ) (point : Point) (r : ℕ) → i < length points → point ≡ get_or points i point → All AllHold (take i points) → FindsLeastBroken (RuleHolds image plan cert node point) (Some r) → point.addr < 2 ^ 32
       → ((HoldsAtEntry (limits_in plan cert) node → ⊥) → point.addr * 2 ^ 4 + r ≤ (node.key).entry * 2 ^ 4 + 2) → IsNodeFault image plan cert node r point.addr
   at_this i point r lt at before f addr entry =
       made i point r point.addr lt at before (at_point node point r member (is_point point (i, lt, sym at)) f.broken) entry
@@ -83,7 +83,7 @@ module _ (image : ImageData) (plan : PlanData) (cert : CertData) (node : NodeDat
       made i point 2 (node.key).entry lt at before (at_entry node member wrong) (λ w. omega arith) here below (omega arith) entry
 
   -- the entry and the point have the same address
-  at_both : (i : ℕ) (point : Point) (found : Option ℕ) (r : ℕ) → i < length points → point ≡ get_or points i point → All AllHold (take i points) → Finds (RuleHolds image plan cert node point) found
+  at_both : (i : ℕ) (point : Point) (found : Option ℕ) (r : ℕ) → i < length points → point ≡ get_or points i point → All AllHold (take i points) → FindsLeastBroken (RuleHolds image plan cert node point) found
       → (HoldsAtEntry (limits_in plan cert) node → ⊥) → (node.key).entry < 2 ^ 32 → (node.key).entry ≡ point.addr → r ≡ min (unwrap_or found 2) 2 → IsNodeFault image plan cert node r point.addr
   at_both i point None r lt at before f wrong entry e is =
       let two : 2 ≡ r = omega arith in
@@ -100,15 +100,15 @@ module _ (image : ImageData) (plan : PlanData) (cert : CertData) (node : NodeDat
       ]
 
   -- the node's entry is good, or comes after the point
-  found_this : (i : ℕ) (point : Point) (found : Option ℕ) (fault : Fault) → i < length points → point ≡ get_or points i point → All AllHold (take i points) → Finds (RuleHolds image plan cert node point) found → point.addr < 2 ^ 32
+  found_this : (i : ℕ) (point : Point) (found : Option ℕ) (fault : Fault) → i < length points → point ≡ get_or points i point → All AllHold (take i points) → FindsLeastBroken (RuleHolds image plan cert node point) found → point.addr < 2 ^ 32
       → ((HoldsAtEntry (limits_in plan cert) node → ⊥) → point.addr < (node.key).entry) → option_map (λ r. record { rule = r; addr = point.addr }) found ≡ Some fault → IsNodeFault image plan cert node fault.rule fault.addr
   found_this i point None fault lt at before f addr behind is = absurd (let n : None ≡ Some fault = is in cc)
   found_this i point (Some r) fault lt at before f addr behind is =
       let e : record { rule = r; addr = point.addr } ≡ fault = same_Some _ _ is in
       subst (λ (z : Fault). IsNodeFault image plan cert node z.rule z.addr) e (at_this i point r lt at before f addr (λ w. let b = behind w in omega (arith, f.known)))
 
-  pub fault_at : (i : ℕ) (point : Point) (good : Bool) (found : Option ℕ) (fault : Fault) → i < length points → point ≡ get_or points i point → All AllHold (take i points) → Finds (RuleHolds image plan cert node point) found
-      → point.addr < 2 ^ 32 → (node.key).entry < 2 ^ 32 → (IsTrue good ↔ HoldsAtEntry (limits_in plan cert) node) → first_of good (node.key).entry point.addr found ≡ Some fault → IsNodeFault image plan cert node fault.rule fault.addr
+  pub fault_at : (i : ℕ) (point : Point) (good : Bool) (found : Option ℕ) (fault : Fault) → i < length points → point ≡ get_or points i point → All AllHold (take i points) → FindsLeastBroken (RuleHolds image plan cert node point) found
+      → point.addr < 2 ^ 32 → (node.key).entry < 2 ^ 32 → (IsTrue good ↔ HoldsAtEntry (limits_in plan cert) node) → earlier_node_fault good (node.key).entry point.addr found ≡ Some fault → IsNodeFault image plan cert node fault.rule fault.addr
   fault_at i point true found fault lt at before f addr entry d is = found_this i point found fault lt at before f addr (λ wrong. absurd (wrong (d.0 refl))) is
   fault_at i point false found fault lt at before f addr entry d is =
       let wrong : HoldsAtEntry (limits_in plan cert) node → ⊥ = λ h. let t : false ≡ true = d.1 h in cc in
@@ -129,11 +129,11 @@ module _ (image : ImageData) (plan : PlanData) (cert : CertData) (node : NodeDat
   abbrev fault_of : Point → ℕ → Fault
   fault_of point r = record { rule = r; addr = point.addr }
 
-  none_mapped : (point : Point) (found : Option ℕ) → option_map (fault_of point) found ≡ None → Finds (RuleHolds image plan cert node point) found → AllHold point
+  none_mapped : (point : Point) (found : Option ℕ) → option_map (fault_of point) found ≡ None → FindsLeastBroken (RuleHolds image plan cert node point) found → AllHold point
   none_mapped point None is f = f
   none_mapped point (Some r) is f = absurd (none-some _ (sym is))
 
-  pub none_at : (point : Point) (good : Bool) (found : Option ℕ) → first_of good (node.key).entry point.addr found ≡ None → Finds (RuleHolds image plan cert node point) found → AllHold point
+  pub none_at : (point : Point) (good : Bool) (found : Option ℕ) → earlier_node_fault good (node.key).entry point.addr found ≡ None → FindsLeastBroken (RuleHolds image plan cert node point) found → AllHold point
   none_at point true found is f = none_mapped point found is f
   none_at point false found is f =
       elim (cases_lt point.addr (node.key).entry) [

@@ -12,11 +12,11 @@ use Rattle.tc_isa.specs.declared.shapes.Target.{Target}
 use Rattle.tc_machine.specs.declared.events.Event.{Event}
 use Rattle.tc_machine.specs.declared.events.End.TheVariants.{Running}
 use Rattle.tc_machine.specs.declared.state.Machine.{Machine}
-use Rattle.tc_machine.specs.Machine.{reg, a11, moved, then_, with_reg, handler_psw}
-use Rattle.tc_machine.specs.Instructions.{advanced, trap, misaligned, does, access_address, with_base, target_of, traps}
+use Rattle.tc_machine.specs.Machine.{reg, a11, machine_address_ahead, then_, with_reg}
+use Rattle.tc_machine.specs.Instructions.{handler_psw, advanced, trap, misaligned, does, access_address, with_base, target_of, traps}
 use Rattle.tc_machine.specs.Stepping.{interrupt}
 use Rattle.tc_machine.specs.SavesAndRestores.{saved, save, restored, restore}
-use Rattle.csa_chain.specs.MemoryBytes.{load_number, with_bytes, extend}
+use Rattle.csa_chain.specs.MemoryBytes.{load_number, with_bytes, extend_loaded_bytes}
 use Rattle.tc_machine.proofs.Saves.{then_-running}
 use Rattle.value_domain.specs.declared.states.State.{State}
 use Rattle.value_domain.specs.Limits.{Limits}
@@ -30,15 +30,15 @@ use Rattle.depth_check.proofs.Handlers.{handler_a}
 
 -- ---- duties
 module _ (b : Limits) (image : ImageData) (plan : PlanData) (key : Key) (p : ℕ) (s : State) (n : ℕ) where
-  pub owes-svlcx : Contains (duties_of b image plan key p s Svlcx n) (owed 4 (jump (moved p n) (saved_lower s)))
+  pub owes-svlcx : Contains (duties_of b image plan key p s Svlcx n) (owed 4 (jump (machine_address_ahead p n) (saved_lower s)))
   unfolding duties_of transfer_of
   owes-svlcx = (0, omega arith, refl)
 
-  pub owes-bisr : (c : ℕ) → Contains (duties_of b image plan key p s (Bisr c) n) (owed 4 (jump (moved p n) (record (saved_lower s) { ie = true; ccpn = c })))
+  pub owes-bisr : (c : ℕ) → Contains (duties_of b image plan key p s (Bisr c) n) (owed 4 (jump (machine_address_ahead p n) (record (saved_lower s) { ie = true; ccpn = c })))
   unfolding duties_of transfer_of
   owes-bisr c = (0, omega arith, refl)
 
-  pub owes-rslcx : Contains (duties_of b image plan key p s Rslcx n) (owed 4 (jump (moved p n) (restored_lower s)))
+  pub owes-rslcx : Contains (duties_of b image plan key p s Rslcx n) (owed 4 (jump (machine_address_ahead p n) (restored_lower s)))
   unfolding duties_of transfer_of
   owes-rslcx = (0, omega arith, refl)
 
@@ -46,7 +46,7 @@ module _ (b : Limits) (image : ImageData) (plan : PlanData) (key : Key) (p : ℕ
   unfolding duties_of
   owes-syscall tin = (0, omega arith, refl)
 
-  pub owes-syscall_back : (tin : ℕ) → Contains (duties_of b image plan key p s (Syscall tin) n) (owed 4 (resume (sys_key plan key) (moved p n)))
+  pub owes-syscall_back : (tin : ℕ) → Contains (duties_of b image plan key p s (Syscall tin) n) (owed 4 (resume (sys_key plan key) (machine_address_ahead p n)))
   unfolding duties_of
   owes-syscall_back tin = (1, omega arith, refl)
 
@@ -76,11 +76,11 @@ module _ (m : Machine) (running : m.end ≡ Running) where
   pub trap-is : save m true ≡ saved m true → (class tin back : ℕ) → trap m class tin back ≡ record (begun m (set m.d 15 tin) (handler_a m back) (bit_or m.btv (class * 2 ^ 5)) (handler_psw m.psw) false m.ccpn) { end = Running }
   trap-is is class tin back = saved_then m true _ is running
 
-  pub call-is : save m true ≡ saved m true → (e : Event) (to : Target) (n : ℕ) → does m e (Call to) n ≡ record (begun m m.d (set m.a 11 (moved m.pc n)) (target_of m to) m.psw m.ie m.ccpn) { end = Running }
+  pub call-is : save m true ≡ saved m true → (e : Event) (to : Target) (n : ℕ) → does m e (Call to) n ≡ record (begun m m.d (set m.a 11 (machine_address_ahead m.pc n)) (target_of m to) m.psw m.ie m.ccpn) { end = Running }
   unfolding does
   call-is is e to n = saved_then m true _ is running
 
-  pub syscall-is : (e : Event) (tin n : ℕ) → does m e (Syscall tin) n ≡ trap m 6 tin (moved m.pc n)
+  pub syscall-is : (e : Event) (tin n : ℕ) → does m e (Syscall tin) n ≡ trap m 6 tin (machine_address_ahead m.pc n)
   unfolding does
   syscall-is e tin n = refl
 
@@ -92,15 +92,15 @@ module _ (m : Machine) (running : m.end ≡ Running) where
   unfolding does
   rfe-is is e n = restored_then m true _ is running
 
-  pub svlcx-is : save m false ≡ saved m false → (e : Event) (n : ℕ) → does m e Svlcx n ≡ record (saved m false) { pc = moved m.pc n; ie = m.ie; ccpn = m.ccpn; end = Running }
+  pub svlcx-is : save m false ≡ saved m false → (e : Event) (n : ℕ) → does m e Svlcx n ≡ record (saved m false) { pc = machine_address_ahead m.pc n; ie = m.ie; ccpn = m.ccpn; end = Running }
   unfolding does
   svlcx-is is e n = saved_then m false _ is running
 
-  pub bisr-is : save m false ≡ saved m false → (e : Event) (c n : ℕ) → does m e (Bisr c) n ≡ record (saved m false) { pc = moved m.pc n; ie = true; ccpn = c; end = Running }
+  pub bisr-is : save m false ≡ saved m false → (e : Event) (c n : ℕ) → does m e (Bisr c) n ≡ record (saved m false) { pc = machine_address_ahead m.pc n; ie = true; ccpn = c; end = Running }
   unfolding does
   bisr-is is e c n = saved_then m false _ is running
 
-  pub rslcx-is : restore m false ≡ restored m false → (e : Event) (n : ℕ) → does m e Rslcx n ≡ record (restored m false) { pc = moved m.pc n; end = Running }
+  pub rslcx-is : restore m false ≡ restored m false → (e : Event) (n : ℕ) → does m e Rslcx n ≡ record (restored m false) { pc = machine_address_ahead m.pc n; end = Running }
   unfolding does
   rslcx-is is e n = restored_then m false _ is running
 
@@ -108,7 +108,7 @@ module _ (m : Machine) (running : m.end ≡ Running) where
 pub traps-is : (m : Machine) (e : Event) (shape : Shape) (n : ℕ) → traps m e shape ≡ true → does m e shape n ≡ misaligned m
 unfolding does
 traps-is m e (Load dst base offset size signed after) n h =
-    ap (λ t. cond t (misaligned m) (advanced n (with_reg (with_base m base offset after) dst (extend signed size (load_number m.mem e.input (access_address m base offset after) size))))) h
+    ap (λ t. cond t (misaligned m) (advanced n (with_reg (with_base m base offset after) dst (extend_loaded_bytes signed size (load_number m.mem e.input (access_address m base offset after) size))))) h
 traps-is m e (Store src base offset size after) n h =
     ap (λ t. cond t (misaligned m) (advanced n (record (with_base m base offset after) { mem = with_bytes m.mem (access_address m base offset after) (reg m src) size }))) h
 traps-is m e _ n h = absurd (let f : false ≡ true = h in cc)

@@ -5,13 +5,13 @@ use Rattle.std.proofs.lemmas.List.{get_or-set_other}
 use Rattle.std.specs.Prelude.{nat_lt}
 use Rattle.csa_chain.specs.ContextWords.{d_after_upper, a_after_upper, d_after_lower, a_after_lower}
 use Rattle.csa_chain.proofs.ContextLaws.{reg_of, upper_regs, lower_regs, global_regs, below_14, below_16, upper_leaves_lower, lower_leaves_upper}
-use Rattle.tc_machine.specs.Safe.{AreRegisters}
+use Rattle.tc_machine.specs.Machine.{AreRegisters}
 use Rattle.tc_machine.proofs.Words.{register_lt}
-use Rattle.vd_transfer.specs.Registers.{is_lower}
+use Rattle.vd_transfer.specs.Registers.{is_lower_register}
 use Rattle.depth_check.proofs.Frames.{LowerSame, UpperSame}
 
-pub lower_is_lower : (j : ℕ) → j < 14 → is_lower (get_or lower_regs j 0) ≡ true
-lower_is_lower = below_14 (λ j. is_lower (get_or lower_regs j 0) ≡ true) refl refl refl refl refl refl refl refl refl refl refl refl refl refl
+pub lower_is_lower : (j : ℕ) → j < 14 → is_lower_register (get_or lower_regs j 0) ≡ true
+lower_is_lower = below_14 (λ j. is_lower_register (get_or lower_regs j 0) ≡ true) refl refl refl refl refl refl refl refl refl refl refl refl refl refl
 
 -- true isn't false
 no : {A : Type 0} → true ≡ false → A
@@ -20,39 +20,39 @@ no e = absurd (let f : true ≡ false = e in cc)
 no' : {A : Type 0} → false ≡ true → A
 no' e = absurd (let f : false ≡ true = e in cc)
 
-high_not_lower : (r : ℕ) → 24 ≤ r → is_lower r ≡ false
+high_not_lower : (r : ℕ) → 24 ≤ r → is_lower_register r ≡ false
 high_not_lower r h = rw (le-ltb r 8 (omega arith), le-leb 18 r (omega arith), lt-leb r 23 (omega arith)) refl
 
 -- a fact of each lower register
-pub each_lower : (P : ℕ → Type 0) → ((j : ℕ) → j < 14 → P (get_or lower_regs j 0)) → (r : ℕ) → is_lower r ≡ true → P r
+pub each_lower : (P : ℕ → Type 0) → ((j : ℕ) → j < 14 → P (get_or lower_regs j 0)) → (r : ℕ) → is_lower_register r ≡ true → P r
 each_lower P at r low =
     elim (cases_lt r 16) [
       | inl first ↦
-          below_16 (λ r. is_lower r ≡ true → P r) (λ e. at 2 (omega arith)) (λ e. at 3 (omega arith)) (λ e. at 4 (omega arith)) (λ e. at 5 (omega arith)) (λ e. at 10 (omega arith)) (λ e. at 11 (omega arith))
+          below_16 (λ r. is_lower_register r ≡ true → P r) (λ e. at 2 (omega arith)) (λ e. at 3 (omega arith)) (λ e. at 4 (omega arith)) (λ e. at 5 (omega arith)) (λ e. at 10 (omega arith)) (λ e. at 11 (omega arith))
           (λ e. at 12 (omega arith)) (λ e. at 13 (omega arith)) no' no' no' no' no' no' no' no' r first low
       | inr past ↦ elim (cases_lt r 32) [
         | inl second ↦
             let same : 16 + (r - 16) ≡ r = omega arith in
             subst P same
-            (below_16 (λ k. is_lower (16 + k) ≡ true → P (16 + k)) no' no' (λ e. at 0 (omega arith)) (λ e. at 1 (omega arith)) (λ e. at 6 (omega arith)) (λ e. at 7 (omega arith)) (λ e. at 8 (omega arith)) (λ e. at 9 (omega arith))
-            no' no' no' no' no' no' no' no' (r - 16) (omega arith) (ap is_lower same ∙ low))
+            (below_16 (λ k. is_lower_register (16 + k) ≡ true → P (16 + k)) no' no' (λ e. at 0 (omega arith)) (λ e. at 1 (omega arith)) (λ e. at 6 (omega arith)) (λ e. at 7 (omega arith)) (λ e. at 8 (omega arith)) (λ e. at 9 (omega arith))
+            no' no' no' no' no' no' no' no' (r - 16) (omega arith) (ap is_lower_register same ∙ low))
         | inr far ↦ no (sym low ∙ high_not_lower r (omega arith))
       ]
     ]
 
 -- a fact of each other register except A11
-pub each_upper : (P : ℕ → Type 0) → ((j : ℕ) → j < 14 → j ≢ 1 → P (get_or upper_regs j 0)) → ((j : ℕ) → j < 4 → P (get_or global_regs j 0)) → (r : ℕ) → r < 32 → is_lower r ≡ false → r ≢ 27 → P r
+pub each_upper : (P : ℕ → Type 0) → ((j : ℕ) → j < 14 → j ≢ 1 → P (get_or upper_regs j 0)) → ((j : ℕ) → j < 4 → P (get_or global_regs j 0)) → (r : ℕ) → r < 32 → is_lower_register r ≡ false → r ≢ 27 → P r
 each_upper P at global r small high other =
     elim (cases_lt r 16) [
       | inl first ↦
-          below_16 (λ r. is_lower r ≡ false → P r) no no no no no no no no (λ e. at 2 (omega arith) (omega arith)) (λ e. at 3 (omega arith) (omega arith)) (λ e. at 4 (omega arith) (omega arith)) (λ e. at 5 (omega arith) (omega arith))
+          below_16 (λ r. is_lower_register r ≡ false → P r) no no no no no no no no (λ e. at 2 (omega arith) (omega arith)) (λ e. at 3 (omega arith) (omega arith)) (λ e. at 4 (omega arith) (omega arith)) (λ e. at 5 (omega arith) (omega arith))
           (λ e. at 10 (omega arith) (omega arith)) (λ e. at 11 (omega arith) (omega arith)) (λ e. at 12 (omega arith) (omega arith)) (λ e. at 13 (omega arith) (omega arith)) r first high
       | inr past ↦
           let same : 16 + (r - 16) ≡ r = omega arith in
           subst P same
-          (below_16 (λ k. is_lower (16 + k) ≡ false → 16 + k ≢ 27 → P (16 + k)) (λ e n. global 0 (omega arith)) (λ e n. global 1 (omega arith)) (λ e n. no e) (λ e n. no e) (λ e n. no e) (λ e n. no e) (λ e n. no e) (λ e n. no e)
+          (below_16 (λ k. is_lower_register (16 + k) ≡ false → 16 + k ≢ 27 → P (16 + k)) (λ e n. global 0 (omega arith)) (λ e n. global 1 (omega arith)) (λ e n. no e) (λ e n. no e) (λ e n. no e) (λ e n. no e) (λ e n. no e) (λ e n. no e)
           (λ e n. global 2 (omega arith)) (λ e n. global 3 (omega arith)) (λ e n. at 0 (omega arith) (omega arith)) (λ e n. absurd (n refl)) (λ e n. at 6 (omega arith) (omega arith)) (λ e n. at 7 (omega arith) (omega arith))
-          (λ e n. at 8 (omega arith) (omega arith)) (λ e n. at 9 (omega arith) (omega arith)) (r - 16) (omega arith) (ap is_lower same ∙ high) (λ e. other (sym same ∙ e)))
+          (λ e n. at 8 (omega arith) (omega arith)) (λ e n. at 9 (omega arith) (omega arith)) (r - 16) (omega arith) (ap is_lower_register same ∙ high) (λ e. other (sym same ∙ e)))
     ]
 
 module _ (words d a : List ℕ) where

@@ -21,7 +21,7 @@ use Rattle.cfg_recover.specs.RulesHoldOrFail.{HasPoint}
 use Rattle.packed_cert.specs.Walks.{WalkData, RepeatsAt, KeepsOthers}
 use Rattle.packed_cert.proofs.NodeFinds.{covers_same}
 use Rattle.packed_cert.proofs.WalkedPoints.{split_more}
-use Rattle.depth_check.specs.DutiesHold.{StandsAt}
+use Rattle.depth_check.specs.DutiesHold.{HasPointWithState}
 use Rattle.depth_check.specs.PointChecks.{LooksAhead}
 use Rattle.depth_check.proofs.WalkLaws.{stands_behind}
 
@@ -55,11 +55,11 @@ next_stands node done left rest p q rising split next =
 stands_covers : (points : List Point) (q : Point) (t : State) → find_point q.addr points ≡ Some q → Covers q.state t → IsSomeAnd (find_point q.addr points) (λ z. Covers z.state t)
 stands_covers points q t is covers = subst (λ (o : Option Point). IsSomeAnd o (λ z. Covers z.state t)) (sym is) covers
 
-pub same_covers : (node : NodeData) (a : ℕ) (s : State) → StandsAt node a s → HasPoint node a s
+pub same_covers : (node : NodeData) (a : ℕ) (s : State) → HasPointWithState node a s → HasPoint node a s
 same_covers node a s is = stands_covers node.points (record { addr = a; state = s }) s is (covers_same s)
 
-pub known_covers : (node : NodeData) (known : Option ℕ) (a : ℕ) (s : State) → known ≡ Some a → IfSome known (λ x. StandsAt node x s) → HasPoint node a s
-known_covers node known a s e h = same_covers node a s (subst (λ (o : Option ℕ). IfSome o (λ x. StandsAt node x s)) e h)
+pub known_covers : (node : NodeData) (known : Option ℕ) (a : ℕ) (s : State) → known ≡ Some a → IfSome known (λ x. HasPointWithState node x s) → HasPoint node a s
+known_covers node known a s e h = same_covers node a s (subst (λ (o : Option ℕ). IfSome o (λ x. HasPointWithState node x s)) e h)
 
 -- so a walk looks ahead
 pub looks_ahead : (node : NodeData) (done before : List Point) (w : WalkData) (p : Point) (s : State) → ArePoints node.points → w.points ≡ node.points → node.points ≡ done ++ before → before ≡ p ∷ w.left → s ≡ w.current → LooksAhead node s w
@@ -72,16 +72,16 @@ looks_ahead node done before w p s rising all split step same = record {
 }
 
 pub repeats_stand : (node : NodeData) (done before : List Point) (w : WalkData) (p : Point) (r : Option ℕ) (s : State) → ArePoints node.points → node.points ≡ done ++ before → before ≡ p ∷ w.left → s ≡ w.current → IfSome r (RepeatsAt w)
-    → IfSome r (λ a. StandsAt node a s)
+    → IfSome r (λ a. HasPointWithState node a s)
 repeats_stand node done before w p None s rising split step same h = tt
 repeats_stand node done before w p (Some a) s rising split step same h =
     let q : Point = record { addr = a; state = w.current } in
-    subst (λ (t : State). StandsAt node a t) (sym same) (next_stands node done w.left (drop 1 w.left) p q rising (split ∙ ap (λ (l : List Point). done ++ l) step) h)
+    subst (λ (t : State). HasPointWithState node a t) (sym same) (next_stands node done w.left (drop 1 w.left) p q rising (split ∙ ap (λ (l : List Point). done ++ l) step) h)
 
 -- ---- what is known at a point of a walk
 pub record WalkFacts (plan : PlanData) (cert : CertData) (node : NodeData) (here : CurrentPoint) : Type 0 where
   pub again : IsTrue here.again → InterruptsHold plan cert node here.state.now
-  pub next : IfSome here.next (λ a. StandsAt node a here.state.now)
+  pub next : IfSome here.next (λ a. HasPointWithState node a here.state.now)
   pub walk : IfSome here.walk (λ w. LooksAhead node here.state.now w.now)
 
 same_walk : {A : Type 0} (view : A → WalkData) (node : NodeData) (s : State) (w : WalkData) (o : Option A) → IfSome o (λ x. view x ≡ w) → LooksAhead node s w → IfSome o (λ x. LooksAhead node s (view x))

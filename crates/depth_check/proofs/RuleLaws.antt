@@ -16,9 +16,9 @@ use Rattle.depth_cert.specs.Certs.{CertData}
 use Rattle.cfg_recover.specs.Code.{IsCode}
 use Rattle.cfg_recover.specs.LocalFaults.{IsLocalFault, IsFaultless}
 use Rattle.cfg_recover.specs.Duties.{Owed, duties_of}
-use Rattle.cfg_recover.specs.RulesHoldOrFail.{limits_in, RuleHolds, IsNeedAbove}
+use Rattle.cfg_recover.specs.RulesHoldOrFail.{limits_in, RuleHolds, EntryNeedRuleHolds}
 use Rattle.cfg_recover.proofs.CodeLaws.{IsCode-one}
-use Rattle.depth_check.specs.LeastBroken.{Finds, least_of, unless}
+use Rattle.depth_check.specs.LeastBroken.{FindsLeastBroken, lesser_broken_rule, broken_rule_unless}
 use Rattle.depth_check.specs.DutiesHold.{DutyHolds, DutiesHold, HasOwnNeed}
 use Rattle.depth_check.proofs.LeastLaws.{found_by, found_both, found_same}
 
@@ -53,7 +53,7 @@ module _ (image : ImageData) (plan : PlanData) (cert : CertData) (node : NodeDat
             }))
       ]
 
-  pub own_broken : (b : Limits) (r : ℕ) → b ≡ limits_in plan cert → AreValues b (point.state).regs → IsLocalFault b image plan node.key point.addr point.state r → Finds (RuleHolds image plan cert node point) (Some r)
+  pub own_broken : (b : Limits) (r : ℕ) → b ≡ limits_in plan cert → AreValues b (point.state).regs → IsLocalFault b image plan node.key point.addr point.state r → FindsLeastBroken (RuleHolds image plan cert node point) (Some r)
   own_broken b r limits values fault =
       let v : AreValues (limits_in plan cert) (point.state).regs = subst (λ (c : Limits). AreValues c (point.state).regs) limits values in
       let f : IsLocalFault (limits_in plan cert) image plan node.key point.addr point.state r = subst (λ (c : Limits). IsLocalFault c image plan node.key point.addr point.state r) limits fault in
@@ -64,7 +64,7 @@ module _ (image : ImageData) (plan : PlanData) (cert : CertData) (node : NodeDat
       }
 
   -- a value that isn't one of the plan
-  pub values_broken : (b : Limits) → b ≡ limits_in plan cert → (AreValues b (point.state).regs → ⊥) → Finds (RuleHolds image plan cert node point) (Some 2)
+  pub values_broken : (b : Limits) → b ≡ limits_in plan cert → (AreValues b (point.state).regs → ⊥) → FindsLeastBroken (RuleHolds image plan cert node point) (Some 2)
   values_broken b limits not =
       let none : AreValues (limits_in plan cert) (point.state).regs → ⊥ = λ v. not (subst (λ (c : Limits). AreValues c (point.state).regs) (sym limits) v) in
       record {
@@ -94,8 +94,8 @@ module _ (image : ImageData) (plan : PlanData) (cert : CertData) (node : NodeDat
           record {
             locals = own.locals;
             entered =
-                subst (λ (l : List Owed). All (λ d. IsNeedAbove cert node point.state d.duty) l) (told_is other n found)
-                (All-weaker (DutyHolds cert node point.state q) (λ d. IsNeedAbove cert node point.state d.duty) (λ d w. w.need e) (duties_of (limits_in plan cert) image plan node.key point.addr point.state shape size) h.0);
+                subst (λ (l : List Owed). All (λ d. EntryNeedRuleHolds cert node point.state d.duty) l) (told_is other n found)
+                (All-weaker (DutyHolds cert node point.state q) (λ d. EntryNeedRuleHolds cert node point.state d.duty) (λ d w. w.need e) (duties_of (limits_in plan cert) image plan node.key point.addr point.state shape size) h.0);
             start = own.start;
           };
     }
@@ -106,15 +106,15 @@ module _ (image : ImageData) (plan : PlanData) (cert : CertData) (node : NodeDat
           (λ d c. record {
             met = λ e. h.covered shape size d values faultless code c e;
             need = λ e.
-                All-contains (λ d. IsNeedAbove cert node point.state d.duty) (duties_of (limits_in plan cert) image plan node.key point.addr point.state shape size) d
+                All-contains (λ d. EntryNeedRuleHolds cert node point.state d.duty) (duties_of (limits_in plan cert) image plan node.key point.addr point.state shape size) d
                 (h.needs shape size e values faultless code).entered c;
           }),
       (λ e. let need = h.needs shape size (sym e) values faultless code in record { locals = need.locals; start = need.start }),
     )
 
-    pub duties_found : (duties : Option ℕ) (own : Bool) → Finds (DutiesHold cert node point.state (duties_of (limits_in plan cert) image plan node.key point.addr point.state shape size)) duties → (IsTrue own ↔ HasOwnNeed image plan node point)
-        → Finds (RuleHolds image plan cert node point) (least_of duties (unless own 14))
+    pub duties_found : (duties : Option ℕ) (own : Bool) → FindsLeastBroken (DutiesHold cert node point.state (duties_of (limits_in plan cert) image plan node.key point.addr point.state shape size)) duties → (IsTrue own ↔ HasOwnNeed image plan node point)
+        → FindsLeastBroken (RuleHolds image plan cert node point) (lesser_broken_rule duties (broken_rule_unless own 14))
     duties_found duties own f d =
-        found_same (λ q. DutiesHold cert node point.state (duties_of (limits_in plan cert) image plan node.key point.addr point.state shape size) q × (14 ≡ q → HasOwnNeed image plan node point)) (RuleHolds image plan cert node point) (least_of duties (unless own 14)) holds_to holds_from
-        (found_both (DutiesHold cert node point.state (duties_of (limits_in plan cert) image plan node.key point.addr point.state shape size)) (λ q. 14 ≡ q → HasOwnNeed image plan node point) duties (unless own 14) f
+        found_same (λ q. DutiesHold cert node point.state (duties_of (limits_in plan cert) image plan node.key point.addr point.state shape size) q × (14 ≡ q → HasOwnNeed image plan node point)) (RuleHolds image plan cert node point) (lesser_broken_rule duties (broken_rule_unless own 14)) holds_to holds_from
+        (found_both (DutiesHold cert node point.state (duties_of (limits_in plan cert) image plan node.key point.addr point.state shape size)) (λ q. 14 ≡ q → HasOwnNeed image plan node point) duties (broken_rule_unless own 14) f
         (found_by own 14 (HasOwnNeed image plan node point) (omega arith) d))

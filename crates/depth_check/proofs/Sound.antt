@@ -6,10 +6,10 @@ use Rattle.elf_image.specs.Images.{ImageData}
 use Rattle.tcd_plan.specs.PlanData.{PlanData, IsPlan}
 use Rattle.tc_machine.specs.declared.events.Event.{Event}
 use Rattle.tc_machine.specs.declared.state.Machine.{Machine}
-use Rattle.tc_machine.specs.Machine.{reg, a11}
+use Rattle.tc_machine.specs.Machine.{reg, a11, IsMachine}
 use Rattle.tc_machine.specs.Stepping.{step, run}
 use Rattle.tc_machine.specs.PlanAreas.{plan_areas}
-use Rattle.tc_machine.specs.Safe.{IsMachine, Starts, AllFit, IsSafeAt}
+use Rattle.tc_machine.specs.Safe.{Starts, AllFit, IsSafeAt}
 use Rattle.tc_machine.proofs.Fetched.{IsAtCode-from}
 use Rattle.tc_machine.proofs.Stays.{irq_lt, stays_step, stays_run}
 use Rattle.tc_machine.proofs.Areas.{Areas-start, ChainsAreWhole-from}

@@ -15,12 +15,12 @@ use Rattle.tc_machine.specs.declared.events.Cause.{Cause}
 use Rattle.tc_machine.specs.declared.events.Event.{Event}
 use Rattle.tc_machine.specs.declared.events.End.TheVariants.{Running}
 use Rattle.tc_machine.specs.declared.state.Machine.{Machine}
-use Rattle.tc_machine.specs.Machine.{reg, a11, is_of, handler_psw, moved}
-use Rattle.tc_machine.specs.Instructions.{with_status, target_of, does, traps}
-use Rattle.tc_machine.specs.Stepping.{interrupt, is_taken, executed, done, step}
+use Rattle.tc_machine.specs.Machine.{reg, a11, is_interrupt_stack_used, machine_address_ahead, psw_with_status, IsMachine}
+use Rattle.tc_machine.specs.Instructions.{handler_psw, target_of, does, traps}
+use Rattle.tc_machine.specs.Stepping.{interrupt, is_taken, executed, machine_after_event, step}
 use Rattle.tc_machine.specs.SavesAndRestores.{saved, save, restored, restore}
-use Rattle.tc_machine.specs.Fetching.{fetched, size_in}
-use Rattle.tc_machine.specs.Safe.{IsMachine, Fits}
+use Rattle.tc_machine.specs.Fetching.{fetched, fetched_size}
+use Rattle.tc_machine.specs.Safe.{Fits}
 use Rattle.tc_machine.proofs.Saves.{moved-lt}
 use Rattle.tc_machine.proofs.Fetched.{fetched-is}
 use Rattle.tc_machine.proofs.ShapeWords.{IsShape, IsTarget, shape_of-suits}
@@ -36,14 +36,13 @@ use Rattle.depth_cert.specs.Nodes.{NodeData}
 use Rattle.depth_cert.specs.Certs.{CertData, IsCert, find_node}
 use Rattle.cfg_recover.specs.Code.{IsCode}
 use Rattle.cfg_recover.specs.Entries.{call_key, irq_key, sys_key, aln_key, call_entry, irq_entry, sys_entry, aln_entry, handler_key}
-use Rattle.depth_cert.specs.Exits.{exit_of, after_of, ExitCovers}
-use Rattle.cfg_recover.specs.Duties.{Owed, jump, enter, resume, leave, owed}
-use Rattle.cfg_recover.specs.EdgesAreOwed.{OwesEntry, IsOwed}
+use Rattle.depth_cert.specs.Exits.{exit_of, state_after_exit, ExitCovers}
+use Rattle.cfg_recover.specs.Duties.{Owed, jump, enter, resume, leave, owed, OwesEntry}
+use Rattle.cfg_recover.specs.EdgesAreOwed.{IsEdgeWayOwed}
 use Rattle.cfg_recover.specs.Frames.{IsReturn, Standing, frames_at, frames_entered, frames_left, frames_by, frames_after}
 use Rattle.cfg_recover.specs.RulesHoldOrFail.{limits_in, HasPoint, Accepts}
-use Rattle.cfg_recover.specs.StepEdges.{Way, to, call, irq, sys, aln, way_of_shape, way_by, way_in}
-use Rattle.cfg_recover.specs.MovesAreOwed.{IsAtPoint}
-use Rattle.vd_transfer.specs.Soundness.{StaysInFrame}
+use Rattle.cfg_recover.specs.StepEdges.{EdgeWay, to, call, irq, sys, aln, edge_way_of_shape, edge_way_by_trap, edge_way_in_fetch}
+use Rattle.cfg_recover.specs.MovesAreOwed.{IsAtPoint, StaysInFrame}
 use Rattle.cfg_recover.proofs.MoveLaws.{moves_in_frame, traps_owed, calls_owed, interrupts_owed}
 use Rattle.cfg_recover.proofs.EntryLaws.{holds_same, holds_exit}
 use Rattle.depth_check.proofs.Frames.{Frame, standing, Leaves, by_return, from_system, from_handler, Invariant, length-ImpliedBy}
@@ -83,11 +82,11 @@ entered_standing key back q pc frame (s ∷ below) = refl
 
 -- The invariant of a machine x after a step from m with these frames. The step's way is among the
 -- duties of the point, or is the return to the frame before it.
-pub record Steps (image : ImageData) (plan : PlanData) (cert : CertData) (most : ℕ) (m : Machine) (frame : Frame) (below : List Frame) (ds : List Owed) (e : Event) (n : ℕ) (way : Way) (x : Machine) : Type 0 where
-  pub goes : Goes image plan cert most x (frames_by m.pc (moved m.pc n) e.irq way (standing m.pc frame below))
-  pub owes : IsOwed ds (frame.node).key e.irq (standing m.pc frame below) x.pc way
+pub record Steps (image : ImageData) (plan : PlanData) (cert : CertData) (most : ℕ) (m : Machine) (frame : Frame) (below : List Frame) (ds : List Owed) (e : Event) (n : ℕ) (way : EdgeWay) (x : Machine) : Type 0 where
+  pub goes : Goes image plan cert most x (frames_by m.pc (machine_address_ahead m.pc n) e.irq way (standing m.pc frame below))
+  pub owes : IsEdgeWayOwed ds (frame.node).key e.irq (standing m.pc frame below) x.pc way
 
-Steps-as : {image : ImageData} {plan : PlanData} {cert : CertData} {most : ℕ} {m : Machine} {frame : Frame} {below : List Frame} {ds : List Owed} {e : Event} {n : ℕ} {way other : Way} {x : Machine} → other ≡ way
+Steps-as : {image : ImageData} {plan : PlanData} {cert : CertData} {most : ℕ} {m : Machine} {frame : Frame} {below : List Frame} {ds : List Owed} {e : Event} {n : ℕ} {way other : EdgeWay} {x : Machine} → other ≡ way
     → Steps image plan cert most m frame below ds e n way x → Steps image plan cert most m frame below ds e n other x
 Steps-as {image} {plan} {cert} {most} {m} {frame} {below} {ds} {e} {n} {way} {other} {x} same s = subst (λ w. Steps image plan cert most m frame below ds e n w x) (sym same) s
 
@@ -97,7 +96,7 @@ return_standing q pc frame suspended [] e = e
 return_standing q pc frame suspended (s ∷ below) e = e
 
 -- an instruction that stays in its frame
-pub stays_to : (shape : Shape) → StaysInFrame shape → (q : ℕ) → way_of_shape shape q ≡ to q
+pub stays_to : (shape : Shape) → StaysInFrame shape → (q : ℕ) → edge_way_of_shape shape q ≡ to q
 stays_to (Call x) stays q = absurd stays
 stays_to Ret stays q = absurd stays
 stays_to Rfe stays q = absurd stays
@@ -123,7 +122,7 @@ target_lt m words (target.Abs x) h = h
 target_lt m words (target.Reg r) h = let small = reg_lt m words r in omega arith
 
 -- the status byte of an event leaves PSW.IS
-status_is : (psw status : ℕ) → is_of (with_status psw status) ≡ is_of psw
+status_is : (psw status : ℕ) → is_interrupt_stack_used (psw_with_status psw status) ≡ is_interrupt_stack_used psw
 status_is psw status = ap (λ b. b == 1) (bit psw status)
   where
     bit : (psw status : ℕ) → (status * 2 ^ 24 + psw % 2 ^ 24) / 2 ^ 9 % 2 ≡ psw / 2 ^ 9 % 2
@@ -149,9 +148,9 @@ Invariant-event image plan cert most m e frame below k = record {
   running = k.running;
 }
 
-points_for : (node : NodeData) (q : ℕ) (s : State) (kind : ℕ) (o : Option Exit) → IfSome o (λ x. HasPoint node q (after_of s x kind)) → IfSome o (λ x. PointFor node q (after_of s x kind))
+points_for : (node : NodeData) (q : ℕ) (s : State) (kind : ℕ) (o : Option Exit) → IfSome o (λ x. HasPoint node q (state_after_exit s x kind)) → IfSome o (λ x. PointFor node q (state_after_exit s x kind))
 points_for node q s kind None h = tt
-points_for node q s kind (Some x) h = point_for node q (after_of s x kind) (find_point q node.points) refl h
+points_for node q s kind (Some x) h = point_for node q (state_after_exit s x kind) (find_point q node.points) refl h
 
 -- an exit of a node that covers another
 record ExitFor (node : NodeData) (x : Exit) : Type 0 where
@@ -219,21 +218,21 @@ module _ (image : ImageData) (plan : PlanData) (ok : IsPlan plan) (cert : CertDa
       entering rule key t small owes = node_for frame (k.point).state key t small (find_node key cert.nodes) refl (h.met (owed rule (enter key t)) owes) (h.entered (owed rule (enter key t)) owes)
 
       resuming : (rule : ℕ) (key : Key) (t : State) (q : ℕ) → (f : NodeFor frame (k.point).state key t) → Contains (duties_at image plan cert frame.node m.pc (k.point).state shape n) (owed rule (resume key q))
-          → IfSome (f.node).exit (λ x. PointFor frame.node q (after_of (k.point).state x key.kind))
+          → IfSome (f.node).exit (λ x. PointFor frame.node q (state_after_exit (k.point).state x key.kind))
       resuming rule key t q f owes =
           points_for frame.node q (k.point).state key.kind (f.node).exit
-          (if_some (λ n. IfSome n.exit (λ x. HasPoint frame.node q (after_of (k.point).state x key.kind))) (find_node key cert.nodes) f.node (h.met (owed rule (resume key q)) owes) f.is)
+          (if_some (λ n. IfSome n.exit (λ x. HasPoint frame.node q (state_after_exit (k.point).state x key.kind))) (find_node key cert.nodes) f.node (h.met (owed rule (resume key q)) owes) f.is)
 
       jumping : (q : ℕ) (t : State) → Contains (duties_at image plan cert frame.node m.pc (k.point).state shape n) (owed 4 (jump q t)) → PointFor frame.node q t
       jumping q t owes = point_for frame.node q t (find_point q (frame.node).points) refl (h.met (owed 4 (jump q t)) owes)
 
       -- ---- inside the frame
-      plain : (e : Event) → Fits plan m e → is_taken m e ≡ false → StaysInFrame shape → traps m e shape ≡ false → Steps image plan cert most m frame below (duties_at image plan cert frame.node m.pc (k.point).state shape n) e n (way_by m e shape (does m e shape n).pc) (does m e shape n)
+      plain : (e : Event) → Fits plan m e → is_taken m e ≡ false → StaysInFrame shape → traps m e shape ≡ false → Steps image plan cert most m frame below (duties_at image plan cert frame.node m.pc (k.point).state shape n) e n (edge_way_by_trap m e shape (does m e shape n).pc) (does m e shape n)
       plain e fits none stays free =
           let mv = moves_in_frame (limits_in plan cert) image plan (frame.node).key m e (k.point).state shape n at_point fits none stays free in
           let at = jumping (does m e shape n).pc mv.state mv.owes in
-          let way : way_by m e shape (does m e shape n).pc ≡ to (does m e shape n).pc =
-          ap (λ t. cond t (aln (does m e shape n).pc) (way_of_shape shape (does m e shape n).pc)) free ∙ stays_to shape stays (does m e shape n).pc
+          let way : edge_way_by_trap m e shape (does m e shape n).pc ≡ to (does m e shape n).pc =
+          ap (λ t. cond t (aln (does m e shape n).pc) (edge_way_of_shape shape (does m e shape n).pc)) free ∙ stays_to shape stays (does m e shape n).pc
           in
           Steps-as way
           (record {
@@ -248,15 +247,15 @@ module _ (image : ImageData) (plan : PlanData) (ok : IsPlan plan) (cert : CertDa
           })
 
       -- ---- a misaligned access
-      trapped : (e : Event) → traps m e shape ≡ true → Steps image plan cert most m frame below (duties_at image plan cert frame.node m.pc (k.point).state shape n) e n (way_by m e shape (does m e shape n).pc) (does m e shape n)
+      trapped : (e : Event) → traps m e shape ≡ true → Steps image plan cert most m frame below (duties_at image plan cert frame.node m.pc (k.point).state shape n) e n (edge_way_by_trap m e shape (does m e shape n).pc) (does m e shape n)
       trapped e t =
           let small : IsKey (aln_key plan (frame.node).key) = record { kind = omega arith; entry = or_lt 32 plan.btv (2 * 2 ^ 5) (ok.words).btv (omega arith); prio = key_small.prio } in
           let owes = traps_owed (limits_in plan cert) image plan (frame.node).key m e (k.point).state shape n at_point t in
           let f = entering 10 (aln_key plan (frame.node).key) (aln_entry plan (frame.node).key (k.point).state) small owes in
           let b = began (set m.d 15 4) (handler_a m m.pc) (bit_or m.btv (2 * 2 ^ 5)) (handler_psw m.psw) false m.ccpn m.pc (handler_key 4 (bit_or m.btv (2 * 2 ^ 5)) ((frame.node).key).prio)
           (aln_begins image plan cert most is_cert accepted m words frame below k h.regs f.node f.found f.at f.room) in
-          subst (λ x. Steps image plan cert most m frame below (duties_at image plan cert frame.node m.pc (k.point).state shape n) e n (way_by m e shape x.pc) x) (sym (traps-is m e shape n t ∙ trap-is m k.running b.saves 2 4 m.pc))
-          (Steps-as (ap (λ t. cond t (aln (bit_or m.btv (2 * 2 ^ 5))) (way_of_shape shape (bit_or m.btv (2 * 2 ^ 5)))) t)
+          subst (λ x. Steps image plan cert most m frame below (duties_at image plan cert frame.node m.pc (k.point).state shape n) e n (edge_way_by_trap m e shape x.pc) x) (sym (traps-is m e shape n t ∙ trap-is m k.running b.saves 2 4 m.pc))
+          (Steps-as (ap (λ t. cond t (aln (bit_or m.btv (2 * 2 ^ 5))) (edge_way_of_shape shape (bit_or m.btv (2 * 2 ^ 5)))) t)
           (record {
             goes = Goes-as (entered_standing (λ j. handler_key 4 (bit_or m.btv (2 * 2 ^ 5)) j.prio) m.pc (bit_or m.btv (2 * 2 ^ 5)) m.pc frame below) b.goes;
             owes = subst (λ v. OwesEntry (duties_at image plan cert frame.node m.pc (k.point).state shape n) 10 (handler_key 4 (bit_or v (2 * 2 ^ 5)) ((frame.node).key).prio)) (sym k.btv) (aln_entry plan (frame.node).key (k.point).state, owes);
@@ -283,12 +282,12 @@ module _ (image : ImageData) (plan : PlanData) (ok : IsPlan plan) (cert : CertDa
         let small : IsKey (call_key (frame.node).key (target_of m x)) = record { kind = omega arith; entry = target_lt m words x (shape_is image plan m.pc (Call x) n h.code); prio = key_small.prio } in
         let owes = calls_owed (limits_in plan cert) image plan (frame.node).key m (k.point).state x n (at_point (Call x) n h) in
         let f = entering (Call x) n h 5 (call_key (frame.node).key (target_of m x)) (call_entry (k.point).state) small owes.entered in
-        let exits = resuming (Call x) n h 4 (call_key (frame.node).key (target_of m x)) (call_entry (k.point).state) (moved m.pc n) f owes.back in
-        let b = began m.d (set m.a 11 (moved m.pc n)) (target_of m x) m.psw m.ie m.ccpn (moved m.pc n) (call_key (frame.node).key (target_of m x))
-        (call_begins image plan cert most is_cert accepted m words frame below k h.regs (target_of m x) (moved m.pc n) (moved-lt m.pc n) f.node f.found f.at exits f.room) in
+        let exits = resuming (Call x) n h 4 (call_key (frame.node).key (target_of m x)) (call_entry (k.point).state) (machine_address_ahead m.pc n) f owes.back in
+        let b = began m.d (set m.a 11 (machine_address_ahead m.pc n)) (target_of m x) m.psw m.ie m.ccpn (machine_address_ahead m.pc n) (call_key (frame.node).key (target_of m x))
+        (call_begins image plan cert most is_cert accepted m words frame below k h.regs (target_of m x) (machine_address_ahead m.pc n) (moved-lt m.pc n) f.node f.found f.at exits f.room) in
         subst (λ y. Steps image plan cert most m frame below (duties_at image plan cert frame.node m.pc (k.point).state (Call x) n) e n (call y.pc) y) (sym (call-is m k.running b.saves e x n))
         (record {
-          goes = Goes-as (entered_standing (λ j. call_key j (target_of m x)) (moved m.pc n) (target_of m x) m.pc frame below) b.goes;
+          goes = Goes-as (entered_standing (λ j. call_key j (target_of m x)) (machine_address_ahead m.pc n) (target_of m x) m.pc frame below) b.goes;
           owes = (call_entry (k.point).state, owes.entered);
         })
 
@@ -299,13 +298,13 @@ module _ (image : ImageData) (plan : PlanData) (ok : IsPlan plan) (cert : CertDa
         let tin_small : tin < 2 ^ 32 = shape_is image plan m.pc (Syscall tin) n h.code in
         let f = entering (Syscall tin) n h 12 (sys_key plan (frame.node).key) (sys_entry plan (frame.node).key (k.point).state tin) small
         (owes-syscall (limits_in plan cert) image plan (frame.node).key m.pc (k.point).state n tin) in
-        let exits = resuming (Syscall tin) n h 4 (sys_key plan (frame.node).key) (sys_entry plan (frame.node).key (k.point).state tin) (moved m.pc n) f
+        let exits = resuming (Syscall tin) n h 4 (sys_key plan (frame.node).key) (sys_entry plan (frame.node).key (k.point).state tin) (machine_address_ahead m.pc n) f
         (owes-syscall_back (limits_in plan cert) image plan (frame.node).key m.pc (k.point).state n tin) in
-        let b = began (set m.d 15 tin) (handler_a m (moved m.pc n)) (bit_or m.btv (6 * 2 ^ 5)) (handler_psw m.psw) false m.ccpn (moved m.pc n) (handler_key 3 (bit_or m.btv (6 * 2 ^ 5)) ((frame.node).key).prio)
-        (sys_begins image plan cert most is_cert accepted m words frame below k h.regs tin tin_small (moved m.pc n) (moved-lt m.pc n) f.node f.found f.at exits f.room) in
-        subst (λ x. Steps image plan cert most m frame below (duties_at image plan cert frame.node m.pc (k.point).state (Syscall tin) n) e n (sys x.pc) x) (sym (syscall-is m k.running e tin n ∙ trap-is m k.running b.saves 6 tin (moved m.pc n)))
+        let b = began (set m.d 15 tin) (handler_a m (machine_address_ahead m.pc n)) (bit_or m.btv (6 * 2 ^ 5)) (handler_psw m.psw) false m.ccpn (machine_address_ahead m.pc n) (handler_key 3 (bit_or m.btv (6 * 2 ^ 5)) ((frame.node).key).prio)
+        (sys_begins image plan cert most is_cert accepted m words frame below k h.regs tin tin_small (machine_address_ahead m.pc n) (moved-lt m.pc n) f.node f.found f.at exits f.room) in
+        subst (λ x. Steps image plan cert most m frame below (duties_at image plan cert frame.node m.pc (k.point).state (Syscall tin) n) e n (sys x.pc) x) (sym (syscall-is m k.running e tin n ∙ trap-is m k.running b.saves 6 tin (machine_address_ahead m.pc n)))
         (record {
-          goes = Goes-as (entered_standing (λ j. handler_key 3 (bit_or m.btv (6 * 2 ^ 5)) j.prio) (moved m.pc n) (bit_or m.btv (6 * 2 ^ 5)) m.pc frame below) b.goes;
+          goes = Goes-as (entered_standing (λ j. handler_key 3 (bit_or m.btv (6 * 2 ^ 5)) j.prio) (machine_address_ahead m.pc n) (bit_or m.btv (6 * 2 ^ 5)) m.pc frame below) b.goes;
           owes = subst (λ v. OwesEntry (duties_at image plan cert frame.node m.pc (k.point).state (Syscall tin) n) 12 (handler_key 3 (bit_or v (6 * 2 ^ 5)) ((frame.node).key).prio)) (sym k.btv)
               (sys_entry plan (frame.node).key (k.point).state tin, owes-syscall (limits_in plan cert) image plan (frame.node).key m.pc (k.point).state n tin);
         })
@@ -378,33 +377,33 @@ module _ (image : ImageData) (plan : PlanData) (ok : IsPlan plan) (cert : CertDa
 
     restores_lower : (e : Event) (n : ℕ) → PointHolds image plan cert frame.node m.pc (k.point).state Rslcx n → Steps image plan cert most m frame below (duties_at image plan cert frame.node m.pc (k.point).state Rslcx n) e n (to (does m e Rslcx n).pc) (does m e Rslcx n)
     restores_lower e n h =
-        let at = jumping m words frame below k Rslcx n h (moved m.pc n) (restored_lower (k.point).state) (owes-rslcx (limits_in plan cert) image plan (frame.node).key m.pc (k.point).state n) in
-        let p = lower_popped image plan ok cert most few m words frame below k (moved m.pc n) ((h.own 8).room refl) h.regs at in
+        let at = jumping m words frame below k Rslcx n h (machine_address_ahead m.pc n) (restored_lower (k.point).state) (owes-rslcx (limits_in plan cert) image plan (frame.node).key m.pc (k.point).state n) in
+        let p = lower_popped image plan ok cert most few m words frame below k (machine_address_ahead m.pc n) ((h.own 8).room refl) h.regs at in
         subst (λ x. Steps image plan cert most m frame below (duties_at image plan cert frame.node m.pc (k.point).state Rslcx n) e n (to x.pc) x) (sym (rslcx-is m k.running p.restores e n))
         (record {
-          goes = record { frame = with_locals frame p.areas p.flags; below = below; kept = p.kept; stands = locals_standing (moved m.pc n) m.pc frame p.areas p.flags below };
+          goes = record { frame = with_locals frame p.areas p.flags; below = below; kept = p.kept; stands = locals_standing (machine_address_ahead m.pc n) m.pc frame p.areas p.flags below };
           owes = (restored_lower (k.point).state, owes-rslcx (limits_in plan cert) image plan (frame.node).key m.pc (k.point).state n);
         })
 
     -- ---- what the instruction at pc does
     module _ (e : Event) (fits : Fits plan m e) (none : is_taken m e ≡ false) where
-      accesses : (shape : Shape) (n : ℕ) (h : PointHolds image plan cert frame.node m.pc (k.point).state shape n) → StaysInFrame shape → Steps image plan cert most m frame below (duties_at image plan cert frame.node m.pc (k.point).state shape n) e n (way_by m e shape (does m e shape n).pc) (does m e shape n)
+      accesses : (shape : Shape) (n : ℕ) (h : PointHolds image plan cert frame.node m.pc (k.point).state shape n) → StaysInFrame shape → Steps image plan cert most m frame below (duties_at image plan cert frame.node m.pc (k.point).state shape n) e n (edge_way_by_trap m e shape (does m e shape n).pc) (does m e shape n)
       accesses shape n h stays =
           elim (cases_Bool (traps m e shape)) [
             | inl t ↦ trapped m words frame below k shape n h e t
             | inr f ↦ plain m words frame below k shape n h e fits none stays f
           ]
 
-      pub follows : (shape : Shape) (n : ℕ) → PointHolds image plan cert frame.node m.pc (k.point).state shape n → Steps image plan cert most m frame below (duties_at image plan cert frame.node m.pc (k.point).state shape n) e n (way_by m e shape (does m e shape n).pc) (does m e shape n)
+      pub follows : (shape : Shape) (n : ℕ) → PointHolds image plan cert frame.node m.pc (k.point).state shape n → Steps image plan cert most m frame below (duties_at image plan cert frame.node m.pc (k.point).state shape n) e n (edge_way_by_trap m e shape (does m e shape n).pc) (does m e shape n)
       follows (Call x) n h = calls m words frame below k e x n h
       follows Ret n h = let l = returns e n h in record { goes = l.goes; owes = l.owes }
       follows Rfe n h = let l = comes_from e n h in record { goes = l.goes; owes = l.owes }
       follows Svlcx n h =
-          saves_lower e Svlcx n h (moved m.pc n) ((k.point).state).ie ((k.point).state).ccpn (owes-svlcx (limits_in plan cert) image plan (frame.node).key m.pc (k.point).state n) m.ie m.ccpn
+          saves_lower e Svlcx n h (machine_address_ahead m.pc n) ((k.point).state).ie ((k.point).state).ccpn (owes-svlcx (limits_in plan cert) image plan (frame.node).key m.pc (k.point).state n) m.ie m.ccpn
           (k.inside).enabled (k.inside).priority (does m e Svlcx n) (λ is. svlcx-is m k.running is e n)
       follows Rslcx n h = restores_lower e n h
       follows (Bisr c) n h =
-          saves_lower e (Bisr c) n h (moved m.pc n) true c (owes-bisr (limits_in plan cert) image plan (frame.node).key m.pc (k.point).state n c) true c
+          saves_lower e (Bisr c) n h (machine_address_ahead m.pc n) true c (owes-bisr (limits_in plan cert) image plan (frame.node).key m.pc (k.point).state n c) true c
           (λ t. t) (omega arith) (does m e (Bisr c) n) (λ is. bisr-is m k.running is e c n)
       follows (Syscall tin) n h = system m words frame below k e tin n h
       follows (Mtcr src number) n h = absurd ((h.own 13).writes refl)
@@ -413,7 +412,7 @@ module _ (image : ImageData) (plan : PlanData) (ok : IsPlan plan) (cert : CertDa
   -- ---- one event
   -- the frames of m after a step of an event to q, from what is fetched
   abbrev by : Machine → Event → Bool → Result (Shape × ℕ) Cause → ℕ → List Standing → List Standing
-  by m e taken f q fs = frames_by m.pc (moved m.pc (size_in f)) e.irq (cond taken (irq q) (way_in m e f q)) fs
+  by m e taken f q fs = frames_by m.pc (machine_address_ahead m.pc (fetched_size f)) e.irq (cond taken (irq q) (edge_way_in_fetch m e f q)) fs
 
   -- what a step keeps, and which way it goes
   pub record Done (m : Machine) (frame : Frame) (below : List Frame) (k : Invariant image plan cert most m frame below) (e : Event) (x : Machine) : Type 0 where
@@ -421,15 +420,15 @@ module _ (image : ImageData) (plan : PlanData) (ok : IsPlan plan) (cert : CertDa
     pub size : ℕ
     pub code : IsCode image plan m.pc shape size
     pub goes : Goes image plan cert most x (by m e (is_taken m e) (fetched m) x.pc (standing m.pc frame below))
-    pub owes : IsOwed (duties_at image plan cert frame.node m.pc (k.point).state shape size) (frame.node).key e.irq (standing m.pc frame below) x.pc (cond (is_taken m e) (irq x.pc) (way_in m e (fetched m) x.pc))
+    pub owes : IsEdgeWayOwed (duties_at image plan cert frame.node m.pc (k.point).state shape size) (frame.node).key e.irq (standing m.pc frame below) x.pc (cond (is_taken m e) (irq x.pc) (edge_way_in_fetch m e (fetched m) x.pc))
 
-  done-kept : (m : Machine) → IsMachine m → (e : Event) → Fits plan m e → (frame : Frame) (below : List Frame) (k : Invariant image plan cert most m frame below) → Done m frame below k e (done m e)
+  done-kept : (m : Machine) → IsMachine m → (e : Event) → Fits plan m e → (frame : Frame) (below : List Frame) (k : Invariant image plan cert most m frame below) → Done m frame below k e (machine_after_event m e)
   done-kept m words e fits frame below k =
       let r = rules_at image plan cert is_cert accepted frame.node m.pc k.point k.stands k.found in
       let code = (r.holds).code in
       elim (cases_Bool (is_taken m e)) [
         | inl taken ↦
-            let is : done m e ≡ interrupt m e.irq = ap (λ t. cond t (interrupt m e.irq) (executed m e (fetched m))) taken in
+            let is : machine_after_event m e ≡ interrupt m e.irq = ap (λ t. cond t (interrupt m e.irq) (executed m e (fetched m))) taken in
             let s = interrupted m words frame below k r.shape r.size r.holds e fits taken in
             subst (Done m frame below k e) (sym is)
             (record {
@@ -437,7 +436,7 @@ module _ (image : ImageData) (plan : PlanData) (ok : IsPlan plan) (cert : CertDa
               size = r.size;
               code = (r.holds).code;
               goes = Goes-as (ap (λ t. by m e t (fetched m) (interrupt m e.irq).pc (standing m.pc frame below)) (sym taken)) s.goes;
-              owes = subst (λ t. IsOwed (duties_at image plan cert frame.node m.pc (k.point).state r.shape r.size) (frame.node).key e.irq (standing m.pc frame below) (interrupt m e.irq).pc (cond t (irq (interrupt m e.irq).pc) (way_in m e (fetched m) (interrupt m e.irq).pc)))
+              owes = subst (λ t. IsEdgeWayOwed (duties_at image plan cert frame.node m.pc (k.point).state r.shape r.size) (frame.node).key e.irq (standing m.pc frame below) (interrupt m e.irq).pc (cond t (irq (interrupt m e.irq).pc) (edge_way_in_fetch m e (fetched m) (interrupt m e.irq).pc)))
                   (sym taken) s.owes;
             })
         | inr none ↦
@@ -449,8 +448,8 @@ module _ (image : ImageData) (plan : PlanData) (ok : IsPlan plan) (cert : CertDa
               size = r.size;
               code = (r.holds).code;
               goes = Goes-as (ap (λ t. by m e t (Ok (r.shape, r.size)) (does m e r.shape r.size).pc (standing m.pc frame below)) (sym none) ∙ ap (λ f. by m e (is_taken m e) f (does m e r.shape r.size).pc (standing m.pc frame below)) (sym at)) s.goes;
-              owes = subst (λ w. IsOwed (duties_at image plan cert frame.node m.pc (k.point).state r.shape r.size) (frame.node).key e.irq (standing m.pc frame below) (does m e r.shape r.size).pc w)
-                  (ap (λ t. cond t (irq (does m e r.shape r.size).pc) (way_in m e (Ok (r.shape, r.size)) (does m e r.shape r.size).pc)) (sym none) ∙ ap (λ f. cond (is_taken m e) (irq (does m e r.shape r.size).pc) (way_in m e f (does m e r.shape r.size).pc)) (sym at)) s.owes;
+              owes = subst (λ w. IsEdgeWayOwed (duties_at image plan cert frame.node m.pc (k.point).state r.shape r.size) (frame.node).key e.irq (standing m.pc frame below) (does m e r.shape r.size).pc w)
+                  (ap (λ t. cond t (irq (does m e r.shape r.size).pc) (edge_way_in_fetch m e (Ok (r.shape, r.size)) (does m e r.shape r.size).pc)) (sym none) ∙ ap (λ f. cond (is_taken m e) (irq (does m e r.shape r.size).pc) (edge_way_in_fetch m e f (does m e r.shape r.size).pc)) (sym at)) s.owes;
             })
       ]
 
@@ -463,7 +462,7 @@ module _ (image : ImageData) (plan : PlanData) (ok : IsPlan plan) (cert : CertDa
         shape = d.shape;
         size = d.size;
         code = d.code;
-        goes = record { frame = after.frame; below = after.below; kept = Invariant-event image plan cert most (done m e) e after.frame after.below after.kept; stands = after.stands };
+        goes = record { frame = after.frame; below = after.below; kept = Invariant-event image plan cert most (machine_after_event m e) e after.frame after.below after.kept; stands = after.stands };
         owes = d.owes;
       })
 

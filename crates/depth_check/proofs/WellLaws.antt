@@ -10,7 +10,7 @@ use Rattle.value_domain.specs.Thresholds.{limits_for}
 use Rattle.value_domain.specs.State.{AreWell}
 use Rattle.value_domain.proofs.RangeLaws.{one_value}
 use Rattle.depth_cert.specs.declared.points.Exit.{Exit}
-use Rattle.depth_cert.specs.Points.{IsWellOf}
+use Rattle.depth_cert.specs.Points.{IsWellCertValue}
 use Rattle.depth_cert.specs.Exits.{IsExit}
 use Rattle.depth_cert.specs.Nodes.{NodeData, IsNode}
 use Rattle.depth_cert.specs.Certs.{CertData, IsCert}
@@ -34,7 +34,7 @@ well_start plan is =
     values_well b (start_state plan).regs (entry_values b (word_val plan.sp) plan.start_ie plan.start_ccpn false (limits_are plan 1) (one_value b plan.sp (limits_are plan 1) is.words.sp))
 
 -- ---- certificates
-well_values : (version : ℕ) (vs : List Val) → All (IsWellOf version) vs → AreWell vs
+well_values : (version : ℕ) (vs : List Val) → All (IsWellCertValue version) vs → AreWell vs
 well_values version vs all r lt = well_of version (get_or vs r any_val) (all r any_val lt)
 
 well_exit : (version : ℕ) (P : Exit → Type 0) → ((e : Exit) → P e → IsExit version e) → (o : Option Exit) → IfSome o P → IfSome o (λ x. AreWell x.lower)

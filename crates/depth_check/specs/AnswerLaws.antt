@@ -7,10 +7,10 @@ use Rattle.tc_machine.specs.Safe.{Safe}
 use Rattle.depth_cert.specs.declared.keys.Key.{Key}
 use Rattle.depth_cert.specs.Nodes.{NodeData}
 use Rattle.depth_cert.specs.Certs.{CertData, IsCert, find_node}
-use Rattle.cfg_recover.specs.RulesHoldOrFail.{Fails, Accepts, IsFirstFault}
+use Rattle.cfg_recover.specs.RulesHoldOrFail.{RuleFails, Accepts, IsFirstFault}
 use Rattle.cfg_recover.specs.FirstFaultLaws.{FirstFaultSays}
 use Rattle.depth_check.specs.declared.verdicts.Verdict.TheVariants.{Yes, No}
-use Rattle.depth_check.specs.CheckAnswers.{Judges, IfYes}
+use Rattle.depth_check.specs.CheckAnswers.{IsCheckAnswer, IfAnswerIsYes}
 
 -- the number is the need of the start's node, the areas have room for it and the reserve, and no
 -- rule fails
@@ -19,19 +19,20 @@ pub record YesSays (image : ImageData) (plan : PlanData) (cert : CertData) (n : 
   pub stands : find_node (record { kind = 0; entry = image.entry; prio = 0; is = plan.start_is }) cert.nodes ≡ Some node
   pub need : n ≡ node.need
   pub room : n + plan.reserve ≤ plan.areas
-  pub holds : (r : ℕ) (k : Key) (p : ℕ) → Fails image plan cert r k p → ⊥
+  pub holds : (r : ℕ) (k : Key) (p : ℕ) → RuleFails image plan cert r k p → ⊥
 
 -- a yes says this, and what is promised for a yes holds of its number; a no names the first fault
 pub record AnswerSays (image : ImageData) (plan : PlanData) (cert : CertData) : Type 0 where
-  pub yes : (n : ℕ) → Judges image plan cert (Yes n) → YesSays image plan cert n
-  pub safe : (n : ℕ) → IfYes (Yes n) (Safe image plan) → Safe image plan n
-  pub no : (r : ℕ) (k : Key) (p : ℕ) → Judges image plan cert (No r k p) → FirstFaultSays image plan cert r k p
+  pub yes : (n : ℕ) → IsCheckAnswer image plan cert (Yes n) → YesSays image plan cert n
+  pub safe : (n : ℕ) → IfAnswerIsYes (Yes n) (Safe image plan) → Safe image plan n
+  pub no : (r : ℕ) (k : Key) (p : ℕ) → IsCheckAnswer image plan cert (No r k p) → FirstFaultSays image plan cert r k p
 
 -- of every image, plan and certificate
 abbrev pub AnswersSay : Type 0
 AnswersSay =
     (image : ImageData) (plan : PlanData) (cert : CertData) → image.entry < 2 ^ 32 → IsPlan plan → IsCert cert → AnswerSays image plan cert
 
--- a certificate with a first fault isn't accepted, so the answer of a check is exact both ways
-abbrev pub FirstFaultsRefute : Type 0
-FirstFaultsRefute = (image : ImageData) (plan : PlanData) (cert : CertData) (r : ℕ) (k : Key) (p : ℕ) → IsFirstFault image plan cert r k p → Accepts image plan cert → ⊥
+-- the law that a check's answers are exact both ways: a certificate with a first fault isn't
+-- accepted
+abbrev pub AnswersAreExact : Type 0
+AnswersAreExact = (image : ImageData) (plan : PlanData) (cert : CertData) (r : ℕ) (k : Key) (p : ℕ) → IsFirstFault image plan cert r k p → Accepts image plan cert → ⊥

@@ -9,11 +9,11 @@ use Rattle.depth_check.specs.declared.verdicts.Verdict.TheVariants.{Yes, No}
 
 -- yes: the rules accept the certificate, and n is the start's need, at most the areas without the
 -- reserve; no: the first fault
-abbrev pub Judges : ImageData → PlanData → CertData → Verdict → Type 0
-Judges image plan cert (Yes n) = Accepts image plan cert × (n ≡ certified_need image plan cert) × (n ≤ plan.areas - plan.reserve)
-Judges image plan cert (No rule key addr) = IsFirstFault image plan cert rule key addr
+abbrev pub IsCheckAnswer : ImageData → PlanData → CertData → Verdict → Type 0
+IsCheckAnswer image plan cert (Yes n) = Accepts image plan cert × (n ≡ certified_need image plan cert) × (n ≤ plan.areas - plan.reserve)
+IsCheckAnswer image plan cert (No rule key addr) = IsFirstFault image plan cert rule key addr
 
 -- if the answer is yes, the fact holds of its number
-abbrev pub IfYes : Verdict → (ℕ → Type 0) → Type 0
-IfYes (Yes n) P = P n
-IfYes (No rule key addr) P = Unit {0}
+abbrev pub IfAnswerIsYes : Verdict → (ℕ → Type 0) → Type 0
+IfAnswerIsYes (Yes n) P = P n
+IfAnswerIsYes (No rule key addr) P = Unit {0}

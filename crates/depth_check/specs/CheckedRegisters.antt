@@ -8,35 +8,38 @@ use Rattle.depth_cert.specs.declared.keys.Key.{Key}
 use Rattle.depth_cert.specs.Nodes.{NodeData}
 use Rattle.depth_cert.specs.Certs.{CertData}
 use Rattle.cfg_recover.specs.Entries.{call_key, call_entry}
-use Rattle.cfg_recover.specs.LocalRules.{named_by}
+use Rattle.cfg_recover.specs.LocalRules.{targets_named_by}
 use Rattle.cfg_recover.specs.Duties.{Owed, entered_and_back}
 use Rattle.depth_check.specs.declared.fast_paths.CheckedRegisters.{CheckedRegisters}
 use Rattle.depth_check.specs.declared.points.PointCheck.{PointCheck}
-use Rattle.depth_check.specs.DutiesHold.{StandsAt, HasPoints, DutiesHold}
+use Rattle.depth_check.specs.DutiesHold.{HasPointWithState, HasPoints, DutiesHold}
 
--- the entries of all functions that a register names in a state; they return to one address
+-- the calls to all functions that a checked register names in a state: duties to enter them and,
+-- after each, to go on at one address
 abbrev pub calls_by : PlanData → Key → State → ℕ → ℕ → List Owed
-calls_by plan key s r back = flat_map (λ t. entered_and_back 5 (call_key key t) (call_entry s) back) (unwrap_or (named_by (reg_of plan s r)) [])
+calls_by plan key s r back = flat_map (λ t. entered_and_back 5 (call_key key t) (call_entry s) back) (unwrap_or (targets_named_by (reg_of plan s r)) [])
 
 -- calls by a register hold in a state, whichever point of the node with that state they return to
-abbrev pub CallsHold : PlanData → CertData → NodeData → State → ℕ → Type 0
-CallsHold plan cert node s r = (back : ℕ) → StandsAt node back s → (q : ℕ) → DutiesHold cert node s (calls_by plan node.key s r back) q
+abbrev pub RegisterCallsHold : PlanData → CertData → NodeData → State → ℕ → Type 0
+RegisterCallsHold plan cert node s r = (back : ℕ) → HasPointWithState node back s → (q : ℕ) → DutiesHold cert node s (calls_by plan node.key s r back) q
 
 -- the node has points for jumps by a register in a state
-abbrev pub JumpsHold : PlanData → NodeData → State → ℕ → Type 0
-JumpsHold plan node s r = HasPoints node s (unwrap_or (named_by (reg_of plan s r)) [])
+abbrev pub RegisterJumpsHold : PlanData → NodeData → State → ℕ → Type 0
+RegisterJumpsHold plan node s r = HasPoints node s (unwrap_or (targets_named_by (reg_of plan s r)) [])
 
 -- calls and jumps by these registers hold in a state
 pub record RegistersHold (plan : PlanData) (cert : CertData) (node : NodeData) (s : State) (registers : CheckedRegisters) : Type 0 where
-  pub called : IfSome registers.called (CallsHold plan cert node s)
-  pub jumped : IfSome registers.jumped (JumpsHold plan node s)
+  pub called : IfSome registers.called (RegisterCallsHold plan cert node s)
+  pub jumped : IfSome registers.jumped (RegisterJumpsHold plan node s)
 
 -- at a point, they hold in its state
 abbrev pub RegistersHoldAt : PointCheck → CheckedRegisters → Type 0
 RegistersHoldAt at registers = RegistersHold at.plan.now at.cert.now at.node.now at.point.state.now registers
 
-abbrev pub CallsHoldAt : PointCheck → Option ℕ → Type 0
-CallsHoldAt at called = IfSome called (CallsHold at.plan.now at.cert.now at.node.now at.point.state.now)
+-- calls by this register, if there is one, hold in the state of the point that is checked
+abbrev pub RegisterCallsHoldAt : PointCheck → Option ℕ → Type 0
+RegisterCallsHoldAt at called = IfSome called (RegisterCallsHold at.plan.now at.cert.now at.node.now at.point.state.now)
 
-abbrev pub JumpsHoldAt : PointCheck → Option ℕ → Type 0
-JumpsHoldAt at jumped = IfSome jumped (JumpsHold at.plan.now at.node.now at.point.state.now)
+-- jumps by this register, if there is one, hold in the state of the point that is checked
+abbrev pub RegisterJumpsHoldAt : PointCheck → Option ℕ → Type 0
+RegisterJumpsHoldAt at jumped = IfSome jumped (RegisterJumpsHold at.plan.now at.node.now at.point.state.now)

@@ -11,30 +11,31 @@ use Rattle.depth_cert.specs.Certs.{CertData}
 use Rattle.cfg_recover.specs.declared.flows.Leave.{Leave}
 use Rattle.cfg_recover.specs.declared.flows.Leave.TheVariants.{Stays, Ret, Rfe}
 use Rattle.cfg_recover.specs.Entries.{start_key}
-use Rattle.depth_cert.specs.Exits.{exit_of, after_of, ExitCovers}
+use Rattle.depth_cert.specs.Exits.{exit_of, state_after_exit, ExitCovers}
 use Rattle.cfg_recover.specs.Duties.{Owed}
-use Rattle.cfg_recover.specs.RulesHoldOrFail.{HasPoint, IsMet, IsNeedAbove}
+use Rattle.cfg_recover.specs.RulesHoldOrFail.{HasPoint, IsMet, EntryNeedRuleHolds}
 
 -- what rule q asks of a duty: that it is met, and that the need has room for the entered node
 pub record DutyHolds (cert : CertData) (node : NodeData) (s : State) (q : ℕ) (d : Owed) : Type 0 where
   pub met : d.rule ≡ q → IsMet cert node s d.duty
-  pub need : q ≡ 14 → IsNeedAbove cert node s d.duty
+  pub need : q ≡ 14 → EntryNeedRuleHolds cert node s d.duty
 
--- the node has a point at this address, with this state
-abbrev pub StandsAt : NodeData → ℕ → State → Type 0
-StandsAt node a s = find_point a node.points ≡ Some (record { addr = a; state = s })
+-- the node has a point at this address with this very state
+abbrev pub HasPointWithState : NodeData → ℕ → State → Type 0
+HasPointWithState node a s = find_point a node.points ≡ Some (record { addr = a; state = s })
 
 -- what rule q asks of each of these duties
 abbrev pub DutiesHold : CertData → NodeData → State → List Owed → ℕ → Type 0
 DutiesHold cert node s duties q = All (DutyHolds cert node s q) duties
 
--- the node has points at all these addresses that cover the state
+-- what the duties to jump to all these addresses ask for: the node has points there that cover the
+-- state
 abbrev pub HasPoints : NodeData → State → List ℕ → Type 0
 HasPoints node s targets = All (λ t. HasPoint node t s) targets
 
 -- the node goes on where a frame of the entered node returns
 abbrev pub GoesOn : NodeData → State → NodeData → ℕ → Option ℕ → Type 0
-GoesOn node s entered kind back = IfSome back (λ q. IfSome entered.exit (λ x. HasPoint node q (after_of s x kind)))
+GoesOn node s entered kind back = IfSome back (λ q. IfSome entered.exit (λ x. HasPoint node q (state_after_exit s x kind)))
 
 -- the node has an exit that covers the exit of the state
 abbrev pub HasExit : NodeData → State → Type 0
@@ -47,8 +48,8 @@ LeavingHolds node s Stays q = Unit {0}
 LeavingHolds node s Ret q = 6 ≡ q → HasExit node s
 LeavingHolds node s Rfe q = (node.key).kind ≡ sys_kind → 7 ≡ q → HasExit node s
 
--- what rule 14 asks of the node itself: room for the locals and, at the start's entry, that the
--- reserve stays free
+-- what rule 14 asks of a node apart from its duties: room for the locals and, at the start's entry,
+-- that the reserve stays free
 pub record HasOwnNeed (image : ImageData) (plan : PlanData) (node : NodeData) (point : Point) : Type 0 where
   pub locals : length (point.state).locals.items ≤ node.need
   pub start : node.key ≡ start_key image plan → point.addr ≡ image.entry → node.need ≤ plan.areas - plan.reserve

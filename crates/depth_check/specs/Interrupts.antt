@@ -7,7 +7,7 @@ use Rattle.value_domain.specs.Values.{IsWell, IsValue, IsBelow, any_val}
 use Rattle.depth_cert.specs.declared.keys.Key.{Key}
 use Rattle.depth_cert.specs.Nodes.{NodeData}
 use Rattle.depth_cert.specs.Certs.{CertData}
-use Rattle.cfg_recover.specs.Entries.{irq_key, entry_with, irqs_of, stack_with}
+use Rattle.cfg_recover.specs.Entries.{irq_key, entry_state_with, irqs_of, entry_stack_with}
 use Rattle.cfg_recover.specs.Duties.{Owed, owed, enter, interrupts_of}
 use Rattle.cfg_recover.specs.RulesHoldOrFail.{limits_in}
 use Rattle.depth_check.specs.declared.last_interrupts.InterruptContext.{InterruptContext}
@@ -38,9 +38,10 @@ pub record IsBelowContext (context : InterruptContext) (node : NodeData) (s : St
 abbrev pub InterruptsHold : PlanData → CertData → NodeData → State → Type 0
 InterruptsHold plan cert node s = (q : ℕ) → DutiesHold cert node s (interrupts_of plan node.key s) q
 
--- the entries of the interrupts that may be taken in a state, with this A10 instead of the state's
+-- the duties to enter the handlers of all interrupts that may be taken in a state, with this A10 of
+-- a context instead of the state's
 abbrev pub entries_with : PlanData → Key → State → Val → List Owed
-entries_with plan key s sp = map (λ p. owed 11 (enter (irq_key plan p) (entry_with (stack_with plan key sp) false p true))) (irqs_of plan s)
+entries_with plan key s sp = map (λ p. owed 11 (enter (irq_key plan p) (entry_state_with (entry_stack_with plan key sp) false p true))) (irqs_of plan s)
 
 -- the context's A10 is a value of the limits, and the entries hold in each state below the context
 pub record HoldsInContext (plan : PlanData) (cert : CertData) (context : InterruptContext) : Type 0 where
@@ -56,3 +57,7 @@ pub record AreWellStacks (kept : LastInterrupts) : Type 0 where
 pub record LastInterruptsHold (plan : PlanData) (cert : CertData) (kept : LastInterrupts) : Type 0 where
   pub last : IfSome kept.last (HoldsInContext plan cert)
   pub before : IfSome kept.before (HoldsInContext plan cert)
+
+-- all rules hold of the entries of interrupts in a state, with this A10 instead of the state's
+abbrev pub InterruptsHoldWith : PlanData → CertData → NodeData → State → Val → Type 0
+InterruptsHoldWith plan cert node s sp = (q : ℕ) → DutiesHold cert node s (entries_with plan node.key s sp) q

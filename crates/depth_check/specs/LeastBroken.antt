@@ -11,20 +11,20 @@ pub record IsLeastBroken (holds : ℕ → Type 0) (r : ℕ) : Type 0 where
   pub known : r ≤ 14
 
 -- `None` if all rules hold, else the least that fails
-abbrev pub Finds : (ℕ → Type 0) → Option ℕ → Type 0
-Finds holds None = (q : ℕ) → holds q
-Finds holds (Some r) = IsLeastBroken holds r
+abbrev pub FindsLeastBroken : (ℕ → Type 0) → Option ℕ → Type 0
+FindsLeastBroken holds None = (q : ℕ) → holds q
+FindsLeastBroken holds (Some r) = IsLeastBroken holds r
 
 -- the lesser of two rules that fail
-abbrev pub least_of : Option ℕ → Option ℕ → Option ℕ
-least_of None o = o
-least_of (Some a) None = Some a
-least_of (Some a) (Some b) = Some (min a b)
+abbrev pub lesser_broken_rule : Option ℕ → Option ℕ → Option ℕ
+lesser_broken_rule None o = o
+lesser_broken_rule (Some a) None = Some a
+lesser_broken_rule (Some a) (Some b) = Some (min a b)
 
--- the rule, unless its condition holds
-abbrev pub unless : Bool → ℕ → Option ℕ
-unless holds rule = if holds then None else Some rule
+-- this rule as the least that is broken, or none if its condition holds
+abbrev pub broken_rule_unless : Bool → ℕ → Option ℕ
+broken_rule_unless holds rule = if holds then None else Some rule
 
 -- the least rule that these duties of the point break
-abbrev pub Breaks : PointCheck → List Owed → Option ℕ → Type 0
-Breaks at duties found = Finds (DutiesHold at.cert.now at.node.now at.point.state.now duties) found
+abbrev pub LeastBrokenByDuties : PointCheck → List Owed → Option ℕ → Type 0
+LeastBrokenByDuties at duties found = FindsLeastBroken (DutiesHold at.cert.now at.node.now at.point.state.now duties) found

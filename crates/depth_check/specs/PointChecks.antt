@@ -1,4 +1,4 @@
--- A point that is checked, and the least rule that some of its duties break.
+-- A point that is checked: what holds of it and of its facts for the fast paths.
 use Rattle.std.specs.Prelude.{◌≡◌, ℕ, IsTrue, IfSome, All}
 use Rattle.value_domain.specs.State.{AreValues}
 use Rattle.value_domain.specs.declared.states.State.{State}
@@ -7,11 +7,13 @@ use Rattle.packed_cert.specs.Walks.{WalkData, CoversNext}
 use Rattle.cfg_recover.specs.RulesHoldOrFail.{limits_in, HasPoint}
 use Rattle.depth_check.specs.declared.points.PointCheck.{PointCheck}
 use Rattle.depth_cert.specs.Proper.{IsWellNode}
-use Rattle.depth_check.specs.DutiesHold.{StandsAt}
+use Rattle.depth_check.specs.DutiesHold.{HasPointWithState}
 use Rattle.depth_check.specs.Interrupts.{InterruptsHold}
+use Rattle.depth_cert.specs.declared.points.Point.{Point}
+use Rattle.depth_check.specs.declared.points.CurrentPoint.{CurrentPoint}
 
--- the walk is over the node's points and at this state, and if its next point covers a state, the
--- node has a point there that covers it
+-- what a point that is checked knows by its walk: the walk is over the node's points and at this
+-- state, and if its next point covers a state, the node has a point there that covers it
 pub record LooksAhead (node : NodeData) (s : State) (w : WalkData) : Type 0 where
   pub points : w.points ≡ node.points
   pub current : w.current ≡ s
@@ -26,5 +28,9 @@ pub record IsPointCheck (at : PointCheck) : Type 0 where
   pub node : IsWellNode at.node.now
   pub values : AreValues at.bounds.now (at.point.state.now).regs
   pub again : IsTrue at.point.again → InterruptsHold at.plan.now at.cert.now at.node.now at.point.state.now
-  pub next : IfSome at.point.next (λ a. StandsAt at.node.now a at.point.state.now)
+  pub next : IfSome at.point.next (λ a. HasPointWithState at.node.now a at.point.state.now)
   pub walk : IfSome at.point.walk (λ w. LooksAhead at.node.now at.point.state.now w.now)
+
+-- the point's address and state
+abbrev pub point_here : CurrentPoint → Point
+point_here here = record { addr = here.addr; state = here.state.now }

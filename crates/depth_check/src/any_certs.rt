@@ -27,9 +27,9 @@ impl<'a> Model for AnyCert<'a> {
 
     ghost Value = { CertData };
 
-    ghost use Rattle.depth_check.specs.PlainOrPackedCerts.{cert_data, IsAnyCert};
+    ghost use Rattle.depth_check.specs.PlainOrPackedCerts.{plain_or_packed_cert, IsAnyCert};
 
-    ghost view = { λ c. cert_data c.form };
+    ghost view = { λ c. plain_or_packed_cert c.form };
 
     ghost invariant = { λ c. IsAnyCert c.version c.form };
 }

@@ -3,9 +3,9 @@ ghost use Rattle.std.specs.Prelude.{◌≡◌, ◌↔◌, IsTrue, ◌<◌};
 ghost use Rattle.cfg_recover.specs.RulesHoldOrFail.{HasPoint, HoldsAtEntry};
 ghost use Rattle.depth_cert.specs.Proper.{IsWellNode};
 ghost use Rattle.value_domain.specs.State.{AreWell};
-ghost use Rattle.depth_cert.specs.Exits.{after_of};
+ghost use Rattle.depth_cert.specs.Exits.{state_after_exit};
 
-use crate::node_covers::are_values;
+use crate::node_covers::are_node_values;
 use cfg_recover::covers_after;
 use depth_cert::{Exit, Key, Node};
 use packed_cert::PackedNode;
@@ -33,9 +33,9 @@ impl<'a> Model for AnyNode<'a> {
 
     ghost Value = { NodeData };
 
-    ghost use Rattle.depth_check.specs.PlainOrPackedCerts.{node_data, IsAnyNode};
+    ghost use Rattle.depth_check.specs.PlainOrPackedCerts.{plain_or_packed_node, IsAnyNode};
 
-    ghost view = { λ f. node_data f.form };
+    ghost view = { λ f. plain_or_packed_node f.form };
 
     ghost invariant = { λ f. IsAnyNode f.key f.need f.form };
 }
@@ -75,10 +75,12 @@ impl<'a> AnyNode<'a> {
     }
 }
 
+/// Whether a node in memory has a point at this address that covers the state after a frame with
+/// this exit has returned.
 pub(crate) fn plain_has_after(node: &Node, addr: u32, s: &State, exit: &Exit, kind: u8) -> bool
     requires node { IsWellNode node.now }
-    requires state { AreWell (after_of s.now exit.now kind).regs }
-    ensures { IsTrue result ↔ HasPoint node.now addr (after_of s.now exit.now kind) }
+    requires state { AreWell (state_after_exit s.now exit.now kind).regs }
+    ensures { IsTrue result ↔ HasPoint node.now addr (state_after_exit s.now exit.now kind) }
 {
     match node.point(addr) {
         Some(point) => covers_after(&point.state, s, exit, kind),
@@ -101,7 +103,7 @@ pub(crate) fn packed_holds_at_entry(b: &Bounds, node: &PackedNode<'_>) -> bool
 }
 
 /// Whether a node in memory has a point at its entry, and values of the plan in its exit if it has
-/// one.
+/// one, as rule 2 asks.
 pub(crate) fn plain_holds_at_entry(b: &Bounds, node: &Node) -> bool
     ensures { IsTrue result ↔ HoldsAtEntry b.now node.now }
 {
@@ -109,7 +111,7 @@ pub(crate) fn plain_holds_at_entry(b: &Bounds, node: &Node) -> bool
         return false;
     }
     match &node.exit {
-        Some(exit) => are_values(b, &exit.lower),
+        Some(exit) => are_node_values(b, &exit.lower),
         None => true,
     }
 }

@@ -3,7 +3,7 @@ ghost use Rattle.std.specs.Prelude.{◌≡◌, All, IsNone, IfSome, Some};
 ghost use Rattle.depth_cert.specs.Certs.{find_node};
 ghost use Rattle.cfg_recover.specs.RulesHoldOrFail.{HoldsAtStart};
 ghost use Rattle.depth_cert.specs.Proper.{IsWellNode};
-ghost use Rattle.depth_check.specs.CheckAnswers.{Judges, IfYes};
+ghost use Rattle.depth_check.specs.CheckAnswers.{IsCheckAnswer, IfAnswerIsYes};
 ghost use Rattle.tc_machine.specs.Safe.{Safe};
 ghost use Rattle.cfg_recover.specs.Entries as entries;
 
@@ -24,8 +24,8 @@ use tcd_plan::Plan;
 ///
 /// If the answer is yes, every run of the image under the plan is safe with that need.
 pub fn check(image: &Image, plan: &Plan, cert: &Cert) -> Verdict
-    ensures judges { Judges image.now plan.now cert.now result }
-    ensures safe { IfYes result (Safe image.now plan.now) }
+    ensures judges { IsCheckAnswer image.now plan.now cert.now result }
+    ensures safe { IfAnswerIsYes result (Safe image.now plan.now) }
 {
     // The invariants of plans and certificates are known to the prover after a read.
     let _areas = plan.areas;
@@ -35,8 +35,8 @@ pub fn check(image: &Image, plan: &Plan, cert: &Cert) -> Verdict
 
 /// Checks a certificate on the bytes of its file, as [`check`] does one in memory.
 pub fn check_packed(image: &Image, plan: &Plan, cert: &PackedCert) -> Verdict
-    ensures judges { Judges image.now plan.now cert.now result }
-    ensures safe { IfYes result (Safe image.now plan.now) }
+    ensures judges { IsCheckAnswer image.now plan.now cert.now result }
+    ensures safe { IfAnswerIsYes result (Safe image.now plan.now) }
 {
     let _areas = plan.areas;
     let _version = cert.version();

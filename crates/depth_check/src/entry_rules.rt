@@ -1,42 +1,43 @@
 // The rules of the duties of a point: what it enters, its interrupts, and how it leaves the node.
 ghost use Rattle.std.specs.Prelude.{◌≡◌, length, ◌≤◌, ◌↔◌, IsTrue, ◌+◌, [], ◌∷◌, unwrap_or};
 ghost use Rattle.std.specs.List.{flat_map};
-ghost use Rattle.depth_check.specs.LeastBroken.{Finds, Breaks};
+ghost use Rattle.depth_check.specs.LeastBroken.{FindsLeastBroken, LeastBrokenByDuties};
 ghost use Rattle.depth_cert.specs.Proper.{IsWellNode};
 ghost use Rattle.depth_check.specs.DutiesHold.{GoesOn, LeavingHolds};
 ghost use Rattle.value_domain.specs.State.{AreWell};
 ghost use Rattle.vd_transfer.specs.Changes.{state_after};
 ghost use Rattle.depth_check.specs.PointChecks.{IsPointCheck};
-ghost use Rattle.tc_isa.specs.InBounds.{IsShape, IsSize, IsTarget};
+ghost use Rattle.tc_isa.specs.InBounds.{IsShape, IsShapeAccessSize, IsTarget};
 ghost use Rattle.vd_transfer.specs.EffectsOnStates.{address_of};
 ghost use Rattle.cfg_recover.specs.LocalFaults.{StandsFaultless};
 ghost use Rattle.cfg_recover.specs.Entries.{call_key, irqs_of};
 ghost use Rattle.cfg_recover.specs.LocalRules.{targets_of};
 ghost use Rattle.cfg_recover.specs.Duties.{owed, enter, entered_and_back, entries_of, misaligned_at, misaligned_of, interrupts_of, duties_of};
-ghost use Rattle.cfg_recover.specs.FlowDuties.{told_back, told_irqs};
-ghost use Rattle.cfg_recover.specs.SetOperations.{HoldsResults};
-ghost use Rattle.depth_check.specs.CheckedRegisters.{CallsHoldAt, RegistersHoldAt};
+ghost use Rattle.cfg_recover.specs.FlowDuties.{told_flow_return, told_irqs};
+ghost use Rattle.cfg_recover.specs.SetOperations.{HoldsCachedResults};
+ghost use Rattle.depth_check.specs.CheckedRegisters.{RegisterCallsHoldAt, RegistersHoldAt};
 ghost use Rattle.cfg_recover.specs.Entries as entries;
 ghost use Rattle.cfg_recover.specs.FlowDuties as flows;
 
 use crate::any_nodes::AnyNode;
-use crate::node_covers::{comes_back, has_changed, has_exit};
+use crate::node_covers::{has_changed_point, has_covering_exit, has_point_after_return};
 use crate::points::{PointCheck, PointScratch};
 use crate::rules::{
     NO_EXCEPTION_RETURN, NO_FUNCTION, NO_INTERRUPT, NO_MISALIGNED, NO_POINT, NO_RETURN,
-    NO_SYSTEM_CALL, SMALL_NEED, least,
+    NO_SYSTEM_CALL, SMALL_NEED, lesser_broken_rule,
 };
 use crate::successor_rules::broken_by_successors;
 use cfg_recover::{
     Located, aln_key, call_change, direct_target, entered_key, handler_change, interrupts, irq_key,
-    is_aligned, misaligned_change, sys_key, system_change, targets, unless,
+    is_flow_access_aligned, misaligned_change, rule_unless, sys_key, system_change, targets,
 };
 use depth_cert::{CALL, Key, SYS};
 use tc_isa::{Shape, Target};
 use value_domain::State;
 use vd_transfer::{Change, address_by};
 
-/// The least rule that the duties of a point break, if the instruction breaks no rule by itself.
+/// Returns the least rule that a point's entries, interrupts, leaving or successors break, if the
+/// instruction breaks no rule by itself.
 pub(crate) fn broken_by_duties(
     at: &PointCheck<'_, '_>,
     found: &Located,
@@ -45,12 +46,12 @@ pub(crate) fn broken_by_duties(
     requires point { IsPointCheck at.now }
     requires found { StandsFaultless at.now.bounds.now at.now.image.now at.now.plan.now
         at.now.node.now.key at.now.point.addr at.now.point.state.now found.now }
-    requires results { HoldsResults at.now.bounds.now scratch.old.cache }
+    requires results { HoldsCachedResults at.now.bounds.now scratch.old.cache }
     requires registers { RegistersHoldAt at.now scratch.old.registers }
-    ensures found { Breaks at.now
+    ensures found { LeastBrokenByDuties at.now
         (duties_of at.now.bounds.now at.now.image.now at.now.plan.now at.now.node.now.key
         at.now.point.addr at.now.point.state.now found.now.shape found.now.size) result }
-    ensures results { HoldsResults at.now.bounds.now scratch.new.cache }
+    ensures results { HoldsCachedResults at.now.bounds.now scratch.new.cache }
     ensures registers { RegistersHoldAt at.now scratch.new.registers }
 {
     let jumps = broken_by_successors(at, found, scratch);
@@ -58,14 +59,20 @@ pub(crate) fn broken_by_duties(
     let misaligned = broken_by_access(at, found);
     let irqs = broken_by_interrupts(at);
     let leave = broken_by_leaving(at.node, at.point.state, found.shape);
-    least(least(least(least(jumps, entered), misaligned), irqs), leave)
+    lesser_broken_rule(
+        lesser_broken_rule(
+            lesser_broken_rule(lesser_broken_rule(jumps, entered), misaligned),
+            irqs,
+        ),
+        leave,
+    )
 }
 
 /// The least rule that the entries of interrupts break. They are passed over if they are known to
 /// hold.
 pub(crate) fn broken_by_interrupts(at: &PointCheck<'_, '_>) -> Option<u8>
     requires { IsPointCheck at.now }
-    ensures { Breaks at.now
+    ensures { LeastBrokenByDuties at.now
         (interrupts_of at.now.plan.now at.now.node.now.key at.now.point.state.now) result }
 {
     let again = at.point.again;
@@ -88,7 +95,7 @@ pub(crate) fn broken_by_interrupts(at: &PointCheck<'_, '_>) -> Option<u8>
 pub(crate) fn broken_by_irqs(at: &PointCheck<'_, '_>, irqs: &[u8], entry: Change) -> Option<u8>
     requires point { IsPointCheck at.now }
     requires entry { AreWell (state_after at.now.point.state.now entry).regs }
-    ensures { Breaks at.now
+    ensures { LeastBrokenByDuties at.now
         (told_irqs at.now.plan.now (state_after at.now.point.state.now entry) irqs.now) result }
 {
     let mut entry = entry;
@@ -96,7 +103,7 @@ pub(crate) fn broken_by_irqs(at: &PointCheck<'_, '_>, irqs: &[u8], entry: Change
     for p in irqs {
         entry.ccpn = *p;
         let one = broken_by_entry(at, NO_INTERRUPT, &irq_key(at.plan, *p), &entry, None);
-        found = least(found, one);
+        found = lesser_broken_rule(found, one);
     }
     found
 }
@@ -110,11 +117,11 @@ fn broken_by_entries(
 ) -> Option<u8>
     requires point { IsPointCheck at.now }
     requires shape { IsShape shape }
-    requires called { CallsHoldAt at.now called.old }
-    ensures found { Breaks at.now
+    requires called { RegisterCallsHoldAt at.now called.old }
+    ensures found { LeastBrokenByDuties at.now
         (entries_of at.now.plan.now at.now.node.now.key at.now.point.addr at.now.point.state.now
         shape size) result }
-    ensures called { CallsHoldAt at.now called.new }
+    ensures called { RegisterCallsHoldAt at.now called.new }
 {
     let back = at.point.addr.wrapping_add(size);
     match shape {
@@ -134,13 +141,13 @@ fn broken_by_call_kept(
 ) -> Option<u8>
     requires point { IsPointCheck at.now }
     requires target { IsTarget to }
-    requires called { CallsHoldAt at.now called.old }
-    ensures found { Breaks at.now
+    requires called { RegisterCallsHoldAt at.now called.old }
+    ensures found { LeastBrokenByDuties at.now
         (flat_map (λ t. entered_and_back 5 (call_key at.now.node.now.key t)
         (entries.call_entry at.now.point.state.now) back)
         (unwrap_or (targets_of at.now.plan.now at.now.point.state.now at.now.point.addr to) []))
         result }
-    ensures called { CallsHoldAt at.now called.new }
+    ensures called { RegisterCallsHoldAt at.now called.new }
 {
     let Target::Reg(r) = to else {
         return broken_by_call(at, to, back);
@@ -159,12 +166,13 @@ fn broken_by_call_kept(
     found
 }
 
-/// The least rule that a call breaks.
+/// Returns the least rule that the entries of a call's functions break, with the points to which
+/// they return.
 #[inline(never)]
 fn broken_by_call(at: &PointCheck<'_, '_>, to: Target, back: u32) -> Option<u8>
     requires point { IsPointCheck at.now }
     requires target { IsTarget to }
-    ensures { Breaks at.now
+    ensures { LeastBrokenByDuties at.now
         (flat_map (λ t. entered_and_back 5 (call_key at.now.node.now.key t)
         (entries.call_entry at.now.point.state.now) back)
         (unwrap_or (targets_of at.now.plan.now at.now.point.state.now at.now.point.addr to) []))
@@ -188,7 +196,7 @@ fn broken_by_listed_calls(
     requires point { IsPointCheck at.now }
     requires target { IsTarget to }
     requires entry { AreWell (state_after at.now.point.state.now entry.now).regs }
-    ensures { Breaks at.now
+    ensures { LeastBrokenByDuties at.now
         (flat_map (λ t. entered_and_back 5 (call_key at.now.node.now.key t)
         (state_after at.now.point.state.now entry.now) back)
         (unwrap_or (targets_of at.now.plan.now at.now.point.state.now at.now.point.addr to) []))
@@ -207,7 +215,7 @@ fn broken_by_calls(
 ) -> Option<u8>
     requires point { IsPointCheck at.now }
     requires entry { AreWell (state_after at.now.point.state.now entry.now).regs }
-    ensures { Breaks at.now
+    ensures { LeastBrokenByDuties at.now
         (flat_map (λ t. entered_and_back 5 (call_key at.now.node.now.key t)
         (state_after at.now.point.state.now entry.now) back) targets.now) result }
 {
@@ -216,16 +224,17 @@ fn broken_by_calls(
     for t in targets {
         let key = entered_key(&node.key, CALL, *t);
         let one = broken_by_entry(at, NO_FUNCTION, &key, entry, Some(back));
-        found = least(found, one);
+        found = lesser_broken_rule(found, one);
     }
     found
 }
 
-/// The least rule that the system call `tin` breaks.
+/// Returns the least rule that the entry of the handler of the system call `tin` breaks, with the
+/// point to which it returns.
 #[inline(never)]
 fn broken_by_system(at: &PointCheck<'_, '_>, tin: u8, back: u32) -> Option<u8>
     requires { IsPointCheck at.now }
-    ensures { Breaks at.now
+    ensures { LeastBrokenByDuties at.now
         (entered_and_back 12 (entries.sys_key at.now.plan.now at.now.node.now.key)
         (entries.sys_entry at.now.plan.now at.now.node.now.key at.now.point.state.now tin) back)
         result }
@@ -242,7 +251,7 @@ fn broken_by_access(at: &PointCheck<'_, '_>, found: &Located) -> Option<u8>
     requires point { IsPointCheck at.now }
     requires found { StandsFaultless at.now.bounds.now at.now.image.now at.now.plan.now
         at.now.node.now.key at.now.point.addr at.now.point.state.now found.now }
-    ensures { Breaks at.now
+    ensures { LeastBrokenByDuties at.now
         (misaligned_of at.now.bounds.now at.now.plan.now at.now.node.now.key at.now.point.state.now
         found.now.shape) result }
 {
@@ -257,19 +266,19 @@ fn broken_by_access(at: &PointCheck<'_, '_>, found: &Located) -> Option<u8>
     }
 }
 
-/// The least rule that the trap of a misaligned access of this size breaks. The address is computed
-/// here, so that other instructions need no room for a value.
+/// Returns the least rule that the trap of a misaligned access of this size breaks, if it may be
+/// taken. The address is computed here, so that other instructions need no room for a value.
 #[inline(never)]
 fn broken_by_misaligned(at: &PointCheck<'_, '_>, shape: Shape, size: u8) -> Option<u8>
     requires point { IsPointCheck at.now }
     requires shape { IsShape shape }
-    requires size { IsSize size }
-    ensures { Breaks at.now
+    requires size { IsShapeAccessSize size }
+    ensures { LeastBrokenByDuties at.now
         (misaligned_at at.now.plan.now at.now.node.now.key at.now.point.state.now
         (address_of at.now.bounds.now at.now.plan.now shape at.now.point.state.now) size) result }
 {
     let accessed = address_by(at.bounds, at.plan, shape, at.point.state);
-    if is_aligned(at.bounds, &accessed, size) {
+    if is_flow_access_aligned(at.bounds, &accessed, size) {
         return None;
     }
     broken_by_trap(at)
@@ -279,7 +288,7 @@ fn broken_by_misaligned(at: &PointCheck<'_, '_>, shape: Shape, size: u8) -> Opti
 #[inline(never)]
 fn broken_by_trap(at: &PointCheck<'_, '_>) -> Option<u8>
     requires { IsPointCheck at.now }
-    ensures { Breaks at.now
+    ensures { LeastBrokenByDuties at.now
         (owed 10 (enter (entries.aln_key at.now.plan.now at.now.node.now.key)
         (entries.aln_entry at.now.plan.now at.now.node.now.key at.now.point.state.now)) ∷ [])
         result }
@@ -295,7 +304,7 @@ fn broken_by_trap(at: &PointCheck<'_, '_>) -> Option<u8>
 fn broken_by_taken(at: &PointCheck<'_, '_>, irqs: &[u8]) -> Option<u8>
     requires point { IsPointCheck at.now }
     requires irqs { irqs.now ≡ irqs_of at.now.plan.now at.now.point.state.now }
-    ensures { Breaks at.now
+    ensures { LeastBrokenByDuties at.now
         (interrupts_of at.now.plan.now at.now.node.now.key at.now.point.state.now) result }
 {
     let node = at.node;
@@ -303,18 +312,19 @@ fn broken_by_taken(at: &PointCheck<'_, '_>, irqs: &[u8]) -> Option<u8>
     broken_by_irqs(at, irqs, entry)
 }
 
-/// The least rule that an instruction of this shape breaks when it leaves the node.
-#[tactic(auto, unfolding(cfg_recover::specs::FlowDuties::leave_of))]
+/// Returns the least rule that an instruction of this shape breaks when it leaves the node: RET, or
+/// RFE in the handler of system calls.
+#[tactic(auto, unfolding(cfg_recover::specs::FlowDuties::flow_leave_of))]
 fn broken_by_leaving(node: &AnyNode<'_>, s: &State, shape: Shape) -> Option<u8>
     requires node { IsWellNode node.now }
     requires state { AreWell s.now.regs }
-    ensures { Finds (LeavingHolds node.now s.now (flows.leave_of shape)) result }
+    ensures { FindsLeastBroken (LeavingHolds node.now s.now (flows.flow_leave_of shape)) result }
 {
     match shape {
-        Shape::Ret => unless(has_exit(node, s), NO_RETURN),
+        Shape::Ret => rule_unless(has_covering_exit(node, s), NO_RETURN),
         Shape::Rfe => {
             if node.key.kind == SYS {
-                unless(has_exit(node, s), NO_EXCEPTION_RETURN)
+                rule_unless(has_covering_exit(node, s), NO_EXCEPTION_RETURN)
             } else {
                 None
             }
@@ -335,9 +345,9 @@ fn broken_by_entry(
     requires rule { rule ≤ 14 }
     requires point { IsPointCheck at.now }
     requires entry { AreWell (state_after at.now.point.state.now entry.now).regs }
-    ensures { Breaks at.now
+    ensures { LeastBrokenByDuties at.now
         (owed rule (enter key.now (state_after at.now.point.state.now entry.now))
-        ∷ told_back key.now back) result }
+        ∷ told_flow_return key.now back) result }
 {
     let cert = at.cert;
     let node = at.node;
@@ -345,23 +355,26 @@ fn broken_by_entry(
     let Some(entered) = cert.node(key) else {
         return Some(rule);
     };
-    let into = unless(has_changed(&entered, key.entry, s, entry), rule);
-    let need = unless(is_need_above(node, s, &entered), SMALL_NEED);
-    let on = unless(goes_on(node, s, &entered, key.kind, back), NO_POINT);
-    least(least(into, need), on)
+    let into = rule_unless(has_changed_point(&entered, key.entry, s, entry), rule);
+    let need = rule_unless(has_need_for_entry(node, s, &entered), SMALL_NEED);
+    let on = rule_unless(
+        has_point_after_entry(node, s, &entered, key.kind, back),
+        NO_POINT,
+    );
+    lesser_broken_rule(lesser_broken_rule(into, need), on)
 }
 
 /// Whether the need of a node is at least the areas of its locals, one for the entry, and the
 /// entered node's need.
-fn is_need_above(node: &AnyNode<'_>, s: &State, entered: &AnyNode<'_>) -> bool
+fn has_need_for_entry(node: &AnyNode<'_>, s: &State, entered: &AnyNode<'_>) -> bool
     ensures { IsTrue result ↔ (length s.now.locals.items + 1 + entered.now.need ≤ node.now.need) }
 {
     s.locals.len() + 1 + usize::from(entered.need) <= usize::from(node.need)
 }
 
-/// Whether the node goes on at `back`, if that is an address, after a frame of the entered node has
-/// returned.
-fn goes_on(
+/// Tests rule 4 of an entry: whether the node goes on at `back` after a frame of the entered node
+/// has returned. True if `back` is no address.
+fn has_point_after_entry(
     node: &AnyNode<'_>,
     s: &State,
     entered: &AnyNode<'_>,
@@ -374,7 +387,7 @@ fn goes_on(
     ensures { IsTrue result ↔ GoesOn node.now s.now entered.now kind back }
 {
     match back {
-        Some(at) => comes_back(node, at, s, entered, kind),
+        Some(at) => has_point_after_return(node, at, s, entered, kind),
         None => true,
     }
 }

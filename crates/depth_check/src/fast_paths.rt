@@ -3,16 +3,15 @@
 ghost use Rattle.std.specs.Prelude.{◌≡◌, IfSome, Some, IsTrue, Bool, [], ◌∷◌, ◌<◌};
 ghost use Rattle.std.specs.Option.{option_and};
 ghost use Rattle.cfg_recover.specs.RulesHoldOrFail.{RuleHolds};
-ghost use Rattle.depth_check.specs.LeastBroken.{Finds, Breaks};
+ghost use Rattle.depth_check.specs.LeastBroken.{FindsLeastBroken, LeastBrokenByDuties};
 ghost use Rattle.value_domain.specs.State.{AreValues, Covers};
-ghost use Rattle.depth_check.specs.PointChecks.{IsPointCheck};
+ghost use Rattle.depth_check.specs.PointChecks.{IsPointCheck, point_here};
 ghost use Rattle.vd_transfer.specs.EffectsOnStates.{transfer_of};
 ghost use Rattle.tcd_plan.specs.PlanData.{PlanData};
 ghost use Rattle.elf_image.specs.Images.{image_byte};
 ghost use Rattle.tc_isa.specs.declared.shapes.Shape.TheVariants.{Nothing};
 ghost use Rattle.cfg_recover.specs.Code.{IsCode};
-ghost use Rattle.depth_check.specs.PlainOrPackedCerts.{point_here};
-ghost use Rattle.depth_check.specs.PassingInstructions.{PassesOn};
+ghost use Rattle.depth_check.specs.PassingInstructions.{HasPassingInstruction};
 ghost use Rattle.value_domain.specs.declared.values.Val.{Val};
 ghost use Rattle.value_domain.specs.declared.states.State.{State};
 ghost use Rattle.value_domain.specs.Limits.{Limits};
@@ -22,18 +21,19 @@ ghost use Rattle.cfg_recover.specs.Duties.{owed, jump};
 use crate::entry_rules::broken_by_interrupts;
 use crate::node_covers::has_next;
 use crate::points::PointCheck;
-use crate::rules::{NO_POINT, SMALL_NEED, has_own_need, least};
-use cfg_recover::{KnownCodes, direct_target, unless};
+use crate::rules::{NO_POINT, SMALL_NEED, has_own_need, lesser_broken_rule};
+use cfg_recover::{KnownCodes, direct_target, rule_unless};
 use elf_image::Image;
 use tc_isa::Shape;
-use tcd_base::any_holds;
+use tcd_base::is_in_any_range;
 use tcd_plan::Plan;
 
 /// The address after an instruction that only passes the state on, if the next point has the same
 /// state. Such an instruction breaks no rule by itself and changes nothing. Without decoding nop16
 /// this spares 75 instructions if its word was decoded lately, else 330.
-pub(crate) fn idle_next(at: &PointCheck<'_, '_>, codes: &mut KnownCodes) -> Option<u32>
-    ensures { IfSome result (PassesOn at.now.image.now at.now.plan.now at.now.point.addr) }
+pub(crate) fn fast_path_next(at: &PointCheck<'_, '_>, codes: &mut KnownCodes) -> Option<u32>
+    ensures { IfSome result (HasPassingInstruction at.now.image.now at.now.plan.now
+        at.now.point.addr) }
 {
     if at.point.next.is_none() {
         return None;
@@ -72,28 +72,30 @@ fn is_nop16(image: &Image, plan: &Plan, addr: u32, codes: &mut KnownCodes) -> bo
     if addr % 2 == 1 {
         return false;
     }
-    if !any_holds(plan.rom.as_slice(), addr, 2) {
+    if !is_in_any_range(plan.rom.as_slice(), addr, 2) {
         return false;
     }
     codes.has_byte(image, addr + 1, 0)
 }
 
 /// The least rule that fails at a point whose instruction only passes the state on to `next`.
-pub(crate) fn broken_by_idle(at: &PointCheck<'_, '_>, next: u32) -> Option<u8>
+pub(crate) fn broken_on_fast_path(at: &PointCheck<'_, '_>, next: u32) -> Option<u8>
     requires point { IsPointCheck at.now }
-    requires passes { PassesOn at.now.image.now at.now.plan.now at.now.point.addr next }
-    ensures { Finds (RuleHolds at.now.image.now at.now.plan.now at.now.cert.now at.now.node.now
+    requires passes { HasPassingInstruction at.now.image.now at.now.plan.now at.now.point.addr
+        next }
+    ensures { FindsLeastBroken
+        (RuleHolds at.now.image.now at.now.plan.now at.now.cert.now at.now.node.now
         (point_here at.now.point)) result }
 {
     let jump = broken_by_pass(at, next);
     let irqs = broken_by_interrupts(at);
-    let need = unless(has_own_need(at), SMALL_NEED);
-    least(least(jump, irqs), need)
+    let need = rule_unless(has_own_need(at), SMALL_NEED);
+    lesser_broken_rule(lesser_broken_rule(jump, irqs), need)
 }
 
 /// Whether an instruction of this shape leaves each state as it is: one that changes nothing, or a
 /// store that leaves its base as it is. It needs no change, and the state is compared as it is.
-pub(crate) fn keeps_state(shape: Shape) -> bool
+pub(crate) fn may_skip_change(shape: Shape) -> bool
     ensures { IsTrue result → (b : Limits) (plan : PlanData) (s : State) (loaded : Val)
         → transfer_of b plan shape s loaded ≡ s }
 {
@@ -107,7 +109,7 @@ pub(crate) fn keeps_state(shape: Shape) -> bool
 /// Whether each side of this branch allows no more than the state before it: true unless the branch
 /// lowers a counter. A point that covers the state before the branch then covers both sides, and no
 /// value is refined.
-pub(crate) fn only_narrows(shape: Shape) -> bool
+pub(crate) fn may_skip_refinement(shape: Shape) -> bool
     ensures { IsTrue result → (b : Limits) (plan : PlanData) (s : State) (side : Bool)
         → AreValues b s.regs → IfSome (refine_of b plan shape s side) (Covers s) }
 {
@@ -153,7 +155,7 @@ pub(crate) const NO_REGISTERS: CheckedRegisters = CheckedRegisters {
 /// The least rule that a step breaks which changes nothing.
 pub(crate) fn broken_by_pass(at: &PointCheck<'_, '_>, next: u32) -> Option<u8>
     requires { IsPointCheck at.now }
-    ensures { Breaks at.now (owed 4 (jump next at.now.point.state.now) ∷ []) result }
+    ensures { LeastBrokenByDuties at.now (owed 4 (jump next at.now.point.state.now) ∷ []) result }
 {
-    unless(has_next(at, next), NO_POINT)
+    rule_unless(has_next(at, next), NO_POINT)
 }

@@ -5,8 +5,7 @@ ghost use Rattle.cfg_recover.specs.RulesHoldOrFail.{limits_in};
 ghost use Rattle.value_domain.specs.State.{AreValues};
 ghost use Rattle.value_domain.specs.Values.{IsWell, IsValue, any_val};
 ghost use Rattle.tcd_plan.specs.PlanData.{PlanData};
-ghost use Rattle.depth_check.specs.Interrupts.{IsContext, FitsContext, IsBelowContext, InterruptsHold, AreWellStacks, LastInterruptsHold};
-ghost use Rattle.depth_check.specs.PassingInstructions.{HoldsWith};
+ghost use Rattle.depth_check.specs.Interrupts.{IsContext, FitsContext, IsBelowContext, InterruptsHold, AreWellStacks, LastInterruptsHold, InterruptsHoldWith};
 ghost use Rattle.depth_check.specs.PointChecks.{IsPointCheck};
 
 use crate::any_nodes::{AnyNode, NodeForm};
@@ -96,7 +95,7 @@ impl LastInterrupts {
     /// contexts is dropped.
     fn add(&mut self, node: &PackedNode<'_>, s: &State, sp: Val)
         ensures { (plan : PlanData) (cert : CertData) → LastInterruptsHold plan cert self.old
-            → IsValue (limits_in plan cert) sp → HoldsWith plan cert node.now s.now sp
+            → IsValue (limits_in plan cert) sp → InterruptsHoldWith plan cert node.now s.now sp
             → LastInterruptsHold plan cert self.new }
     {
         self.before = self.last.take();
@@ -168,7 +167,7 @@ fn common_stack(at: &PointCheck<'_, '_>, kept: &LastInterrupts) -> Val
         at.now.point.state.now }
     requires interrupts { LastInterruptsHold at.now.plan.now at.now.cert.now kept.now }
     ensures value { IsValue at.now.bounds.now result }
-    ensures holds { HoldsWith at.now.plan.now at.now.cert.now at.now.node.now
+    ensures holds { InterruptsHoldWith at.now.plan.now at.now.cert.now at.now.node.now
         at.now.point.state.now result }
 {
     let s = at.point.state;

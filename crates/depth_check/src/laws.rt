@@ -1,5 +1,5 @@
 // The laws of accepted certificates and of answers.
-ghost use Rattle.depth_check.specs.AnswerLaws.{FirstFaultsRefute, AnswersSay};
+ghost use Rattle.depth_check.specs.AnswerLaws.{AnswersAreExact, AnswersSay};
 ghost use Rattle.depth_check.specs.AcceptedPromises.{AcceptedHoldsFrames, AcceptedIsSafe, AcceptedOwesEdges};
 
 /// If the rules accept a certificate, every run of the image under the plan is safe with its need,
@@ -22,7 +22,7 @@ pub fn answer_laws()
     ensures { AnswersSay }
 {}
 
-/// A certificate with a first fault isn't accepted.
+/// States that the checker's answer is exact: a certificate with a first fault isn't accepted.
 pub fn first_fault_laws()
-    ensures { FirstFaultsRefute }
+    ensures { AnswersAreExact }
 {}

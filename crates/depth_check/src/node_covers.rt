@@ -5,7 +5,7 @@ ghost use Rattle.depth_cert.specs.Proper.{IsWellNode};
 ghost use Rattle.depth_check.specs.DutiesHold.{HasPoints, HasExit};
 ghost use Rattle.value_domain.specs.State.{AreWell, AreBelow, AreValues};
 ghost use Rattle.vd_transfer.specs.Changes.{state_after};
-ghost use Rattle.depth_cert.specs.Exits.{after_of, exit_of, lower_values, ExitCovers};
+ghost use Rattle.depth_cert.specs.Exits.{state_after_exit, exit_of, lower_values, ExitCovers};
 ghost use Rattle.depth_check.specs.PointChecks.{IsPointCheck};
 
 use crate::any_nodes::{AnyNode, NodeForm, plain_has_after};
@@ -42,8 +42,8 @@ pub(crate) fn has_points(at: &PointCheck<'_, '_>, targets: &[u32]) -> bool
     true
 }
 
-/// Whether the node of a point has a point at this address that covers the point's state. A walk
-/// knows which points have the same state, so that nothing is compared there.
+/// Whether the node of a checked point covers the point's own state at this address. A walk knows
+/// which points have the same state, so that nothing is compared there.
 pub(crate) fn has_next(at: &PointCheck<'_, '_>, addr: u32) -> bool
     requires { IsPointCheck at.now }
     ensures { IsTrue result ↔ HasPoint at.now.node.now addr at.now.point.state.now }
@@ -57,8 +57,8 @@ pub(crate) fn has_next(at: &PointCheck<'_, '_>, addr: u32) -> bool
     }
 }
 
-/// Whether the node of a point has a point at this address that covers the point's own state. `c`
-/// is overwritten with the change that keeps this state.
+/// Whether the node of a checked point covers the point's own state at this address. `c` is
+/// overwritten with the change that keeps this state.
 pub(crate) fn has_kept_next(at: &PointCheck<'_, '_>, addr: u32, c: &mut Change) -> bool
     requires { IsPointCheck at.now }
     ensures { IsTrue result ↔ HasPoint at.now.node.now addr at.now.point.state.now }
@@ -76,7 +76,7 @@ pub(crate) fn has_kept_next(at: &PointCheck<'_, '_>, addr: u32, c: &mut Change) 
 }
 
 /// Whether the node has a point at this address that covers the changed state.
-pub(crate) fn has_changed(node: &AnyNode<'_>, addr: u32, s: &State, c: &Change) -> bool
+pub(crate) fn has_changed_point(node: &AnyNode<'_>, addr: u32, s: &State, c: &Change) -> bool
     requires node { IsWellNode node.now }
     requires state { AreWell (state_after s.now c.now).regs }
     ensures { IsTrue result ↔ HasPoint node.now addr (state_after s.now c.now) }
@@ -88,8 +88,8 @@ pub(crate) fn has_changed(node: &AnyNode<'_>, addr: u32, s: &State, c: &Change) 
     }
 }
 
-/// Whether the node of a point has a point at this address that covers the changed state. The next
-/// point of the walk is tried first: only the values that differ there are compared.
+/// Whether the node of a checked point covers the changed state at this address. The next point of
+/// the walk is tried first: only the values that differ there are compared.
 pub(crate) fn has_changed_next(at: &PointCheck<'_, '_>, addr: u32, c: &Change) -> bool
     requires point { IsPointCheck at.now }
     requires changed { AreWell (state_after at.now.point.state.now c.now).regs }
@@ -101,12 +101,12 @@ pub(crate) fn has_changed_next(at: &PointCheck<'_, '_>, addr: u32, c: &Change) -
             return true;
         }
     }
-    has_changed(at.node, addr, at.point.state, c)
+    has_changed_point(at.node, addr, at.point.state, c)
 }
 
 /// Whether the node has a point at `at` that covers the state after a frame of the entered node has
 /// returned. True if the entered node has no exit.
-pub(crate) fn comes_back(
+pub(crate) fn has_point_after_return(
     node: &AnyNode<'_>,
     at: u32,
     s: &State,
@@ -117,20 +117,20 @@ pub(crate) fn comes_back(
     requires entered { IsWellNode entered.now }
     requires state { AreWell s.now.regs }
     ensures { IsTrue result
-        ↔ IfSome entered.now.exit (λ x. HasPoint node.now at (after_of s.now x kind)) }
+        ↔ IfSome entered.now.exit (λ x. HasPoint node.now at (state_after_exit s.now x kind)) }
 {
     match &entered.form {
         NodeForm::Plain(entered) => match &entered.exit {
-            Some(exit) => has_built(node, at, s, exit, kind),
+            Some(exit) => has_built_point(node, at, s, exit, kind),
             None => true,
         },
-        NodeForm::Packed(entered) => packed_comes_back(node, at, s, entered, kind),
-        NodeForm::Near(entered, _) => packed_comes_back(node, at, s, entered, kind),
+        NodeForm::Packed(entered) => has_point_after_packed(node, at, s, entered, kind),
+        NodeForm::Near(entered, _) => has_point_after_packed(node, at, s, entered, kind),
     }
 }
 
 /// Whether the node has an exit that covers the exit of the state.
-pub(crate) fn has_exit(node: &AnyNode<'_>, s: &State) -> bool
+pub(crate) fn has_covering_exit(node: &AnyNode<'_>, s: &State) -> bool
     requires node { IsWellNode node.now }
     requires state { AreWell s.now.regs }
     ensures { IsTrue result ↔ HasExit node.now s.now }
@@ -145,8 +145,8 @@ pub(crate) fn has_exit(node: &AnyNode<'_>, s: &State) -> bool
     }
 }
 
-/// Whether each of these is a value of the plan.
-pub(crate) fn are_values(b: &Bounds, vs: &[Val]) -> bool
+/// Whether each of these values of a node's point or exit is a value of the plan.
+pub(crate) fn are_node_values(b: &Bounds, vs: &[Val]) -> bool
     ensures { IsTrue result ↔ AreValues b.now vs.now }
 {
     for v in vs {
@@ -157,6 +157,8 @@ pub(crate) fn are_values(b: &Bounds, vs: &[Val]) -> bool
     true
 }
 
+/// Whether a node in memory covers the state at this address: its point there is looked up and
+/// compared.
 fn plain_has_point(node: &Node, addr: u32, s: &State) -> bool
     requires node { IsWellNode node.now }
     requires state { AreWell s.now.regs }
@@ -168,6 +170,8 @@ fn plain_has_point(node: &Node, addr: u32, s: &State) -> bool
     }
 }
 
+/// Whether a node on bytes has a point at this address that covers the state. Point number `near`
+/// is tried first.
 fn packed_has_point(node: &PackedNode<'_>, near: usize, addr: u32, s: &State) -> bool
     requires state { AreWell s.now.regs }
     ensures { IsTrue result ↔ HasPoint node.now addr s.now }
@@ -178,6 +182,7 @@ fn packed_has_point(node: &PackedNode<'_>, near: usize, addr: u32, s: &State) ->
     }
 }
 
+/// Whether a node in memory has a point at this address that covers the changed state.
 fn plain_has_changed(node: &Node, addr: u32, s: &State, c: &Change) -> bool
     requires node { IsWellNode node.now }
     requires state { AreWell (state_after s.now c.now).regs }
@@ -189,6 +194,8 @@ fn plain_has_changed(node: &Node, addr: u32, s: &State, c: &Change) -> bool
     }
 }
 
+/// Whether a node on bytes covers the changed state at this address. Point number `near` is tried
+/// first.
 fn packed_has_changed(node: &PackedNode<'_>, near: usize, addr: u32, s: &State, c: &Change) -> bool
     requires state { AreWell (state_after s.now c.now).regs }
     ensures { IsTrue result ↔ HasPoint node.now addr (state_after s.now c.now) }
@@ -199,7 +206,9 @@ fn packed_has_changed(node: &PackedNode<'_>, near: usize, addr: u32, s: &State, 
     }
 }
 
-fn packed_comes_back(
+/// Whether the node has a point at `at` that covers the state after a frame of the entered node, on
+/// bytes, has returned. True if the entered node has no exit.
+fn has_point_after_packed(
     node: &AnyNode<'_>,
     at: u32,
     s: &State,
@@ -210,24 +219,30 @@ fn packed_comes_back(
     requires entered { IsWellNode entered.now }
     requires state { AreWell s.now.regs }
     ensures { IsTrue result
-        ↔ IfSome entered.now.exit (λ x. HasPoint node.now at (after_of s.now x kind)) }
+        ↔ IfSome entered.now.exit (λ x. HasPoint node.now at (state_after_exit s.now x kind)) }
 {
     match entered.exit() {
-        Some(exit) => has_after_at(node, at, s, &exit, kind),
+        Some(exit) => has_point_after_exit(node, at, s, &exit, kind),
         None => true,
     }
 }
 
 /// Whether the node has a point at this address that covers the state after a frame with this exit,
 /// on bytes, has returned.
-fn has_after_at(node: &AnyNode<'_>, addr: u32, s: &State, exit: &ExitAt<'_>, kind: u8) -> bool
+fn has_point_after_exit(
+    node: &AnyNode<'_>,
+    addr: u32,
+    s: &State,
+    exit: &ExitAt<'_>,
+    kind: u8,
+) -> bool
     requires node { IsWellNode node.now }
     requires exit { AreWell exit.now.lower }
     requires state { AreWell s.now.regs }
-    ensures { IsTrue result ↔ HasPoint node.now addr (after_of s.now exit.now kind) }
+    ensures { IsTrue result ↔ HasPoint node.now addr (state_after_exit s.now exit.now kind) }
 {
     match &node.form {
-        NodeForm::Plain(node) => plain_has_read(node, addr, s, exit, kind),
+        NodeForm::Plain(node) => has_plain_point_after(node, addr, s, exit, kind),
         NodeForm::Packed(node) => packed_has_after(node, 0, addr, s, exit, kind),
         NodeForm::Near(node, near) => packed_has_after(node, *near, addr, s, exit, kind),
     }
@@ -237,10 +252,10 @@ fn has_after_at(node: &AnyNode<'_>, addr: u32, s: &State, exit: &ExitAt<'_>, kin
 /// has returned. The state is built.
 // A function of its own, so that its callers need no room for a state.
 #[inline(never)]
-fn has_built(node: &AnyNode<'_>, addr: u32, s: &State, exit: &Exit, kind: u8) -> bool
+fn has_built_point(node: &AnyNode<'_>, addr: u32, s: &State, exit: &Exit, kind: u8) -> bool
     requires node { IsWellNode node.now }
-    requires state { AreWell (after_of s.now exit.now kind).regs }
-    ensures { IsTrue result ↔ HasPoint node.now addr (after_of s.now exit.now kind) }
+    requires state { AreWell (state_after_exit s.now exit.now kind).regs }
+    ensures { IsTrue result ↔ HasPoint node.now addr (state_after_exit s.now exit.now kind) }
 {
     has_point(node, addr, &after(s, exit, kind))
 }
@@ -249,15 +264,17 @@ fn has_built(node: &AnyNode<'_>, addr: u32, s: &State, exit: &Exit, kind: u8) ->
 /// this exit, which is read from bytes, has returned.
 // A function of its own, so that its callers need no room for an exit.
 #[inline(never)]
-fn plain_has_read(node: &Node, addr: u32, s: &State, exit: &ExitAt<'_>, kind: u8) -> bool
+fn has_plain_point_after(node: &Node, addr: u32, s: &State, exit: &ExitAt<'_>, kind: u8) -> bool
     requires node { IsWellNode node.now }
     requires exit { AreWell exit.now.lower }
     requires state { AreWell s.now.regs }
-    ensures { IsTrue result ↔ HasPoint node.now addr (after_of s.now exit.now kind) }
+    ensures { IsTrue result ↔ HasPoint node.now addr (state_after_exit s.now exit.now kind) }
 {
     plain_has_after(node, addr, s, &exit.read(), kind)
 }
 
+/// Whether a node on bytes has a point at this address that covers the state after a frame with
+/// this exit has returned. Point number `near` is tried first.
 fn packed_has_after(
     node: &PackedNode<'_>,
     near: usize,
@@ -267,7 +284,7 @@ fn packed_has_after(
     kind: u8,
 ) -> bool
     requires state { AreWell s.now.regs }
-    ensures { IsTrue result ↔ HasPoint node.now addr (after_of s.now exit.now kind) }
+    ensures { IsTrue result ↔ HasPoint node.now addr (state_after_exit s.now exit.now kind) }
 {
     match node.state(addr, near) {
         Some(upper) => upper.covers_after(s, exit, kind),
@@ -275,6 +292,7 @@ fn packed_has_after(
     }
 }
 
+/// Whether a node on bytes has an exit that covers the exit of the state.
 fn packed_has_exit(node: &PackedNode<'_>, s: &State) -> bool
     requires node { IsWellNode node.now }
     requires state { AreWell s.now.regs }
@@ -286,6 +304,7 @@ fn packed_has_exit(node: &PackedNode<'_>, s: &State) -> bool
     }
 }
 
+/// Whether a node's exit covers the exit of a state: its IE, its CCPN and its lower registers.
 fn is_exit_covered(exit: &Exit, s: &State) -> bool
     requires exit { AreWell exit.now.lower }
     requires state { AreWell s.now.regs }
@@ -294,6 +313,7 @@ fn is_exit_covered(exit: &Exit, s: &State) -> bool
     (exit.ie || !s.ie) && exit.ccpn <= s.ccpn && are_lower_below(s, exit)
 }
 
+/// Whether a node's exit covers the lower registers of a state.
 fn are_lower_below(s: &State, exit: &Exit) -> bool
     requires state { AreWell s.now.regs }
     requires exit { AreWell exit.now.lower }
@@ -301,11 +321,12 @@ fn are_lower_below(s: &State, exit: &Exit) -> bool
 {
     let regs = &s.regs[..];
     let lower = &exit.lower[..];
-    are_below(&regs[0..8], &lower[0..8]) && are_below(&regs[16..22], &lower[8..14])
+    are_exit_values_below(&regs[0..8], &lower[0..8])
+        && are_exit_values_below(&regs[16..22], &lower[8..14])
 }
 
 /// Whether each value of the first list is below the value of the second list at its place.
-fn are_below(low: &[Val], high: &[Val]) -> bool
+fn are_exit_values_below(low: &[Val], high: &[Val]) -> bool
     requires same { length low.now ≡ length high.now }
     requires low { AreWell low.now }
     requires high { AreWell high.now }

@@ -1,14 +1,9 @@
 // The rules of a node, and its first fault.
-ghost use Rattle.std.specs.Prelude.{◌≡◌, All, ◌<◌, ◌^◌, Contains, IfSome, IsTrue, MatchOption};
-ghost use Rattle.tcd_plan.specs.PlanData.{PlanData};
-ghost use Rattle.value_domain.specs.State.{AreValues, a10_of};
-ghost use Rattle.value_domain.specs.Values.{IsWell};
-ghost use Rattle.depth_cert.specs.Certs.{CertData};
-ghost use Rattle.packed_cert.specs.Walks.{RepeatsAt};
+ghost use Rattle.std.specs.Prelude.{◌≡◌, All, ◌<◌, ◌^◌, Contains, MatchOption};
 ghost use Rattle.cfg_recover.specs.RulesHoldOrFail.{limits_in, HoldsAtNode};
 ghost use Rattle.depth_cert.specs.Proper.{IsWellNode};
-ghost use Rattle.cfg_recover.specs.SetOperations.{HoldsResults};
-ghost use Rattle.depth_check.specs.Interrupts.{AreWellStacks, InterruptsHold, LastInterruptsHold};
+ghost use Rattle.cfg_recover.specs.SetOperations.{HoldsCachedResults};
+ghost use Rattle.depth_check.specs.Interrupts.{LastInterruptsHold};
 ghost use Rattle.depth_check.specs.NodeFaults.{IsNodeFault};
 ghost use Rattle.depth_check.specs.NodeFaults as nodes;
 
@@ -16,8 +11,7 @@ use crate::any_certs::AnyCert;
 use crate::any_nodes::{AnyNode, NodeForm, packed_holds_at_entry, plain_holds_at_entry};
 use crate::fast_paths::NO_REGISTERS;
 use crate::last_interrupts::LastInterrupts;
-use crate::node_covers::are_values;
-use crate::points::{CurrentPoint, PointCheck, PointScratch, broken_by_point};
+use crate::points::{CurrentPoint, PointCheck, PointScratch, broken_by_point, walked_point};
 use crate::rules::BAD_VALUES;
 use depth_cert::Node;
 use elf_image::Image;
@@ -55,22 +49,22 @@ pub(crate) fn node_fault<'a>(
     requires nodes { All IsWellNode cert.now.nodes }
     requires member { Contains cert.now.nodes any_node.now }
     requires interrupts { LastInterruptsHold plan.now cert.now scratch.old.interrupts }
-    requires results { HoldsResults b.now scratch.old.point.cache }
+    requires results { HoldsCachedResults b.now scratch.old.point.cache }
     ensures fault { MatchOption result (HoldsAtNode image.now plan.now cert.now any_node.now)
         (λ f. IsNodeFault image.now plan.now cert.now any_node.now f.rule f.addr) }
     ensures interrupts { LastInterruptsHold plan.now cert.now scratch.new.interrupts }
-    ensures results { HoldsResults b.now scratch.new.point.cache }
+    ensures results { HoldsCachedResults b.now scratch.new.point.cache }
 {
     match &any_node.form {
-        NodeForm::Plain(node) => plain_fault(b, image, plan, cert, node, &mut scratch.point),
-        NodeForm::Packed(node) => packed_fault(b, image, plan, cert, node, scratch),
-        NodeForm::Near(node, _) => packed_fault(b, image, plan, cert, node, scratch),
+        NodeForm::Plain(node) => plain_node_fault(b, image, plan, cert, node, &mut scratch.point),
+        NodeForm::Packed(node) => packed_node_fault(b, image, plan, cert, node, scratch),
+        NodeForm::Near(node, _) => packed_node_fault(b, image, plan, cert, node, scratch),
     }
 }
 
 /// The first fault of a node on bytes. It takes the fast paths that look at the point before or
 /// after the current one.
-fn packed_fault<'a>(
+fn packed_node_fault<'a>(
     b: &Bounds,
     image: &Image,
     plan: &Plan,
@@ -82,11 +76,11 @@ fn packed_fault<'a>(
     requires nodes { All IsWellNode cert.now.nodes }
     requires member { Contains cert.now.nodes node.now }
     requires interrupts { LastInterruptsHold plan.now cert.now scratch.old.interrupts }
-    requires results { HoldsResults b.now scratch.old.point.cache }
+    requires results { HoldsCachedResults b.now scratch.old.point.cache }
     ensures fault { MatchOption result (HoldsAtNode image.now plan.now cert.now node.now)
         (λ f. IsNodeFault image.now plan.now cert.now node.now f.rule f.addr) }
     ensures interrupts { LastInterruptsHold plan.now cert.now scratch.new.interrupts }
-    ensures results { HoldsResults b.now scratch.new.point.cache }
+    ensures results { HoldsCachedResults b.now scratch.new.point.cache }
 {
     let entry = node.key.entry;
     let good = packed_holds_at_entry(b, node);
@@ -94,13 +88,13 @@ fn packed_fault<'a>(
     scratch.point.registers = NO_REGISTERS;
     let mut next = 0usize;
     while let Some(addr) = scratch.walk.step() {
-        is_word(addr);
+        node_address_limit(addr);
         let here = walked_point(b, node, addr, next > 0, &scratch.interrupts, &scratch.walk);
         next = next.wrapping_add(1);
         let any_node = AnyNode::near(&*node, next);
         let at = PointCheck::new(&*b, &*image, &*plan, &*cert, &any_node, here);
         let found = broken_by_point(&at, &mut scratch.point);
-        if let Some(fault) = first_of(good, entry, addr, found) {
+        if let Some(fault) = earlier_node_fault(good, entry, addr, found) {
             return Some(fault);
         }
         scratch.point.registers = scratch.point.registers.if_repeated(here.next);
@@ -110,44 +104,15 @@ fn packed_fault<'a>(
             scratch.interrupts.keep_context(node, &at);
         }
     }
-    if good { None } else { Some(entry_fault(entry)) }
-}
-
-/// The point at which the walk is, with facts for the fast paths. If `known`, the values of the
-/// point before it are values of the plan.
-#[inline(always)]
-fn walked_point<'b>(
-    b: &Bounds,
-    node: &PackedNode<'_>,
-    addr: u32,
-    known: bool,
-    interrupts: &LastInterrupts,
-    walk: &'b PointWalk<'b>,
-) -> CurrentPoint<'b>
-    requires stacks { AreWellStacks interrupts.now }
-    requires stack { IsWell (a10_of walk.now.current) }
-    ensures addr { result.addr ≡ addr }
-    ensures state { result.state.now ≡ walk.now.current }
-    ensures again { IsTrue result.again → (plan : PlanData) (cert : CertData)
-        → LastInterruptsHold plan cert interrupts.now
-        → InterruptsHold plan cert node.now walk.now.current }
-    ensures known { IsTrue result.known → IsTrue known × AreValues b.now walk.now.anew }
-    ensures next { IfSome result.next (RepeatsAt walk.now) }
-    ensures walk { IfSome result.walk (λ w. w.now ≡ walk.now) }
-{
-    let state = walk.state();
-    CurrentPoint {
-        addr,
-        state,
-        again: interrupts.covers(node, state),
-        known: known && are_values(b, walk.anew()),
-        next: walk.repeats_at(),
-        walk: Some(walk),
+    if good {
+        None
+    } else {
+        Some(node_entry_fault(entry))
     }
 }
 
 /// The first fault of a node in memory.
-fn plain_fault<'a>(
+fn plain_node_fault<'a>(
     b: &'a Bounds,
     image: &'a Image,
     plan: &'a Plan,
@@ -158,10 +123,10 @@ fn plain_fault<'a>(
     requires limits { b.now ≡ limits_in plan.now cert.now }
     requires nodes { All IsWellNode cert.now.nodes }
     requires member { Contains cert.now.nodes node.now }
-    requires results { HoldsResults b.now scratch.old.cache }
+    requires results { HoldsCachedResults b.now scratch.old.cache }
     ensures fault { MatchOption result (HoldsAtNode image.now plan.now cert.now node.now)
         (λ f. IsNodeFault image.now plan.now cert.now node.now f.rule f.addr) }
-    ensures results { HoldsResults b.now scratch.new.cache }
+    ensures results { HoldsCachedResults b.now scratch.new.cache }
 {
     let entry = node.key.entry;
     let good = plain_holds_at_entry(b, node);
@@ -171,23 +136,27 @@ fn plain_fault<'a>(
         let here = CurrentPoint::alone(point.addr, &point.state);
         let at = PointCheck::new(&*b, &*image, &*plan, &*cert, &any_node, here);
         let found = broken_by_point(&at, scratch);
-        if let Some(fault) = first_of(good, entry, point.addr, found) {
+        if let Some(fault) = earlier_node_fault(good, entry, point.addr, found) {
             return Some(fault);
         }
     }
-    if good { None } else { Some(entry_fault(entry)) }
+    if good {
+        None
+    } else {
+        Some(node_entry_fault(entry))
+    }
 }
 
 /// The first of two faults: that of a point, and rule 2 at the node's entry unless `good`. An entry
 /// after the point doesn't count yet.
-fn first_of(good: bool, entry: u32, addr: u32, found: Option<u8>) -> Option<Fault>
-    ensures { result ≡ nodes.first_of good entry addr found }
+fn earlier_node_fault(good: bool, entry: u32, addr: u32, found: Option<u8>) -> Option<Fault>
+    ensures { result ≡ nodes.earlier_node_fault good entry addr found }
 {
     if good || addr < entry {
         return found.map(|rule| Fault { rule, addr });
     }
     if entry < addr {
-        return Some(entry_fault(entry));
+        return Some(node_entry_fault(entry));
     }
     Some(Fault {
         rule: found.unwrap_or(BAD_VALUES).min(BAD_VALUES),
@@ -196,7 +165,7 @@ fn first_of(good: bool, entry: u32, addr: u32, found: Option<u8>) -> Option<Faul
 }
 
 /// Rule 2 at the entry of a node.
-fn entry_fault(entry: u32) -> Fault
+fn node_entry_fault(entry: u32) -> Fault
     ensures { result ≡ record { rule = 2; addr = entry } }
 {
     Fault {
@@ -205,7 +174,7 @@ fn entry_fault(entry: u32) -> Fault
     }
 }
 
-/// An address is below 2^32. Its type says so to the prover.
-fn is_word(addr: u32)
+/// Establishes that the address of a node's point is below 2^32, which its type says.
+fn node_address_limit(addr: u32)
     ensures { addr < 2 ^ 32 }
 {}

@@ -1,30 +1,36 @@
 // The rules at a point of a node.
 ghost use Rattle.std.specs.Prelude.{◌≡◌, All, IfSome, ◌↔◌, IsTrue, None, false, ◌<◌};
 ghost use Rattle.cfg_recover.specs.RulesHoldOrFail.{limits_in, RuleHolds};
-ghost use Rattle.depth_check.specs.LeastBroken.{Finds};
+ghost use Rattle.depth_check.specs.LeastBroken.{FindsLeastBroken};
 ghost use Rattle.depth_cert.specs.Proper.{IsWellNode};
-ghost use Rattle.depth_check.specs.DutiesHold.{StandsAt};
-ghost use Rattle.value_domain.specs.State.{AreValues};
-ghost use Rattle.depth_check.specs.PointChecks.{IsPointCheck, LooksAhead};
-ghost use Rattle.cfg_recover.specs.SetOperations.{HoldsResults};
+ghost use Rattle.depth_check.specs.DutiesHold.{HasPointWithState};
+ghost use Rattle.value_domain.specs.State.{AreValues, a10_of};
+ghost use Rattle.depth_check.specs.PointChecks.{IsPointCheck, LooksAhead, point_here};
+ghost use Rattle.cfg_recover.specs.SetOperations.{HoldsCachedResults};
 ghost use Rattle.depth_check.specs.CheckedRegisters.{RegistersHoldAt};
-ghost use Rattle.depth_check.specs.Interrupts.{InterruptsHold};
-ghost use Rattle.depth_check.specs.PlainOrPackedCerts.{point_here};
+ghost use Rattle.depth_check.specs.Interrupts.{InterruptsHold, AreWellStacks, LastInterruptsHold};
 ghost use Rattle.vd_transfer.specs.Changes.{state_after};
 ghost use Rattle.vd_transfer.specs.EffectsOnStates.{transfer_of};
 ghost use Rattle.cfg_recover.specs.LocalFaults.{StandsFaultless};
-ghost use Rattle.cfg_recover.specs.Duties.{loaded_at};
+ghost use Rattle.cfg_recover.specs.Duties.{loaded_for_duties};
+ghost use Rattle.tcd_plan.specs.PlanData.{PlanData};
+ghost use Rattle.value_domain.specs.Values.{IsWell};
+ghost use Rattle.depth_cert.specs.Certs.{CertData};
+ghost use Rattle.packed_cert.specs.Walks.{RepeatsAt};
 
 use crate::any_certs::AnyCert;
 use crate::any_nodes::AnyNode;
 use crate::entry_rules::broken_by_duties;
-use crate::fast_paths::{CheckedRegisters, broken_by_idle, idle_next};
-use crate::node_covers::are_values;
-use crate::rules::{BAD_VALUES, SMALL_NEED, has_own_need, least};
+use crate::fast_paths::{CheckedRegisters, broken_on_fast_path, fast_path_next};
+use crate::last_interrupts::LastInterrupts;
+use crate::node_covers::are_node_values;
+use crate::rules::{BAD_VALUES, SMALL_NEED, has_own_need, lesser_broken_rule};
 use arrayvec::ArrayVec;
-use cfg_recover::{KnownCodes, Located, OperationCache, check_located, step_change, unless};
+use cfg_recover::{
+    KnownCodes, Located, OperationCache, check_located, rule_unless, successor_change,
+};
 use elf_image::Image;
-use packed_cert::PointWalk;
+use packed_cert::{PackedNode, PointWalk};
 use tcd_plan::Plan;
 use value_domain::{Bounds, State, Val};
 use vd_transfer::{Base, Change, Put};
@@ -122,7 +128,7 @@ pub(crate) struct PointScratch {
 
 /// Returns a change that puts nothing. It is room for other changes.
 #[inline(always)]
-pub(crate) fn no_change() -> Change {
+pub(crate) fn point_scratch_change() -> Change {
     Change {
         base: Base::Same,
         first: Put {
@@ -144,7 +150,8 @@ pub(crate) fn no_change() -> Change {
     }
 }
 
-/// The least rule that fails at a point of a node. `scratch.change` is overwritten.
+/// Returns the least rule that fails at a point: of its values first, then on a fast path or by its
+/// instruction, duties and need. `scratch.change` is overwritten.
 pub(crate) fn broken_by_point(at: &PointCheck<'_, '_>, scratch: &mut PointScratch) -> Option<u8>
     requires limits { at.now.bounds.now ≡ limits_in at.now.plan.now at.now.cert.now }
     requires nodes { All IsWellNode at.now.cert.now.nodes }
@@ -154,34 +161,34 @@ pub(crate) fn broken_by_point(at: &PointCheck<'_, '_>, scratch: &mut PointScratc
     requires known { IsTrue at.now.point.known
         → AreValues at.now.bounds.now at.now.point.state.now.regs }
     requires next { IfSome at.now.point.next
-        (λ a. StandsAt at.now.node.now a at.now.point.state.now) }
+        (λ a. HasPointWithState at.now.node.now a at.now.point.state.now) }
     requires walk { IfSome at.now.point.walk
         (λ w. LooksAhead at.now.node.now at.now.point.state.now w.now) }
-    requires results { HoldsResults at.now.bounds.now scratch.old.cache }
+    requires results { HoldsCachedResults at.now.bounds.now scratch.old.cache }
     requires registers { RegistersHoldAt at.now scratch.old.registers }
-    ensures found { Finds (RuleHolds at.now.image.now at.now.plan.now at.now.cert.now
+    ensures found { FindsLeastBroken (RuleHolds at.now.image.now at.now.plan.now at.now.cert.now
         at.now.node.now (point_here at.now.point)) result }
-    ensures results { HoldsResults at.now.bounds.now scratch.new.cache }
+    ensures results { HoldsCachedResults at.now.bounds.now scratch.new.cache }
     ensures registers { RegistersHoldAt at.now scratch.new.registers }
 {
-    if !has_values(at.bounds, at.point) {
+    if !are_point_values(at.bounds, at.point) {
         return Some(BAD_VALUES);
     }
-    match idle_next(at, &mut scratch.codes) {
-        Some(next) => broken_by_idle(at, next),
-        None => broken_by_any(at, scratch),
+    match fast_path_next(at, &mut scratch.codes) {
+        Some(next) => broken_on_fast_path(at, next),
+        None => broken_by_decoded_point(at, scratch),
     }
 }
 
 /// The least rule that fails at a point whose values are values of the plan.
 #[inline(never)]
-fn broken_by_any(at: &PointCheck<'_, '_>, scratch: &mut PointScratch) -> Option<u8>
+fn broken_by_decoded_point(at: &PointCheck<'_, '_>, scratch: &mut PointScratch) -> Option<u8>
     requires point { IsPointCheck at.now }
-    requires results { HoldsResults at.now.bounds.now scratch.old.cache }
+    requires results { HoldsCachedResults at.now.bounds.now scratch.old.cache }
     requires registers { RegistersHoldAt at.now scratch.old.registers }
-    ensures found { Finds (RuleHolds at.now.image.now at.now.plan.now at.now.cert.now
+    ensures found { FindsLeastBroken (RuleHolds at.now.image.now at.now.plan.now at.now.cert.now
         at.now.node.now (point_here at.now.point)) result }
-    ensures results { HoldsResults at.now.bounds.now scratch.new.cache }
+    ensures results { HoldsCachedResults at.now.bounds.now scratch.new.cache }
     ensures registers { RegistersHoldAt at.now scratch.new.registers }
 {
     let node = at.node;
@@ -191,21 +198,21 @@ fn broken_by_any(at: &PointCheck<'_, '_>, scratch: &mut PointScratch) -> Option<
         Err(rule) => Some(rule),
         Ok(found) => {
             let duties = broken_by_duties(at, found, scratch);
-            let need = unless(has_own_need(at), SMALL_NEED);
-            least(duties, need)
+            let need = rule_unless(has_own_need(at), SMALL_NEED);
+            lesser_broken_rule(duties, need)
         }
     }
 }
 
 /// Whether the values of a point are values of the plan.
-fn has_values(b: &Bounds, point: CurrentPoint<'_>) -> bool
+fn are_point_values(b: &Bounds, point: CurrentPoint<'_>) -> bool
     requires { IsTrue point.known → AreValues b.now point.state.now.regs }
     ensures { IsTrue result ↔ AreValues b.now point.entry.state.now.regs }
 {
     if point.known {
         return true;
     }
-    are_values(b, &point.state.regs)
+    are_node_values(b, &point.state.regs)
 }
 
 /// Writes what the instruction changes into the change of `scratch`. The result of an operation on
@@ -215,14 +222,14 @@ pub(crate) fn change_at(at: &PointCheck<'_, '_>, found: &Located, scratch: &mut 
     requires point { IsPointCheck at.now }
     requires found { StandsFaultless at.now.bounds.now at.now.image.now at.now.plan.now
         at.now.node.now.key at.now.point.addr at.now.point.state.now found.now }
-    requires results { HoldsResults at.now.bounds.now scratch.old.cache }
+    requires results { HoldsCachedResults at.now.bounds.now scratch.old.cache }
     ensures change { state_after at.now.point.state.now scratch.new.change
         ≡ transfer_of at.now.bounds.now at.now.plan.now found.now.shape at.now.point.state.now
-        (loaded_at at.now.bounds.now at.now.image.now at.now.plan.now at.now.point.state.now
+        (loaded_for_duties at.now.bounds.now at.now.image.now at.now.plan.now at.now.point.state.now
         found.now.shape) }
     ensures values { AreValues at.now.bounds.now
         (state_after at.now.point.state.now scratch.new.change).regs }
-    ensures results { HoldsResults at.now.bounds.now scratch.new.cache }
+    ensures results { HoldsCachedResults at.now.bounds.now scratch.new.cache }
     ensures registers { scratch.new.registers ≡ scratch.old.registers }
 {
     let s = at.point.state;
@@ -232,7 +239,7 @@ pub(crate) fn change_at(at: &PointCheck<'_, '_>, found: &Located, scratch: &mut 
     {
         return;
     }
-    step_change(
+    successor_change(
         at.bounds,
         at.image,
         at.plan,
@@ -240,4 +247,37 @@ pub(crate) fn change_at(at: &PointCheck<'_, '_>, found: &Located, scratch: &mut 
         s,
         &mut scratch.change,
     );
+}
+
+/// The point at which the walk is, with facts for the fast paths. If `known`, the values of the
+/// point before it are values of the plan.
+#[inline(always)]
+pub(crate) fn walked_point<'b>(
+    b: &Bounds,
+    node: &PackedNode<'_>,
+    addr: u32,
+    known: bool,
+    interrupts: &LastInterrupts,
+    walk: &'b PointWalk<'b>,
+) -> CurrentPoint<'b>
+    requires stacks { AreWellStacks interrupts.now }
+    requires stack { IsWell (a10_of walk.now.current) }
+    ensures addr { result.addr ≡ addr }
+    ensures state { result.state.now ≡ walk.now.current }
+    ensures again { IsTrue result.again → (plan : PlanData) (cert : CertData)
+        → LastInterruptsHold plan cert interrupts.now
+        → InterruptsHold plan cert node.now walk.now.current }
+    ensures known { IsTrue result.known → IsTrue known × AreValues b.now walk.now.anew }
+    ensures next { IfSome result.next (RepeatsAt walk.now) }
+    ensures walk { IfSome result.walk (λ w. w.now ≡ walk.now) }
+{
+    let state = walk.state();
+    CurrentPoint {
+        addr,
+        state,
+        again: interrupts.covers(node, state),
+        known: known && are_node_values(b, walk.anew()),
+        next: walk.repeats_at(),
+        walk: Some(walk),
+    }
 }

@@ -2,7 +2,7 @@
 ghost use Rattle.std.specs.Prelude.{◌≡◌, ◌↔◌, IsTrue};
 ghost use Rattle.depth_check.specs.LeastBroken as finding;
 ghost use Rattle.depth_check.specs.DutiesHold.{HasOwnNeed};
-ghost use Rattle.depth_check.specs.PlainOrPackedCerts.{point_here};
+ghost use Rattle.depth_check.specs.PointChecks.{point_here};
 
 use crate::points::PointCheck;
 use cfg_recover::start_key;
@@ -38,8 +38,8 @@ pub(crate) const NO_SYSTEM_CALL: u8 = 12;
 pub(crate) const SMALL_NEED: u8 = 14;
 
 /// The lesser of two rules that fail.
-pub(crate) fn least(a: Option<u8>, b: Option<u8>) -> Option<u8>
-    ensures { result ≡ finding.least_of a b }
+pub(crate) fn lesser_broken_rule(a: Option<u8>, b: Option<u8>) -> Option<u8>
+    ensures { result ≡ finding.lesser_broken_rule a b }
 {
     match (a, b) {
         (None, found) => found,

@@ -1,21 +1,21 @@
 // Rule 4 for the successors of a point in its frame.
 ghost use Rattle.std.specs.Prelude.{◌≡◌, ◌+◌, [], unwrap_or, ◌<◌, ◌++◌, false, true};
 ghost use Rattle.depth_check.specs.PointChecks.{IsPointCheck};
-ghost use Rattle.depth_check.specs.LeastBroken.{Breaks};
+ghost use Rattle.depth_check.specs.LeastBroken.{LeastBrokenByDuties};
 ghost use Rattle.tc_isa.specs.InBounds.{IsShape, IsTarget};
 ghost use Rattle.cfg_recover.specs.LocalFaults.{StandsFaultless};
-ghost use Rattle.cfg_recover.specs.LocalRules.{targets_of, named_by};
+ghost use Rattle.cfg_recover.specs.LocalRules.{targets_of, targets_named_by};
 ghost use Rattle.cfg_recover.specs.Duties.{jump, jumps_to, jump_on, next_of, successors_of};
-ghost use Rattle.cfg_recover.specs.SetOperations.{HoldsResults};
-ghost use Rattle.depth_check.specs.CheckedRegisters.{RegistersHoldAt, JumpsHoldAt};
+ghost use Rattle.cfg_recover.specs.SetOperations.{HoldsCachedResults};
+ghost use Rattle.depth_check.specs.CheckedRegisters.{RegistersHoldAt, RegisterJumpsHoldAt};
 ghost use Rattle.vd_transfer.specs.Registers.{reg_of};
 ghost use Rattle.vd_transfer.specs.Branches.{refine_of};
 
-use crate::fast_paths::{broken_by_pass, keeps_state, only_narrows};
+use crate::fast_paths::{broken_by_pass, may_skip_change, may_skip_refinement};
 use crate::node_covers::{has_changed_next, has_kept_next, has_points};
 use crate::points::{PointCheck, PointScratch, change_at};
-use crate::rules::{NO_POINT, least};
-use cfg_recover::{Located, targets, unless};
+use crate::rules::{NO_POINT, lesser_broken_rule};
+use cfg_recover::{Located, rule_unless, targets};
 use tc_isa::{Shape, Target};
 use vd_transfer::{Change, change_on};
 
@@ -29,12 +29,12 @@ pub(crate) fn broken_by_successors(
     requires point { IsPointCheck at.now }
     requires found { StandsFaultless at.now.bounds.now at.now.image.now at.now.plan.now
         at.now.node.now.key at.now.point.addr at.now.point.state.now found.now }
-    requires results { HoldsResults at.now.bounds.now scratch.old.cache }
+    requires results { HoldsCachedResults at.now.bounds.now scratch.old.cache }
     requires registers { RegistersHoldAt at.now scratch.old.registers }
-    ensures found { Breaks at.now
+    ensures found { LeastBrokenByDuties at.now
         (successors_of at.now.bounds.now at.now.image.now at.now.plan.now at.now.point.addr
         at.now.point.state.now found.now.shape found.now.size) result }
-    ensures results { HoldsResults at.now.bounds.now scratch.new.cache }
+    ensures results { HoldsCachedResults at.now.bounds.now scratch.new.cache }
     ensures registers { RegistersHoldAt at.now scratch.new.registers }
 {
     let addr = at.point.addr;
@@ -65,7 +65,7 @@ fn broken_by_sides(
 ) -> Option<u8>
     requires point { IsPointCheck at.now }
     requires shape { IsShape shape }
-    ensures { Breaks at.now
+    ensures { LeastBrokenByDuties at.now
         (jump_on next
         (refine_of at.now.bounds.now at.now.plan.now shape at.now.point.state.now false)
         ++ jump_on to
@@ -73,7 +73,7 @@ fn broken_by_sides(
 {
     let straight = broken_by_side(at, shape, false, next, c);
     let taken = broken_by_side(at, shape, true, to, c);
-    least(straight, taken)
+    lesser_broken_rule(straight, taken)
 }
 
 /// The least rule that a side of a branch breaks, if the side is possible. If the side allows no
@@ -87,11 +87,11 @@ fn broken_by_side(
 ) -> Option<u8>
     requires point { IsPointCheck at.now }
     requires shape { IsShape shape }
-    ensures { Breaks at.now
+    ensures { LeastBrokenByDuties at.now
         (jump_on to
         (refine_of at.now.bounds.now at.now.plan.now shape at.now.point.state.now taken)) result }
 {
-    if only_narrows(shape) {
+    if may_skip_refinement(shape) {
         if has_kept_next(at, to, c) {
             return None;
         }
@@ -111,26 +111,26 @@ fn broken_by_change(
 ) -> Option<u8>
     requires point { IsPointCheck at.now }
     requires shape { IsShape shape }
-    ensures { Breaks at.now
+    ensures { LeastBrokenByDuties at.now
         (jump_on to
         (refine_of at.now.bounds.now at.now.plan.now shape at.now.point.state.now taken)) result }
 {
     if !change_on(at.bounds, at.plan, shape, at.point.state, taken, c) {
         return None;
     }
-    unless(has_changed_next(at, to, c), NO_POINT)
+    rule_unless(has_changed_next(at, to, c), NO_POINT)
 }
 
 /// The least rule that a jump breaks. A list of targets is made only for a register.
 fn broken_by_jump(at: &PointCheck<'_, '_>, to: Target, jumped: &mut Option<u8>) -> Option<u8>
     requires point { IsPointCheck at.now }
     requires target { IsTarget to }
-    requires jumped { JumpsHoldAt at.now jumped.old }
-    ensures found { Breaks at.now
+    requires jumped { RegisterJumpsHoldAt at.now jumped.old }
+    ensures found { LeastBrokenByDuties at.now
         (jumps_to at.now.point.state.now
         (unwrap_or (targets_of at.now.plan.now at.now.point.state.now at.now.point.addr to) []))
         result }
-    ensures jumped { JumpsHoldAt at.now jumped.new }
+    ensures jumped { RegisterJumpsHoldAt at.now jumped.new }
 {
     match to {
         Target::Rel(by) => broken_by_pass(at, at.point.addr.wrapping_add(by)),
@@ -145,11 +145,12 @@ fn broken_by_jump(at: &PointCheck<'_, '_>, to: Target, jumped: &mut Option<u8>) 
 fn broken_by_listed_jumps(at: &PointCheck<'_, '_>, r: u8, jumped: &mut Option<u8>) -> Option<u8>
     requires point { IsPointCheck at.now }
     requires register { r < 32 }
-    requires jumped { JumpsHoldAt at.now jumped.old }
-    ensures found { Breaks at.now
+    requires jumped { RegisterJumpsHoldAt at.now jumped.old }
+    ensures found { LeastBrokenByDuties at.now
         (jumps_to at.now.point.state.now
-        (unwrap_or (named_by (reg_of at.now.plan.now at.now.point.state.now r)) [])) result }
-    ensures jumped { JumpsHoldAt at.now jumped.new }
+        (unwrap_or (targets_named_by (reg_of at.now.plan.now at.now.point.state.now r)) []))
+        result }
+    ensures jumped { RegisterJumpsHoldAt at.now jumped.new }
 {
     if *jumped == Some(r) {
         return None;
@@ -173,14 +174,14 @@ fn broken_by_next(
     requires point { IsPointCheck at.now }
     requires found { StandsFaultless at.now.bounds.now at.now.image.now at.now.plan.now
         at.now.node.now.key at.now.point.addr at.now.point.state.now found.now }
-    requires results { HoldsResults at.now.bounds.now scratch.old.cache }
-    ensures found { Breaks at.now
+    requires results { HoldsCachedResults at.now.bounds.now scratch.old.cache }
+    ensures found { LeastBrokenByDuties at.now
         (next_of at.now.bounds.now at.now.image.now at.now.plan.now at.now.point.addr
         at.now.point.state.now found.now.shape found.now.size) result }
-    ensures results { HoldsResults at.now.bounds.now scratch.new.cache }
+    ensures results { HoldsCachedResults at.now.bounds.now scratch.new.cache }
     ensures registers { scratch.new.registers ≡ scratch.old.registers }
 {
-    if keeps_state(found.shape) {
+    if may_skip_change(found.shape) {
         return broken_by_pass(at, at.point.addr.wrapping_add(found.size));
     }
     broken_by_step(at, found, scratch)
@@ -196,14 +197,14 @@ fn broken_by_step(
     requires point { IsPointCheck at.now }
     requires found { StandsFaultless at.now.bounds.now at.now.image.now at.now.plan.now
         at.now.node.now.key at.now.point.addr at.now.point.state.now found.now }
-    requires results { HoldsResults at.now.bounds.now scratch.old.cache }
-    ensures found { Breaks at.now
+    requires results { HoldsCachedResults at.now.bounds.now scratch.old.cache }
+    ensures found { LeastBrokenByDuties at.now
         (next_of at.now.bounds.now at.now.image.now at.now.plan.now at.now.point.addr
         at.now.point.state.now found.now.shape found.now.size) result }
-    ensures results { HoldsResults at.now.bounds.now scratch.new.cache }
+    ensures results { HoldsCachedResults at.now.bounds.now scratch.new.cache }
     ensures registers { scratch.new.registers ≡ scratch.old.registers }
 {
     change_at(at, found, scratch);
     let next = at.point.addr.wrapping_add(found.size);
-    unless(has_changed_next(at, next, &scratch.change), NO_POINT)
+    rule_unless(has_changed_next(at, next, &scratch.change), NO_POINT)
 }

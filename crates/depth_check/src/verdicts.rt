@@ -1,13 +1,13 @@
 // The answer of a check.
 ghost use Rattle.std.specs.Prelude.{Some};
-ghost use Rattle.depth_check.specs.CheckAnswers.{Judges};
+ghost use Rattle.depth_check.specs.CheckAnswers.{IsCheckAnswer};
 
 use crate::any_certs::AnyCert;
 use crate::certificates::start_node;
 use crate::fast_paths::NO_REGISTERS;
 use crate::last_interrupts::LastInterrupts;
 use crate::nodes::{NodeScratch, node_fault};
-use crate::points::{PointScratch, no_change};
+use crate::points::{PointScratch, point_scratch_change};
 use crate::rules::NO_START;
 use cfg_recover::{KnownCodes, OperationCache, start_key};
 use depth_cert::Key;
@@ -24,9 +24,10 @@ pub enum Verdict {
     No { rule: u8, key: Key, addr: u32 },
 }
 
-/// The answer of a check: the need of the start, or the first rule that fails.
+/// Returns the verdict on a certificate: yes with the need of the start, or no with the first rule
+/// that fails.
 pub(crate) fn judge(image: &Image, plan: &Plan, cert: &AnyCert<'_>) -> Verdict
-    ensures { Judges image.now plan.now cert.now result }
+    ensures { IsCheckAnswer image.now plan.now cert.now result }
 {
     let b = Bounds::of(plan, cert.version);
     let Some(start) = start_node(image, plan, cert) else {
@@ -38,7 +39,7 @@ pub(crate) fn judge(image: &Image, plan: &Plan, cert: &AnyCert<'_>) -> Verdict
     };
     let mut scratch = NodeScratch {
         point: PointScratch {
-            change: no_change(),
+            change: point_scratch_change(),
             cache: OperationCache::empty(),
             codes: KnownCodes::new(),
             registers: NO_REGISTERS,

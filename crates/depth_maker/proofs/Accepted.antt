@@ -11,19 +11,19 @@ use Rattle.value_domain.specs.State.{Covers, AreValues}
 use Rattle.depth_cert.specs.declared.keys.Key.{Key}
 use Rattle.depth_cert.specs.declared.points.Exit.{Exit}
 use Rattle.depth_cert.specs.declared.points.Point.{Point}
-use Rattle.depth_cert.specs.Keys.{byte_of, key_number, number_of_key, IsKey, same_key}
+use Rattle.depth_cert.specs.Keys.{cert_flag_byte, key_number, number_of_key, IsKey, same_key}
 use Rattle.depth_cert.specs.Points.{find_point, IsPoint}
-use Rattle.depth_cert.specs.Exits.{IsExit, after_of, ExitCovers}
+use Rattle.depth_cert.specs.Exits.{IsExit, state_after_exit, ExitCovers}
 use Rattle.depth_cert.specs.Nodes.{NodeData, IsNode, need_of}
 use Rattle.depth_cert.specs.Certs.{CertData, IsCert, find_node}
 use Rattle.cfg_recover.specs.Code.{IsCode}
 use Rattle.cfg_recover.specs.Entries.{start_key, start_state}
 use Rattle.cfg_recover.specs.LocalFaults.{IsFaultless}
 use Rattle.cfg_recover.specs.Duties.{Duty, jump, enter, resume, leave, Owed, duties_of}
-use Rattle.cfg_recover.specs.RulesHoldOrFail.{limits_in, HasPoint, IsMet, IsNeedAbove, RuleHolds, HoldsAtNode, Accepts}
-use Rattle.cfg_recover.specs.Assignments.{Place, point, exit, known_at, known_in, CoversAt, asked, HasDuty, Closed, first_place, AllFaultless}
+use Rattle.cfg_recover.specs.RulesHoldOrFail.{limits_in, HasPoint, IsMet, EntryNeedRuleHolds, RuleHolds, HoldsAtNode, Accepts}
+use Rattle.cfg_recover.specs.Assignments.{Place, point, exit, known_at, known_in, CoversAt, asked_by_duty, HasDuty, Closed, first_place, AllFaultless}
 use Rattle.depth_cert.specs.Known.{Known, state, leaving}
-use Rattle.depth_cert.specs.Proper.{IsProper, IsProperKnown}
+use Rattle.depth_cert.specs.Proper.{IsProperState, IsProperKnown}
 use Rattle.cfg_recover.specs.CertRefusals.{MeetsNeeds}
 use Rattle.cfg_recover.proofs.CodeLaws.{IsCode-bounded}
 use Rattle.depth_maker.specs.DutiesGrow.{IsGround}
@@ -57,11 +57,11 @@ found_in p (y ∷ ys) x h =
     ] refl h
 
 -- ---- keys
-byte_lt : (t : Bool) → byte_of t < 2
+byte_lt : (t : Bool) → cert_flag_byte t < 2
 byte_lt true = omega arith
 byte_lt false = omega arith
 
-byte_same : (s t : Bool) → byte_of s ≡ byte_of t → s ≡ t
+byte_same : (s t : Bool) → cert_flag_byte s ≡ cert_flag_byte t → s ≡ t
 byte_same true true e = refl
 byte_same false false e = refl
 byte_same true false e = absurd (let f : 1 ≡ 0 = e in omega arith)
@@ -78,7 +78,7 @@ number_parts a b c d e f g h b_lt c_lt d_lt f_lt g_lt h_lt same =
 
 pub one_number : (j k : Key) → IsKey j → IsKey k → number_of_key j ≡ number_of_key k → j ≡ k
 one_number j k hj hk e =
-    let p = number_parts j.kind j.entry j.prio (byte_of j.is) k.kind k.entry k.prio (byte_of k.is) hj.entry hj.prio (byte_lt j.is) hk.entry hk.prio (byte_lt k.is) e in
+    let p = number_parts j.kind j.entry j.prio (cert_flag_byte j.is) k.kind k.entry k.prio (cert_flag_byte k.is) hj.entry hj.prio (byte_lt j.is) hk.entry hk.prio (byte_lt k.is) e in
     let is = byte_same j.is k.is p.3 in
     λ i. record { kind = p.0 i; entry = p.1 i; prio = p.2 i; is = is i }
 
@@ -185,22 +185,22 @@ module _ (image : ImageData) (plan : PlanData) (cert : CertData) (ground : IsGro
     pub point_faultless : IsFaultless (limits_in plan cert) image plan k p s
     point_faultless = carried (λ k p s. IsFaultless (limits_in plan cert) image plan k p s) (a.node).key k (a.place).addr p (a.place).state s a.key a.addr a.is place_faultless
 
-    place_proper : IsProper (limits_in plan cert) (a.place).state
+    place_proper : IsProperState (limits_in plan cert) (a.place).state
     place_proper =
         let is : IsPoint cert.version a.place = All-at (IsPoint cert.version) (a.node).points a.place (node_is a.node a.member).points a.inside in
         record { regs = (is.state).regs; values = place_values; few = (is.state).locals }
 
-    pub point_proper : IsProper (limits_in plan cert) s
-    point_proper = subst (IsProper (limits_in plan cert)) a.is place_proper
+    pub point_proper : IsProperState (limits_in plan cert) s
+    point_proper = subst (IsProperState (limits_in plan cert)) a.is place_proper
 
     abbrev AllMet : Key → ℕ → State → Type 0
     AllMet k p s =
-        (shape : Shape) (n : ℕ) (d : Owed) → IsCode image plan p shape n → Contains (duties_of (limits_in plan cert) image plan k p s shape n) d → IsMet cert a.node s d.duty × IsNeedAbove cert a.node s d.duty
+        (shape : Shape) (n : ℕ) (d : Owed) → IsCode image plan p shape n → Contains (duties_of (limits_in plan cert) image plan k p s shape n) d → IsMet cert a.node s d.duty × EntryNeedRuleHolds cert a.node s d.duty
 
     place_met : AllMet (a.node).key (a.place).addr (a.place).state
     place_met shape n d code c = (
       (rules d.rule).covered shape n d place_values place_faultless code c refl,
-      All-at (λ (e : Owed). IsNeedAbove cert a.node (a.place).state e.duty) _ d ((rules 14).needs shape n refl place_values place_faultless code).entered c,
+      All-at (λ (e : Owed). EntryNeedRuleHolds cert a.node (a.place).state e.duty) _ d ((rules 14).needs shape n refl place_values place_faultless code).entered c,
     )
 
     pub point_met : AllMet k p s
@@ -217,7 +217,7 @@ module _ (image : ImageData) (plan : PlanData) (cert : CertData) (ground : IsGro
         (λ code. ((rules 14).needs shape n refl place_values place_faultless code).start) code
 
     -- a duty that is met is covered
-    pub met_covers : (d : Duty) → HasKey d → IsMet cert a.node s d → (y : Place) (v : Known) → asked (known_in cert) k s d ≡ Some (y, v) → CoversAt (known_in cert) y v
+    pub met_covers : (d : Duty) → HasKey d → IsMet cert a.node s d → (y : Place) (v : Known) → asked_by_duty (known_in cert) k s d ≡ Some (y, v) → CoversAt (known_in cert) y v
     met_covers (jump q t) key met y v e =
         let f : (point k q, state t) ≡ (y, v) = cc in
         let m = some_and (λ (p : Point). Covers p.state t) (find_point q (a.node).points) met in
@@ -234,19 +234,19 @@ module _ (image : ImageData) (plan : PlanData) (cert : CertData) (ground : IsGro
         let same : o.0 ≡ r.0 = (let g : leaving r.0 ≡ leaving o.0 = o.1 in cc) in
         let stands : find_node j cert.nodes ≡ Some (o.2).node = sym (agrees j (key_is j (o.2).node (o.2).member (o.2).key)) ∙ (o.2).found in
         let there : (o.2).node.exit ≡ Some r.0 = (o.2).is ∙ ap (λ (x : Exit). Some x) same in
-        let has : HasPoint a.node q (after_of s r.0 j.kind) =
-        subst (λ (x : Option Exit). IfSome x (λ x. HasPoint a.node q (after_of s x j.kind))) there
-        (subst (λ (x : Option NodeData). IfSome x (λ n. IfSome n.exit (λ x. HasPoint a.node q (after_of s x j.kind)))) stands met)
+        let has : HasPoint a.node q (state_after_exit s r.0 j.kind) =
+        subst (λ (x : Option Exit). IfSome x (λ x. HasPoint a.node q (state_after_exit s x j.kind))) there
+        (subst (λ (x : Option NodeData). IfSome x (λ n. IfSome n.exit (λ x. HasPoint a.node q (state_after_exit s x j.kind)))) stands met)
         in
-        let m = some_and (λ (p : Point). Covers p.state (after_of s r.0 j.kind)) (find_point q (a.node).points) has in
-        let f : (point k q, state (after_of s r.0 j.kind)) ≡ (y, v) = λ i. (r.2 i, r.3 i) in
+        let m = some_and (λ (p : Point). Covers p.state (state_after_exit s r.0 j.kind)) (find_point q (a.node).points) has in
+        let f : (point k q, state (state_after_exit s r.0 j.kind)) ≡ (y, v) = λ i. (r.2 i, r.3 i) in
         subst (λ (w : Place × Known). CoversAt (known_in cert) w.0 w.1) f (record { known = state (m.0).state; at = known_point k a.node q m.0 a.found m.1; covers = m.2 })
     met_covers (leave x) key met y v e =
         let f : (exit k, leaving x) ≡ (y, v) = cc in
         let m = some_and (λ (z : Exit). ExitCovers z x) (a.node).exit met in
         subst (λ (w : Place × Known). CoversAt (known_in cert) w.0 w.1) f (record { known = leaving m.0; at = known_exit k a.node m.0 a.found m.1; covers = m.2 })
 
-    setting : IsProper (limits_in plan cert) s → (shape : Shape) (n : ℕ) (d : Owed) → IsCode image plan p shape n → Contains (duties_of (limits_in plan cert) image plan k p s shape n) d → HasKey d.duty
+    setting : IsProperState (limits_in plan cert) s → (shape : Shape) (n : ℕ) (d : Owed) → IsCode image plan p shape n → Contains (duties_of (limits_in plan cert) image plan k p s shape n) d → HasKey d.duty
     setting proper shape n d code c =
         duties_keys (limits_in plan cert) image plan k p s (record { limits = ground.limits; plan = ground.is_plan; regs = proper.regs; values = proper.values }) (key_is k a.node a.member a.key) shape n
         (IsCode-bounded image plan p shape n code) d c
@@ -271,12 +271,12 @@ module _ (image : ImageData) (plan : PlanData) (cert : CertData) (ground : IsGro
   point_of : (k : Key) (p : ℕ) (s : State) → known_in cert (point k p) ≡ Some (state s) → AtPoint cert k p s
   point_of k p s e = let a = at_point cert k p (state s) e in subst (AtPoint cert k p) (one_state a.0 s (sym a.1)) a.2
 
-  duty_met : (k : Key) (p : ℕ) (s : State) (d : Duty) (h : HasDuty (limits_in plan cert) image plan (known_in cert) k p s d) → HasKey d × IsMet cert (point_of k p s h.at).node s d × IsNeedAbove cert (point_of k p s h.at).node s d
+  duty_met : (k : Key) (p : ℕ) (s : State) (d : Duty) (h : HasDuty (limits_in plan cert) image plan (known_in cert) k p s d) → HasKey d × IsMet cert (point_of k p s h.at).node s d × EntryNeedRuleHolds cert (point_of k p s h.at).node s d
   duty_met k p s d h =
       let a = point_of k p s h.at in
       let m = point_met k p s a h.shape h.size h.owed h.code h.listed in
       let key = setting k p s a (point_proper k p s a) h.shape h.size h.owed h.code h.listed in
-      subst (λ (u : Duty). HasKey u × IsMet cert a.node s u × IsNeedAbove cert a.node s u) h.is (key, m.0, m.1)
+      subst (λ (u : Duty). HasKey u × IsMet cert a.node s u × EntryNeedRuleHolds cert a.node s u) h.is (key, m.0, m.1)
 
   start_is : IsKey (start_key image plan)
   start_is = record { kind = omega arith; entry = entry; prio = omega arith }

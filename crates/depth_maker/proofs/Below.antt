@@ -8,20 +8,20 @@ use Rattle.value_domain.specs.Limits.{Limits}
 use Rattle.value_domain.specs.State.{Covers, joined_states}
 use Rattle.depth_cert.specs.declared.keys.Key.{Key}
 use Rattle.cfg_recover.specs.Entries.{start_state}
-use Rattle.depth_cert.specs.Exits.{after_of}
+use Rattle.depth_cert.specs.Exits.{state_after_exit}
 use Rattle.cfg_recover.specs.Duties.{Duty, jump, enter, resume, leave}
-use Rattle.cfg_recover.specs.Assignments.{Place, point, exit, Assignment, same_place, CoversAt, IsBelowAt, raised, asked, resumed, HasDuty, Asks, Joins, Derived, begins, joins, Closed, first_place, AllFaultless}
+use Rattle.cfg_recover.specs.Assignments.{Place, point, exit, Assignment, same_place, CoversAt, IsBelowAt, raised_at_place, asked_by_duty, asked_by_resume, HasDuty, Asks, Joins, Derived, begins, joins, Closed, first_place, AllFaultless}
 use Rattle.depth_cert.specs.Known.{Known, state, leaving, CoversKnown, joined_known}
-use Rattle.depth_cert.specs.Proper.{IsProper, IsProperKnown}
-use Rattle.cfg_recover.specs.CertRefusals.{HasManyNodes, HasManyPoints, IsTooLarge, HasFault, own, locals, IsFault, derived, limits}
+use Rattle.depth_cert.specs.Proper.{IsProperState, IsProperKnown}
+use Rattle.cfg_recover.specs.CertRefusals.{HasManyNodes, HasManyPoints, IsPastCertLimits, HasRefusalFault, own, locals, IsRefusalFault, derived, limits}
 use Rattle.depth_maker.specs.DutiesGrow.{IsDutyBelow}
 use Rattle.depth_maker.specs.ProperAssignments.{IsProperDuty, AllProper}
-use Rattle.depth_maker.specs.MakerLaws.{AreLawful}
+use Rattle.depth_maker.specs.MakerLaws.{AreMakerLaws}
 use Rattle.depth_maker.proofs.PlaceLaws.{place_tells, over_state, over_exit, resumed_some, from_if}
 
-module _ (b : Limits) (image : ImageData) (plan : PlanData) (laws : AreLawful b image plan) where
+module _ (b : Limits) (image : ImageData) (plan : PlanData) (laws : AreMakerLaws b image plan) where
   -- ---- what flows in
-  asked_proper : (a : Assignment) (key : Key) (s : State) (d : Duty) (y : Place) (v : Known) → AllProper b a → IsProper b s → IsProperDuty b d → asked a key s d ≡ Some (y, v) → IsProperKnown b v
+  asked_proper : (a : Assignment) (key : Key) (s : State) (d : Duty) (y : Place) (v : Known) → AllProper b a → IsProperState b s → IsProperDuty b d → asked_by_duty a key s d ≡ Some (y, v) → IsProperKnown b v
   asked_proper a key s (jump q t) y v cells ps pd is =
       let f : (point key q, state t) ≡ (y, v) = cc in subst (IsProperKnown b) (ap (λ (p : Place × Known). p.1) f) pd
   asked_proper a key s (enter k t) y v cells ps pd is =
@@ -33,8 +33,8 @@ module _ (b : Limits) (image : ImageData) (plan : PlanData) (laws : AreLawful b 
       let f : (exit key, leaving x) ≡ (y, v) = cc in subst (IsProperKnown b) (ap (λ (p : Place × Known). p.1) f) pd
 
   -- two duties, of which one asks for no more
-  incoming_rises : (a c : Assignment) → IsBelowAt a c → AllProper b a → AllProper b c → (key : Key) (s t : State) → IsProper b s → IsProper b t → Covers t s → (d e : Duty) → IsDutyBelow d e
-      → (y : Place) (v : Known) → asked a key s d ≡ Some (y, v) → (w : Known) × (asked c key t e ≡ Some (y, w)) × CoversKnown w v
+  incoming_rises : (a c : Assignment) → IsBelowAt a c → AllProper b a → AllProper b c → (key : Key) (s t : State) → IsProperState b s → IsProperState b t → Covers t s → (d e : Duty) → IsDutyBelow d e
+      → (y : Place) (v : Known) → asked_by_duty a key s d ≡ Some (y, v) → (w : Known) × (asked_by_duty c key t e ≡ Some (y, w)) × CoversKnown w v
   incoming_rises a c below pa pc key s t ps pt ts (jump q u) (jump r w) h y v is =
       let f : (point key q, state u) ≡ (y, v) = cc in
       (state w, ap (λ (n : ℕ). Some (point key n, state w)) (sym h.0) ∙ ap (λ (p : Place × Known). Some (p.0, state w)) f, subst (CoversKnown (state w)) (ap (λ (p : Place × Known). p.1) f) h.1)
@@ -48,9 +48,9 @@ module _ (b : Limits) (image : ImageData) (plan : PlanData) (laws : AreLawful b 
       let there : c (exit k) ≡ Some (leaving up.0) = o.at ∙ ap (λ (w : Known). Some w) up.1 in
       let px = pa (exit k) (leaving m.0) m.1 in
       let py = pc (exit k) (leaving up.0) there in (
-        state (after_of t up.0 k.kind),
-        ap (λ (n : Key). asked c key t (resume n r)) (sym h.0) ∙ ap (λ (n : ℕ). asked c key t (resume k n)) (sym h.1) ∙ ap (resumed key t k q) there ∙ ap (λ (p : Place). Some (p, state (after_of t up.0 k.kind))) m.2,
-        subst (CoversKnown (state (after_of t up.0 k.kind))) m.3 (laws.after_grows s t m.0 up.0 k.kind ps pt px py ts up.2),
+        state (state_after_exit t up.0 k.kind),
+        ap (λ (n : Key). asked_by_duty c key t (resume n r)) (sym h.0) ∙ ap (λ (n : ℕ). asked_by_duty c key t (resume k n)) (sym h.1) ∙ ap (asked_by_resume key t k q) there ∙ ap (λ (p : Place). Some (p, state (state_after_exit t up.0 k.kind))) m.2,
+        subst (CoversKnown (state (state_after_exit t up.0 k.kind))) m.3 (laws.after_grows s t m.0 up.0 k.kind ps pt px py ts up.2),
       )
   incoming_rises a c below pa pc key s t ps pt ts (leave x) (leave z) h y v is =
       let f : (exit key, leaving x) ≡ (y, v) = cc in
@@ -80,7 +80,7 @@ module _ (b : Limits) (image : ImageData) (plan : PlanData) (laws : AreLawful b 
   module _ (c : Assignment) (closed : Closed b image plan c) (faultless : AllFaultless b image plan c) (pc : AllProper b c) where
     -- a duty of a smaller assignment's point, and the closed one's that asks for no less
     pub duty_above : (a : Assignment) → IsBelowAt a c → AllProper b a → (key : Key) (p : ℕ) (s : State) (d : Duty) → HasDuty b image plan a key p s d
-        → (t : State) × (e : Duty) × HasDuty b image plan c key p t e × Covers t s × IsProper b t × IsDutyBelow d e
+        → (t : State) × (e : Duty) × HasDuty b image plan c key p t e × Covers t s × IsProperState b t × IsDutyBelow d e
     duty_above a below pa key p s d h =
         let o = below (point key p) (state s) h.at in
         let up = over_state o.known s o.covers in
@@ -104,7 +104,7 @@ module _ (b : Limits) (image : ImageData) (plan : PlanData) (laws : AreLawful b 
         let o = closed.duties y r.0 there in
         record { known = o.known; at = o.at; covers = laws.covers_through v r.0 o.known (asks_proper a y v pa k) (asks_proper c y r.0 pc there) o.covers r.2 }
 
-    raised_covered : (o : Option Known) (v known top : Known) → ((w : Known) → o ≡ Some w → IsProperKnown b w × CoversKnown top w) → IsProperKnown b v → IsProperKnown b top → CoversKnown top v → raised b o v ≡ Some known
+    raised_covered : (o : Option Known) (v known top : Known) → ((w : Known) → o ≡ Some w → IsProperKnown b w × CoversKnown top w) → IsProperKnown b v → IsProperKnown b top → CoversKnown top v → raised_at_place b o v ≡ Some known
         → IsProperKnown b known × CoversKnown top known
     raised_covered None v known top old pv pt h is = let e : v ≡ known = cc in (subst (IsProperKnown b) e pv, subst (CoversKnown top) e h)
     raised_covered (Some w) v known top old pv pt h is =
@@ -185,16 +185,16 @@ module _ (b : Limits) (image : ImageData) (plan : PlanData) (laws : AreLawful b 
       more = h.more;
     }
 
-    large_above : (a : Assignment) → IsBelowAt a c → IsTooLarge a → IsTooLarge c
+    large_above : (a : Assignment) → IsBelowAt a c → IsPastCertLimits a → IsPastCertLimits c
     large_above a below h = elim h [ inl n ↦ inl (nodes_above a below n) | inr n ↦ inr (points_above a below n) ]
 
     -- if there is a closed one without faults and within the limits, no derived one has a fault
-    fault_of : (a : Assignment) (r : ℕ) (k : Key) (p : ℕ) → Derived b image plan a → HasFault b image plan a r k p → ⊥
+    fault_of : (a : Assignment) (r : ℕ) (k : Key) (p : ℕ) → Derived b image plan a → HasRefusalFault b image plan a r k p → ⊥
     fault_of a _ _ _ d (own r k p s at is) = is.fails (derived_faultless a d k p s at r)
     fault_of a _ _ _ d (locals k p s t at asks none) = derived_joins a d (point k p) (state t) (state s) asks at (unjoined s t none) where
       unjoined : (s t : State) → joined_states b s t ≡ None → joined_known b (state s) (state t) ≡ None
       unjoined s t e = rw e refl
 
-    pub fault_refuted : (IsTooLarge c → ⊥) → (r : ℕ) (k : Key) (p : ℕ) → IsFault b image plan r k p → ⊥
+    pub fault_refuted : (IsPastCertLimits c → ⊥) → (r : ℕ) (k : Key) (p : ℕ) → IsRefusalFault b image plan r k p → ⊥
     fault_refuted within _ _ _ (derived a r k p d h) = fault_of a r k p d h
     fault_refuted within _ _ _ (limits k p h) = within (large_above h.after (derived_below h.after (joins h.before h.after (point k p) h.derived h.joins)).0 h.more)

@@ -10,7 +10,7 @@ use Rattle.tc_isa.specs.declared.shapes.Cond.{Cond}
 use Rattle.tc_isa.specs.declared.shapes.Shape.{Shape}
 use Rattle.tc_isa.specs.declared.shapes.Shape.TheVariants.{Compute, Load, Branch, Jump, Call, Ret, Rfe, Syscall}
 use Rattle.tc_isa.specs.InBounds.{IsShape}
-use Rattle.tc_machine.specs.Machine.{moved}
+use Rattle.tc_machine.specs.Machine.{machine_address_ahead}
 use Rattle.value_domain.specs.declared.values.Val.{Val}
 use Rattle.value_domain.specs.declared.states.State.{State}
 use Rattle.value_domain.specs.Limits.{Limits}
@@ -19,16 +19,16 @@ use Rattle.value_domain.specs.State.{Covers, AreBelow, is_lower_slot}
 use Rattle.vd_transfer.specs.Branches.{refine_of}
 use Rattle.vd_transfer.specs.EffectsOnStates.{address_of}
 use Rattle.vd_transfer.specs.Registers.{set_reg}
-use Rattle.vd_transfer.specs.Soundness.{IsSetting}
+use Rattle.vd_transfer.specs.Soundness.{IsSoundSetting}
 use Rattle.vd_transfer.proofs.HoldLaws.{same_length}
 use Rattle.store_ranges.proofs.Growth.{loads_grow}
 use Rattle.depth_cert.specs.declared.keys.Key.{Key}
 use Rattle.cfg_recover.specs.Code.{IsCode}
-use Rattle.cfg_recover.specs.Entries.{stack_of, entry_with, call_entry, aln_entry, sys_entry}
+use Rattle.cfg_recover.specs.Entries.{entry_stack_of, entry_state_with, call_entry, aln_entry, sys_entry}
 use Rattle.depth_cert.specs.Exits.{lower_values, exit_of, with_lower_from, ExitCovers}
 use Rattle.store_ranges.specs.Accesses.{are_aligned}
 use Rattle.cfg_recover.specs.LocalFaults.{IsFaultless}
-use Rattle.cfg_recover.specs.Duties.{jump, Owed, owed, loaded_at, duties_of}
+use Rattle.cfg_recover.specs.Duties.{jump, Owed, owed, loaded_for_duties, duties_of}
 use Rattle.cfg_recover.proofs.CodeLaws.{IsCode-bounded}
 use Rattle.cfg_recover.proofs.EntryLaws.{lower_length, entry_length}
 use Rattle.depth_cert.proofs.ExitValues.{after-at, with_lower_length}
@@ -96,14 +96,14 @@ after_grows b s t x y kind ps pt px py c d = record {
 }
 
 -- ---- entries
-pub entry_covers : (v w : Val) (ie : Bool) (m n : ℕ) (lower : Bool) → IsBelow v w → n ≤ m → Covers (entry_with w ie n lower) (entry_with v ie m lower)
+pub entry_covers : (v w : Val) (ie : Bool) (m n : ℕ) (lower : Bool) → IsBelow v w → n ≤ m → Covers (entry_state_with w ie n lower) (entry_state_with v ie m lower)
 entry_covers v w ie m n lower below le =
     set_covers (record { regs = replicate 27 any_val; ie = ie; ccpn = m; lower = lower; locals = record { items = [] } })
     (record { regs = replicate 27 any_val; ie = ie; ccpn = n; lower = lower; locals = record { items = [] } }) 26 v w (length-replicate 27 any_val) (length-replicate 27 any_val)
     (record { regs = λ r lt x i. i; context = ((λ e. e), le, (λ e. e)); locals = tt }) below
 
-module _ (b : Limits) (image : ImageData) (plan : PlanData) (key : Key) (p : ℕ) (s t : State) (whole : IsImage image) (low : IsSetting b plan s) (high : IsSetting b plan t) (c : Covers t s) where
-  stack_grows : IsBelow (stack_of plan key s) (stack_of plan key t)
+module _ (b : Limits) (image : ImageData) (plan : PlanData) (key : Key) (p : ℕ) (s t : State) (whole : IsImage image) (low : IsSoundSetting b plan s) (high : IsSoundSetting b plan t) (c : Covers t s) where
+  stack_grows : IsBelow (entry_stack_of plan key s) (entry_stack_of plan key t)
   stack_grows = elim (cases_Bool key.is) [ inl e ↦ rw e (reg_grows plan s t low.regs high.regs c.regs 26) | inr e ↦ rw e (λ x m. m) ]
 
   call_covers : Covers (call_entry t) (call_entry s)
@@ -111,21 +111,21 @@ module _ (b : Limits) (image : ImageData) (plan : PlanData) (key : Key) (p : ℕ
 
   sys_covers : (tin : ℕ) → Covers (sys_entry plan key t tin) (sys_entry plan key s tin)
   sys_covers tin =
-      let v = stack_of plan key s in
-      let w = stack_of plan key t in
+      let v = entry_stack_of plan key s in
+      let w = entry_stack_of plan key t in
       let c1 = set_covers s t 26 v w low.regs high.regs c stack_grows in
       let c2 = set_covers (set_reg s 26 v) (set_reg t 26 w) 15 (word_val tin) (word_val tin) (same_length s v _ ∙ low.regs) (same_length t w _ ∙ high.regs) c1 (λ x m. m) in
       record { regs = c2.regs; context = ((λ e. e), c2.context.1, (λ e. e)); locals = tt }
 
   aln_covers : Covers (aln_entry plan key t) (aln_entry plan key s)
   aln_covers =
-      let v = stack_of plan key s in
-      let w = stack_of plan key t in
-      set_covers (entry_with v false s.ccpn true) (entry_with w false t.ccpn true) 15 (word_val 4) (word_val 4)
+      let v = entry_stack_of plan key s in
+      let w = entry_stack_of plan key t in
+      set_covers (entry_state_with v false s.ccpn true) (entry_state_with w false t.ccpn true) 15 (word_val 4) (word_val 4)
       (entry_length v false s.ccpn true) (entry_length w false t.ccpn true) (entry_covers v w false s.ccpn t.ccpn true stack_grows c.context.1) (λ x m. m)
 
   -- ---- the parts
-  loaded_grows : (shape : Shape) → IsShape shape → IsBelow (loaded_at b image plan s shape) (loaded_at b image plan t shape)
+  loaded_grows : (shape : Shape) → IsShape shape → IsBelow (loaded_for_duties b image plan s shape) (loaded_for_duties b image plan t shape)
   loaded_grows (Compute op dst x y) is = λ x m. m
   loaded_grows (Load dst base offset size signed after) is = loads_grow b image plan (address_of b plan (Load dst base offset size signed after) s) (address_of b plan (Load dst base offset size signed after) t) size signed low.plan whole is.3 (address_value b plan (Load dst base offset size signed after) s low is) (address_value b plan (Load dst base offset size signed after) t high is) (address_grows b plan s t low high c (Load dst base offset size signed after) is)
   loaded_grows (Branch test x y by lowers) is = λ x m. m
@@ -164,9 +164,9 @@ module _ (b : Limits) (image : ImageData) (plan : PlanData) (key : Key) (p : ℕ
     above_by : (shape : Shape) (d : Owed) → IsCode image plan p shape n → DutyAt b image plan key p s n shape d → Above shape d
     above_by _ d code (next shape e) =
         let is = IsCode-bounded image plan p shape n code in
-        above shape d _ (next shape e) refl (refl, transfer_covers b plan s t low high c shape (loaded_at b image plan s shape) (loaded_at b image plan t shape) is (loaded_grows shape is))
-    above_by _ d code (straight test x y by lowers u e) = side_above test x y by lowers false (moved p n) u (IsCode-bounded image plan p _ n code) e (straight test x y by lowers)
-    above_by _ d code (taken test x y by lowers u e) = side_above test x y by lowers true (moved p by) u (IsCode-bounded image plan p _ n code) e (taken test x y by lowers)
+        above shape d _ (next shape e) refl (refl, transfer_covers b plan s t low high c shape (loaded_for_duties b image plan s shape) (loaded_for_duties b image plan t shape) is (loaded_grows shape is))
+    above_by _ d code (straight test x y by lowers u e) = side_above test x y by lowers false (machine_address_ahead p n) u (IsCode-bounded image plan p _ n code) e (straight test x y by lowers)
+    above_by _ d code (taken test x y by lowers u e) = side_above test x y by lowers true (machine_address_ahead p by) u (IsCode-bounded image plan p _ n code) e (taken test x y by lowers)
     above_by _ d code (target to q i) = above (Jump to) d _ (target to q (targets_within b plan s t low high c p to (((faultless 5).own (Jump to) n code).targets refl) q i)) refl (refl, c)
     above_by _ d code (called to q i) = above (Call to) d _ (called to q (targets_within b plan s t low high c p to (((faultless 5).own (Call to) n code).targets refl) q i)) refl (refl, call_covers)
     above_by _ d code (called_back to q i) = above (Call to) d d (called_back to q (targets_within b plan s t low high c p to (((faultless 5).own (Call to) n code).targets refl) q i)) refl (refl, refl)
@@ -174,7 +174,7 @@ module _ (b : Limits) (image : ImageData) (plan : PlanData) (key : Key) (p : ℕ
     above_by _ d code (system_back tin) = above (Syscall tin) d d (system_back tin) refl (refl, refl)
     above_by _ d code (misaligned shape size e f) = above shape d _ (misaligned shape size e (not_aligned shape size (IsCode-bounded image plan p shape n code) f)) refl (refl, aln_covers)
     above_by _ d code (interrupt shape q i) =
-        above shape d _ (interrupt shape q (irqs_at s.ie t.ie q c.context.0 i)) refl (refl, entry_covers (stack_of plan key s) (stack_of plan key t) false q q true stack_grows (omega arith))
+        above shape d _ (interrupt shape q (irqs_at s.ie t.ie q c.context.0 i)) refl (refl, entry_covers (entry_stack_of plan key s) (entry_stack_of plan key t) false q q true stack_grows (omega arith))
     above_by _ d code returns = above Ret d _ returns refl (exit_covers s t low.regs high.regs c)
     above_by _ d code (resumes e) = above Rfe d _ (resumes e) refl (exit_covers s t low.regs high.regs c)
 

@@ -11,7 +11,7 @@ use Rattle.tc_isa.specs.declared.shapes.Arg.{Arg}
 use Rattle.tc_isa.specs.declared.shapes.Target.{Target}
 use Rattle.tc_isa.specs.declared.shapes.Shape.{Shape}
 use Rattle.tc_isa.specs.declared.shapes.Shape.TheVariants.{Load, Store, Branch, Jump, Call, Rfe, Syscall}
-use Rattle.tc_machine.specs.Machine.{moved}
+use Rattle.tc_machine.specs.Machine.{machine_address_ahead}
 use Rattle.value_domain.specs.declared.values.Val.{Val}
 use Rattle.value_domain.specs.declared.states.State.{State}
 use Rattle.value_domain.specs.Limits.{Limits}
@@ -44,9 +44,9 @@ entered_jump_on q (Some s) = refl
 -- jumps in the frame enter none
 pub entered_successors : (b : Limits) (image : ImageData) (plan : PlanData) (p : ℕ) (s : State) (shape : Shape) (n : ℕ) → entered_in (successors_of b image plan p s shape n) ≡ []
 entered_successors b image plan p s (Branch cond x y by lowers) n =
-    flat_map-append (λ d. entered_by d.duty) (jump_on (moved p n) (refine_of b plan (Branch cond x y by lowers) s false)) (jump_on (moved p by) (refine_of b plan (Branch cond x y by lowers) s true))
-    ∙ ap (λ (l : List Key). l ++ entered_in (jump_on (moved p by) (refine_of b plan (Branch cond x y by lowers) s true))) (entered_jump_on (moved p n) (refine_of b plan (Branch cond x y by lowers) s false))
-    ∙ entered_jump_on (moved p by) (refine_of b plan (Branch cond x y by lowers) s true)
+    flat_map-append (λ d. entered_by d.duty) (jump_on (machine_address_ahead p n) (refine_of b plan (Branch cond x y by lowers) s false)) (jump_on (machine_address_ahead p by) (refine_of b plan (Branch cond x y by lowers) s true))
+    ∙ ap (λ (l : List Key). l ++ entered_in (jump_on (machine_address_ahead p by) (refine_of b plan (Branch cond x y by lowers) s true))) (entered_jump_on (machine_address_ahead p n) (refine_of b plan (Branch cond x y by lowers) s false))
+    ∙ entered_jump_on (machine_address_ahead p by) (refine_of b plan (Branch cond x y by lowers) s true)
 entered_successors b image plan p s (Jump to) n = entered_jumps s (unwrap_or (targets_of plan s p to) [])
 entered_successors b image plan p s _ n = refl
 

@@ -10,7 +10,7 @@ use Rattle.depth_cert.specs.declared.keys.Key.{Key}
 use Rattle.cfg_recover.specs.Duties.{interrupts_of}
 use Rattle.cfg_recover.specs.Entries.{irqs_of, irq_key}
 use Rattle.cfg_recover.proofs.Members.{contains_first, contains_map}
-use Rattle.frame_places.specs.Numbers.{number_in}
+use Rattle.frame_places.specs.Numbers.{frame_number_in}
 use Rattle.depth_maker.specs.EnteredFrames.{entered_in}
 use Rattle.depth_maker.specs.InterruptHandlers.{AreHandlers, nodes_above, nodes_taken}
 use Rattle.depth_maker.specs.declared.handlers.Handler.{Handler}
@@ -25,7 +25,7 @@ handlers_none plan frames hs none = record {
 }
 
 pub handlers_more : (plan : PlanData) (frames : List Key) (irqs : List ℕ) (i : ℕ) (hs new : List Handler) (h : Handler) → i < length irqs → new ≡ hs ++ h ∷ [] → h.prio ≡ get_or irqs i 0
-    → (Contains frames (irq_key plan h.prio) → h.node ≡ number_in frames (irq_key plan h.prio)) → AreHandlers plan frames (take i irqs) hs → AreHandlers plan frames (take (i + 1) irqs) new
+    → (Contains frames (irq_key plan h.prio) → h.node ≡ frame_number_in frames (irq_key plan h.prio)) → AreHandlers plan frames (take i irqs) hs → AreHandlers plan frames (take (i + 1) irqs) new
 handlers_more plan frames irqs i hs new h lt more prio node are = record {
   priorities =
       ap (map (λ (x : Handler). x.prio)) more ∙ map-append (λ (x : Handler). x.prio) hs (h ∷ []) ∙ ap (λ (l : List ℕ). l ++ h.prio ∷ []) are.priorities
@@ -33,7 +33,7 @@ handlers_more plan frames irqs i hs new h lt more prio node are = record {
   each = λ x c known.
       elim (Contains-push_cases hs h x (subst (λ (l : List Handler). Contains l x) more c)) [
         | inl old ↦ are.each x old known
-        | inr e ↦ subst (λ (z : Handler). Contains frames (irq_key plan z.prio) → z.node ≡ number_in frames (irq_key plan z.prio)) e node known
+        | inr e ↦ subst (λ (z : Handler). Contains frames (irq_key plan z.prio) → z.node ≡ frame_number_in frames (irq_key plan z.prio)) e node known
       ];
 }
 
@@ -78,7 +78,7 @@ taken_by true m number hs irqs is agree = numbers_above m number hs (λ h c lt. 
 taken_by false m number hs irqs is agree = refl
 
 pub nodes_taken-is : (plan : PlanData) (frames : List Key) (key : Key) (s : State) (hs : List Handler) → AreHandlers plan frames plan.irqs hs → ((k : Key) → Contains (entered_in (interrupts_of plan key s)) k → Contains frames k)
-    → nodes_taken s.ie s.ccpn hs ≡ map (number_in frames) (entered_in (interrupts_of plan key s))
+    → nodes_taken s.ie s.ccpn hs ≡ map (frame_number_in frames) (entered_in (interrupts_of plan key s))
 nodes_taken-is plan frames key s hs are known =
     let keys = entered_irqs plan key s (irqs_of plan s) in
     let member : (h : Handler) → Contains hs h → IsTrue s.ie → nat_lt s.ccpn h.prio ≡ true → Contains frames (irq_key plan h.prio) =
@@ -87,6 +87,6 @@ nodes_taken-is plan frames key s hs are known =
     (subst (λ (l : List Key). Contains l (irq_key plan h.prio)) (sym keys)
     (contains_map (irq_key plan) (irqs_of plan s) h.prio
     (takes s.ie s.ccpn plan.irqs h.prio on (subst (λ (l : List ℕ). Contains l h.prio) are.priorities (contains_map (λ (x : Handler). x.prio) hs h c)) (ltb-true s.ccpn h.prio lt)))) in
-    taken_by s.ie s.ccpn (λ p. number_in frames (irq_key plan p)) hs plan.irqs are.priorities (λ h c on lt. are.each h c (member h c on lt))
-    ∙ mapped_twice (number_in frames) (irq_key plan) (irqs_of plan s)
-    ∙ ap (map (number_in frames)) (sym keys)
+    taken_by s.ie s.ccpn (λ p. frame_number_in frames (irq_key plan p)) hs plan.irqs are.priorities (λ h c on lt. are.each h c (member h c on lt))
+    ∙ mapped_twice (frame_number_in frames) (irq_key plan) (irqs_of plan s)
+    ∙ ap (map (frame_number_in frames)) (sym keys)

@@ -13,16 +13,17 @@ use Rattle.value_domain.specs.Values.{IsBelow, IsValue, any_val, word_val}
 use Rattle.vd_transfer.specs.Registers.{slot}
 use Rattle.depth_cert.specs.declared.keys.Key.{Key}
 use Rattle.depth_cert.specs.Known.{CoversKnown, Known, leaving, state}
-use Rattle.depth_cert.specs.Proper.{IsProper}
+use Rattle.depth_cert.specs.Proper.{IsProperState}
 use Rattle.cfg_recover.specs.Assignments.{Assignment, CoversAt, Joins, Place, point}
 use Rattle.cfg_recover.specs.Duties.{Owed, enter, interrupts_of, owed}
-use Rattle.cfg_recover.specs.Entries.{irqs_of, entry_with, irq_entry, irq_key, stack_of}
+use Rattle.cfg_recover.specs.Entries.{irqs_of, entry_state_with, irq_entry, irq_key, entry_stack_of}
 use Rattle.cfg_recover.proofs.EntryLaws.{entry_length}
 use Rattle.cfg_recover.proofs.Members.{contains_filter, contains_map}
 use Rattle.depth_maker.specs.ProperAssignments.{IsProperDuty, AllProper}
-use Rattle.depth_maker.specs.MakerLaws.{AreLawful}
-use Rattle.depth_maker.specs.InterruptHandlers.{AreEntered, IsWithinContext, ContextsEntered, IsContextOf, IsContextEntered, context_stack}
-use Rattle.depth_maker.specs.TableView.{Settled, TableView}
+use Rattle.depth_maker.specs.MakerLaws.{AreMakerLaws}
+use Rattle.depth_maker.specs.InterruptHandlers.{AreHandlersEntered, IsWithinContext, ContextsEntered, IsContextOf, IsContextEntered, context_stack}
+use Rattle.depth_maker.specs.TableView.{TableView}
+use Rattle.depth_maker.specs.TableInvariant.{Settled}
 use Rattle.depth_maker.specs.declared.interrupt_contexts.InterruptContext.{InterruptContext}
 use Rattle.depth_maker.specs.declared.interrupt_contexts.LastInterrupts.{LastInterrupts}
 use Rattle.depth_maker.proofs.DutyGrowth.{contained_filter, contained_map, entry_covers}
@@ -31,7 +32,7 @@ use Rattle.depth_maker.proofs.TableLaws.{covers_stays}
 
 -- ---- as the table rises
 -- values only grow
-one_stays : (b : Limits) (image : ImageData) (plan : PlanData) (laws : AreLawful b image plan) (a after : Assignment) (y : Place) (proper : AllProper b a) (j : Joins b image plan a after y) (interrupts : Option InterruptContext)
+one_stays : (b : Limits) (image : ImageData) (plan : PlanData) (laws : AreMakerLaws b image plan) (a after : Assignment) (y : Place) (proper : AllProper b a) (j : Joins b image plan a after y) (interrupts : Option InterruptContext)
     → IsContextEntered b plan a interrupts → IsContextEntered b plan after interrupts
 one_stays b image plan laws a after y proper j None h = tt
 one_stays b image plan laws a after y proper j (Some x) h = record {
@@ -40,11 +41,11 @@ one_stays b image plan laws a after y proper j (Some x) h = record {
       let e = h.each p c lt in
       record {
         proper = e.proper;
-        covers = covers_stays b image plan laws a after y proper j (point (irq_key plan p) (irq_key plan p).entry) (state (entry_with (context_stack plan x) false p true)) e.proper e.covers;
+        covers = covers_stays b image plan laws a after y proper j (point (irq_key plan p) (irq_key plan p).entry) (state (entry_state_with (context_stack plan x) false p true)) e.proper e.covers;
       };
 }
 
-pub interrupts_stay : (b : Limits) (image : ImageData) (plan : PlanData) (laws : AreLawful b image plan) (a after : Assignment) (y : Place) (proper : AllProper b a) (j : Joins b image plan a after y) (interrupts : LastInterrupts)
+pub interrupts_stay : (b : Limits) (image : ImageData) (plan : PlanData) (laws : AreMakerLaws b image plan) (a after : Assignment) (y : Place) (proper : AllProper b a) (j : Joins b image plan a after y) (interrupts : LastInterrupts)
     → ContextsEntered b plan a interrupts → ContextsEntered b plan after interrupts
 interrupts_stay b image plan laws a after y proper j interrupts h = (one_stays b image plan laws a after y proper j interrupts.last h.0, one_stays b image plan laws a after y proper j interrupts.before h.1)
 
@@ -81,11 +82,11 @@ stacks_below true false v w x e h = absurd (let no : false ≡ true = e in cc)
 stacks_below false true v w x e h = absurd (let no : true ≡ false = e in cc)
 stacks_below false false v w x e h = λ z m. m
 
-stack_below : (plan : PlanData) (k : Key) (s : State) (h : InterruptContext) → IsWithinContext h k.is s → IsBelow (stack_of plan k s) (context_stack plan h)
+stack_below : (plan : PlanData) (k : Key) (s : State) (h : InterruptContext) → IsWithinContext h k.is s → IsBelow (entry_stack_of plan k s) (context_stack plan h)
 unfolding slot
 stack_below plan k s h asks = stacks_below k.is h.is (slice_index_or s.regs 22 any_val) h.sp (word_val plan.isp) asks.same asks.below
 
-stack_same : (plan : PlanData) (k : Key) (s : State) (h : InterruptContext) → IsContextOf h k.is s → context_stack plan h ≡ stack_of plan k s
+stack_same : (plan : PlanData) (k : Key) (s : State) (h : InterruptContext) → IsContextOf h k.is s → context_stack plan h ≡ entry_stack_of plan k s
 unfolding slot
 stack_same plan k s h from =
     ap (λ (t : Bool). if t then h.sp else word_val plan.isp) from.same ∙ ap (λ (v : Val). if k.is then v else word_val plan.isp) from.sp
@@ -96,7 +97,7 @@ covers_less (state x) v u same h c = covers_through x v u same h c
 covers_less (leaving x) v u same h c = absurd h
 
 -- the entries that a point asks for are covered
-pub interrupts_settle : (b : Limits) (plan : PlanData) (t : TableView) (k : Key) (p : ℕ) (s : State) (h : InterruptContext) → AreEntered b plan t.cells h → IsWithinContext h k.is s → (d : Owed) → Contains (interrupts_of plan k s) d
+pub interrupts_settle : (b : Limits) (plan : PlanData) (t : TableView) (k : Key) (p : ℕ) (s : State) (h : InterruptContext) → AreHandlersEntered b plan t.cells h → IsWithinContext h k.is s → (d : Owed) → Contains (interrupts_of plan k s) d
     → Settled t k p s d.duty
 interrupts_settle b plan t k p s h entered asks d c =
     let r = contained_map (λ (q : ℕ). owed 11 (enter (irq_key plan q) (irq_entry plan k s q))) (irqs_of plan s) d c in
@@ -104,19 +105,19 @@ interrupts_settle b plan t k p s h entered asks d c =
     let i = taken s.ie s.ccpn plan.irqs q r.1 in
     let e = entered.each q i.0 (omega (arith, i.1, asks.above)) in
     let v = context_stack plan h in
-    let w = stack_of plan k s in
-    let less : Covers (entry_with v false q true) (entry_with w false q true) = entry_covers w v false q q true (stack_below plan k s h asks) (omega arith) in
+    let w = entry_stack_of plan k s in
+    let less : Covers (entry_state_with v false q true) (entry_state_with w false q true) = entry_covers w v false q q true (stack_below plan k s h asks) (omega arith) in
     let covered : CoversAt t.cells (point (irq_key plan q) (irq_key plan q).entry) (state (irq_entry plan k s q)) =
     record {
       known = (e.covers).known;
       at = (e.covers).at;
-      covers = covers_less (e.covers).known (entry_with v false q true) (entry_with w false q true) (entry_length w false q true ∙ sym (entry_length v false q true)) (e.covers).covers less;
+      covers = covers_less (e.covers).known (entry_state_with v false q true) (entry_state_with w false q true) (entry_length w false q true ∙ sym (entry_length v false q true)) (e.covers).covers less;
     } in
     subst (λ (o : Owed). Settled t k p s o.duty) r.2 covered
 
 -- the context of a point whose entries are covered
-pub interrupts_new : (b : Limits) (plan : PlanData) (t : TableView) (k : Key) (p : ℕ) (s : State) (h : InterruptContext) → IsContextOf h k.is s → IsProper b s → IsTrue s.ie
-    → ((d : Owed) → Contains (interrupts_of plan k s) d → IsProperDuty b d.duty) → ((d : Owed) → Contains (interrupts_of plan k s) d → Settled t k p s d.duty) → AreEntered b plan t.cells h
+pub interrupts_new : (b : Limits) (plan : PlanData) (t : TableView) (k : Key) (p : ℕ) (s : State) (h : InterruptContext) → IsContextOf h k.is s → IsProperState b s → IsTrue s.ie
+    → ((d : Owed) → Contains (interrupts_of plan k s) d → IsProperDuty b d.duty) → ((d : Owed) → Contains (interrupts_of plan k s) d → Settled t k p s d.duty) → AreHandlersEntered b plan t.cells h
 interrupts_new b plan t k p s h from ps on proper settled = record {
   stack = subst (IsValue b) (sym from.sp) (ps.values 22 (omega (arith, ps.regs)));
   each = λ q c lt.
@@ -124,8 +125,8 @@ interrupts_new b plan t k p s h from ps on proper settled = record {
       let i = contains_map f (irqs_of plan s) q (takes s.ie s.ccpn plan.irqs q on c (omega (arith, lt, from.ccpn))) in
       let e = sym (stack_same plan k s h from) in
       record {
-        proper = subst (λ (v : Val). IsProper b (entry_with v false q true)) e (proper (f q) i);
-        covers = subst (λ (v : Val). CoversAt t.cells (point (irq_key plan q) (irq_key plan q).entry) (state (entry_with v false q true))) e (settled (f q) i);
+        proper = subst (λ (v : Val). IsProperState b (entry_state_with v false q true)) e (proper (f q) i);
+        covers = subst (λ (v : Val). CoversAt t.cells (point (irq_key plan q) (irq_key plan q).entry) (state (entry_state_with v false q true))) e (settled (f q) i);
       };
 }
 

@@ -7,12 +7,14 @@ use Rattle.std.specs.declared.alloc.Global.{Global}
 use Rattle.elf_image.specs.Images.{ImageData}
 use Rattle.tcd_plan.specs.PlanData.{PlanData}
 use Rattle.value_domain.specs.Limits.{Limits}
-use Rattle.cfg_recover.specs.Assignments.{Place, same_place, CoversAt, Asks, raised, Joins}
+use Rattle.cfg_recover.specs.Assignments.{Place, same_place, CoversAt, Asks, raised_at_place, Joins}
 use Rattle.depth_cert.specs.declared.keys.Key.{Key}
-use Rattle.depth_cert.specs.Known.{Known, priority_of, joined_known}
+use Rattle.depth_cert.specs.Known.{Known, known_priority, joined_known}
 use Rattle.cfg_recover.specs.CertRefusals.{derived}
-use Rattle.depth_maker.specs.MakerLaws.{AreLawful}
-use Rattle.depth_maker.specs.TableView.{IsTable, Marks, seen}
+use Rattle.depth_maker.specs.MakerLaws.{AreMakerLaws}
+use Rattle.depth_maker.specs.TableView.{seen}
+use Rattle.depth_maker.specs.Joins.{Marks, JoinKeeps, Joined, JoinedAlone}
+use Rattle.depth_maker.specs.TableInvariant.{IsTable, IsFine, TableReadsExits}
 use Rattle.depth_maker.proofs.TableLaws.{table_rises, settled_stays, joined_covers, derived_proper}
 use Rattle.depth_maker.proofs.PlaceKinds.{unjoined_fault}
 use Rattle.frame_places.specs.declared.places.Spot.{Spot}
@@ -22,21 +24,19 @@ use Rattle.frame_places.specs.declared.places.Mark.TheVariants.{Plain, Queued}
 use Rattle.frame_places.specs.declared.refusals.Refusal.TheVariants.{Fault}
 use Rattle.depth_maker.specs.declared.table.Table as made
 use Rattle.frame_places.specs.Spots.{spot_eq}
-use Rattle.depth_maker.specs.Spots.{spot_of, place_of}
+use Rattle.depth_maker.specs.Spots.{spot_of, place_of_spot}
 use Rattle.depth_maker.proofs.Below.{asks_proper}
 use Rattle.depth_maker.proofs.CountedLemmas.{counted_after}
 use Rattle.depth_maker.proofs.LevelLaws.{rank_rises}
 use Rattle.depth_maker.proofs.LevelSteps.{level_rises}
 use Rattle.depth_maker.specs.Covered.{EntriesCovered}
-use Rattle.depth_maker.specs.TableLevels.{rank_at}
+use Rattle.depth_maker.specs.TableLevels.{level_of_place}
 use Rattle.depth_maker.proofs.CoveredLaws.{covered_stay}
 use Rattle.frame_places.proofs.SpotLemmas.{spot_tells}
 use Rattle.depth_maker.proofs.SpotLemmas.{forth, agrees}
-use Rattle.frame_places.specs.Marks.{AllListed, is_idle, is_queued, mark_for, value_for, AreKnown, Reads, Requeues}
+use Rattle.frame_places.specs.Marks.{AllListed, is_idle, is_queued, mark_for, value_for, AreKnown, IsAmongReaders, Requeues}
 use Rattle.depth_maker.specs.Counts.{AreFew, IsCountedIn}
-use Rattle.depth_maker.specs.TableInvariant.{IsFine, AreExitsRead}
 use Rattle.depth_maker.specs.Answers.{Answered}
-use Rattle.depth_maker.specs.Joins.{Keeps, Joined, JoinedAlone}
 use Rattle.depth_maker.specs.ProperAssignments.{CellsProper}
 use Rattle.frame_places.proofs.MarkLemmas.{sides}
 use Rattle.frame_places.specs.Work.{all_work}
@@ -46,16 +46,16 @@ idle_not_queued (Some Queued) e = cc
 idle_not_queued _ e = refl
 
 -- ---- the values of a table
-pub cells_proper : (b : Limits) (image : ImageData) (plan : PlanData) (laws : AreLawful b image plan) (t : made.Table) → IsFine b image plan t → CellsProper b t.places
+pub cells_proper : (b : Limits) (image : ImageData) (plan : PlanData) (laws : AreMakerLaws b image plan) (t : made.Table) → IsFine b image plan t → CellsProper b t.places
 unfolding seen
 cells_proper b image plan laws t fine q v at =
-    derived_proper b image plan laws (seen t).cells (fine.table).derived (place_of q) v (ap (value_for t.places) (forth q) ∙ at)
+    derived_proper b image plan laws (seen t).cells (fine.table).derived (place_of_spot q) v (ap (value_for t.places) (forth q) ∙ at)
 
 -- v was joined at y alone, and then the readers of y were queued
-module _ (b : Limits) (image : ImageData) (plan : PlanData) (laws : AreLawful b image plan) (s m t : made.Table) (y : Spot) (v : Known)
-    (asks : Asks b image plan (seen s).cells (place_of y) v) (rose : JoinedAlone b s m y v) (tells : Requeues m.places t.places (Reads (get spot_eq s.readers y)))
+module _ (b : Limits) (image : ImageData) (plan : PlanData) (laws : AreMakerLaws b image plan) (s m t : made.Table) (y : Spot) (v : Known)
+    (asks : Asks b image plan (seen s).cells (place_of_spot y) v) (rose : JoinedAlone b s m y v) (tells : Requeues m.places t.places (IsAmongReaders (get spot_eq s.readers y)))
     (listed : AllListed t.places (all_work t.work)) (near : t.near ≡ m.near) (readers : t.readers ≡ m.readers) (covered : t.covered ≡ m.covered) (points : t.points.items ≡ m.points.items)
-    (frames : t.frames.items ≡ m.frames.items) (fine : IsFine b image plan s) (small : priority_of v < 256) where
+    (frames : t.frames.items ≡ m.frames.items) (fine : IsFine b image plan s) (small : known_priority v < 256) where
   abbrev u : Known
   u = rose.known
 
@@ -66,8 +66,8 @@ module _ (b : Limits) (image : ImageData) (plan : PlanData) (laws : AreLawful b 
   readers_stay : t.readers ≡ s.readers
   readers_stay = readers ∙ rose.readers
 
-  marks_by : (q : Spot) → ((mark_for t.places q ≡ Some Queued) × ((spot_eq y q ≡ true) ⊎ Reads (get spot_eq s.readers y) q))
-      ⊎ ((mark_for t.places q ≡ mark_for s.places q) × (spot_eq y q ≡ false) × (Reads (get spot_eq s.readers y) q → ⊥))
+  marks_by : (q : Spot) → ((mark_for t.places q ≡ Some Queued) × ((spot_eq y q ≡ true) ⊎ IsAmongReaders (get spot_eq s.readers y) q))
+      ⊎ ((mark_for t.places q ≡ mark_for s.places q) × (spot_eq y q ≡ false) × (IsAmongReaders (get spot_eq s.readers y) q → ⊥))
   marks_by q =
       elim (tells.marks q) [
         | inl l ↦ inl (l.0, inr l.1)
@@ -78,28 +78,28 @@ module _ (b : Limits) (image : ImageData) (plan : PlanData) (laws : AreLawful b 
       ]
 
   -- the map's test at a place
-  test : (q : Place) → spot_eq y (spot_of q) ≡ same_place q (place_of y)
-  test q = ap (λ (z : Spot). spot_eq z (spot_of q)) (sym (forth y)) ∙ agrees q (place_of y)
+  test : (q : Place) → spot_eq y (spot_of q) ≡ same_place q (place_of_spot y)
+  test q = ap (λ (z : Spot). spot_eq z (spot_of q)) (sym (forth y)) ∙ agrees q (place_of_spot y)
 
-  the_joining : Joins b image plan (seen s).cells (seen t).cells (place_of y)
+  the_joining : Joins b image plan (seen s).cells (seen t).cells (place_of_spot y)
   unfolding seen
   the_joining = record {
     value = v;
     asks = asks;
     known = u;
-    raises = ap (λ (z : Spot). raised b (value_for s.places z) v) (forth y) ∙ rose.raises;
+    raises = ap (λ (z : Spot). raised_at_place b (value_for s.places z) v) (forth y) ∙ rose.raises;
     is = λ q. after (spot_of q) ∙ ap (λ x. if x then Some u else value_for s.places (spot_of q)) (test q);
   }
 
-  the_marks : Marks (seen s) (seen t) (place_of y)
+  the_marks : Marks (seen s) (seen t) (place_of_spot y)
   unfolding seen
   the_marks = record {
     each = λ q.
         elim (marks_by (spot_of q)) [
           | inl l ↦ inl (ap is_queued l.0, ap is_idle l.0)
-          | inr r ↦ inr (ap is_idle r.0, ap is_queued r.0, sym (test q) ∙ r.1, (λ h. r.2 (subst (λ (z : Spot). Reads (get spot_eq s.readers z) (spot_of q)) (forth y) h)))
+          | inr r ↦ inr (ap is_idle r.0, ap is_queued r.0, sym (test q) ∙ r.1, (λ h. r.2 (subst (λ (z : Spot). IsAmongReaders (get spot_eq s.readers z) (spot_of q)) (forth y) h)))
         ];
-    reads = λ z x h. subst (λ m. Reads (get spot_eq m (spot_of z)) (spot_of x)) (sym readers_stay) h;
+    reads = λ z x h. subst (λ m. IsAmongReaders (get spot_eq m (spot_of z)) (spot_of x)) (sym readers_stay) h;
   }
 
   not_same : (q : Spot) → spot_eq y q ≡ false → value_for t.places q ≡ value_for s.places q
@@ -114,25 +114,25 @@ module _ (b : Limits) (image : ImageData) (plan : PlanData) (laws : AreLawful b 
 
   the_table : IsTable b image plan (seen t)
   unfolding seen
-  the_table = table_rises b image plan laws (seen s) (seen t) (place_of y) fine.table the_joining the_marks (λ x e. idle_not_queued (mark_for t.places (spot_of x)) e)
+  the_table = table_rises b image plan laws (seen s) (seen t) (place_of_spot y) fine.table the_joining the_marks (λ x e. idle_not_queued (mark_for t.places (spot_of x)) e)
 
-  read_case : (z x : Spot) → Reads (get spot_eq s.readers z) x → (Reads (get spot_eq s.readers y) x → ⊥) → (e : Bool) → spot_eq y z ≡ e → value_for t.places z ≡ value_for s.places z
-  read_case z x h none true e = absurd (none (subst (λ (k : Spot). Reads (get spot_eq s.readers k) x) (sym (spot_tells y z e)) h))
+  read_case : (z x : Spot) → IsAmongReaders (get spot_eq s.readers z) x → (IsAmongReaders (get spot_eq s.readers y) x → ⊥) → (e : Bool) → spot_eq y z ≡ e → value_for t.places z ≡ value_for s.places z
+  read_case z x h none true e = absurd (none (subst (λ (k : Spot). IsAmongReaders (get spot_eq s.readers k) x) (sym (spot_tells y z e)) h))
   read_case z x h none false e = not_same z e
 
-  few : AreFew (map place_of t.points.items) t.frames.items
-  few = subst (λ (l : List Spot). AreFew (map place_of l) t.frames.items) (sym points) (subst (λ (l : List Key). AreFew (map place_of m.points.items) l) (sym frames) rose.few)
+  few : AreFew (map place_of_spot t.points.items) t.frames.items
+  few = subst (λ (l : List Spot). AreFew (map place_of_spot l) t.frames.items) (sym points) (subst (λ (l : List Key). AreFew (map place_of_spot m.points.items) l) (sym frames) rose.few)
 
   the_counted : IsCountedIn t.places t.points.items t.frames.items
   unfolding seen the_joining
   the_counted = counted_after b image plan s.places t.places s.points.items t.points.items s.frames.items t.frames.items y the_joining (points ∙ rose.points) (frames ∙ rose.frames) few fine.counted
 
-  higher : rank_at (value_for s.places y) < rank_at (Some u)
+  higher : level_of_place (value_for s.places y) < level_of_place (Some u)
   higher =
       rank_rises b image plan laws (value_for s.places y) v u (cells_proper b image plan laws s fine y)
-      (asks_proper b image plan laws (seen s).cells (place_of y) v (derived_proper b image plan laws (seen s).cells (fine.table).derived) asks) rose.raises rose.new small
+      (asks_proper b image plan laws (seen s).cells (place_of_spot y) v (derived_proper b image plan laws (seen s).cells (fine.table).derived) asks) rose.raises rose.new small
 
-  the_keeping : Keeps b image plan s t
+  the_keeping : JoinKeeps b image plan s t
   unfolding seen
   the_keeping = record {
     each = λ x free.
@@ -140,13 +140,13 @@ module _ (b : Limits) (image : ImageData) (plan : PlanData) (laws : AreLawful b 
           | inl l ↦ (let no : true ≡ false = sym (ap is_queued l.0) ∙ free in cc)
           | inr r ↦ (r.0, not_same x r.1)
         ];
-    readers = λ z x h. subst (λ m. Reads (get spot_eq m z) x) (sym readers_stay) h;
+    readers = λ z x h. subst (λ m. IsAmongReaders (get spot_eq m z) x) (sym readers_stay) h;
     read = λ z x h free.
         elim (marks_by x) [
           | inl l ↦ (let no : true ≡ false = sym (ap is_queued l.0) ∙ free in cc)
           | inr r ↦ read_case z x h r.2 (spot_eq y z) refl
         ];
-    settled = λ k p w d free ps pd h. settled_stays b image plan laws (seen s) (seen t) (place_of y) fine.table the_joining the_marks k p w d free ps pd h;
+    settled = λ k p w d free ps pd h. settled_stays b image plan laws (seen s) (seen t) (place_of_spot y) fine.table the_joining the_marks k p w d free ps pd h;
     rises = inl (level_rises s t y u (is_some (value_for s.places y)) after (points ∙ rose.points) (frames ∙ rose.frames) the_counted higher);
     near = near ∙ rose.near;
     numbers = λ n q h. tells.numbers n q ((rose.puts).numbers n q h);
@@ -154,7 +154,7 @@ module _ (b : Limits) (image : ImageData) (plan : PlanData) (laws : AreLawful b 
 
   the_covered : EntriesCovered b plan (seen t).cells t.covered
   the_covered =
-      covered_stay b image plan laws (seen s).cells (seen t).cells (place_of y) (derived_proper b image plan laws (seen s).cells (fine.table).derived) the_joining t.covered
+      covered_stay b image plan laws (seen s).cells (seen t).cells (place_of_spot y) (derived_proper b image plan laws (seen s).cells (fine.table).derived) the_joining t.covered
       (subst (EntriesCovered b plan (seen s).cells) (sym (covered ∙ rose.covered)) fine.covered)
 
   pub the_joined : Joined b image plan s t y v
@@ -165,32 +165,32 @@ module _ (b : Limits) (image : ImageData) (plan : PlanData) (laws : AreLawful b 
       listed = listed;
       counted = the_counted;
       covered = the_covered;
-      exits = λ k p q h. fine.exits k p q (subst (λ m. Reads (get spot_eq m (Point k p)) q) readers_stay h);
-      readers = λ z q h. known_stays q (fine.readers z q (subst (λ (r : IndexMap Spot (Vec Spot Global) _). Reads (get spot_eq r z) q) readers_stay h));
+      exits = λ k p q h. fine.exits k p q (subst (λ m. IsAmongReaders (get spot_eq m (Point k p)) q) readers_stay h);
+      readers = λ z q h. known_stays q (fine.readers z q (subst (λ (r : IndexMap Spot (Vec Spot Global) _). IsAmongReaders (get spot_eq r z) q) readers_stay h));
       plain = λ q at.
           elim (marks_by q) [
             | inl l ↦ (let no : Some Queued ≡ Some Plain = sym l.0 ∙ at in cc)
             | inr r ↦ fine.plain q (sym r.0 ∙ at)
           ];
     };
-    covers = joined_covers b image plan laws (seen s).cells (seen t).cells (place_of y) (derived_proper b image plan laws (seen s).cells (fine.table).derived) the_joining;
+    covers = joined_covers b image plan laws (seen s).cells (seen t).cells (place_of_spot y) (derived_proper b image plan laws (seen s).cells (fine.table).derived) the_joining;
     keeps = the_keeping;
   }
 
 -- the readers of y are known still, and only exits are read
-pub told_known : (b : Limits) (image : ImageData) (plan : PlanData) (s m : made.Table) (y : Spot) (v : Known) → IsFine b image plan s → JoinedAlone b s m y v → AreKnown m.places (Reads (get spot_eq m.readers y))
+pub told_known : (b : Limits) (image : ImageData) (plan : PlanData) (s m : made.Table) (y : Spot) (v : Known) → IsFine b image plan s → JoinedAlone b s m y v → AreKnown m.places (IsAmongReaders (get spot_eq m.readers y))
 told_known b image plan s m y v fine rose q h =
-    let before : IsSome (value_for s.places q) = fine.readers y q (subst (λ r. Reads (get spot_eq r y) q) rose.readers h) in
+    let before : IsSome (value_for s.places q) = fine.readers y q (subst (λ r. IsAmongReaders (get spot_eq r y) q) rose.readers h) in
     elim (sides (spot_eq y q) (Some rose.known) (value_for s.places q) (value_for m.places q) ((rose.puts).values q)) [
       | inl l ↦ subst (λ (o : Option Known). IsSome o) (sym l.1) refl
       | inr r ↦ subst (λ (o : Option Known). IsSome o) (sym r.1) before
     ]
 
-pub exits_after : (b : Limits) (image : ImageData) (plan : PlanData) (s m : made.Table) (y : Spot) (v : Known) → IsFine b image plan s → JoinedAlone b s m y v → AreExitsRead m.readers
-exits_after b image plan s m y v fine rose k p q h = fine.exits k p q (subst (λ r. Reads (get spot_eq r (Point k p)) q) rose.readers h)
+pub exits_after : (b : Limits) (image : ImageData) (plan : PlanData) (s m : made.Table) (y : Spot) (v : Known) → IsFine b image plan s → JoinedAlone b s m y v → TableReadsExits m.readers
+exits_after b image plan s m y v fine rose k p q h = fine.exits k p q (subst (λ r. IsAmongReaders (get spot_eq r (Point k p)) q) rose.readers h)
 
 -- nothing had to be done
-pub stays_joined : (b : Limits) (image : ImageData) (plan : PlanData) (s : made.Table) (y : Spot) (v : Known) → IsFine b image plan s → CoversAt (λ q. value_for s.places (spot_of q)) (place_of y) v → Joined b image plan s s y v
+pub stays_joined : (b : Limits) (image : ImageData) (plan : PlanData) (s : made.Table) (y : Spot) (v : Known) → IsFine b image plan s → CoversAt (λ q. value_for s.places (spot_of q)) (place_of_spot y) v → Joined b image plan s s y v
 unfolding seen
 stays_joined b image plan s y v fine covers = record {
   fine = fine;
@@ -199,9 +199,9 @@ stays_joined b image plan s y v fine covers = record {
 }
 
 -- a join that fails is a fault
-pub the_answer : (b : Limits) (image : ImageData) (plan : PlanData) (s : made.Table) (y : Spot) (w v : Known) → IsFine b image plan s → Asks b image plan (seen s).cells (place_of y) v → value_for s.places y ≡ Some w
+pub the_answer : (b : Limits) (image : ImageData) (plan : PlanData) (s : made.Table) (y : Spot) (w v : Known) → IsFine b image plan s → Asks b image plan (seen s).cells (place_of_spot y) v → value_for s.places y ≡ Some w
     → joined_known b w v ≡ None → Answered b image plan (Fault 8 y)
 unfolding seen
 the_answer b image plan s y w v fine asks at none =
-    let f = unjoined_fault b image plan (seen s).cells (fine.table).derived (place_of y) v w asks (ap (value_for s.places) (forth y) ∙ at) none in
+    let f = unjoined_fault b image plan (seen s).cells (fine.table).derived (place_of_spot y) v w asks (ap (value_for s.places) (forth y) ∙ at) none in
     (f.0, f.1, f.2, derived (seen s).cells 8 f.0 f.1 (fine.table).derived f.3)

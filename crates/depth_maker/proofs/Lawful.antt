@@ -7,15 +7,15 @@ use Rattle.tcd_plan.specs.PlanData.{PlanData}
 use Rattle.value_domain.specs.declared.values.Val.{Val}
 use Rattle.value_domain.specs.declared.states.State.{State}
 use Rattle.value_domain.specs.Limits.{Limits, AreLimits}
-use Rattle.value_domain.specs.Values.{any_val, word_val}
-use Rattle.value_domain.specs.State.{Covers, joined_states, joined_of, joined_regs, join_of}
+use Rattle.value_domain.specs.Values.{any_val, word_val, join_of}
+use Rattle.value_domain.specs.State.{Covers, joined_states, joined_of, joined_regs}
 use Rattle.value_domain.proofs.JoinLaws.{join_least, joined_least}
 use Rattle.value_domain.proofs.RegLaws.{get_or-joined, length-joined, length-and}
 use Rattle.depth_cert.specs.declared.points.Exit.{Exit}
 use Rattle.cfg_recover.specs.Entries.{start_state}
 use Rattle.depth_cert.specs.Exits.{ExitCovers, joined_exit}
 use Rattle.depth_cert.specs.Known.{Known, state, leaving, CoversKnown, joined_known}
-use Rattle.depth_cert.specs.Proper.{IsProper, IsProperExit, IsProperKnown}
+use Rattle.depth_cert.specs.Proper.{IsProperState, IsProperExit, IsProperKnown}
 use Rattle.cfg_recover.proofs.EntryLaws.{entry_length}
 use Rattle.cfg_recover.proofs.FlowStates.{entry_values}
 use Rattle.depth_maker.specs.DutiesGrow.{IsGround}
@@ -24,7 +24,7 @@ use Rattle.depth_maker.proofs.EffectGrowth.{word_value}
 use Rattle.depth_maker.proofs.OwnGrowth.{faults_fall}
 use Rattle.depth_maker.proofs.DutyGrowth.{after_grows, duties_grow}
 use Rattle.depth_maker.proofs.ProperDuties.{after_proper, duties_proper}
-use Rattle.depth_maker.specs.MakerLaws.{AreLawful}
+use Rattle.depth_maker.specs.MakerLaws.{AreMakerLaws}
 
 -- ---- coverings
 known_same : (v : Known) → CoversKnown v v
@@ -52,7 +52,7 @@ joined_parts b s t u e =
     ]
 
 module _ (b : Limits) (limits : AreLimits b) where
-  state_join : (s t : State) → IsProper b s → IsProper b t → length s.locals.items ≡ length t.locals.items → IsProper b (joined_of b s t) × Covers (joined_of b s t) s × Covers (joined_of b s t) t
+  state_join : (s t : State) → IsProperState b s → IsProperState b t → length s.locals.items ≡ length t.locals.items → IsProperState b (joined_of b s t) × Covers (joined_of b s t) s × Covers (joined_of b s t) t
   state_join s t ps pt same =
       let j = joined_least b s t limits (ps.regs ∙ sym pt.regs) same ps.values pt.values in (
         record {
@@ -64,7 +64,7 @@ module _ (b : Limits) (limits : AreLimits b) where
         j.right,
       )
 
-  state_least : (s t d : State) → IsProper b s → IsProper b t → IsProper b d → Covers d s → Covers d t → (u : Known) × (joined_known b (state s) (state t) ≡ Some u) × CoversKnown (state d) u
+  state_least : (s t d : State) → IsProperState b s → IsProperState b t → IsProperState b d → Covers d s → Covers d t → (u : Known) × (joined_known b (state s) (state t) ≡ Some u) × CoversKnown (state d) u
   state_least s t d ps pt pd h k =
       let same : length s.locals.items ≡ length t.locals.items = sym (same_locals d s h) ∙ same_locals d t k in
       let j = joined_least b s t limits (ps.regs ∙ sym pt.regs) same ps.values pt.values in
@@ -141,7 +141,7 @@ module _ (b : Limits) (limits : AreLimits b) where
   known_least (leaving x) (state t) (leaving z) pv pw pd h k = absurd k
   known_least (leaving x) (leaving y) (state d) pv pw pd h k = absurd h
 
-start_proper : (b : Limits) (image : ImageData) (plan : PlanData) → IsGround b image plan → IsProper b (start_state plan)
+start_proper : (b : Limits) (image : ImageData) (plan : PlanData) → IsGround b image plan → IsProperState b (start_state plan)
 start_proper b image plan ground =
     let small = (ground.is_plan).words.sp in
     record {
@@ -150,7 +150,7 @@ start_proper b image plan ground =
       few = omega (arith, ap length (set_locals (record { regs = replicate 27 any_val; ie = plan.start_ie; ccpn = plan.start_ccpn; lower = false; locals = record { items = [] } }) 26 (word_val plan.sp)));
     }
 
-pub lawful : (b : Limits) (image : ImageData) (plan : PlanData) → IsGround b image plan → AreLawful b image plan
+pub lawful : (b : Limits) (image : ImageData) (plan : PlanData) → IsGround b image plan → AreMakerLaws b image plan
 lawful b image plan ground = record {
   covers_same = known_same;
   covers_through = known_through b;

@@ -10,17 +10,17 @@ use Rattle.value_domain.specs.declared.values.Val.TheVariants.{Set, Span}
 use Rattle.value_domain.specs.declared.states.State.{State}
 use Rattle.value_domain.specs.Limits.{Limits, AreLimits}
 use Rattle.value_domain.specs.Sets.{Among, Within, Rising}
-use Rattle.value_domain.specs.Values.{IsBelow, IsWell, count_in, first_in, members}
-use Rattle.value_domain.specs.State.{AreBelow, AreValues, AreWell, Covers, ImpliedBy}
+use Rattle.value_domain.specs.Values.{IsBelow, IsWell, count_in, first_in_span, members}
+use Rattle.value_domain.specs.State.{AreBelow, AreValues, AreWell, Covers, FlagsImpliedBy}
 use Rattle.value_domain.proofs.CoverLaws.{among_member, has_step, length-multiples, member_among, rising_multiples, step_cases, unit_some}
 use Rattle.value_domain.proofs.SetLaws.{length_within}
-use Rattle.depth_cert.specs.Keys.{byte_of}
+use Rattle.depth_cert.specs.Keys.{cert_flag_byte}
 use Rattle.depth_cert.specs.declared.points.Exit as exits
-use Rattle.cfg_recover.specs.Assignments.{raised}
-use Rattle.depth_cert.specs.Known.{Known, state, leaving, CoversKnown, priority_of}
-use Rattle.depth_cert.specs.Proper.{IsProper, IsProperExit, IsProperKnown}
-use Rattle.depth_maker.specs.TableLevels.{rank_at, rank_of, size_of}
-use Rattle.depth_maker.specs.MakerLaws.{AreLawful}
+use Rattle.cfg_recover.specs.Assignments.{raised_at_place}
+use Rattle.depth_cert.specs.Known.{Known, state, leaving, CoversKnown, known_priority}
+use Rattle.depth_cert.specs.Proper.{IsProperState, IsProperExit, IsProperKnown}
+use Rattle.depth_maker.specs.TableLevels.{level_of_place, level_of_known, level_of_values}
+use Rattle.depth_maker.specs.MakerLaws.{AreMakerLaws}
 
 -- ---- values
 -- an ascending list within another that is no longer has all that the other has
@@ -44,7 +44,7 @@ within_back (x ∷ xs) (y ∷ ys) rx ry w le z i =
 
 members_rising : (v : Val) → IsWell v → Rising (members v)
 members_rising (Set ws) w = w.rising
-members_rising (Span lo last step) w = rising_multiples (count_in lo last step) (first_in lo step) (2 ^ step) (unit_some step)
+members_rising (Span lo last step) w = rising_multiples (count_in lo last step) (first_in_span lo step) (2 ^ step) (unit_some step)
 
 members_within : (v w : Val) → IsWell v → IsWell w → IsBelow v w → Within (members v) (members w)
 members_within v w wv ww h z i = among_member w z (has_step w ww) (h z (member_among v z (has_step v wv) i))
@@ -66,7 +66,7 @@ count_most =
 
 size_most : (v : Val) → IsWell v → length (members v) ≤ 2 ^ 32
 size_most (Set ws) w = omega (arith, w.few)
-size_most (Span lo last step) w = omega (arith, length-multiples (count_in lo last step) (first_in lo step) (2 ^ step), count_most step w.0 lo last w.2)
+size_most (Span lo last step) w = omega (arith, length-multiples (count_in lo last step) (first_in_span lo step) (2 ^ step), count_most step w.0 lo last w.2)
 
 -- ---- registers
 head : (v : Val) (vs : List Val) → AreWell (v ∷ vs) → IsWell v
@@ -78,10 +78,10 @@ tail v vs h r lt = h (suc r) (omega arith)
 below_tail : (v w : Val) (vs ws : List Val) → AreBelow (v ∷ vs) (w ∷ ws) → AreBelow vs ws
 below_tail v w vs ws h r lt = h (suc r) (omega arith)
 
-size_cons : (v : Val) (vs : List Val) → size_of (v ∷ vs) ≡ length (members v) + size_of vs
+size_cons : (v : Val) (vs : List Val) → level_of_values (v ∷ vs) ≡ length (members v) + level_of_values vs
 size_cons v vs = sum_by-cons (λ (x : Val). length (members x)) v vs
 
-regs_below : (vs ws : List Val) → length vs ≡ length ws → AreWell vs → AreWell ws → AreBelow vs ws → size_of vs ≤ size_of ws
+regs_below : (vs ws : List Val) → length vs ≡ length ws → AreWell vs → AreWell ws → AreBelow vs ws → level_of_values vs ≤ level_of_values ws
 regs_below [] [] e wv ww h = omega arith
 regs_below [] (w ∷ ws) e wv ww h = absurd (omega arith)
 regs_below (v ∷ vs) [] e wv ww h = absurd (omega arith)
@@ -90,7 +90,7 @@ regs_below (v ∷ vs) (w ∷ ws) e wv ww h =
     let rest = regs_below vs ws (omega arith) (tail v vs wv) (tail w ws ww) (below_tail v w vs ws h) in
     omega (arith, size_cons v vs, size_cons w ws, first, rest)
 
-regs_back : (vs ws : List Val) → length vs ≡ length ws → AreWell vs → AreWell ws → AreBelow vs ws → size_of ws ≤ size_of vs → AreBelow ws vs
+regs_back : (vs ws : List Val) → length vs ≡ length ws → AreWell vs → AreWell ws → AreBelow vs ws → level_of_values ws ≤ level_of_values vs → AreBelow ws vs
 regs_back [] [] e wv ww h le r lt = absurd (omega arith)
 regs_back [] (w ∷ ws) e wv ww h le r lt = absurd (omega arith)
 regs_back (v ∷ vs) [] e wv ww h le r lt = absurd (omega arith)
@@ -101,7 +101,7 @@ regs_back (v ∷ vs) (w ∷ ws) e wv ww h le (suc r) lt =
     let first = size_below v w (head v vs wv) (head w ws ww) (h 0 (omega arith)) in
     regs_back vs ws (omega arith) (tail v vs wv) (tail w ws ww) (below_tail v w vs ws h) (omega (arith, le, size_cons v vs, size_cons w ws, first)) r (omega arith)
 
-regs_most : (vs : List Val) → AreWell vs → size_of vs ≤ length vs * 2 ^ 32
+regs_most : (vs : List Val) → AreWell vs → level_of_values vs ≤ length vs * 2 ^ 32
 regs_most vs w = sum_by-le (λ (x : Val). length (members x)) (2 ^ 32) vs (λ k d lt. at vs w k d lt) where
   at : (us : List Val) → AreWell us → (k : ℕ) (d : Val) → k < length us → length (members (get_or us k d)) ≤ 2 ^ 32
   at [] h k d lt = absurd (omega arith)
@@ -112,37 +112,37 @@ values_well : (b : Limits) (vs : List Val) → AreValues b vs → AreWell vs
 values_well b vs h r lt = (h r lt).well
 
 -- ---- flags
-flag_below : (x y : Bool) → (IsTrue x → IsTrue y) → byte_of x ≤ byte_of y
+flag_below : (x y : Bool) → (IsTrue x → IsTrue y) → cert_flag_byte x ≤ cert_flag_byte y
 flag_below false y h = omega arith
 flag_below true true h = omega arith
 flag_below true false h = absurd (let no : false ≡ true = h refl in cc)
 
-flag_back : (x y : Bool) → byte_of y ≤ byte_of x → IsTrue y → IsTrue x
+flag_back : (x y : Bool) → cert_flag_byte y ≤ cert_flag_byte x → IsTrue y → IsTrue x
 flag_back true y le t = refl
 flag_back false true le t = absurd (omega arith)
 flag_back false false le t = t
 
-clear_below : (x y : Bool) → (IsTrue y → IsTrue x) → byte_of (not x) ≤ byte_of (not y)
+clear_below : (x y : Bool) → (IsTrue y → IsTrue x) → cert_flag_byte (not x) ≤ cert_flag_byte (not y)
 clear_below true y h = omega arith
 clear_below false true h = absurd (let no : false ≡ true = h refl in cc)
 clear_below false false h = omega arith
 
-clear_back : (x y : Bool) → byte_of (not y) ≤ byte_of (not x) → IsTrue x → IsTrue y
+clear_back : (x y : Bool) → cert_flag_byte (not y) ≤ cert_flag_byte (not x) → IsTrue x → IsTrue y
 clear_back x true le t = refl
 clear_back true false le t = absurd (omega arith)
 clear_back false false le t = t
 
-count_cons : (x : Bool) (xs : List Bool) → count_by not (x ∷ xs) ≡ byte_of (not x) + count_by not xs
+count_cons : (x : Bool) (xs : List Bool) → count_by not (x ∷ xs) ≡ cert_flag_byte (not x) + count_by not xs
 count_cons true xs = sum_by-cons (λ (y : Bool). cond (not y) 1 0) true xs
 count_cons false xs = sum_by-cons (λ (y : Bool). cond (not y) 1 0) false xs
 
-locals_below : (us xs : List Bool) → ImpliedBy us xs → count_by not xs ≤ count_by not us
+locals_below : (us xs : List Bool) → FlagsImpliedBy us xs → count_by not xs ≤ count_by not us
 locals_below [] [] h = omega arith
 locals_below [] (x ∷ xs) h = absurd h
 locals_below (u ∷ us) [] h = absurd h
 locals_below (u ∷ us) (x ∷ xs) h = omega (arith, count_cons u us, count_cons x xs, clear_below x u h.0, locals_below us xs h.1)
 
-locals_back : (us xs : List Bool) → ImpliedBy us xs → count_by not us ≤ count_by not xs → ImpliedBy xs us
+locals_back : (us xs : List Bool) → FlagsImpliedBy us xs → count_by not us ≤ count_by not xs → FlagsImpliedBy xs us
 locals_back [] [] h le = tt
 locals_back [] (x ∷ xs) h le = absurd h
 locals_back (u ∷ us) [] h le = absurd h
@@ -152,7 +152,7 @@ locals_back (u ∷ us) (x ∷ xs) h le = (
 )
 
 -- ---- what is known
-state_back : (b : Limits) (s u : State) → IsProper b s → IsProper b u → Covers u s → u.ccpn < 256 → rank_of (state u) ≤ rank_of (state s) → Covers s u
+state_back : (b : Limits) (s u : State) → IsProperState b s → IsProperState b u → Covers u s → u.ccpn < 256 → level_of_known (state u) ≤ level_of_known (state s) → Covers s u
 state_back b s u ps pu c small le =
     let same = ps.regs ∙ sym pu.regs in
     let ws = values_well b s.regs ps.values in
@@ -172,7 +172,7 @@ state_back b s u ps pu c small le =
       locals = locals_back u.locals.items s.locals.items c.locals (omega (arith, le, regs, ie, lower, locals, prio));
     }
 
-exit_back : (b : Limits) (x y : exits.Exit) → IsProperExit b x → IsProperExit b y → CoversKnown (leaving y) (leaving x) → y.ccpn < 256 → rank_of (leaving y) ≤ rank_of (leaving x) → CoversKnown (leaving x) (leaving y)
+exit_back : (b : Limits) (x y : exits.Exit) → IsProperExit b x → IsProperExit b y → CoversKnown (leaving y) (leaving x) → y.ccpn < 256 → level_of_known (leaving y) ≤ level_of_known (leaving x) → CoversKnown (leaving x) (leaving y)
 exit_back b x y px py c small le =
     let same = px.regs ∙ sym py.regs in
     let wx = values_well b x.lower px.values in
@@ -186,27 +186,27 @@ exit_back b x y px py c small le =
       priority = omega (arith, le, regs, ie, prio, small);
     }
 
-known_back : (b : Limits) (w u : Known) → IsProperKnown b w → IsProperKnown b u → CoversKnown u w → priority_of u < 256 → rank_of u ≤ rank_of w → CoversKnown w u
+known_back : (b : Limits) (w u : Known) → IsProperKnown b w → IsProperKnown b u → CoversKnown u w → known_priority u < 256 → level_of_known u ≤ level_of_known w → CoversKnown w u
 known_back b (state s) (state u) ps pu c small le = state_back b s u ps pu c small le
 known_back b (leaving x) (leaving y) px py c small le = exit_back b x y px py c small le
 known_back b (state s) (leaving y) ps py c small le = absurd c
 known_back b (leaving x) (state u) px pu c small le = absurd c
 
-priority_falls : (u v : Known) → CoversKnown u v → priority_of u ≤ priority_of v
+priority_falls : (u v : Known) → CoversKnown u v → known_priority u ≤ known_priority v
 priority_falls (state u) (state s) c = c.context.1
 priority_falls (leaving y) (leaving x) c = c.priority
 priority_falls (state u) (leaving x) c = absurd c
 priority_falls (leaving y) (state s) c = absurd c
 
 -- the join of something that isn't covered has a higher rank
-pub rank_rises : (b : Limits) (image : ImageData) (plan : PlanData) → AreLawful b image plan → (o : Option Known) (v u : Known) → ((w : Known) → o ≡ Some w → IsProperKnown b w) → IsProperKnown b v → raised b o v ≡ Some u
-    → ((w : Known) → o ≡ Some w → CoversKnown w v → ⊥) → priority_of v < 256 → rank_at o < rank_at (Some u)
+pub rank_rises : (b : Limits) (image : ImageData) (plan : PlanData) → AreMakerLaws b image plan → (o : Option Known) (v u : Known) → ((w : Known) → o ≡ Some w → IsProperKnown b w) → IsProperKnown b v → raised_at_place b o v ≡ Some u
+    → ((w : Known) → o ≡ Some w → CoversKnown w v → ⊥) → known_priority v < 256 → level_of_place o < level_of_place (Some u)
 rank_rises b image plan laws None v u po pv is new small = omega arith
 rank_rises b image plan laws (Some w) v u po pv is new small =
     let pw = po w refl in
     let pu = laws.joined_proper w v u pw pv is in
     let above = laws.joined_above w v u pw pv is in
-    elim (cases_lt (rank_of w) (rank_of u)) [
+    elim (cases_lt (level_of_known w) (level_of_known u)) [
       | inl lt ↦ omega (arith, lt)
       | inr ge ↦ absurd (new w refl (laws.covers_through v u w pv pu (known_back b w u pw pu above.0 (omega (arith, small, priority_falls u v above.1)) (omega (arith, ge))) above.1))
     ]
@@ -215,30 +215,30 @@ rank_rises b image plan laws (Some w) v u po pv is new small =
 abbrev pub most_rank : ℕ
 most_rank = 2 ^ 37
 
-state_most : (b : Limits) (s : State) → AreLimits b → IsProper b s → rank_of (state s) ≤ most_rank
+state_most : (b : Limits) (s : State) → AreLimits b → IsProperState b s → level_of_known (state s) ≤ most_rank
 state_most b s limits p =
     let regs = regs_most s.regs (values_well b s.regs p.values) in
-    let e = subst (λ (n : ℕ). size_of s.regs ≤ n * 2 ^ 32) p.regs regs in
+    let e = subst (λ (n : ℕ). level_of_values s.regs ≤ n * 2 ^ 32) p.regs regs in
     omega (arith, e, byte_most s.ie, byte_most (not s.lower), count_by-le-length not s.locals.items, p.few, limits.few_locals)
   where
-    byte_most : (x : Bool) → byte_of x ≤ 1
+    byte_most : (x : Bool) → cert_flag_byte x ≤ 1
     byte_most true = omega arith
     byte_most false = omega arith
 
-exit_most : (b : Limits) (x : exits.Exit) → IsProperExit b x → rank_of (leaving x) ≤ most_rank
+exit_most : (b : Limits) (x : exits.Exit) → IsProperExit b x → level_of_known (leaving x) ≤ most_rank
 exit_most b x p =
     let regs = regs_most x.lower (values_well b x.lower p.values) in
-    let e = subst (λ (n : ℕ). size_of x.lower ≤ n * 2 ^ 32) p.regs regs in
+    let e = subst (λ (n : ℕ). level_of_values x.lower ≤ n * 2 ^ 32) p.regs regs in
     omega (arith, e, byte_most x.ie)
   where
-    byte_most : (y : Bool) → byte_of y ≤ 1
+    byte_most : (y : Bool) → cert_flag_byte y ≤ 1
     byte_most true = omega arith
     byte_most false = omega arith
 
-known_most : (b : Limits) (v : Known) → AreLimits b → IsProperKnown b v → rank_of v ≤ most_rank
+known_most : (b : Limits) (v : Known) → AreLimits b → IsProperKnown b v → level_of_known v ≤ most_rank
 known_most b (state s) limits p = state_most b s limits p
 known_most b (leaving x) limits p = exit_most b x p
 
-pub at_most : (b : Limits) (o : Option Known) → AreLimits b → ((v : Known) → o ≡ Some v → IsProperKnown b v) → rank_at o ≤ 1 + most_rank
+pub at_most : (b : Limits) (o : Option Known) → AreLimits b → ((v : Known) → o ≡ Some v → IsProperKnown b v) → level_of_place o ≤ 1 + most_rank
 at_most b None limits p = omega arith
 at_most b (Some v) limits p = omega (arith, known_most b v limits (p v refl))

@@ -16,7 +16,7 @@ use Rattle.frame_places.specs.declared.places.Marked.{Marked}
 use Rattle.frame_places.specs.declared.places.Mark.TheVariants.{Queued}
 use Rattle.depth_maker.specs.declared.table.Table as made
 use Rattle.frame_places.specs.Marks.{AllListed, mark_for, value_for}
-use Rattle.depth_maker.specs.TableLevels.{level, rank_at, Rises, Steps}
+use Rattle.depth_maker.specs.TableLevels.{level, level_of_place, LevelRises, LevelAdvances}
 use Rattle.frame_places.specs.Spots.{spot_eq}
 use Rattle.depth_maker.specs.ProperAssignments.{CellsProper}
 use Rattle.depth_maker.specs.Counts.{IsCountedIn}
@@ -27,7 +27,7 @@ use Rattle.frame_places.proofs.MarkLemmas.{sides}
 use Rattle.depth_maker.proofs.PointEntries.{placed}
 use Rattle.depth_maker.proofs.SpotLemmas.{front_cases}
 use Rattle.frame_places.proofs.SpotLemmas.{spot_refl, spot_tells}
-use Rattle.frame_places.specs.Work.{Lists, Takes, all_work}
+use Rattle.frame_places.specs.Work.{WorkLists, Takes, all_work}
 
 -- ---- sums
 -- no term is lower, and one is higher
@@ -55,24 +55,24 @@ frames_more f false ks (Point k p) = at (p == k.entry) where
 -- ---- a join
 module _ (s t : made.Table) (y : Spot) (u : Known) (known : Bool) (after : (q : Spot) → value_for t.places q ≡ (if spot_eq y q then Some u else value_for s.places q))
     (points : t.points.items ≡ points_after known s.points.items y) (frames : t.frames.items ≡ frames_after known s.frames.items y) (counted : IsCountedIn t.places t.points.items t.frames.items)
-    (higher : rank_at (value_for s.places y) < rank_at (Some u)) where
+    (higher : level_of_place (value_for s.places y) < level_of_place (Some u)) where
   abbrev old : Spot → ℕ
-  old q = rank_at (value_for s.places q)
+  old q = level_of_place (value_for s.places q)
 
   abbrev new : Spot → ℕ
-  new q = rank_at (value_for t.places q)
+  new q = level_of_place (value_for t.places q)
 
   there : value_for t.places y ≡ Some u
   there = after y ∙ ap (λ e. if e then Some u else value_for s.places y) (spot_refl y)
 
   at_y : old y < new y
-  at_y = subst (λ (o : Option Known). old y < rank_at o) (sym there) higher
+  at_y = subst (λ (o : Option Known). old y < level_of_place o) (sym there) higher
 
   each : (q : Spot) → old q ≤ new q
   each q =
       elim (sides (spot_eq y q) (Some u) (value_for s.places q) (value_for t.places q) (after q)) [
         | inl l ↦ subst (λ (z : Spot). old z ≤ new z) (spot_tells y q l.0) (omega (arith, at_y))
-        | inr r ↦ subst (λ (o : Option Known). old q ≤ rank_at o) (sym r.1) (omega arith)
+        | inr r ↦ subst (λ (o : Option Known). old q ≤ level_of_place o) (sym r.1) (omega arith)
       ]
 
   no_point_lost : sum_by old s.points.items ≤ sum_by old t.points.items
@@ -108,9 +108,9 @@ module _ (s t : made.Table) (y : Spot) (u : Known) (known : Bool) (after : (q : 
 pub same_level : (s t : made.Table) → ((q : Spot) → value_for t.places q ≡ value_for s.places q) → t.points.items ≡ s.points.items → t.frames.items ≡ s.frames.items → level t ≡ level s
 unfolding level
 same_level s t cells points frames =
-    λ i. sum_by (λ q. rank_at (cells q i)) (points i) + sum_by (λ k. rank_at (cells (Exit k) i)) (frames i)
+    λ i. sum_by (λ q. level_of_place (cells q i)) (points i) + sum_by (λ k. level_of_place (cells (Exit k) i)) (frames i)
 
-pub rises_then : (s m t : made.Table) → Rises s m → Rises m t → Rises s t
+pub rises_then : (s m t : made.Table) → LevelRises s m → LevelRises m t → LevelRises s t
 rises_then s m t (inl a) (inl b) = inl (omega (arith, a, b))
 rises_then s m t (inl a) (inr b) = inl (omega (arith, a, b.0))
 rises_then s m t (inr a) (inl b) = inl (omega (arith, a.0, b))
@@ -124,21 +124,21 @@ pub level_most : (b : Limits) (t : made.Table) → AreLimits b → CellsProper b
 unfolding level
 level_most b t limits proper counted =
     let few = few_spots t.points.items t.frames.items counted.few in
-    let ps = sum_by-le (λ (q : Spot). rank_at (value_for t.places q)) (1 + most_rank) t.points.items (λ k d lt. at_most b (value_for t.places _) limits (proper _)) in
-    let ks = sum_by-le (λ (k : Key). rank_at (value_for t.places (Exit k))) (1 + most_rank) t.frames.items (λ k d lt. at_most b (value_for t.places (Exit _)) limits (proper (Exit _))) in
+    let ps = sum_by-le (λ (q : Spot). level_of_place (value_for t.places q)) (1 + most_rank) t.points.items (λ k d lt. at_most b (value_for t.places _) limits (proper _)) in
+    let ks = sum_by-le (λ (k : Key). level_of_place (value_for t.places (Exit k))) (1 + most_rank) t.frames.items (λ k d lt. at_most b (value_for t.places (Exit _)) limits (proper (Exit _))) in
     omega (arith, few.0, few.1, ps, ks)
 
 -- ---- turns
 -- the list without one place
-pub shorter : (old new : Lists) (number : ℕ) → Takes old new number → length (all_work old) ≡ length (all_work new) + 1
+pub shorter : (old new : WorkLists) (number : ℕ) → Takes old new number → length (all_work old) ≡ length (all_work new) + 1
 shorter old new number takes = let e = length_permutation (all_work old) (number ∷ all_work new) takes in omega (arith, e)
 
 -- a visit of one place that was taken off the list
-pub visited_one : (s m t : made.Table) → level m ≡ level s → length (all_work s.work) ≡ length (all_work m.work) + 1 → Rises m t → Steps s t
+pub visited_one : (s m t : made.Table) → level m ≡ level s → length (all_work s.work) ≡ length (all_work m.work) + 1 → LevelRises m t → LevelAdvances s t
 visited_one s m t e len (inl b) = inl (omega (arith, e, b))
 visited_one s m t e len (inr b) = inr (b.0 ∙ e, (let l = ap (λ (w : List ℕ). length w) b.1 in omega (arith, len, l)))
 
-pub turns_more : (s m t : made.Table) (i : ℕ) (n : ℕ) → (level s < level m) ⊎ ((level m ≡ level s) × (length (all_work m.work) + i ≤ n)) → Steps m t → (level s < level t) ⊎ ((level t ≡ level s) × (length (all_work t.work) + (i + 1) ≤ n))
+pub turns_more : (s m t : made.Table) (i : ℕ) (n : ℕ) → (level s < level m) ⊎ ((level m ≡ level s) × (length (all_work m.work) + i ≤ n)) → LevelAdvances m t → (level s < level t) ⊎ ((level t ≡ level s) × (length (all_work t.work) + (i + 1) ≤ n))
 turns_more s m t i n (inl a) (inl b) = inl (omega (arith, a, b))
 turns_more s m t i n (inl a) (inr b) = inl (omega (arith, a, b.0))
 turns_more s m t i n (inr a) (inl b) = inl (omega (arith, a.0, b))

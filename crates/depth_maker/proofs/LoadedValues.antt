@@ -7,7 +7,7 @@ use Rattle.std.proofs.lemmas.Nat.{pow-add}
 use Rattle.elf_image.specs.Images.{ImageData, image_byte}
 use Rattle.tcd_plan.specs.declared.plans.Device.{Device}
 use Rattle.tcd_plan.specs.PlanData.{PlanData, IsPlan, is_device}
-use Rattle.csa_chain.specs.MemoryBytes.{extend}
+use Rattle.csa_chain.specs.MemoryBytes.{extend_loaded_bytes}
 use Rattle.tc_machine.proofs.ShapeWords.{extended_lt}
 use Rattle.value_domain.specs.declared.values.Val.{Val}
 use Rattle.value_domain.specs.declared.values.Val.TheVariants.{Set, Span}
@@ -16,37 +16,37 @@ use Rattle.value_domain.specs.Sets.{Among}
 use Rattle.value_domain.specs.Values.{IsValue, range}
 use Rattle.value_domain.proofs.CoverLaws.{cover_least, range_among}
 use Rattle.value_domain.proofs.ExtentLaws.{among_append}
-use Rattle.store_ranges.specs.Accesses.{IsSize}
-use Rattle.tcd_base.specs.Ranges.{is_within}
-use Rattle.store_ranges.specs.Loads.{all_extended, answers, device_of, words_at, held_number, loaded_of, number_or, rom_number}
+use Rattle.store_ranges.specs.Accesses.{IsAccessSize}
+use Rattle.tcd_base.specs.Ranges.{is_within_range}
+use Rattle.store_ranges.specs.Loads.{all_extended, loaded_answers, device_of_loads, loaded_words_at, held_number, loaded_of, loaded_number_or, rom_number}
 use Rattle.store_ranges.proofs.Covers.{among_map}
 use Rattle.store_ranges.proofs.Finds.{found_all}
 use Rattle.store_ranges.proofs.LoadLaws.{answers_some, device_bounds}
 use Rattle.store_ranges.proofs.Sound.{held_parts, one_more_byte}
 
-extended_small : (size : ℕ) (signed : Bool) (x : ℕ) → IsSize size → x < 2 ^ (8 * size) → extend signed size x < 2 ^ 32
-extended_small size signed x (inl e) lt = subst (λ n. extend signed n x < 2 ^ 32) (sym e) (at signed (subst (λ n. x < 2 ^ (8 * n)) e lt)) where
-  at : (signed : Bool) → x < 2 ^ 8 → extend signed 1 x < 2 ^ 32
+extended_small : (size : ℕ) (signed : Bool) (x : ℕ) → IsAccessSize size → x < 2 ^ (8 * size) → extend_loaded_bytes signed size x < 2 ^ 32
+extended_small size signed x (inl e) lt = subst (λ n. extend_loaded_bytes signed n x < 2 ^ 32) (sym e) (at signed (subst (λ n. x < 2 ^ (8 * n)) e lt)) where
+  at : (signed : Bool) → x < 2 ^ 8 → extend_loaded_bytes signed 1 x < 2 ^ 32
   at true lt = extended_lt x (2 ^ 8) (nat_lt x (2 ^ 7)) lt (omega arith)
   at false lt = omega arith
-extended_small size signed x (inr (inl e)) lt = subst (λ n. extend signed n x < 2 ^ 32) (sym e) (at signed (subst (λ n. x < 2 ^ (8 * n)) e lt)) where
-  at : (signed : Bool) → x < 2 ^ 16 → extend signed 2 x < 2 ^ 32
+extended_small size signed x (inr (inl e)) lt = subst (λ n. extend_loaded_bytes signed n x < 2 ^ 32) (sym e) (at signed (subst (λ n. x < 2 ^ (8 * n)) e lt)) where
+  at : (signed : Bool) → x < 2 ^ 16 → extend_loaded_bytes signed 2 x < 2 ^ 32
   at true lt = extended_lt x (2 ^ 16) (nat_lt x (2 ^ 15)) lt (omega arith)
   at false lt = omega arith
-extended_small size signed x (inr (inr e)) lt = subst (λ n. extend signed n x < 2 ^ 32) (sym e) (at signed (subst (λ n. x < 2 ^ (8 * n)) e lt)) where
-  at : (signed : Bool) → x < 2 ^ 32 → extend signed 4 x < 2 ^ 32
+extended_small size signed x (inr (inr e)) lt = subst (λ n. extend_loaded_bytes signed n x < 2 ^ 32) (sym e) (at signed (subst (λ n. x < 2 ^ (8 * n)) e lt)) where
+  at : (signed : Bool) → x < 2 ^ 32 → extend_loaded_bytes signed 4 x < 2 ^ 32
   at true lt = extended_lt x (2 ^ 32) (nat_lt x (2 ^ 31)) lt (omega arith)
   at false lt = lt
 
-all_below : (size : ℕ) (signed : Bool) (z : ℕ) → IsSize size → Among z (all_extended size signed) → z < 2 ^ 32
+all_below : (size : ℕ) (signed : Bool) (z : ℕ) → IsAccessSize size → Among z (all_extended size signed) → z < 2 ^ 32
 all_below size signed z is i =
-    let m = among_map (extend signed size) z (range 0 (2 ^ (8 * size) - 1) 0) i in
+    let m = among_map (extend_loaded_bytes signed size) z (range 0 (2 ^ (8 * size) - 1) 0) i in
     let r = range_among m.0 0 (2 ^ (8 * size) - 1) 0 (omega arith) m.1 in
     let some : 0 < 2 ^ (8 * size) = powers is in
     let lt : m.0 < 2 ^ (8 * size) = let le : m.0 ≤ 2 ^ (8 * size) - 1 = r.1 in omega arith in
     subst (λ n. n < 2 ^ 32) (sym m.2) (extended_small size signed m.0 is lt)
   where
-    powers : IsSize size → 0 < 2 ^ (8 * size)
+    powers : IsAccessSize size → 0 < 2 ^ (8 * size)
     powers (inl e) = subst (λ n. 0 < 2 ^ (8 * n)) (sym e) (omega arith)
     powers (inr (inl e)) = subst (λ n. 0 < 2 ^ (8 * n)) (sym e) (omega arith)
     powers (inr (inr e)) = subst (λ n. 0 < 2 ^ (8 * n)) (sym e) (omega arith)
@@ -66,23 +66,23 @@ held_lt image bytes x (suc n) w e =
     let lt = one_more_byte n h.0 h.1 (2 ^ (8 * n)) refl (bytes x h.0 h.2) rest in
     subst (λ q. w < q) (sym p) (subst (λ y. y < 2 ^ 8 * 2 ^ (8 * n)) h.4 lt)
 
-module _ (image : ImageData) (plan : PlanData) (size : ℕ) (signed : Bool) (ok : IsPlan plan) (bytes : HasImageBytes image) (is : IsSize size) where
+module _ (image : ImageData) (plan : PlanData) (size : ℕ) (signed : Bool) (ok : IsPlan plan) (bytes : HasImageBytes image) (is : IsAccessSize size) where
   rom_lt : (x w : ℕ) → rom_number image plan x size ≡ Some w → w < 2 ^ (8 * size)
   rom_lt x w e =
-      elim (cases_Bool (list_any (is_within x size) plan.rom)) [
+      elim (cases_Bool (list_any (is_within_range x size) plan.rom)) [
         | inl t ↦ held_lt image bytes x size w (rw t at e)
         | inr f ↦ absurd (let g : None ≡ Some w = rw f at e in cc)
       ]
 
   -- the device that is found is one of the plan's
-  device_is : (xs : List ℕ) (d : Device) → device_of plan size xs ≡ Some d → is_device d ≡ true
+  device_is : (xs : List ℕ) (d : Device) → device_of_loads plan size xs ≡ Some d → is_device d ≡ true
   device_is xs d e =
       elim (cases_Bool (eqb size 4)) [
-        | inl four ↦ found_all (λ d. list_all (λ x. is_within x 4 d.range) xs) is_device plan.devices d ok.ranges.devices (rw four at e)
+        | inl four ↦ found_all (λ d. list_all (λ x. is_within_range x 4 d.range) xs) is_device plan.devices d ok.ranges.devices (rw four at e)
         | inr other ↦ absurd (let f : None ≡ Some d = rw other at e in cc)
       ]
 
-  answers_below : (xs : List ℕ) (o : Option Device) → device_of plan size xs ≡ o → (z : ℕ) → Among z (answers size signed o) → z < 2 ^ 32
+  answers_below : (xs : List ℕ) (o : Option Device) → device_of_loads plan size xs ≡ o → (z : ℕ) → Among z (loaded_answers size signed o) → z < 2 ^ 32
   answers_below xs None e z i = all_below size signed z is i
   answers_below xs (Some d) e z i =
       let below : d.hi < 2 ^ 32 = ltb-true d.hi (2 ^ 32) (and_parts _ _ (device_is xs d e)).1 in
@@ -90,39 +90,39 @@ module _ (image : ImageData) (plan : PlanData) (size : ℕ) (signed : Bool) (ok 
       let le : z ≤ d.hi = m.1 in
       omega arith
 
-  answers_more : (xs : List ℕ) → 1 ≤ length (answers size signed (device_of plan size xs))
+  answers_more : (xs : List ℕ) → 1 ≤ length (loaded_answers size signed (device_of_loads plan size xs))
   answers_more xs =
       elim (cases_Bool (eqb size 4)) [
-        | inl four ↦ rw four (answers_some size signed (find (λ d. list_all (λ x. is_within x 4 d.range) xs) plan.devices) (device_bounds plan _ _ ok refl))
+        | inl four ↦ rw four (answers_some size signed (find (λ d. list_all (λ x. is_within_range x 4 d.range) xs) plan.devices) (device_bounds plan _ _ ok refl))
         | inr other ↦ rw other (answers_some size signed None tt)
       ]
 
-  given_below : (x : ℕ) (o : Option ℕ) → rom_number image plan x size ≡ o → (z : ℕ) → Among z (number_or size signed (device_of plan size (x ∷ [])) o) → z < 2 ^ 32
-  given_below x None e z i = answers_below (x ∷ []) (device_of plan size (x ∷ [])) refl z i
+  given_below : (x : ℕ) (o : Option ℕ) → rom_number image plan x size ≡ o → (z : ℕ) → Among z (loaded_number_or size signed (device_of_loads plan size (x ∷ [])) o) → z < 2 ^ 32
+  given_below x None e z i = answers_below (x ∷ []) (device_of_loads plan size (x ∷ [])) refl z i
   given_below x (Some w) e z i =
       elim i [
         | inl same ↦ subst (λ n. n < 2 ^ 32) (sym same) (extended_small size signed w is (rom_lt x w e))
         | inr none ↦ absurd none
       ]
 
-  given_more : (x : ℕ) (o : Option ℕ) → 1 ≤ length (number_or size signed (device_of plan size (x ∷ [])) o)
+  given_more : (x : ℕ) (o : Option ℕ) → 1 ≤ length (loaded_number_or size signed (device_of_loads plan size (x ∷ [])) o)
   given_more x None = answers_more (x ∷ [])
   given_more x (Some w) = omega arith
 
-  flat_words : (ws : List ℕ) (z : ℕ) → Among z (flat_map (words_at image plan size signed) ws) → z < 2 ^ 32
+  flat_words : (ws : List ℕ) (z : ℕ) → Among z (flat_map (loaded_words_at image plan size signed) ws) → z < 2 ^ 32
   flat_words [] z i = absurd i
   flat_words (w ∷ ws) z i =
-      elim (among_append z (words_at image plan size signed w) (flat_map (words_at image plan size signed) ws) i) [
+      elim (among_append z (loaded_words_at image plan size signed w) (flat_map (loaded_words_at image plan size signed) ws) i) [
         | inl j ↦ given_below w (rom_number image plan w size) refl z j
         | inr j ↦ flat_words ws z j
       ]
 
-  flat_more : (ws : List ℕ) → 1 ≤ length ws → 1 ≤ length (flat_map (words_at image plan size signed) ws)
+  flat_more : (ws : List ℕ) → 1 ≤ length ws → 1 ≤ length (flat_map (loaded_words_at image plan size signed) ws)
   flat_more [] some = absurd (omega arith)
   flat_more (w ∷ ws) some =
-      omega (arith, length-append (words_at image plan size signed w) (flat_map (words_at image plan size signed) ws), given_more w (rom_number image plan w size))
+      omega (arith, length-append (loaded_words_at image plan size signed w) (flat_map (loaded_words_at image plan size signed) ws), given_more w (rom_number image plan w size))
 
   pub loaded_value : (b : Limits) (v : Val) → AreLimits b → IsValue b v → IsValue b (loaded_of b image plan v size signed)
   loaded_value b (Set ws) limits vv = (cover_least b _ limits (record { some = flat_more ws vv.well.some; below = flat_words ws })).value
   loaded_value b (Span lo last step) limits vv =
-      (cover_least b _ limits (record { some = answers_more (range lo last step); below = answers_below (range lo last step) (device_of plan size (range lo last step)) refl })).value
+      (cover_least b _ limits (record { some = answers_more (range lo last step); below = answers_below (range lo last step) (device_of_loads plan size (range lo last step)) refl })).value

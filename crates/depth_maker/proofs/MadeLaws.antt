@@ -11,11 +11,11 @@ use Rattle.depth_cert.specs.Certs.{CertData, IsCert, find_node}
 use Rattle.cfg_recover.specs.Duties.{enter}
 use Rattle.cfg_recover.specs.Entries.{start_key}
 use Rattle.cfg_recover.specs.RulesHoldOrFail.{Accepts, limits_in}
-use Rattle.cfg_recover.specs.Assignments.{Place, point, exit, Assignment, frame_of, Derived, Closed, IsBelowAt, known_in}
+use Rattle.cfg_recover.specs.Assignments.{Place, point, exit, Assignment, frame_of_place, Derived, Closed, IsBelowAt, known_in}
 use Rattle.depth_cert.specs.Known.{Known, state, leaving, CoversKnown}
 use Rattle.cfg_recover.specs.CertRefusals.{MeetsNeeds, IsRefusal}
 use Rattle.depth_maker.specs.DutiesGrow.{IsGround}
-use Rattle.depth_maker.specs.MakerLaws.{IsSolution, RefusalsHold, WrittenIsMade, RefusedIsNone, MadeIsLeast}
+use Rattle.depth_maker.specs.MakerLaws.{IsMakerSolution, RefusalsHold, WrittenIsMade, RefusedIsNone, MadeIsLeast}
 use Rattle.depth_maker.specs.LeastCertMade.{needs_in, IsNoWorse, IsMade, IsWritten}
 use Rattle.depth_maker.proofs.Lawful.{lawful}
 use Rattle.depth_maker.proofs.Below.{derived_below}
@@ -27,12 +27,12 @@ use Rattle.depth_maker.proofs.Solved.{solution_accepted}
 use Rattle.depth_maker.proofs.LeastStands.{least_stands}
 
 -- a known place of a certificate has a key
-known_key : (cert : CertData) → IsCert cert → (y : Place) (v : Known) → known_in cert y ≡ Some v → IsKey (frame_of y)
+known_key : (cert : CertData) → IsCert cert → (y : Place) (v : Known) → known_in cert y ≡ Some v → IsKey (frame_of_place y)
 known_key cert is_cert (point k p) v e = let a = (at_point cert k p v e).2 in subst IsKey a.key (All-at (IsNode cert.version) cert.nodes a.node is_cert.nodes a.member).key
 known_key cert is_cert (exit k) v e = let a = (at_exit cert k v e).2 in subst IsKey a.key (All-at (IsNode cert.version) cert.nodes a.node is_cert.nodes a.member).key
 
 -- numbers that agree at the known frames meet the same needs
-pub meets_alike : (b : Limits) (image : ImageData) (plan : PlanData) (a : Assignment) (f g : Key → ℕ) → Closed b image plan a → ((y : Place) (v : Known) → a y ≡ Some v → f (frame_of y) ≡ g (frame_of y))
+pub meets_alike : (b : Limits) (image : ImageData) (plan : PlanData) (a : Assignment) (f g : Key → ℕ) → Closed b image plan a → ((y : Place) (v : Known) → a y ≡ Some v → f (frame_of_place y) ≡ g (frame_of_place y))
     → MeetsNeeds b image plan a f → MeetsNeeds b image plan a g
 meets_alike b image plan a f g closed same m = record {
   locals = λ k p s at. let le = m.locals k p s at in omega (arith, le, same (point k p) (state s) at);
@@ -50,12 +50,12 @@ module _ (image : ImageData) (plan : PlanData) (cert : CertData) (ground : IsGro
   -- needs of any certificate, by numbers and by keys
   by_keys : (other : CertData) → IsCert other → MeetsNeeds (limits_in plan cert) image plan (known_in cert) (λ k. need_of (find_node k other.nodes)) → MeetsNeeds (limits_in plan cert) image plan (known_in cert) (needs_in other)
   by_keys other is_other m =
-      meets_alike (limits_in plan cert) image plan (known_in cert) (λ k. need_of (find_node k other.nodes)) (needs_in other) w.closed (λ y v at. numbers_agree other is_other (frame_of y) (known_key cert w.is_cert y v at)) m
+      meets_alike (limits_in plan cert) image plan (known_in cert) (λ k. need_of (find_node k other.nodes)) (needs_in other) w.closed (λ y v at. numbers_agree other is_other (frame_of_place y) (known_key cert w.is_cert y v at)) m
 
   start_is : IsKey (start_key image plan)
   start_is = record { kind = omega arith; entry = entry; prio = omega arith }
 
-  solution : IsSolution (limits_in plan cert) image plan (known_in cert) (λ k. need_of (find_node k cert.nodes))
+  solution : IsMakerSolution (limits_in plan cert) image plan (known_in cert) (λ k. need_of (find_node k cert.nodes))
   solution = record {
     closed = w.closed;
     faultless = w.faultless;
@@ -63,7 +63,7 @@ module _ (image : ImageData) (plan : PlanData) (cert : CertData) (ground : IsGro
     within = cert_within cert w.is_cert;
     needs =
         meets_alike (limits_in plan cert) image plan (known_in cert) (needs_in cert) (λ k. need_of (find_node k cert.nodes)) w.closed
-        (λ y v at. sym (numbers_agree cert w.is_cert (frame_of y) (known_key cert w.is_cert y v at))) (w.needs).meets;
+        (λ y v at. sym (numbers_agree cert w.is_cert (frame_of_place y) (known_key cert w.is_cert y v at))) (w.needs).meets;
     start = let le = w.start in omega (arith, le, numbers_agree cert w.is_cert (start_key image plan) start_is);
   }
 

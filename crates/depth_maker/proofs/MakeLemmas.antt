@@ -14,15 +14,15 @@ use Rattle.depth_cert.proofs.BackLaws.{written_is_read}
 use Rattle.depth_cert.proofs.SizeLaws.{cert_most}
 use Rattle.cfg_recover.specs.Entries.{start_key}
 use Rattle.cfg_recover.specs.Assignments.{point, exit}
-use Rattle.cfg_recover.specs.CertRefusals.{IsFault, IsLeast, IsRefusal, IsRefusalWith, fault, recursion, need}
+use Rattle.cfg_recover.specs.CertRefusals.{IsRefusalFault, IsLeastAssignment, IsRefusal, IsRefusalWith, fault, recursion, need}
 use Rattle.depth_maker.specs.DutiesGrow.{IsGround}
 use Rattle.depth_maker.specs.Answers.{IsGroundOf, IsRefused, Refuses, AnsweredOn}
 use Rattle.depth_maker.specs.LeastCertMade.{AreMade, IsMade}
-use Rattle.depth_maker.specs.SpelledCert.{AreWritten}
+use Rattle.depth_maker.specs.SpelledCert.{AreSpelledBytes}
 use Rattle.depth_maker.specs.Needs.{NeedsOn, NeedsAre}
 use Rattle.depth_maker.specs.Recursing.{IsRecursion}
-use Rattle.depth_maker.specs.Rows.{IsSource}
-use Rattle.depth_maker.specs.Spots.{place_of}
+use Rattle.depth_maker.specs.Rows.{IsRowSource}
+use Rattle.depth_maker.specs.Spots.{place_of_spot}
 use Rattle.depth_maker.specs.TableView.{seen}
 use Rattle.depth_maker.specs.declared.inputs_and_limits.Ground.{Ground}
 use Rattle.depth_maker.specs.declared.answering.MakeErr.{MakeErr}
@@ -41,28 +41,28 @@ fault_refuses g rule k p a =
     let e : point k p ≡ point a.0 a.1 = a.2 in
     let key : a.0 ≡ k = cc in
     let addr : a.1 ≡ p = cc in
-    fault rule k p (subst (λ (n : ℕ). IsFault g.bounds.now g.image.now g.plan.now rule k n) addr (subst (λ (z : Key). IsFault g.bounds.now g.image.now g.plan.now rule z a.1) key a.3))
+    fault rule k p (subst (λ (n : ℕ). IsRefusalFault g.bounds.now g.image.now g.plan.now rule k n) addr (subst (λ (z : Key). IsRefusalFault g.bounds.now g.image.now g.plan.now rule z a.1) key a.3))
 
 pub no_exit_refuses : (g : Ground) (rule : ℕ) (k : Key) → AnsweredOn g (Fault rule (Exit k)) → ⊥
 no_exit_refuses g rule k a = absurd (let e : exit k ≡ point a.0 a.1 = a.2 in cc)
 
 -- the table's assignment is the least
-pub least_of : (s : Source) → IsSource s → IsLeast (s.ground.now).bounds.now (s.ground.now).image.now (s.ground.now).plan.now (seen s.table.now).cells
+pub least_of : (s : Source) → IsRowSource s → IsLeastAssignment (s.ground.now).bounds.now (s.ground.now).image.now (s.ground.now).plan.now (seen s.table.now).cells
 unfolding seen
 least_of s source =
     let done = source.done in
     least_stands _ _ _ (lawful _ _ _ (s.ground.now).sound) (seen s.table.now).cells done.derived done.closed done.faultless
-    (counted_within (seen s.table.now).cells (map place_of (s.table.now).points.items) (s.table.now).frames.items (done.counted).each (done.counted).few)
+    (counted_within (seen s.table.now).cells (map place_of_spot (s.table.now).points.items) (s.table.now).frames.items (done.counted).each (done.counted).few)
 
-pub recursion_refuses : (s : Source) (k : Key) (p : ℕ) → IsSource s → IsRecursion s (Some (k, p)) → Refuses s.ground.now (Refused 14 k p)
+pub recursion_refuses : (s : Source) (k : Key) (p : ℕ) → IsRowSource s → IsRecursion s (Some (k, p)) → Refuses s.ground.now (Refused 14 k p)
 recursion_refuses s k p source first = recursion (seen s.table.now).cells k p (least_of s source) first
 
-pub need_refuses : (s : Source) (k : Key) → k ≡ start_key (s.ground.now).image.now (s.ground.now).plan.now → IsSource s → IsRecursion s None → NeedsOn s None → Refuses s.ground.now (Refused 14 k k.entry)
+pub need_refuses : (s : Source) (k : Key) → k ≡ start_key (s.ground.now).image.now (s.ground.now).plan.now → IsRowSource s → IsRecursion s None → NeedsOn s None → Refuses s.ground.now (Refused 14 k k.entry)
 need_refuses s k is source ends above =
     subst (λ (z : Key). Refuses s.ground.now (Refused 14 z z.entry)) (sym is) (need (seen s.table.now).cells (least_of s source) (record { ends = ends; above = above }))
 
 -- ---- what is made
-pub are_made : (g : Ground) (version : ℕ) (bytes : List ℕ) → IsGroundOf g version → AreWritten g version bytes → AreMade g.image.now g.plan.now version bytes
+pub are_made : (g : Ground) (version : ℕ) (bytes : List ℕ) → IsGroundOf g version → AreSpelledBytes g version bytes → AreMade g.image.now g.plan.now version bytes
 are_made g version bytes limits w = record {
   cert = w.0;
   spell = w.1;

@@ -11,11 +11,11 @@ use Rattle.cfg_recover.specs.Duties.{Duty, enter}
 use Rattle.cfg_recover.specs.RulesHoldOrFail.{limits_in, Accepts}
 use Rattle.cfg_recover.specs.Assignments.{point, Assignment, known_in, IsBelowAt, Derived, Closed, HasDuty, AllFaultless}
 use Rattle.depth_cert.specs.Known.{Known, state}
-use Rattle.cfg_recover.specs.CertRefusals.{Enters, MeetsNeeds, Reaches, here, by_entry, Recurs, IsRefusalWith, fault, recursion, need, IsFault}
+use Rattle.cfg_recover.specs.CertRefusals.{EntersInAssignment, MeetsNeeds, Reaches, here, by_entry, Recurs, IsRefusalWith, fault, recursion, need, IsRefusalFault}
 use Rattle.depth_maker.specs.DutiesGrow.{IsGround, IsDutyBelow}
 use Rattle.depth_maker.proofs.StateGrowth.{same_locals}
 use Rattle.depth_maker.specs.ProperAssignments.{AllProper}
-use Rattle.depth_maker.specs.MakerLaws.{AreLawful}
+use Rattle.depth_maker.specs.MakerLaws.{AreMakerLaws}
 use Rattle.depth_maker.proofs.PlaceLaws.{over_state}
 use Rattle.depth_maker.proofs.Below.{derived_below, duty_above, fault_refuted}
 use Rattle.depth_maker.proofs.Lawful.{lawful}
@@ -27,10 +27,10 @@ enters_above : (t : Key) (u : State) (e : Duty) → IsDutyBelow (enter t u) e �
 enters_above t u (enter j w) h = (w, ap (λ (k : Key). enter k w) (sym h.0))
 enters_above t u _ h = absurd h
 
-module _ (b : Limits) (image : ImageData) (plan : PlanData) (laws : AreLawful b image plan) (c : Assignment) (closed : Closed b image plan c) (faultless : AllFaultless b image plan c) (pc : AllProper b c) where
+module _ (b : Limits) (image : ImageData) (plan : PlanData) (laws : AreMakerLaws b image plan) (c : Assignment) (closed : Closed b image plan c) (faultless : AllFaultless b image plan c) (pc : AllProper b c) where
   -- an entry of a smaller assignment is one of the closed one, with as many locals
-  pub entered_above : (a : Assignment) → IsBelowAt a c → AllProper b a → (k : Key) (p : ℕ) (s : State) (t : Key) → Enters b image plan a k p s t
-      → (u : State) × Enters b image plan c k p u t × (length u.locals.items ≡ length s.locals.items)
+  pub entered_above : (a : Assignment) → IsBelowAt a c → AllProper b a → (k : Key) (p : ℕ) (s : State) (t : Key) → EntersInAssignment b image plan a k p s t
+      → (u : State) × EntersInAssignment b image plan c k p u t × (length u.locals.items ≡ length s.locals.items)
   entered_above a below pa k p s t h =
       let up = duty_above b image plan laws c closed faultless pc a below pa k p s (enter t h.entered) h.has in
       let e = enters_above t h.entered up.1 up.5 in
@@ -62,7 +62,7 @@ no_recursion b image plan a needs m k p r =
 -- ---- refusals
 module _ (image : ImageData) (plan : PlanData) (cert : CertData) (ground : IsGround (limits_in plan cert) image plan) (entry : image.entry < 2 ^ 32) (is_cert : IsCert cert) (accepted : Accepts image plan cert) where
   -- no derived assignment has a fault
-  pub accepted_refutes : (r : ℕ) (k : Key) (p : ℕ) → IsFault (limits_in plan cert) image plan r k p → ⊥
+  pub accepted_refutes : (r : ℕ) (k : Key) (p : ℕ) → IsRefusalFault (limits_in plan cert) image plan r k p → ⊥
   accepted_refutes =
       fault_refuted (limits_in plan cert) image plan (lawful (limits_in plan cert) image plan ground) (known_in cert) (accepted_closed image plan cert ground entry is_cert accepted)
       (accepted_faultless image plan cert ground entry is_cert accepted) (accepted_proper image plan cert ground entry is_cert accepted) (accepted_within image plan cert ground entry is_cert accepted)

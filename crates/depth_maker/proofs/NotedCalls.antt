@@ -10,20 +10,20 @@ use Rattle.value_domain.specs.declared.states.State.{State}
 use Rattle.value_domain.specs.Limits.{Limits}
 use Rattle.depth_cert.specs.declared.keys.Key.{Key}
 use Rattle.depth_cert.specs.Known.{state}
-use Rattle.depth_cert.specs.Proper.{IsProper}
+use Rattle.depth_cert.specs.Proper.{IsProperState}
 use Rattle.cfg_recover.specs.Assignments.{point}
 use Rattle.cfg_recover.specs.Duties.{Owed, enter, entered_and_back, owed, resume}
 use Rattle.cfg_recover.specs.Entries.{call_entry, call_key}
 use Rattle.cfg_recover.proofs.Members.{contains_first, contains_flat, contains_map}
 use Rattle.frame_places.specs.Marks.{is_queued, mark_for}
 use Rattle.frame_places.specs.declared.refusals.Refusal.{Refusal}
-use Rattle.depth_maker.specs.Covered.{AreCalled, IsCallOf, IsWithinCall}
+use Rattle.depth_maker.specs.Covered.{AreCallsCovered, IsCallOf, IsWithinCall}
 use Rattle.depth_maker.specs.TableLevels.{level}
-use Rattle.depth_maker.specs.MakerLaws.{AreLawful}
+use Rattle.depth_maker.specs.MakerLaws.{AreMakerLaws}
 use Rattle.depth_maker.specs.Spots.{spot_of}
 use Rattle.depth_maker.specs.TableInvariant.{IsFine}
 use Rattle.depth_maker.specs.TableView.{seen}
-use Rattle.depth_maker.specs.VisitDuties.{DutiesJoined, Owes}
+use Rattle.depth_maker.specs.VisitDuties.{DutiesJoined, VisitedPointOwes}
 use Rattle.depth_maker.specs.Visits.{IsVisited}
 use Rattle.depth_maker.specs.declared.last_call.LastCall.{LastCall}
 use Rattle.depth_maker.specs.declared.table.Table as made
@@ -42,11 +42,11 @@ module _ (b : Limits) (image : ImageData) (plan : PlanData) (k : Key) (p : ℕ) 
   called back q = entered_and_back 5 (call_key k q) (call_entry u) back
 
   -- the entry of a call is at the limits
-  pub entry_proper : IsProper b u → IsProper b (call_entry u)
+  pub entry_proper : IsProperState b u → IsProperState b (call_entry u)
   entry_proper proper = record { regs = proper.regs; values = proper.values; few = omega arith }
 
   -- nothing has to be joined
-  pub enters_already : (laws : AreLawful b image plan) (s : made.Table) (h : LastCall) (targets : List ℕ) → IsFine b image plan s → IsProper b u → AreCalled b (seen s).cells h → IsWithinCall h k targets (state (call_entry u))
+  pub enters_already : (laws : AreMakerLaws b image plan) (s : made.Table) (h : LastCall) (targets : List ℕ) → IsFine b image plan s → IsProperState b u → AreCallsCovered b (seen s).cells h → IsWithinCall h k targets (state (call_entry u))
       → DutiesJoined b image plan s s k p u (map entered targets)
   enters_already laws s h targets fine proper covered asks = record {
     fine = fine;
@@ -55,7 +55,7 @@ module _ (b : Limits) (image : ImageData) (plan : PlanData) (k : Key) (p : ℕ) 
   }
 
   -- the call of the point is noted
-  pub call_noted : (s m : made.Table) (h : LastCall) (targets : List ℕ) → IsCallOf h k targets (state (call_entry u)) → IsProper b u
+  pub call_noted : (s m : made.Table) (h : LastCall) (targets : List ℕ) → IsCallOf h k targets (state (call_entry u)) → IsProperState b u
       → is_queued (mark_for m.places (spot_of (point k p))) ≡ false → DutiesJoined b image plan s m k p u (map entered targets)
       → DutiesJoined b image plan s (record m { covered = record { interrupts = (m.covered).interrupts; call = Some h } }) k p u (map entered targets)
   unfolding seen level
@@ -83,12 +83,12 @@ module _ (b : Limits) (image : ImageData) (plan : PlanData) (k : Key) (p : ℕ) 
 
   -- ---- the two halves of a call
   -- an entry of a call is one of its duties, and so is a return
-  pub owes_entered : (back : ℕ) (targets : List ℕ) → ((d : Owed) → Contains (flat_map (called back) targets) d → Owes b image plan k p u d.duty) → (d : Owed) → Contains (map entered targets) d → Owes b image plan k p u d.duty
+  pub owes_entered : (back : ℕ) (targets : List ℕ) → ((d : Owed) → Contains (flat_map (called back) targets) d → VisitedPointOwes b image plan k p u d.duty) → (d : Owed) → Contains (map entered targets) d → VisitedPointOwes b image plan k p u d.duty
   owes_entered back targets owes d c =
       let r = contained_map entered targets d c in
       owes d (contains_flat (called back) d r.0 targets r.1 (subst (Contains (called back r.0)) r.2 (contains_first (entered r.0) (resumed back r.0 ∷ []))))
 
-  pub owes_resumed : (back : ℕ) (targets : List ℕ) → ((d : Owed) → Contains (flat_map (called back) targets) d → Owes b image plan k p u d.duty) → (d : Owed) → Contains (map (resumed back) targets) d → Owes b image plan k p u d.duty
+  pub owes_resumed : (back : ℕ) (targets : List ℕ) → ((d : Owed) → Contains (flat_map (called back) targets) d → VisitedPointOwes b image plan k p u d.duty) → (d : Owed) → Contains (map (resumed back) targets) d → VisitedPointOwes b image plan k p u d.duty
   owes_resumed back targets owes d c =
       let r = contained_map (resumed back) targets d c in
       owes d
@@ -96,7 +96,7 @@ module _ (b : Limits) (image : ImageData) (plan : PlanData) (k : Key) (p : ℕ) 
       (subst (Contains (called back r.0)) r.2 (Contains-append_right (entered r.0 ∷ []) (resumed back r.0 ∷ []) (resumed back r.0) (contains_first (resumed back r.0) []))))
 
   -- the entries, and then the returns
-  both_halves : (laws : AreLawful b image plan) (s m t : made.Table) (back : ℕ) (targets : List ℕ) → IsVisited b image plan s k p u → ((d : Owed) → Contains (flat_map (called back) targets) d → Owes b image plan k p u d.duty)
+  both_halves : (laws : AreMakerLaws b image plan) (s m t : made.Table) (back : ℕ) (targets : List ℕ) → IsVisited b image plan s k p u → ((d : Owed) → Contains (flat_map (called back) targets) d → VisitedPointOwes b image plan k p u d.duty)
       → DutiesJoined b image plan s m k p u (map entered targets) → DutiesJoined b image plan m t k p u (map (resumed back) targets) → DutiesJoined b image plan s t k p u (flat_map (called back) targets)
   both_halves laws s m t back targets visited owes first then_ =
       let both = duties_both b image plan k p u laws s m t (map entered targets) (map (resumed back) targets) visited (owes_entered back targets owes) first then_ in
@@ -115,8 +115,8 @@ module _ (b : Limits) (image : ImageData) (plan : PlanData) (k : Key) (p : ℕ) 
             | inr same ↦ subst (Contains (map entered targets ++ map (resumed back) targets)) same (Contains-append_right (map entered targets) (map (resumed back) targets) (resumed back r.0) (contains_map (resumed back) targets r.0 r.1))
           ]
 
-  pub on_halves : (laws : AreLawful b image plan) (s m t : made.Table) (back : ℕ) (targets : List ℕ) (r : Result (Unit {0}) Refusal) → IsVisited b image plan s k p u
-      → ((d : Owed) → Contains (flat_map (called back) targets) d → Owes b image plan k p u d.duty) → DutiesJoined b image plan s m k p u (map entered targets)
+  pub on_halves : (laws : AreMakerLaws b image plan) (s m t : made.Table) (back : ℕ) (targets : List ℕ) (r : Result (Unit {0}) Refusal) → IsVisited b image plan s k p u
+      → ((d : Owed) → Contains (flat_map (called back) targets) d → VisitedPointOwes b image plan k p u d.duty) → DutiesJoined b image plan s m k p u (map entered targets)
       → OnOk r (DutiesJoined b image plan m t k p u (map (resumed back) targets)) → OnOk r (DutiesJoined b image plan s t k p u (flat_map (called back) targets))
   on_halves laws s m t back targets (Ok _) visited owes first h = both_halves laws s m t back targets visited owes first h
   on_halves laws s m t back targets (Err e) visited owes first h = tt

@@ -6,18 +6,18 @@ use Rattle.tcd_plan.specs.PlanData.{PlanData}
 use Rattle.value_domain.specs.declared.states.State.{State}
 use Rattle.value_domain.specs.Limits.{AreLimits, Limits}
 use Rattle.depth_cert.specs.declared.keys.Key.{Key}
-use Rattle.depth_cert.specs.Proper.{IsProper}
+use Rattle.depth_cert.specs.Proper.{IsProperState}
 use Rattle.cfg_recover.specs.Assignments.{point}
 use Rattle.cfg_recover.specs.Duties.{Owed, interrupts_of}
 use Rattle.frame_places.specs.Marks.{is_queued, mark_for}
-use Rattle.depth_maker.specs.InterruptHandlers.{AreEntered, ContextsEntered, IsAlike, IsContextEntered, IsContextOf, IsWithinContext, joined_context}
+use Rattle.depth_maker.specs.InterruptHandlers.{AreHandlersEntered, ContextsEntered, IsAlike, IsContextEntered, IsContextOf, IsWithinContext, joined_context}
 use Rattle.value_domain.specs.State.{a10_of}
 use Rattle.depth_maker.specs.TableLevels.{level}
-use Rattle.depth_maker.specs.MakerLaws.{AreLawful}
+use Rattle.depth_maker.specs.MakerLaws.{AreMakerLaws}
 use Rattle.depth_maker.specs.Spots.{spot_of}
 use Rattle.depth_maker.specs.TableInvariant.{IsFine}
 use Rattle.depth_maker.specs.TableView.{seen}
-use Rattle.depth_maker.specs.VisitDuties.{Owes, DutiesJoined}
+use Rattle.depth_maker.specs.VisitDuties.{VisitedPointOwes, DutiesJoined}
 use Rattle.depth_maker.specs.declared.interrupt_contexts.InterruptContext.{InterruptContext}
 use Rattle.depth_maker.specs.declared.interrupt_contexts.LastInterrupts.{LastInterrupts}
 use Rattle.depth_maker.specs.declared.table.Table as made
@@ -28,7 +28,7 @@ use Rattle.depth_maker.proofs.TableLaws.{derived_proper}
 
 module _ (b : Limits) (image : ImageData) (plan : PlanData) (k : Key) (p : ℕ) (u : State) where
   -- nothing has to be joined
-  pub duties_already : (s : made.Table) (h : InterruptContext) → IsFine b image plan s → AreEntered b plan (seen s).cells h → IsWithinContext h k.is u → DutiesJoined b image plan s s k p u (interrupts_of plan k u)
+  pub duties_already : (s : made.Table) (h : InterruptContext) → IsFine b image plan s → AreHandlersEntered b plan (seen s).cells h → IsWithinContext h k.is u → DutiesJoined b image plan s s k p u (interrupts_of plan k u)
   duties_already s h fine entered asks = record {
     fine = fine;
     keeps = keeps_all b image plan s;
@@ -61,10 +61,10 @@ module _ (b : Limits) (image : ImageData) (plan : PlanData) (k : Key) (p : ℕ) 
     settled = paid.settled;
   }
 
-  module _ (laws : AreLawful b image plan) (s m : made.Table) (pu : IsProper b u) (on : IsTrue u.ie) (owes : (d : Owed) → Contains (interrupts_of plan k u) d → Owes b image plan k p u d.duty)
+  module _ (laws : AreMakerLaws b image plan) (s m : made.Table) (pu : IsProperState b u) (on : IsTrue u.ie) (owes : (d : Owed) → Contains (interrupts_of plan k u) d → VisitedPointOwes b image plan k p u d.duty)
       (free : is_queued (mark_for m.places (spot_of (point k p))) ≡ false) (paid : DutiesJoined b image plan s m k p u (interrupts_of plan k u)) where
     -- the entries of the point are covered
-    point_entered : (h : InterruptContext) → IsContextOf h k.is u → AreEntered b plan (seen m).cells h
+    point_entered : (h : InterruptContext) → IsContextOf h k.is u → AreHandlersEntered b plan (seen m).cells h
     point_entered h from = interrupts_new b plan (seen m) k p u h from pu on (λ d c. owed_proper b image plan k p u laws d.duty pu (owes d c)) (λ d c. paid.settled free d c)
 
     -- the context of the point is noted
@@ -78,7 +78,7 @@ module _ (b : Limits) (image : ImageData) (plan : PlanData) (k : Key) (p : ℕ) 
     joined_with_last h limits alike last =
         let g : InterruptContext = record { is = k.is; sp = a10_of u; ccpn = u.ccpn } in
         let cells = (seen m).cells in
-        let entered : AreEntered b plan cells h = subst (IsContextEntered b plan cells) last (paid.fine).covered.0.0 in
+        let entered : AreHandlersEntered b plan cells h = subst (IsContextEntered b plan cells) last (paid.fine).covered.0.0 in
         let proper = derived_proper b image plan laws cells ((paid.fine).table).derived in
         let both = contexts_join b cells limits proper plan h g (sym alike.same) (sym alike.ccpn) entered (point_entered g (record { same = refl; sp = refl; ccpn = refl })) in
         contexts_noted s m (record { last = Some (joined_context b h (a10_of u)); before = (m.covered).interrupts.before }) (both, (paid.fine).covered.0.1) paid

@@ -12,24 +12,24 @@ use Rattle.value_domain.specs.declared.values.Val.{Val}
 use Rattle.value_domain.specs.declared.values.Val.TheVariants.{Set, Span}
 use Rattle.value_domain.specs.declared.states.State.{State}
 use Rattle.value_domain.specs.Limits.{Limits}
-use Rattle.value_domain.specs.Sets.{Among, Within, distinct}
+use Rattle.value_domain.specs.Sets.{Among, Within, sorted_set_of}
 use Rattle.value_domain.specs.Values.{IsValue, IsBelow}
 use Rattle.value_domain.specs.State.{Covers}
 use Rattle.value_domain.proofs.SetLaws.{among_distinct, distinct_has}
-use Rattle.vd_transfer.specs.EffectsOnStates.{address_of, HasRoom}
+use Rattle.vd_transfer.specs.EffectsOnStates.{address_of, EffectHasRoom}
 use Rattle.vd_transfer.specs.Registers.{reg_of}
-use Rattle.vd_transfer.specs.Soundness.{IsSetting}
+use Rattle.vd_transfer.specs.Soundness.{IsSoundSetting}
 use Rattle.vd_transfer.proofs.HoldLaws.{reg_value}
 use Rattle.vd_transfer.proofs.OpLaws.{span_not_below}
 use Rattle.store_ranges.proofs.Covers.{map_has, among_map}
 use Rattle.depth_cert.specs.declared.keys.Key.{Key}
-use Rattle.cfg_recover.specs.LocalRules.{named_by, targets_of, KnowsTargets, MayReturn, MayReturnFromException, StoresInRange, MayAccess, LocalRule}
+use Rattle.cfg_recover.specs.LocalRules.{targets_named_by, targets_of, KnowsTargets, MayReturn, MayReturnFromException, StoresInRange, MayAccess, LocalRule}
 use Rattle.store_ranges.specs.Accesses.{are_aligned}
 use Rattle.cfg_recover.proofs.CodeLaws.{IsCode-bounded}
 use Rattle.cfg_recover.proofs.Members.{contains_among}
 use Rattle.cfg_recover.proofs.LocalLaws.{are_aligned-is}
 use Rattle.depth_maker.specs.DutiesGrow.{IsGround, FaultsFall}
-use Rattle.depth_cert.specs.Proper.{IsProper}
+use Rattle.depth_cert.specs.Proper.{IsProperState}
 use Rattle.depth_maker.proofs.StateGrowth.{same_locals, reg_grows}
 use Rattle.depth_maker.proofs.EffectGrowth.{address_grows, address_value}
 
@@ -41,23 +41,23 @@ among_contained xs x c = at xs c.0 c.1 c.2 where
   at (y ∷ ys) zero lt e = inl (sym e)
   at (y ∷ ys) (suc k) lt e = inr (at ys k (omega arith) e)
 
-evens_within : (vs ws : List ℕ) → Within vs ws → Within (distinct (map (λ w. w / 2 * 2) vs)) (distinct (map (λ w. w / 2 * 2) ws))
+evens_within : (vs ws : List ℕ) → Within vs ws → Within (sorted_set_of (map (λ w. w / 2 * 2) vs)) (sorted_set_of (map (λ w. w / 2 * 2) ws))
 evens_within vs ws there z i =
     let m = among_map (λ w. w / 2 * 2) z vs (among_distinct z (map (λ w. w / 2 * 2) vs) i) in
     distinct_has z (map (λ w. w / 2 * 2) ws) (subst (λ (n : ℕ). Among n (map (λ w. w / 2 * 2) ws)) (sym m.2) (map_has (λ w. w / 2 * 2) m.0 ws (there m.0 m.1)))
 
 -- a smaller value names fewer addresses, if the larger one names any
-named_falls : (b : Limits) (v w : Val) → IsValue b v → IsValue b w → IsBelow v w → IsSome (named_by w) → IsSome (named_by v)
+named_falls : (b : Limits) (v w : Val) → IsValue b v → IsValue b w → IsBelow v w → IsSome (targets_named_by w) → IsSome (targets_named_by v)
 named_falls b (Set vs) w vv vw below h = refl
 named_falls b (Span lo last step) (Set ws) vv vw below h = absurd (span_not_below b lo last step ws vv vw below)
 named_falls b (Span lo last step) (Span lo2 last2 step2) vv vw below h = h
 
-named_within : (b : Limits) (v w : Val) → IsValue b v → IsValue b w → IsBelow v w → IsSome (named_by w) → Within (unwrap_or (named_by v) []) (unwrap_or (named_by w) [])
+named_within : (b : Limits) (v w : Val) → IsValue b v → IsValue b w → IsBelow v w → IsSome (targets_named_by w) → Within (unwrap_or (targets_named_by v) []) (unwrap_or (targets_named_by w) [])
 named_within b (Set vs) (Set ws) vv vw below h = evens_within vs ws below
 named_within b (Set vs) (Span lo last step) vv vw below h = absurd (let f : false ≡ true = h in cc)
 named_within b (Span lo last step) w vv vw below h = λ z i. absurd i
 
-module _ (b : Limits) (plan : PlanData) (s t : State) (low : IsSetting b plan s) (high : IsSetting b plan t) (c : Covers t s) where
+module _ (b : Limits) (plan : PlanData) (s t : State) (low : IsSoundSetting b plan s) (high : IsSoundSetting b plan t) (c : Covers t s) where
   pub targets_fall : (p : ℕ) (to : Target) → IsSome (targets_of plan t p to) → IsSome (targets_of plan s p to)
   targets_fall p (target.Rel by) h = refl
   targets_fall p (target.Abs x) h = refl
@@ -92,7 +92,7 @@ module _ (b : Limits) (plan : PlanData) (s t : State) (low : IsSetting b plan s)
   returns_from_exception key Rfe h = (sym (same_locals t s c) ∙ h.0, elim h.1 [ inl e ↦ inl (e.0, c.context.2 e.1) | inr e ↦ inr e ])
   returns_from_exception key _ h = h
 
-  has_room : (shape : Shape) → HasRoom b shape t → HasRoom b shape s
+  has_room : (shape : Shape) → EffectHasRoom b shape t → EffectHasRoom b shape s
   has_room Svlcx h = omega (arith, same_locals t s c, h)
   has_room Rslcx h = omega (arith, same_locals t s c, h)
   has_room (Bisr mask) h = omega (arith, same_locals t s c, h)
@@ -119,7 +119,7 @@ module _ (b : Limits) (plan : PlanData) (s t : State) (low : IsSetting b plan s)
     writes = h.writes;
   }
 
-pub setting_of : (b : Limits) (image : ImageData) (plan : PlanData) (s : State) → IsGround b image plan → IsProper b s → IsSetting b plan s
+pub setting_of : (b : Limits) (image : ImageData) (plan : PlanData) (s : State) → IsGround b image plan → IsProperState b s → IsSoundSetting b plan s
 setting_of b image plan s ground proper = record { limits = ground.limits; plan = ground.is_plan; regs = proper.regs; values = proper.values }
 
 pub faults_fall : FaultsFall

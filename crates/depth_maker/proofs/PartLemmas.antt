@@ -16,19 +16,20 @@ use Rattle.value_domain.specs.Limits.{Limits}
 use Rattle.depth_cert.specs.declared.keys.Key.{Key}
 use Rattle.depth_cert.specs.declared.points.Exit.{Exit}
 use Rattle.cfg_recover.specs.Code.{IsCode}
-use Rattle.depth_cert.specs.Exits.{after_of}
+use Rattle.depth_cert.specs.Exits.{state_after_exit}
 use Rattle.cfg_recover.specs.LocalFaults.{IsFaultless, StandsFaultless}
 use Rattle.cfg_recover.specs.Duties.{Duty, jump, enter, resume, leave, Owed, owed, entered_and_back, duties_of}
 use Rattle.cfg_recover.specs.declared.local_rules.Located.{Located}
 use Rattle.cfg_recover.proofs.Members.{contains_map, contains_flat}
-use Rattle.cfg_recover.specs.Assignments.{Assignment, point, exit, HasDuty, Asks, Derived, raised, resumed}
+use Rattle.cfg_recover.specs.Assignments.{Assignment, point, exit, HasDuty, Asks, Derived, raised_at_place, asked_by_resume}
 use Rattle.depth_cert.specs.Known.{Known, state, leaving}
-use Rattle.depth_cert.specs.Proper.{IsProper}
+use Rattle.depth_cert.specs.Proper.{IsProperState}
 use Rattle.cfg_recover.proofs.CodeLaws.{IsCode-one}
 use Rattle.depth_maker.specs.ProperAssignments.{IsProperDuty}
-use Rattle.depth_maker.specs.MakerLaws.{AreLawful}
+use Rattle.depth_maker.specs.MakerLaws.{AreMakerLaws}
 use Rattle.depth_maker.specs.Covered.{EntriesCovered}
-use Rattle.depth_maker.specs.TableView.{Settled, IsResumed, seen}
+use Rattle.depth_maker.specs.TableView.{seen}
+use Rattle.depth_maker.specs.TableInvariant.{Settled, IsResumed, TableReadsExits, FineOn, IsFine}
 use Rattle.depth_maker.proofs.PlaceLaws.{one_state}
 use Rattle.depth_maker.proofs.TableLaws.{table_marked, settled_again}
 use Rattle.frame_places.specs.declared.places.Spot.{Spot}
@@ -39,28 +40,27 @@ use Rattle.frame_places.specs.declared.places.Marked.{Marked}
 use Rattle.frame_places.specs.Counting.{frames_after, points_after}
 use Rattle.frame_places.proofs.MarkLemmas.{same_mark, same_number, same_value}
 use Rattle.depth_maker.specs.declared.inputs_and_limits.Ground.{Ground}
-use Rattle.frame_places.specs.Numbers.{StandsAt}
+use Rattle.frame_places.specs.Numbers.{PlaceHasNumber}
 use Rattle.std.specs.Option.{option_map}
 use Rattle.std.specs.declared.vec.Vec.{Vec}
 use Rattle.std.specs.declared.alloc.Global.{Global}
 use Rattle.depth_maker.specs.declared.table.Table as made
 use Rattle.frame_places.specs.Spots.{spot_eq}
-use Rattle.depth_maker.specs.Spots.{spot_of, place_of}
+use Rattle.depth_maker.specs.Spots.{spot_of, place_of_spot}
 use Rattle.depth_maker.proofs.SpotLemmas.{back}
 use Rattle.depth_maker.proofs.CountedLemmas.{counted_again}
 use Rattle.depth_maker.proofs.CoveredLaws.{covered_again}
 use Rattle.depth_maker.proofs.LevelSteps.{rises_then, same_level}
-use Rattle.depth_maker.specs.TableInvariant.{AreExitsRead, FineOn, IsFine}
-use Rattle.depth_maker.specs.VisitDuties.{DutiesJoined, Owes}
-use Rattle.depth_maker.specs.Visits.{PointJoined, AllSettled, IsVisited}
-use Rattle.depth_maker.specs.Joins.{IsLeft, Keeps, Joined, JoinedAlone, JoinsOn}
-use Rattle.frame_places.specs.Marks.{is_idle, is_queued, Reads, Registered, mark_for, value_for, AreKnown}
+use Rattle.depth_maker.specs.VisitDuties.{DutiesJoined, VisitedPointOwes, AllSettledByVisit}
+use Rattle.depth_maker.specs.Visits.{VisitJoinsPoint, IsVisited}
+use Rattle.depth_maker.specs.Joins.{IsLeft, JoinKeeps, Joined, JoinedAlone, JoinsOn}
+use Rattle.frame_places.specs.Marks.{is_idle, is_queued, IsAmongReaders, RegistersReader, mark_for, value_for, AreKnown}
 use Rattle.frame_places.specs.Work.{all_work}
 
-pub keeps_all : (b : Limits) (image : ImageData) (plan : PlanData) (s : made.Table) → Keeps b image plan s s
+pub keeps_all : (b : Limits) (image : ImageData) (plan : PlanData) (s : made.Table) → JoinKeeps b image plan s s
 keeps_all b image plan s = record { each = λ x free. (refl, refl); readers = λ z x h. h; read = λ z x h free. refl; settled = λ k p u d free pu pd h. h; rises = inr (refl, refl); near = refl; numbers = λ n q h. h }
 
-pub Keeps-trans : (b : Limits) (image : ImageData) (plan : PlanData) (s m t : made.Table) → Keeps b image plan s m → Keeps b image plan m t → Keeps b image plan s t
+pub Keeps-trans : (b : Limits) (image : ImageData) (plan : PlanData) (s m t : made.Table) → JoinKeeps b image plan s m → JoinKeeps b image plan m t → JoinKeeps b image plan s t
 Keeps-trans b image plan s m t k l =
     let free : (x : Spot) → is_queued (mark_for t.places x) ≡ false → is_queued (mark_for m.places x) ≡ false = λ x f. sym (ap is_queued (l.each x f).0) ∙ f in
     record {
@@ -78,7 +78,7 @@ module _ (b : Limits) (image : ImageData) (plan : PlanData) (k : Key) (p : ℕ) 
   pub duties_none : (s : made.Table) → IsFine b image plan s → DutiesJoined b image plan s s k p u []
   duties_none s fine = record { fine = fine; keeps = keeps_all b image plan s; settled = λ free d c. absurd (omega (arith, c.1)) }
 
-  pub duties_then : (s m t : made.Table) (ds es : List Owed) → IsProper b u → ((d : Owed) → Contains ds d → IsProperDuty b d.duty) → DutiesJoined b image plan s m k p u ds → DutiesJoined b image plan m t k p u es
+  pub duties_then : (s m t : made.Table) (ds es : List Owed) → IsProperState b u → ((d : Owed) → Contains ds d → IsProperDuty b d.duty) → DutiesJoined b image plan s m k p u ds → DutiesJoined b image plan m t k p u es
       → DutiesJoined b image plan s t k p u (ds ++ es)
   duties_then s m t ds es pu pd first then_ = record {
     fine = then_.fine;
@@ -127,7 +127,7 @@ module _ (b : Limits) (image : ImageData) (plan : PlanData) (k : Key) (p : ℕ) 
   }
 
   -- a return: the point reads the exit, and if the exit is known, the state after it is joined
-  pub duties_resume_none : (s : made.Table) (rule : ℕ) (l : Key) (q : ℕ) → IsFine b image plan s → value_for s.places (spot_of (exit l)) ≡ None → Reads (get spot_eq s.readers (spot_of (exit l))) (spot_of (point k p))
+  pub duties_resume_none : (s : made.Table) (rule : ℕ) (l : Key) (q : ℕ) → IsFine b image plan s → value_for s.places (spot_of (exit l)) ≡ None → IsAmongReaders (get spot_eq s.readers (spot_of (exit l))) (spot_of (point k p))
       → DutiesJoined b image plan s s k p u (owed rule (resume l q) ∷ [])
   unfolding seen
   duties_resume_none s rule l q fine none told = record {
@@ -138,8 +138,8 @@ module _ (b : Limits) (image : ImageData) (plan : PlanData) (k : Key) (p : ℕ) 
         ((λ x at. absurd (let no : None ≡ Some x = sym none ∙ at in cc)), told);
   }
 
-  pub duties_resume : (s t : made.Table) (rule : ℕ) (l : Key) (q : ℕ) (x : Exit) → value_for s.places (spot_of (exit l)) ≡ Some (leaving x) → Reads (get spot_eq s.readers (spot_of (exit l))) (spot_of (point k p))
-      → Joined b image plan s t (spot_of (point k q)) (state (after_of u x l.kind)) → DutiesJoined b image plan s t k p u (owed rule (resume l q) ∷ [])
+  pub duties_resume : (s t : made.Table) (rule : ℕ) (l : Key) (q : ℕ) (x : Exit) → value_for s.places (spot_of (exit l)) ≡ Some (leaving x) → IsAmongReaders (get spot_eq s.readers (spot_of (exit l))) (spot_of (point k p))
+      → Joined b image plan s t (spot_of (point k q)) (state (state_after_exit u x l.kind)) → DutiesJoined b image plan s t k p u (owed rule (resume l q) ∷ [])
   unfolding seen
   duties_resume s t rule l q x there told j = record {
     fine = j.fine;
@@ -154,22 +154,22 @@ module _ (b : Limits) (image : ImageData) (plan : PlanData) (k : Key) (p : ℕ) 
   }
 
   -- ---- what flows out
-  pub jump_asks : (t : made.Table) (q : ℕ) (v : State) → HasDuty b image plan (seen t).cells k p u (jump q v) → Asks b image plan (seen t).cells (place_of (spot_of (point k q))) (state v)
+  pub jump_asks : (t : made.Table) (q : ℕ) (v : State) → HasDuty b image plan (seen t).cells k p u (jump q v) → Asks b image plan (seen t).cells (place_of_spot (spot_of (point k q))) (state v)
   jump_asks t q v h = record { key = k; addr = p; before = u; duty = jump q v; has = h; asks = refl }
 
-  pub enter_asks : (t : made.Table) (l : Key) (v : State) → HasDuty b image plan (seen t).cells k p u (enter l v) → Asks b image plan (seen t).cells (place_of (spot_of (point l l.entry))) (state v)
+  pub enter_asks : (t : made.Table) (l : Key) (v : State) → HasDuty b image plan (seen t).cells k p u (enter l v) → Asks b image plan (seen t).cells (place_of_spot (spot_of (point l l.entry))) (state v)
   enter_asks t l v h = record { key = k; addr = p; before = u; duty = enter l v; has = h; asks = refl }
 
-  pub leave_asks : (t : made.Table) (x : Exit) → HasDuty b image plan (seen t).cells k p u (leave x) → Asks b image plan (seen t).cells (place_of (spot_of (exit k))) (leaving x)
+  pub leave_asks : (t : made.Table) (x : Exit) → HasDuty b image plan (seen t).cells k p u (leave x) → Asks b image plan (seen t).cells (place_of_spot (spot_of (exit k))) (leaving x)
   leave_asks t x h = record { key = k; addr = p; before = u; duty = leave x; has = h; asks = refl }
 
   pub resume_asks : (t : made.Table) (l : Key) (q : ℕ) (x : Exit) → value_for t.places (spot_of (exit l)) ≡ Some (leaving x) → HasDuty b image plan (seen t).cells k p u (resume l q)
-      → Asks b image plan (seen t).cells (place_of (spot_of (point k q))) (state (after_of u x l.kind))
+      → Asks b image plan (seen t).cells (place_of_spot (spot_of (point k q))) (state (state_after_exit u x l.kind))
   unfolding seen
-  resume_asks t l q x at h = record { key = k; addr = p; before = u; duty = resume l q; has = h; asks = ap (resumed k u l q) at }
+  resume_asks t l q x at h = record { key = k; addr = p; before = u; duty = resume l q; has = h; asks = ap (asked_by_resume k u l q) at }
 
   -- a duty of the point stays one, unless the point has new work
-  pub duty_stays : (s t : made.Table) (d : Duty) → Keeps b image plan s t → is_queued (mark_for t.places (spot_of (point k p))) ≡ false → HasDuty b image plan (seen s).cells k p u d → HasDuty b image plan (seen t).cells k p u d
+  pub duty_stays : (s t : made.Table) (d : Duty) → JoinKeeps b image plan s t → is_queued (mark_for t.places (spot_of (point k p))) ≡ false → HasDuty b image plan (seen s).cells k p u d → HasDuty b image plan (seen t).cells k p u d
   unfolding seen
   duty_stays s t d keeps free h = record {
     at = (keeps.each (spot_of (point k p)) free).1 ∙ h.at;
@@ -183,10 +183,10 @@ module _ (b : Limits) (image : ImageData) (plan : PlanData) (k : Key) (p : ℕ) 
   }
 
   -- ---- between joins
-  pub has_duty_at : (t : made.Table) (d : Duty) → (seen t).cells (point k p) ≡ Some (state u) → Owes b image plan k p u d → HasDuty b image plan (seen t).cells k p u d
+  pub has_duty_at : (t : made.Table) (d : Duty) → (seen t).cells (point k p) ≡ Some (state u) → VisitedPointOwes b image plan k p u d → HasDuty b image plan (seen t).cells k p u d
   has_duty_at t d at o = record { at = at; faultless = o.faultless; shape = o.shape; size = o.size; code = o.code; owed = o.owed; listed = o.listed; is = o.is }
 
-  pub has_duty : (t : made.Table) (d : Duty) → IsVisited b image plan t k p u → is_queued (mark_for t.places (spot_of (point k p))) ≡ false → Owes b image plan k p u d → HasDuty b image plan (seen t).cells k p u d
+  pub has_duty : (t : made.Table) (d : Duty) → IsVisited b image plan t k p u → is_queued (mark_for t.places (spot_of (point k p))) ≡ false → VisitedPointOwes b image plan k p u d → HasDuty b image plan (seen t).cells k p u d
   has_duty t d v free o = has_duty_at t d (v.at free) o
 
   -- the point has new work already
@@ -197,10 +197,10 @@ module _ (b : Limits) (image : ImageData) (plan : PlanData) (k : Key) (p : ℕ) 
     settled = λ free d c. absurd (let no : true ≡ false = sym queued ∙ free in cc);
   }
 
-  pub stands_kept : (s t : made.Table) → Keeps b image plan s t → StandsAt s.places s.near (spot_of (point k p)) → StandsAt t.places t.near (spot_of (point k p))
-  stands_kept s t keeps h = subst (λ (n : ℕ). StandsAt t.places n (spot_of (point k p))) (sym keeps.near) (keeps.numbers s.near (spot_of (point k p)) h)
+  pub stands_kept : (s t : made.Table) → JoinKeeps b image plan s t → PlaceHasNumber s.places s.near (spot_of (point k p)) → PlaceHasNumber t.places t.near (spot_of (point k p))
+  stands_kept s t keeps h = subst (λ (n : ℕ). PlaceHasNumber t.places n (spot_of (point k p))) (sym keeps.near) (keeps.numbers s.near (spot_of (point k p)) h)
 
-  pub visited_kept : (s t : made.Table) → IsVisited b image plan s k p u → IsFine b image plan t → Keeps b image plan s t → IsVisited b image plan t k p u
+  pub visited_kept : (s t : made.Table) → IsVisited b image plan s k p u → IsFine b image plan t → JoinKeeps b image plan s t → IsVisited b image plan t k p u
   unfolding seen
   visited_kept s t v fine keeps = record {
     fine = fine;
@@ -213,43 +213,43 @@ module _ (b : Limits) (image : ImageData) (plan : PlanData) (k : Key) (p : ℕ) 
   visited_after s t ds v paid = visited_kept s t v paid.fine paid.keeps
 
   -- duties are at the limits
-  pub owed_proper : (laws : AreLawful b image plan) (d : Duty) → IsProper b u → Owes b image plan k p u d → IsProperDuty b d
+  pub owed_proper : (laws : AreMakerLaws b image plan) (d : Duty) → IsProperState b u → VisitedPointOwes b image plan k p u d → IsProperDuty b d
   owed_proper laws d proper o = subst (IsProperDuty b) o.is (laws.duties_proper k p u o.shape o.size o.owed proper o.faultless o.code o.listed)
 
-  pub duties_both : (laws : AreLawful b image plan) (s m t : made.Table) (ds es : List Owed) → IsVisited b image plan s k p u → ((d : Owed) → Contains ds d → Owes b image plan k p u d.duty)
+  pub duties_both : (laws : AreMakerLaws b image plan) (s m t : made.Table) (ds es : List Owed) → IsVisited b image plan s k p u → ((d : Owed) → Contains ds d → VisitedPointOwes b image plan k p u d.duty)
       → DutiesJoined b image plan s m k p u ds → DutiesJoined b image plan m t k p u es → DutiesJoined b image plan s t k p u (ds ++ es)
   duties_both laws s m t ds es v owes first then_ = duties_then s m t ds es v.proper (λ d c. owed_proper laws d.duty v.proper (owes d c)) first then_
 
-  pub duties_from : (s m t : made.Table) (ds : List Owed) → Keeps b image plan s m → DutiesJoined b image plan m t k p u ds → DutiesJoined b image plan s t k p u ds
+  pub duties_from : (s m t : made.Table) (ds : List Owed) → JoinKeeps b image plan s m → DutiesJoined b image plan m t k p u ds → DutiesJoined b image plan s t k p u ds
   duties_from s m t ds keeps paid = record { fine = paid.fine; keeps = Keeps-trans b image plan s m t keeps paid.keeps; settled = paid.settled }
 
-  pub owes_front : (ds es : List Owed) → ((d : Owed) → Contains (ds ++ es) d → Owes b image plan k p u d.duty) → (d : Owed) → Contains ds d → Owes b image plan k p u d.duty
+  pub owes_front : (ds es : List Owed) → ((d : Owed) → Contains (ds ++ es) d → VisitedPointOwes b image plan k p u d.duty) → (d : Owed) → Contains ds d → VisitedPointOwes b image plan k p u d.duty
   owes_front ds es h d c = h d (Contains-append_left ds es d c)
 
-  pub owes_back : (ds es : List Owed) → ((d : Owed) → Contains (ds ++ es) d → Owes b image plan k p u d.duty) → (d : Owed) → Contains es d → Owes b image plan k p u d.duty
+  pub owes_back : (ds es : List Owed) → ((d : Owed) → Contains (ds ++ es) d → VisitedPointOwes b image plan k p u d.duty) → (d : Owed) → Contains es d → VisitedPointOwes b image plan k p u d.duty
   owes_back ds es h d c = h d (Contains-append_right ds es d c)
 
-  pub owes_one : (o : Owed) → ((d : Owed) → Contains (o ∷ []) d → Owes b image plan k p u d.duty) → Owes b image plan k p u o.duty
+  pub owes_one : (o : Owed) → ((d : Owed) → Contains (o ∷ []) d → VisitedPointOwes b image plan k p u d.duty) → VisitedPointOwes b image plan k p u o.duty
   owes_one o h = h o (Contains-push [] o)
 
-  pub owes_alone : (o : Owed) → Owes b image plan k p u o.duty → (d : Owed) → Contains (o ∷ []) d → Owes b image plan k p u d.duty
-  owes_alone o h d c = subst (λ (e : Owed). Owes b image plan k p u e.duty) (only_one o d c) h
+  pub owes_alone : (o : Owed) → VisitedPointOwes b image plan k p u o.duty → (d : Owed) → Contains (o ∷ []) d → VisitedPointOwes b image plan k p u d.duty
+  owes_alone o h d c = subst (λ (e : Owed). VisitedPointOwes b image plan k p u e.duty) (only_one o d c) h
 
   -- ---- one duty, and its return, for each of a list
-  pub owes_both : (rule back : ℕ) (l : Key) (v : State) → ((d : Owed) → Contains (entered_and_back rule l v back) d → Owes b image plan k p u d.duty) → Owes b image plan k p u (enter l v) × Owes b image plan k p u (resume l back)
+  pub owes_both : (rule back : ℕ) (l : Key) (v : State) → ((d : Owed) → Contains (entered_and_back rule l v back) d → VisitedPointOwes b image plan k p u d.duty) → VisitedPointOwes b image plan k p u (enter l v) × VisitedPointOwes b image plan k p u (resume l back)
   owes_both rule back l v h = (
     owes_one (owed rule (enter l v)) (owes_front (owed rule (enter l v) ∷ []) (owed 4 (resume l back) ∷ []) h),
     owes_one (owed 4 (resume l back)) (owes_back (owed rule (enter l v) ∷ []) (owed 4 (resume l back) ∷ []) h),
   )
 
-  pub owes_at_map : (g : ℕ → Owed) (ts : List ℕ) (i : ℕ) → i < length ts → ((d : Owed) → Contains (map g ts) d → Owes b image plan k p u d.duty) → Owes b image plan k p u (g (get_or ts i 0)).duty
+  pub owes_at_map : (g : ℕ → Owed) (ts : List ℕ) (i : ℕ) → i < length ts → ((d : Owed) → Contains (map g ts) d → VisitedPointOwes b image plan k p u d.duty) → VisitedPointOwes b image plan k p u (g (get_or ts i 0)).duty
   owes_at_map g ts i lt h = h (g (get_or ts i 0)) (contains_map g ts (get_or ts i 0) (Contains-get_or ts i 0 lt))
 
-  pub owes_at_flat : (f : ℕ → List Owed) (ts : List ℕ) (i : ℕ) → i < length ts → ((d : Owed) → Contains (flat_map f ts) d → Owes b image plan k p u d.duty) → (d : Owed) → Contains (f (get_or ts i 0)) d → Owes b image plan k p u d.duty
+  pub owes_at_flat : (f : ℕ → List Owed) (ts : List ℕ) (i : ℕ) → i < length ts → ((d : Owed) → Contains (flat_map f ts) d → VisitedPointOwes b image plan k p u d.duty) → (d : Owed) → Contains (f (get_or ts i 0)) d → VisitedPointOwes b image plan k p u d.duty
   owes_at_flat f ts i lt h d c = h d (contains_flat f d (get_or ts i 0) ts (Contains-get_or ts i 0 lt) c)
 
-  pub duties_more_map : (laws : AreLawful b image plan) (s m t : made.Table) (g : ℕ → Owed) (ts : List ℕ) (i : ℕ) → i < length ts → IsVisited b image plan s k p u
-      → ((d : Owed) → Contains (map g ts) d → Owes b image plan k p u d.duty) → DutiesJoined b image plan s m k p u (map g (take i ts)) → DutiesJoined b image plan m t k p u (g (get_or ts i 0) ∷ [])
+  pub duties_more_map : (laws : AreMakerLaws b image plan) (s m t : made.Table) (g : ℕ → Owed) (ts : List ℕ) (i : ℕ) → i < length ts → IsVisited b image plan s k p u
+      → ((d : Owed) → Contains (map g ts) d → VisitedPointOwes b image plan k p u d.duty) → DutiesJoined b image plan s m k p u (map g (take i ts)) → DutiesJoined b image plan m t k p u (g (get_or ts i 0) ∷ [])
       → DutiesJoined b image plan s t k p u (map g (take (i + 1) ts))
   duties_more_map laws s m t g ts i lt v owes first then_ =
       subst (DutiesJoined b image plan s t k p u) (sym (ap (map g) (take_more ts i 0 lt) ∙ map-append g (take i ts) (get_or ts i 0 ∷ [])))
@@ -257,8 +257,8 @@ module _ (b : Limits) (image : ImageData) (plan : PlanData) (k : Key) (p : ℕ) 
       (λ d c. owes d (subst (λ (l : List ℕ). Contains (map g l) d) (take-append-drop i ts) (subst (λ (l : List Owed). Contains l d) (sym (map-append g (take i ts) (drop i ts))) (Contains-append_left (map g (take i ts)) (map g (drop i ts)) d c))))
       first then_)
 
-  pub duties_more_flat : (laws : AreLawful b image plan) (s m t : made.Table) (f : ℕ → List Owed) (ts : List ℕ) (i : ℕ) → i < length ts → IsVisited b image plan s k p u
-      → ((d : Owed) → Contains (flat_map f ts) d → Owes b image plan k p u d.duty) → DutiesJoined b image plan s m k p u (flat_map f (take i ts)) → DutiesJoined b image plan m t k p u (f (get_or ts i 0))
+  pub duties_more_flat : (laws : AreMakerLaws b image plan) (s m t : made.Table) (f : ℕ → List Owed) (ts : List ℕ) (i : ℕ) → i < length ts → IsVisited b image plan s k p u
+      → ((d : Owed) → Contains (flat_map f ts) d → VisitedPointOwes b image plan k p u d.duty) → DutiesJoined b image plan s m k p u (flat_map f (take i ts)) → DutiesJoined b image plan m t k p u (f (get_or ts i 0))
       → DutiesJoined b image plan s t k p u (flat_map f (take (i + 1) ts))
   duties_more_flat laws s m t f ts i lt v owes first then_ =
       subst (DutiesJoined b image plan s t k p u)
@@ -268,18 +268,18 @@ module _ (b : Limits) (image : ImageData) (plan : PlanData) (k : Key) (p : ℕ) 
       first then_)
 
   -- all that is owed, from the instruction at the point
-  pub owes_duties : (found : Located) → StandsFaultless b image plan k p u found → (d : Owed) → Contains (duties_of b image plan k p u found.shape found.size) d → Owes b image plan k p u d.duty
+  pub owes_duties : (found : Located) → StandsFaultless b image plan k p u found → (d : Owed) → Contains (duties_of b image plan k p u found.shape found.size) d → VisitedPointOwes b image plan k p u d.duty
   owes_duties found f d c = record { faultless = f.faultless; shape = found.shape; size = found.size; code = f.code; owed = d; listed = c; is = refl }
 
   -- ---- the whole
   pub duties_all : (s t : made.Table) (shape : Shape) (n : ℕ) → (seen s).cells (point k p) ≡ Some (state u) → IsFaultless b image plan k p u → IsCode image plan p shape n
-      → DutiesJoined b image plan s t k p u (duties_of b image plan k p u shape n) → PointJoined b image plan s t (spot_of (point k p))
+      → DutiesJoined b image plan s t k p u (duties_of b image plan k p u shape n) → VisitJoinsPoint b image plan s t (spot_of (point k p))
   duties_all s t shape n at fine code paid = record {
     fine = paid.fine;
     keeps = paid.keeps;
     faultless = λ l q w e here. carried l q w e here (λ l q w. IsFaultless b image plan l q w) fine;
     settled = λ l q w e here free.
-        carried l q w e here (λ l q w. AllSettled b image plan t l q w)
+        carried l q w e here (λ l q w. AllSettledByVisit b image plan t l q w)
         (record {
           each = λ shape2 m d code2 c.
               let one = IsCode-one image plan p shape2 shape m n code2 code in
@@ -287,7 +287,7 @@ module _ (b : Limits) (image : ImageData) (plan : PlanData) (k : Key) (p : ℕ) 
               (subst (λ (z : Shape). Contains (duties_of b image plan k p u z n) d) one.0 (subst (λ (z : ℕ). Contains (duties_of b image plan k p u shape2 z) d) one.1 c));
         });
   } where
-    carried : (l : Key) (q : ℕ) (w : State) → place_of (spot_of (point k p)) ≡ point l q → (seen s).cells (point l q) ≡ Some (state w) → (P : Key → ℕ → State → Type 0) → P k p u → P l q w
+    carried : (l : Key) (q : ℕ) (w : State) → place_of_spot (spot_of (point k p)) ≡ point l q → (seen s).cells (point l q) ≡ Some (state w) → (P : Key → ℕ → State → Type 0) → P k p u → P l q w
     carried l q w e here P h =
         let key : k ≡ l = cc in
         let addr : p ≡ q = cc in
@@ -310,18 +310,18 @@ module _ (b : Limits) (image : ImageData) (plan : PlanData) (k : Key) (p : ℕ) 
   on_leave s t rule x (Err e) h = tt
 
   pub on_resume : (s t : made.Table) (rule : ℕ) (l : Key) (q : ℕ) (x : Exit) (r : Result (Unit {0}) Refusal) → value_for s.places (spot_of (exit l)) ≡ Some (leaving x)
-      → Reads (get spot_eq s.readers (spot_of (exit l))) (spot_of (point k p)) → OnOk r (Joined b image plan s t (spot_of (point k q)) (state (after_of u x l.kind))) → OnOk r (DutiesJoined b image plan s t k p u (owed rule (resume l q) ∷ []))
+      → IsAmongReaders (get spot_eq s.readers (spot_of (exit l))) (spot_of (point k p)) → OnOk r (Joined b image plan s t (spot_of (point k q)) (state (state_after_exit u x l.kind))) → OnOk r (DutiesJoined b image plan s t k p u (owed rule (resume l q) ∷ []))
   on_resume s t rule l q x (Ok _) there told h = duties_resume s t rule l q x there told h
   on_resume s t rule l q x (Err e) there told h = tt
 
-  pub on_both : (laws : AreLawful b image plan) (s m t : made.Table) (ds es : List Owed) (r : Result (Unit {0}) Refusal) → IsVisited b image plan s k p u → ((d : Owed) → Contains ds d → Owes b image plan k p u d.duty)
+  pub on_both : (laws : AreMakerLaws b image plan) (s m t : made.Table) (ds es : List Owed) (r : Result (Unit {0}) Refusal) → IsVisited b image plan s k p u → ((d : Owed) → Contains ds d → VisitedPointOwes b image plan k p u d.duty)
       → DutiesJoined b image plan s m k p u ds → OnOk r (DutiesJoined b image plan m t k p u es) → OnOk r (DutiesJoined b image plan s t k p u (ds ++ es))
   on_both laws s m t ds es (Ok _) v owes first h = duties_both laws s m t ds es v owes first h
   on_both laws s m t ds es (Err e) v owes first h = tt
 
   -- five parts
-  pub on_five : (laws : AreLawful b image plan) (s m n o q t : made.Table) (ds es fs gs hs : List Owed) (r : Result (Unit {0}) Refusal) → IsVisited b image plan s k p u
-      → ((d : Owed) → Contains (ds ++ es ++ fs ++ gs ++ hs) d → Owes b image plan k p u d.duty) → DutiesJoined b image plan s m k p u ds → DutiesJoined b image plan m n k p u es → DutiesJoined b image plan n o k p u fs
+  pub on_five : (laws : AreMakerLaws b image plan) (s m n o q t : made.Table) (ds es fs gs hs : List Owed) (r : Result (Unit {0}) Refusal) → IsVisited b image plan s k p u
+      → ((d : Owed) → Contains (ds ++ es ++ fs ++ gs ++ hs) d → VisitedPointOwes b image plan k p u d.duty) → DutiesJoined b image plan s m k p u ds → DutiesJoined b image plan m n k p u es → DutiesJoined b image plan n o k p u fs
       → DutiesJoined b image plan o q k p u gs → OnOk r (DutiesJoined b image plan q t k p u hs) → OnOk r (DutiesJoined b image plan s t k p u (ds ++ es ++ fs ++ gs ++ hs))
   on_five laws s m n o q t ds es fs gs hs r v owes one two three four five =
       let four_owe = owes_front (ds ++ es ++ fs ++ gs) hs owes in
@@ -332,13 +332,13 @@ module _ (b : Limits) (image : ImageData) (plan : PlanData) (k : Key) (p : ℕ) 
       let third = duties_both laws s o q (ds ++ es ++ fs) gs v three_owe second four in
       on_both laws s q t (ds ++ es ++ fs ++ gs) hs r v four_owe third five
 
-  pub on_from : (s m t : made.Table) (ds : List Owed) (r : Result (Unit {0}) Refusal) → Keeps b image plan s m → OnOk r (DutiesJoined b image plan m t k p u ds) → OnOk r (DutiesJoined b image plan s t k p u ds)
+  pub on_from : (s m t : made.Table) (ds : List Owed) (r : Result (Unit {0}) Refusal) → JoinKeeps b image plan s m → OnOk r (DutiesJoined b image plan m t k p u ds) → OnOk r (DutiesJoined b image plan s t k p u ds)
   on_from s m t ds (Ok _) keeps h = duties_from s m t ds keeps h
   on_from s m t ds (Err e) keeps h = tt
 
 -- ---- one more reader
 -- only exits are read still
-pub exits_registered : {S : Type 0} (a b : IndexMap Spot (Vec Spot Global) S) (k : Key) (x : Spot) → Registered a b (spots.Exit k) x → AreExitsRead a → AreExitsRead b
+pub exits_registered : {S : Type 0} (a b : IndexMap Spot (Vec Spot Global) S) (k : Key) (x : Spot) → RegistersReader a b (spots.Exit k) x → TableReadsExits a → TableReadsExits b
 exits_registered a b k x more exits j p q h =
     elim (more.alone (spots.Point j p) q h) [
       | inl before ↦ exits j p q before
@@ -346,8 +346,8 @@ exits_registered a b k x more exits j p q h =
     ]
 
 -- readers are known still
-pub readers_registered : {V S R : Type 0} (places : IndexMap Spot (Marked V) S) (a b : IndexMap Spot (Vec Spot Global) R) (z x : Spot) → Registered a b z x → IsSome (value_for places x)
-    → ((y : Spot) → AreKnown places (Reads (get spot_eq a y))) → (y : Spot) → AreKnown places (Reads (get spot_eq b y))
+pub readers_registered : {V S R : Type 0} (places : IndexMap Spot (Marked V) S) (a b : IndexMap Spot (Vec Spot Global) R) (z x : Spot) → RegistersReader a b z x → IsSome (value_for places x)
+    → ((y : Spot) → AreKnown places (IsAmongReaders (get spot_eq a y))) → (y : Spot) → AreKnown places (IsAmongReaders (get spot_eq b y))
 readers_registered {V} places a b z x more known before y q h =
     elim (more.alone y q h) [
       | inl i ↦ before y q i
@@ -371,9 +371,9 @@ visited_known b image plan t k p u v = by (is_queued (mark_for t.places (spot_of
   by false e = some_known (value_for t.places (spot_of (point k p))) (state u) (v.at e)
 
 -- the same places, values and marks; an exit may have more readers
-pub registered_fine : (b : Limits) (image : ImageData) (plan : PlanData) (laws : AreLawful b image plan) (s t : made.Table) → t.places.entries ≡ s.places.entries → t.near ≡ s.near → all_work t.work ≡ all_work s.work
-    → t.points.items ≡ s.points.items → t.frames.items ≡ s.frames.items → t.covered ≡ s.covered → ((z q : Spot) → Reads (get spot_eq s.readers z) q → Reads (get spot_eq t.readers z) q) → AreExitsRead t.readers
-    → ((y : Spot) → AreKnown s.places (Reads (get spot_eq t.readers y))) → IsFine b image plan s → IsFine b image plan t × Keeps b image plan s t
+pub registered_fine : (b : Limits) (image : ImageData) (plan : PlanData) (laws : AreMakerLaws b image plan) (s t : made.Table) → t.places.entries ≡ s.places.entries → t.near ≡ s.near → all_work t.work ≡ all_work s.work
+    → t.points.items ≡ s.points.items → t.frames.items ≡ s.frames.items → t.covered ≡ s.covered → ((z q : Spot) → IsAmongReaders (get spot_eq s.readers z) q → IsAmongReaders (get spot_eq t.readers z) q) → TableReadsExits t.readers
+    → ((y : Spot) → AreKnown s.places (IsAmongReaders (get spot_eq t.readers y))) → IsFine b image plan s → IsFine b image plan t × JoinKeeps b image plan s t
 unfolding seen
 registered_fine b image plan laws s t places near work points frames covered readers exits told fine =
     let same : (q : Spot) → value_for t.places q ≡ value_for s.places q = λ q. same_value s.places t.places places q in
@@ -408,18 +408,18 @@ registered_fine b image plan laws s t places near work points frames covered rea
 
 -- ---- a place that was found
 -- a flow stays one
-pub asks_again : (b : Limits) (image : ImageData) (plan : PlanData) (s m : made.Table) (y : Spot) (v : Known) → m.places.entries ≡ s.places.entries → Asks b image plan (seen s).cells (place_of y) v
-    → Asks b image plan (seen m).cells (place_of y) v
+pub asks_again : (b : Limits) (image : ImageData) (plan : PlanData) (s m : made.Table) (y : Spot) (v : Known) → m.places.entries ≡ s.places.entries → Asks b image plan (seen s).cells (place_of_spot y) v
+    → Asks b image plan (seen m).cells (place_of_spot y) v
 unfolding seen
-asks_again b image plan s m y v places asks = subst (λ (a : Assignment). Asks b image plan a (place_of y) v) (λ i q. sym (same_value s.places m.places places (spot_of q)) i) asks
+asks_again b image plan s m y v places asks = subst (λ (a : Assignment). Asks b image plan a (place_of_spot y) v) (λ i q. sym (same_value s.places m.places places (spot_of q)) i) asks
 
 -- nothing at all changed
 pub all_left : (g : Ground) (s : made.Table) → FineOn g s → IsLeft g s s
 all_left g s fine = record { fine = fine; keeps = keeps_all g.bounds.now g.image.now g.plan.now s; entries = refl; rest = refl }
 
 -- the visited place is the same
-pub near_left : (g : Ground) (s t : made.Table) (x : Spot) → IsLeft g s t → StandsAt s.places s.near x → StandsAt t.places t.near x
-near_left g s t x left at = subst (λ (n : ℕ). StandsAt t.places n x) (sym (left.keeps).near) ((left.keeps).numbers s.near x at)
+pub near_left : (g : Ground) (s t : made.Table) (x : Spot) → IsLeft g s t → PlaceHasNumber s.places s.near x → PlaceHasNumber t.places t.near x
+near_left g s t x left at = subst (λ (n : ℕ). PlaceHasNumber t.places n x) (sym (left.keeps).near) ((left.keeps).numbers s.near x at)
 
 -- a join in the same places and values
 raised_again : (b : Limits) (s m t : made.Table) (y : Spot) (v : Known) → m.places.entries ≡ s.places.entries → m ≡ record s { places = m.places } → JoinedAlone b m t y v → JoinedAlone b s t y v
@@ -428,7 +428,7 @@ raised_again b s m t y v places rest more =
     let same : (q : Spot) → value_for m.places q ≡ value_for s.places q = λ q. same_value s.places m.places places q in
     record {
       known = rose.known;
-      raises = ap (λ (o : Option Known). raised b o v) (sym (same y)) ∙ rose.raises;
+      raises = ap (λ (o : Option Known). raised_at_place b o v) (sym (same y)) ∙ rose.raises;
       new = λ w at covers. rose.new w (same y ∙ at) covers;
       puts = record {
         values = λ q. (rose.puts).values q ∙ ap (λ (o : Option Known). if spot_eq y q then Some rose.known else o) (same q);

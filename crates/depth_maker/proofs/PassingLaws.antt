@@ -8,13 +8,13 @@ use Rattle.tcd_plan.specs.PlanData.{PlanData}
 use Rattle.tc_isa.specs.declared.shapes.Target.{Target}
 use Rattle.tc_isa.specs.declared.shapes.Shape.TheVariants.{Jump, Nothing}
 use Rattle.tc_isa.specs.InBounds.{IsShape}
-use Rattle.tc_machine.specs.Machine.{moved}
+use Rattle.tc_machine.specs.Machine.{machine_address_ahead}
 use Rattle.value_domain.specs.declared.states.State.{State}
 use Rattle.value_domain.specs.Limits.{Limits}
 use Rattle.vd_transfer.specs.EffectsOnStates.{transfer_of}
 use Rattle.depth_cert.specs.declared.keys.Key.{Key}
 use Rattle.depth_cert.specs.Known.{state}
-use Rattle.depth_cert.specs.Proper.{IsProper}
+use Rattle.depth_cert.specs.Proper.{IsProperState}
 use Rattle.cfg_recover.specs.Code.{IsCode}
 use Rattle.cfg_recover.specs.LocalRules.{targets_of}
 use Rattle.cfg_recover.specs.LocalFaults.{IsFaultless}
@@ -24,19 +24,19 @@ use Rattle.cfg_recover.proofs.LocalLaws.{LocalHolds-found}
 use Rattle.frame_places.specs.declared.places.Spot.{Spot}
 use Rattle.frame_places.specs.declared.places.Spot.TheVariants.{Point}
 use Rattle.frame_places.specs.declared.refusals.Refusal.{Refusal}
-use Rattle.frame_places.specs.Marks.{Reads}
+use Rattle.frame_places.specs.Marks.{IsAmongReaders}
 use Rattle.frame_places.specs.Spots.{spot_eq}
 use Rattle.frame_places.proofs.MarkLemmas.{Requeues-none, same_value}
 use Rattle.indexmap.specs.IndexMap.{get}
-use Rattle.depth_maker.specs.InterruptHandlers.{IsContextEntered}
-use Rattle.depth_maker.specs.MakerLaws.{AreLawful}
-use Rattle.depth_maker.specs.SharedStates.{IsNotedFor, SharesState}
-use Rattle.depth_maker.specs.Spots.{place_of, spot_of}
+use Rattle.depth_maker.specs.InterruptHandlers.{IsContextEntered, HasNotedInterrupts}
+use Rattle.depth_maker.specs.MakerLaws.{AreMakerLaws}
+use Rattle.depth_maker.specs.SharedStates.{SharesState}
+use Rattle.depth_maker.specs.Spots.{place_of_spot, spot_of}
 use Rattle.depth_maker.specs.TableView.{seen}
 use Rattle.depth_maker.specs.TableInvariant.{IsFine}
-use Rattle.depth_maker.specs.Joins.{Joined, JoinedAlone, Keeps}
-use Rattle.depth_maker.specs.VisitDuties.{DutiesJoined, Owes}
-use Rattle.depth_maker.specs.Visits.{PointJoined, PointJoinedOn}
+use Rattle.depth_maker.specs.Joins.{Joined, JoinedAlone, JoinKeeps}
+use Rattle.depth_maker.specs.VisitDuties.{DutiesJoined, VisitedPointOwes}
+use Rattle.depth_maker.specs.Visits.{VisitJoinsPoint, VisitJoinsPointOn}
 use Rattle.depth_maker.specs.declared.inputs_and_limits.Ground.{Ground}
 use Rattle.depth_maker.specs.declared.table.Table as made
 use Rattle.depth_maker.proofs.DutyParts.{interrupts_off}
@@ -45,11 +45,11 @@ use Rattle.depth_maker.proofs.NotedInterrupts.{duties_already}
 use Rattle.depth_maker.proofs.PartLemmas.{Keeps-trans, duties_all, duties_jump, duties_none, duties_then, has_duty_at, jump_asks, owed_proper}
 
 -- ---- the instructions
-nothing_duties : (b : Limits) (image : ImageData) (plan : PlanData) (p n : ℕ) (k : Key) (u : State) → duties_of b image plan k p u Nothing n ≡ owed 4 (jump (moved p n) u) ∷ interrupts_of plan k u
+nothing_duties : (b : Limits) (image : ImageData) (plan : PlanData) (p n : ℕ) (k : Key) (u : State) → duties_of b image plan k p u Nothing n ≡ owed 4 (jump (machine_address_ahead p n) u) ∷ interrupts_of plan k u
 unfolding duties_of transfer_of
-nothing_duties b image plan p n k u = append-nil (owed 4 (jump (moved p n) u) ∷ interrupts_of plan k u)
+nothing_duties b image plan p n k u = append-nil (owed 4 (jump (machine_address_ahead p n) u) ∷ interrupts_of plan k u)
 
-pub nothing_passes : (image : ImageData) (plan : PlanData) (p n : ℕ) → IsCode image plan p Nothing n → IsShape Nothing → SharesState image plan p (moved p n)
+pub nothing_passes : (image : ImageData) (plan : PlanData) (p n : ℕ) → IsCode image plan p Nothing n → IsShape Nothing → SharesState image plan p (machine_address_ahead p n)
 nothing_passes image plan p n code shaped = record {
   shape = Nothing;
   size = n;
@@ -95,7 +95,7 @@ module _ (b : Limits) (image : ImageData) (plan : PlanData) (k : Key) (p : ℕ) 
   quiet_off s fine off = subst (λ (ds : List Owed). DutiesJoined b image plan s s k p u ds) (interrupts_off plan k u off) (duties_none b image plan k p u s fine)
 
   -- the last context shows that their entries are covered
-  pub quiet_noted : (s : made.Table) → IsFine b image plan s → IsNotedFor s k.is u.ccpn → DutiesJoined b image plan s s k p u (interrupts_of plan k u)
+  pub quiet_noted : (s : made.Table) → IsFine b image plan s → HasNotedInterrupts s k.is u.ccpn → DutiesJoined b image plan s s k p u (interrupts_of plan k u)
   quiet_noted s fine h = duties_already b image plan k p u s h.context fine (subst (IsContextEntered b plan (seen s).cells) h.last fine.covered.0.0) (h.within u refl)
 
   -- the order in which parts are joined
@@ -115,7 +115,7 @@ module _ (b : Limits) (image : ImageData) (plan : PlanData) (k : Key) (p : ℕ) 
     faultless : IsFaultless b image plan k p u
     faultless r = LocalHolds-found b image plan k p u passes.shape passes.size r passes.code (passes.local b k u r)
 
-    owes : (d : Owed) → Contains ((owed 4 (jump next u) ∷ []) ++ interrupts_of plan k u) d → Owes b image plan k p u d.duty
+    owes : (d : Owed) → Contains ((owed 4 (jump next u) ∷ []) ++ interrupts_of plan k u) d → VisitedPointOwes b image plan k p u d.duty
     owes d c = record {
       faultless = faultless;
       shape = passes.shape;
@@ -127,25 +127,25 @@ module _ (b : Limits) (image : ImageData) (plan : PlanData) (k : Key) (p : ℕ) 
     }
 
     -- the state flows into the successor
-    pub passing_asks : Asks b image plan (seen s).cells (place_of (Point k next)) (state u)
+    pub passing_asks : Asks b image plan (seen s).cells (place_of_spot (Point k next)) (state u)
     passing_asks =
         jump_asks b image plan k p u s next u
         (has_duty_at b image plan k p u s (jump next u) at
         (owes (owed 4 (jump next u)) (Contains-append_left (owed 4 (jump next u) ∷ []) (interrupts_of plan k u) (owed 4 (jump next u)) (Contains-push [] (owed 4 (jump next u))))))
 
     -- the successor was unknown, and has the state of the point now
-    pub passed_on : (laws : AreLawful b image plan) (t : made.Table) → IsFine b image plan s → IsProper b u → DutiesJoined b image plan s s k p u (interrupts_of plan k u) → u.ccpn < 256
-        → JoinedAlone b s t (Point k next) (state u) → PointJoined b image plan s t (Point k p)
+    pub passed_on : (laws : AreMakerLaws b image plan) (t : made.Table) → IsFine b image plan s → IsProperState b u → DutiesJoined b image plan s s k p u (interrupts_of plan k u) → u.ccpn < 256
+        → JoinedAlone b s t (Point k next) (state u) → VisitJoinsPoint b image plan s t (Point k p)
     passed_on laws t fine proper irqs small rose =
         let joined : Joined b image plan s t (Point k next) (state u) =
-        the_joined b image plan laws s t t (Point k next) (state u) passing_asks rose (Requeues-none t.places (Reads (get spot_eq s.readers (Point k next))) (λ q h. fine.exits k next q h)) rose.listed refl refl refl refl refl fine small in
+        the_joined b image plan laws s t t (Point k next) (state u) passing_asks rose (Requeues-none t.places (IsAmongReaders (get spot_eq s.readers (Point k next))) (λ q h. fine.exits k next q h)) rose.listed refl refl refl refl refl fine small in
         let both = duties_then b image plan k p u s s t (interrupts_of plan k u) (owed 4 (jump next u) ∷ []) proper
         (λ d c. owed_proper b image plan k p u laws d.duty proper (owes d (Contains-append_right (owed 4 (jump next u) ∷ []) (interrupts_of plan k u) d c))) irqs (duties_jump b image plan k p u s t 4 next u joined) in
         duties_all b image plan k p u s t passes.shape passes.size at faultless passes.code
         (subst (λ (ds : List Owed). DutiesJoined b image plan s t k p u ds) (sym (passes.duties b k u)) (turned s t (interrupts_of plan k u) (owed 4 (jump next u) ∷ []) both))
 
 -- a visit of the same places and values
-again : (b : Limits) (image : ImageData) (plan : PlanData) (s m t : made.Table) (x : Spot) → m.places.entries ≡ s.places.entries → Keeps b image plan s m → PointJoined b image plan m t x → PointJoined b image plan s t x
+again : (b : Limits) (image : ImageData) (plan : PlanData) (s m t : made.Table) (x : Spot) → m.places.entries ≡ s.places.entries → JoinKeeps b image plan s m → VisitJoinsPoint b image plan m t x → VisitJoinsPoint b image plan s t x
 unfolding seen
 again b image plan s m t x places keeps h = record {
   fine = h.fine;
@@ -154,6 +154,6 @@ again b image plan s m t x places keeps h = record {
   settled = λ k p u e at. h.settled k p u e (same_value s.places m.places places (spot_of (point k p)) ∙ at);
 }
 
-pub visited_again : (g : Ground) (s m t : made.Table) (x : Spot) (r : Result Bool Refusal) → m.places.entries ≡ s.places.entries → Keeps g.bounds.now g.image.now g.plan.now s m → OnOk r (PointJoinedOn g m t x) → OnOk r (PointJoinedOn g s t x)
+pub visited_again : (g : Ground) (s m t : made.Table) (x : Spot) (r : Result Bool Refusal) → m.places.entries ≡ s.places.entries → JoinKeeps g.bounds.now g.image.now g.plan.now s m → OnOk r (VisitJoinsPointOn g m t x) → OnOk r (VisitJoinsPointOn g s t x)
 visited_again g s m t x (Ok plain) places keeps h = again g.bounds.now g.image.now g.plan.now s m t x places keeps h
 visited_again g s m t x (Err e) places keeps h = tt

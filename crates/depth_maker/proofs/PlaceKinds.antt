@@ -8,11 +8,11 @@ use Rattle.value_domain.specs.Limits.{Limits}
 use Rattle.value_domain.specs.State.{joined_states}
 use Rattle.depth_cert.specs.declared.keys.Key.{Key}
 use Rattle.cfg_recover.specs.Entries.{start_state}
-use Rattle.depth_cert.specs.Exits.{after_of, joined_exit}
+use Rattle.depth_cert.specs.Exits.{state_after_exit, joined_exit}
 use Rattle.cfg_recover.specs.Duties.{Duty, jump, enter, resume, leave}
-use Rattle.cfg_recover.specs.Assignments.{Place, point, exit, Assignment, same_place, raised, asked, Asks, Derived, begins, joins, first_place}
+use Rattle.cfg_recover.specs.Assignments.{Place, point, exit, Assignment, same_place, raised_at_place, asked_by_duty, Asks, Derived, begins, joins, first_place}
 use Rattle.depth_cert.specs.Known.{Known, state, leaving, joined_known}
-use Rattle.cfg_recover.specs.CertRefusals.{HasFault, locals}
+use Rattle.cfg_recover.specs.CertRefusals.{HasRefusalFault, locals}
 use Rattle.depth_maker.proofs.PlaceLaws.{place_tells, from_if, resumed_some}
 
 -- what is known fits the place
@@ -22,13 +22,13 @@ IsOfKind (point k p) (leaving x) = ⊥
 IsOfKind (exit k) (state s) = ⊥
 IsOfKind (exit k) (leaving x) = Unit {0}
 
-pub asked_kind : (a : Assignment) (key : Key) (s : State) (d : Duty) (y : Place) (v : Known) → asked a key s d ≡ Some (y, v) → IsOfKind y v
+pub asked_kind : (a : Assignment) (key : Key) (s : State) (d : Duty) (y : Place) (v : Known) → asked_by_duty a key s d ≡ Some (y, v) → IsOfKind y v
 asked_kind a key s (jump q t) y v e = let f : (point key q, state t) ≡ (y, v) = cc in subst (λ (w : Place × Known). IsOfKind w.0 w.1) f tt
 asked_kind a key s (enter k t) y v e = let f : (point k k.entry, state t) ≡ (y, v) = cc in subst (λ (w : Place × Known). IsOfKind w.0 w.1) f tt
 asked_kind a key s (leave x) y v e = let f : (exit key, leaving x) ≡ (y, v) = cc in subst (λ (w : Place × Known). IsOfKind w.0 w.1) f tt
 asked_kind a key s (resume k q) y v e =
     let r = resumed_some key s k q (a (exit k)) y v e in
-    let f : (point key q, state (after_of s r.0 k.kind)) ≡ (y, v) = λ i. (r.2 i, r.3 i) in
+    let f : (point key q, state (state_after_exit s r.0 k.kind)) ≡ (y, v) = λ i. (r.2 i, r.3 i) in
     subst (λ (w : Place × Known). IsOfKind w.0 w.1) f tt
 
 joined_kind : (b : Limits) (y : Place) (w v u : Known) → IsOfKind y w → IsOfKind y v → joined_known b w v ≡ Some u → IsOfKind y u
@@ -43,7 +43,7 @@ joined_kind b (exit k) (leaving x) (state s) u h g e = absurd g
 joined_kind b (exit k) (leaving x) (leaving z) u h g e =
     let q : leaving (joined_exit b x z) ≡ u = (let r : Some (leaving (joined_exit b x z)) ≡ Some u = e in cc) in subst (IsOfKind (exit k)) q tt
 
-raised_kind : (b : Limits) (y : Place) (o : Option Known) (v u : Known) → ((w : Known) → o ≡ Some w → IsOfKind y w) → IsOfKind y v → raised b o v ≡ Some u → IsOfKind y u
+raised_kind : (b : Limits) (y : Place) (o : Option Known) (v u : Known) → ((w : Known) → o ≡ Some w → IsOfKind y w) → IsOfKind y v → raised_at_place b o v ≡ Some u → IsOfKind y u
 raised_kind b y None v u old h e = let q : v ≡ u = (let r : Some v ≡ Some u = e in cc) in subst (IsOfKind y) q h
 raised_kind b y (Some w) v u old h e = joined_kind b y w v u (old w refl) h e
 
@@ -86,7 +86,7 @@ unjoined b (exit k) (leaving x) (leaving z) h g e = absurd (let q : Some (leavin
 
 -- so it is a fault of rule 8
 pub unjoined_fault : (b : Limits) (image : ImageData) (plan : PlanData) (a : Assignment) → Derived b image plan a → (y : Place) (v w : Known) → Asks b image plan a y v → a y ≡ Some w → joined_known b w v ≡ None
-    → (k : Key) × (p : ℕ) × (y ≡ point k p) × HasFault b image plan a 8 k p
+    → (k : Key) × (p : ℕ) × (y ≡ point k p) × HasRefusalFault b image plan a 8 k p
 unjoined_fault b image plan a d y v w k at none =
     let u = unjoined b y w v (derived_kinds b image plan a d y w at) (asked_kind a k.key k.before k.duty y v k.asks) none in (
       u.key,

@@ -5,7 +5,7 @@ use Rattle.elf_image.specs.Images.{ImageData}
 use Rattle.tcd_plan.specs.PlanData.{PlanData}
 use Rattle.tc_isa.specs.declared.shapes.Shape.{Shape}
 use Rattle.tc_isa.specs.InBounds.{IsShape}
-use Rattle.tc_machine.specs.Machine.{moved}
+use Rattle.tc_machine.specs.Machine.{machine_address_ahead}
 use Rattle.value_domain.specs.declared.states.State.{State}
 use Rattle.value_domain.specs.Limits.{Limits}
 use Rattle.depth_cert.specs.declared.keys.Key.{Key}
@@ -13,9 +13,9 @@ use Rattle.depth_cert.specs.Keys.{IsKey}
 use Rattle.cfg_recover.specs.Entries.{start_state}
 use Rattle.cfg_recover.specs.LocalRules.{LocalRule}
 use Rattle.cfg_recover.specs.Duties.{Duty, jump, enter, resume, leave, Owed, duties_of}
-use Rattle.cfg_recover.specs.Assignments.{Place, point, exit, Assignment, same_place, asked, Asks, Derived, begins, joins, first_place}
+use Rattle.cfg_recover.specs.Assignments.{Place, point, exit, Assignment, same_place, asked_by_duty, Asks, Derived, begins, joins, first_place}
 use Rattle.depth_cert.specs.Known.{Known, state, leaving}
-use Rattle.depth_cert.specs.Proper.{IsProper}
+use Rattle.depth_cert.specs.Proper.{IsProperState}
 use Rattle.cfg_recover.proofs.DutyView.{DutyAt, next, straight, taken, target, called_back, system_back, returns, resumes, duty_at}
 use Rattle.cfg_recover.proofs.CodeLaws.{IsCode-bounded}
 use Rattle.depth_maker.specs.DutiesGrow.{IsGround}
@@ -42,10 +42,10 @@ StaysInRange key (enter k t) = Unit {0}
 StaysInRange key (resume k q) = q < 2 ^ 32
 StaysInRange key (leave x) = MayLeave key
 
-moved_small : (p n : ℕ) → moved p n < 2 ^ 32
+moved_small : (p n : ℕ) → machine_address_ahead p n < 2 ^ 32
 moved_small p n = omega arith
 
-module _ (b : Limits) (image : ImageData) (plan : PlanData) (key : Key) (p : ℕ) (s : State) (ground : IsGround b image plan) (proper : IsProper b s) (is_key : IsKey key) where
+module _ (b : Limits) (image : ImageData) (plan : PlanData) (key : Key) (p : ℕ) (s : State) (ground : IsGround b image plan) (proper : IsProperState b s) (is_key : IsKey key) where
   -- only a called function returns; of the handlers, only that of system calls returns to its
   -- caller
   stays_by : (shape : Shape) (n : ℕ) (d : Owed) → IsShape shape → LocalRule b plan key p s shape 6 → DutyAt b image plan key p s n shape d → StaysInRange key d.duty
@@ -63,7 +63,7 @@ module _ (b : Limits) (image : ImageData) (plan : PlanData) (key : Key) (p : ℕ
   duties_stay shape n is own d c = stays_by shape n d is own (duty_at b image plan key p s n shape d c)
 
 -- a place that a duty asks for is in range, if the frame's own are and the entered frame has a key
-asked_in_range : (a : Assignment) (key : Key) (s : State) (d : Duty) (y : Place) (v : Known) → IsKey key → HasKey d → StaysInRange key d → asked a key s d ≡ Some (y, v) → IsInRange y
+asked_in_range : (a : Assignment) (key : Key) (s : State) (d : Duty) (y : Place) (v : Known) → IsKey key → HasKey d → StaysInRange key d → asked_by_duty a key s d ≡ Some (y, v) → IsInRange y
 asked_in_range a key s (jump q t) y v is has stays e = let f : (point key q, state t) ≡ (y, v) = cc in subst (λ (w : Place × Known). IsInRange w.0) f (is, stays)
 asked_in_range a key s (enter k t) y v is has stays e = let f : (point k k.entry, state t) ≡ (y, v) = cc in subst (λ (w : Place × Known). IsInRange w.0) f (has, has.entry)
 asked_in_range a key s (resume k q) y v is has stays e = subst IsInRange (resumed_some key s k q (a (exit k)) y v e).2 (is, stays)

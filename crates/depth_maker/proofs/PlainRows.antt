@@ -18,7 +18,7 @@ use Rattle.cfg_recover.specs.Duties.{duties_of, entries_of, interrupts_of, leavi
 use Rattle.cfg_recover.specs.LocalFaults.{StandsFaultless, IsFaultless}
 use Rattle.cfg_recover.specs.declared.local_rules.Located.{Located}
 use Rattle.frame_places.specs.Marks.{value_for}
-use Rattle.frame_places.specs.Numbers.{number_in}
+use Rattle.frame_places.specs.Numbers.{frame_number_in}
 use Rattle.frame_places.specs.Spots.{spot_eq}
 use Rattle.frame_places.specs.declared.places.Mark.{Mark}
 use Rattle.frame_places.specs.declared.places.Mark.TheVariants.{Plain}
@@ -27,11 +27,11 @@ use Rattle.frame_places.specs.declared.places.Spot.TheVariants.{Point}
 use Rattle.small_states.specs.CompactForms.{IsOutline}
 use Rattle.small_states.specs.declared.known.Outline.{Outline}
 use Rattle.frame_places.specs.declared.needs.row.NeedRow.{NeedRow}
-use Rattle.depth_maker.specs.EnteredFrames.{EntersNone, IsPlainAt, entered_in}
+use Rattle.depth_maker.specs.EnteredFrames.{EntersNoFrame, IsPlainAt, entered_in}
 use Rattle.depth_maker.specs.InterruptHandlers.{nodes_taken}
 use Rattle.depth_maker.proofs.HandlerLaws.{nodes_taken-is}
-use Rattle.depth_maker.specs.Spots.{place_of}
-use Rattle.depth_maker.specs.Rows.{IsPlainRow, IsPointRow, IsSource}
+use Rattle.depth_maker.specs.Spots.{place_of_spot}
+use Rattle.depth_maker.specs.Rows.{IsPlainRow, IsPointRow, IsRowSource}
 use Rattle.depth_maker.specs.TableView.{seen}
 use Rattle.depth_maker.specs.declared.inputs_and_limits.Ground.{Ground}
 use Rattle.depth_maker.specs.declared.rows.Source.{Source}
@@ -43,14 +43,14 @@ pub off_of : (t : Bool) → not t ≡ true → t ≡ false
 off_of true e = cc
 off_of false e = refl
 
-pub load_enters_none : (plan : PlanData) (shape : Shape) → plan.aln ≡ false → (dst : ℕ) (base : Arg) (offset size : ℕ) (signed after : Bool) → shape ≡ Load dst base offset size signed after → EntersNone plan shape
-load_enters_none plan shape off dst base offset size signed after is = subst (EntersNone plan) (sym is) at where
-  at : EntersNone plan (Load dst base offset size signed after)
+pub load_enters_none : (plan : PlanData) (shape : Shape) → plan.aln ≡ false → (dst : ℕ) (base : Arg) (offset size : ℕ) (signed after : Bool) → shape ≡ Load dst base offset size signed after → EntersNoFrame plan shape
+load_enters_none plan shape off dst base offset size signed after is = subst (EntersNoFrame plan) (sym is) at where
+  at : EntersNoFrame plan (Load dst base offset size signed after)
   at b k p u n rule = (refl, ap entered_in (aligned_owes_none b plan k u (Load dst base offset size signed after) (rule.accesses refl) off))
 
-pub store_enters_none : (plan : PlanData) (shape : Shape) → plan.aln ≡ false → (src : ℕ) (base : Arg) (offset size : ℕ) (after : Bool) → shape ≡ Store src base offset size after → EntersNone plan shape
-store_enters_none plan shape off src base offset size after is = subst (EntersNone plan) (sym is) at where
-  at : EntersNone plan (Store src base offset size after)
+pub store_enters_none : (plan : PlanData) (shape : Shape) → plan.aln ≡ false → (src : ℕ) (base : Arg) (offset size : ℕ) (after : Bool) → shape ≡ Store src base offset size after → EntersNoFrame plan shape
+store_enters_none plan shape off src base offset size after is = subst (EntersNoFrame plan) (sym is) at where
+  at : EntersNoFrame plan (Store src base offset size after)
   at b k p u n rule = (refl, ap entered_in (aligned_owes_none b plan k u (Store src base offset size after) (rule.accesses refl) off))
 
 -- only interrupts enter a frame if the instruction enters none
@@ -78,8 +78,8 @@ unfolding plain_found
 plain_stands g k p u faultless at = record { faultless = faultless; code = at.code; shape = at.shaped }
 
 -- the row of a plain point has the handlers of the interrupts that may be taken
-pub plain_point : (s : Source) → IsSource s → (k : Key) (p : ℕ) (m : Marked Known) (o : Outline) (row : NeedRow) → get spot_eq (s.table.now).places (Point k p) ≡ Some m → m.mark ≡ Plain → IsOutline m.value o
-    → IsPlainRow s (number_in (s.table.now).frames.items k) o row → IsPointRow s k p row
+pub plain_point : (s : Source) → IsRowSource s → (k : Key) (p : ℕ) (m : Marked Known) (o : Outline) (row : NeedRow) → get spot_eq (s.table.now).places (Point k p) ≡ Some m → m.mark ≡ Plain → IsOutline m.value o
+    → IsPlainRow s (frame_number_in (s.table.now).frames.items k) o row → IsPointRow s k p row
 unfolding seen plain_found
 plain_point s source k p m o row at mark is plain =
     let g = s.ground.now in
@@ -98,8 +98,8 @@ plain_point s source k p m o row at mark is plain =
     let parts = entered_plain g.bounds.now g.image.now g.plan.now k p u faultless plain_at in
     let counted = (done.counted).each in
     let known = λ (l : Key) (i : Contains (entered_in (interrupts_of g.plan.now k u)) l).
-    entered_frame _ _ _ (seen t).cells done.closed (map place_of t.points.items) frames counted k p u l
-    (enters_of _ _ _ (seen t).cells done.closed (map place_of t.points.items) frames counted k p u found l there stands (subst (λ (z : List Key). Contains z l) (sym parts) i)) in (
+    entered_frame _ _ _ (seen t).cells done.closed (map place_of_spot t.points.items) frames counted k p u l
+    (enters_of _ _ _ (seen t).cells done.closed (map place_of_spot t.points.items) frames counted k p u found l there stands (subst (λ (z : List Key). Contains z l) (sym parts) i)) in (
       u,
       there,
       record {
@@ -110,7 +110,7 @@ plain_point s source k p m o row at mark is plain =
         into =
             plain.into ∙ sym (λ i. nodes_taken (own.0 i) (own.1 i) s.handlers.now)
             ∙ nodes_taken-is g.plan.now frames k u s.handlers.now source.handlers known
-            ∙ sym (ap (λ (l : List Key). map (number_in frames) l) parts);
+            ∙ sym (ap (λ (l : List Key). map (frame_number_in frames) l) parts);
       },
     )
 

@@ -26,7 +26,7 @@ use Rattle.frame_places.specs.declared.places.Spot.{Spot}
 use Rattle.frame_places.specs.declared.places.Spot.TheVariants.{Point, Exit}
 use Rattle.frame_places.proofs.SpotLemmas.{spot_refl, spot_tells}
 use Rattle.depth_maker.specs.Counts.{AreCounted, IsCountedIn}
-use Rattle.depth_maker.specs.Spots.{place_of, spot_of}
+use Rattle.depth_maker.specs.Spots.{place_of_spot, spot_of}
 use Rattle.depth_maker.proofs.CountedLemmas.{few_spots}
 use Rattle.depth_maker.proofs.DutyGrowth.{contained_map}
 use Rattle.depth_maker.proofs.FindLemmas.{filter_has, has_filter}
@@ -34,14 +34,14 @@ use Rattle.depth_maker.proofs.SpotLemmas.{agrees, forth}
 
 -- ---- lists
 -- a counted point is in the list
-pub placed : (ps : List Spot) (k : Key) (p : ℕ) → Contains (map place_of ps) (point k p) → Contains ps (Point k p)
+pub placed : (ps : List Spot) (k : Key) (p : ℕ) → Contains (map place_of_spot ps) (point k p) → Contains ps (Point k p)
 placed [] k p c = absurd (omega (arith, c.1))
 placed (x ∷ xs) k p c = at (λ h. placed xs k p h) c.0 c.1 c.2 where
-  spot : (y : Spot) → place_of y ≡ point k p → y ≡ Point k p
+  spot : (y : Spot) → place_of_spot y ≡ point k p → y ≡ Point k p
   spot (Point j q) e = let key : j ≡ k = cc in let addr : q ≡ p = cc in λ i. Point (key i) (addr i)
   spot (Exit j) e = absurd (let no : exit j ≡ point k p = e in cc)
 
-  at : (Contains (map place_of xs) (point k p) → Contains xs (Point k p)) → (i : ℕ) → i < length (map place_of (x ∷ xs)) → get_or (map place_of (x ∷ xs)) i (point k p) ≡ point k p → Contains (x ∷ xs) (Point k p)
+  at : (Contains (map place_of_spot xs) (point k p) → Contains xs (Point k p)) → (i : ℕ) → i < length (map place_of_spot (x ∷ xs)) → get_or (map place_of_spot (x ∷ xs)) i (point k p) ≡ point k p → Contains (x ∷ xs) (Point k p)
   at more zero lt e = (0, omega arith, spot x e)
   at more (suc i) lt e = let r = more (i, omega arith, e) in (suc r.0, omega (arith, r.1), r.2)
 
@@ -100,27 +100,27 @@ module _ {S : Type 0} (m : IndexMap Spot (Marked Known) S) (ps : List Spot) (ks 
   apart_spots : (i j : ℕ) (d : Spot) → i < j → j < length (points_in m) → spot_eq (get_or (points_in m) i d) (get_or (points_in m) j d) ≡ false
   apart_spots i j d lt le = AllPairs-filter (λ x y. spot_eq x y ≡ false) is_point (keys m) (λ i j d lt le. apart_from_distinct spot_eq (keys m) i j d unique lt le) i j d lt le
 
-  apart : (i j : ℕ) (d : Place) → i < j → j < length (map place_of (points_in m)) → same_place (get_or (map place_of (points_in m)) i d) (get_or (map place_of (points_in m)) j d) ≡ false
+  apart : (i j : ℕ) (d : Place) → i < j → j < length (map place_of_spot (points_in m)) → same_place (get_or (map place_of_spot (points_in m)) i d) (get_or (map place_of_spot (points_in m)) j d) ≡ false
   apart i j d lt le =
-      let inside : j < length (points_in m) = omega (arith, le, length-map (points_in m) place_of) in
+      let inside : j < length (points_in m) = omega (arith, le, length-map (points_in m) place_of_spot) in
       let two = apart_spots i j nowhere lt inside in
       let x = get_or (points_in m) i nowhere in
       let y = get_or (points_in m) j nowhere in
-      let one : get_or (map place_of (points_in m)) i d ≡ place_of x = get_or-map place_of (points_in m) i nowhere d (omega (arith, lt, inside)) in
-      let other : get_or (map place_of (points_in m)) j d ≡ place_of y = get_or-map place_of (points_in m) j nowhere d inside in
-      let turned : spot_eq (spot_of (place_of y)) (spot_of (place_of x)) ≡ spot_eq y x = λ t. spot_eq (forth y t) (forth x t) in
-      (λ t. same_place (one t) (other t)) ∙ sym (agrees (place_of x) (place_of y)) ∙ turned ∙ spot_equiv.symm y x ∙ two
+      let one : get_or (map place_of_spot (points_in m)) i d ≡ place_of_spot x = get_or-map place_of_spot (points_in m) i nowhere d (omega (arith, lt, inside)) in
+      let other : get_or (map place_of_spot (points_in m)) j d ≡ place_of_spot y = get_or-map place_of_spot (points_in m) j nowhere d inside in
+      let turned : spot_eq (spot_of (place_of_spot y)) (spot_of (place_of_spot x)) ≡ spot_eq y x = λ t. spot_eq (forth y t) (forth x t) in
+      (λ t. same_place (one t) (other t)) ∙ sym (agrees (place_of_spot x) (place_of_spot y)) ∙ turned ∙ spot_equiv.symm y x ∙ two
 
-  pub entries_counted : AreCounted (λ q. value_for m (spot_of q)) (map place_of (points_in m)) ks
+  pub entries_counted : AreCounted (λ q. value_for m (spot_of q)) (map place_of_spot (points_in m)) ks
   entries_counted = record {
-    points = λ k p h. contains_map place_of (points_in m) (Point k p) (filter_has is_point (keys m) (Point k p) (has_entry m (Point k p) h) refl);
+    points = λ k p h. contains_map place_of_spot (points_in m) (Point k p) (filter_has is_point (keys m) (Point k p) (has_entry m (Point k p) h) refl);
     known = λ y h.
-        let q = contained_map place_of (points_in m) y h in
+        let q = contained_map place_of_spot (points_in m) y h in
         let f = has_filter is_point (keys m) q.0 q.1 in
         let kind = point_kind q.0 f.1 in
-        let at : place_of q.0 ≡ point kind.0 kind.1 = ap place_of kind.2 in
+        let at : place_of_spot q.0 ≡ point kind.0 kind.1 = ap place_of_spot kind.2 in
         (subst (λ (z : Place). IsSome (value_for m (spot_of z))) (sym at ∙ q.2) (subst (λ (z : Spot). IsSome (value_for m z)) kind.2 (entry_known m q.0 f.0)), (kind.0, kind.1, sym q.2 ∙ at));
-    once = IsDistinct-from_apart same_place (map place_of (points_in m)) apart;
+    once = IsDistinct-from_apart same_place (map place_of_spot (points_in m)) apart;
     frames = (c.each).frames;
     entered = (c.each).entered;
     once_each = (c.each).once_each;

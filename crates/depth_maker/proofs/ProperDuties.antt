@@ -18,25 +18,25 @@ use Rattle.value_domain.specs.Values.{IsValue, any_val, word_val}
 use Rattle.value_domain.specs.State.{AreValues, is_lower_slot}
 use Rattle.value_domain.proofs.RangeLaws.{any_value}
 use Rattle.vd_transfer.specs.Operations.{value_of}
-use Rattle.vd_transfer.specs.EffectsOnStates.{address_of, transfer_of, with_base, HasRoom}
-use Rattle.vd_transfer.specs.Branches.{with_one, with_two, state_on_side, with_lowered_counter, refine_of, is_reg}
-use Rattle.vd_transfer.specs.Registers.{set_arg, reg_of, arg_of, set_reg, slot}
-use Rattle.vd_transfer.specs.Soundness.{IsSetting}
+use Rattle.vd_transfer.specs.EffectsOnStates.{address_of, transfer_of, with_base, EffectHasRoom}
+use Rattle.vd_transfer.specs.Branches.{side_with_register, side_with_operands, state_on_side, with_lowered_counter, refine_of}
+use Rattle.vd_transfer.specs.Registers.{is_operand_register, set_arg, reg_of, arg_of, set_reg, slot}
+use Rattle.vd_transfer.specs.Soundness.{IsSoundSetting}
 use Rattle.vd_transfer.proofs.HoldLaws.{reg_value, arg_value, same_length, set_values_at}
 use Rattle.vd_transfer.proofs.RegisterLaws.{length-forgotten, forgotten_values}
 use Rattle.vd_transfer.proofs.ValueLaws.{value_of_value}
 use Rattle.elf_image.proofs.ReadBytes.{byte_lt}
 use Rattle.depth_cert.specs.declared.keys.Key.{Key}
-use Rattle.cfg_recover.specs.Entries.{stack_of, entry_with, call_entry, aln_entry, sys_entry}
+use Rattle.cfg_recover.specs.Entries.{entry_stack_of, entry_state_with, call_entry, aln_entry, sys_entry}
 use Rattle.depth_cert.specs.Exits.{lower_values, exit_of}
-use Rattle.cfg_recover.specs.Duties.{Owed, loaded_at}
+use Rattle.cfg_recover.specs.Duties.{Owed, loaded_for_duties}
 use Rattle.cfg_recover.proofs.CodeLaws.{IsCode-bounded}
 use Rattle.cfg_recover.proofs.EntryLaws.{lower_length, entry_length, sys_length}
 use Rattle.depth_cert.proofs.ExitValues.{after-at, with_lower_length}
 use Rattle.cfg_recover.proofs.FlowStates.{entry_values}
 use Rattle.depth_maker.specs.DutiesGrow.{IsGround}
 use Rattle.depth_maker.specs.ProperAssignments.{IsProperDuty, DutiesAreProper, AfterIsProper}
-use Rattle.depth_cert.specs.Proper.{IsProper, IsProperExit}
+use Rattle.depth_cert.specs.Proper.{IsProperState, IsProperExit}
 use Rattle.depth_maker.proofs.StateGrowth.{covers_same, setting_write, set_locals}
 use Rattle.depth_maker.proofs.EffectGrowth.{base_setting, address_value, branch_grows, word_value}
 use Rattle.depth_maker.proofs.LoadedValues.{loaded_value}
@@ -45,11 +45,11 @@ use Rattle.cfg_recover.proofs.DutyView.{DutyAt, next, straight, taken, target, c
 use Rattle.depth_maker.proofs.DutyGrowth.{lower-at, lower_place}
 
 -- ---- transfers
-module _ (b : Limits) (p : PlanData) (s : State) (h : IsSetting b p s) where
-  same_setting : (t : State) → t.regs ≡ s.regs → IsSetting b p t
+module _ (b : Limits) (p : PlanData) (s : State) (h : IsSoundSetting b p s) where
+  same_setting : (t : State) → t.regs ≡ s.regs → IsSoundSetting b p t
   same_setting t e = record { limits = h.limits; plan = h.plan; regs = ap length e ∙ h.regs; values = subst (λ (vs : List Val). AreValues b vs) (sym e) h.values }
 
-  pub transfer_setting : (shape : Shape) (v : Val) → IsShape shape → IsValue b v → IsSetting b p (transfer_of b p shape s v)
+  pub transfer_setting : (shape : Shape) (v : Val) → IsShape shape → IsValue b v → IsSoundSetting b p (transfer_of b p shape s v)
   unfolding transfer_of
   transfer_setting (Compute op dst x y) v is vv = setting_write b p s dst _ h (value_of_value b op (arg_of p s x) (arg_of p s y) h.limits (arg_value b p s x h is.1) (arg_value b p s y h is.2))
   transfer_setting (Scaled dst base index k) v is vv = setting_write b p s dst _ h (value_of_value b Add (reg_of p s base) (value_of b Sh (reg_of p s index) (word_val k)) h.limits (reg_value b p s base h) (value_of_value b Sh (reg_of p s index) (word_val k) h.limits (reg_value b p s index h) (word_value b k h.limits (omega (arith, is.3)))))
@@ -64,7 +64,7 @@ module _ (b : Limits) (p : PlanData) (s : State) (h : IsSetting b p s) where
   base_locals (Reg r) offset false = refl
   base_locals (Reg r) offset true = set_locals s r _
 
-  pub transfer_locals : (shape : Shape) (v : Val) → HasRoom b shape s → length s.locals.items ≤ b.most_locals → length (transfer_of b p shape s v).locals.items ≤ b.most_locals
+  pub transfer_locals : (shape : Shape) (v : Val) → EffectHasRoom b shape s → length s.locals.items ≤ b.most_locals → length (transfer_of b p shape s v).locals.items ≤ b.most_locals
   unfolding transfer_of
   transfer_locals (Compute op dst x y) v room few = omega (arith, ap length (set_locals s dst (value_of b op (arg_of p s x) (arg_of p s y))), few)
   transfer_locals (Scaled dst base index k) v room few = omega (arith, ap length (set_locals s dst (value_of b Add (reg_of p s base) (value_of b Sh (reg_of p s index) (word_val k)))), few)
@@ -85,11 +85,11 @@ arg_locals : (s : State) (y : Arg) (v : Val) → (set_arg s y v).locals.items �
 arg_locals s (Reg r) v = set_locals s r v
 arg_locals s (Word w) v = refl
 
-one_locals : (s : State) (x : ℕ) (z : Option Val) → KeepsLocals s (with_one s x z)
+one_locals : (s : State) (x : ℕ) (z : Option Val) → KeepsLocals s (side_with_register s x z)
 one_locals s x None = tt
 one_locals s x (Some z) = set_locals s x z
 
-two_locals : (s : State) (x : ℕ) (y : Arg) (v w : Option Val) → KeepsLocals s (with_two s x y v w)
+two_locals : (s : State) (x : ℕ) (y : Arg) (v w : Option Val) → KeepsLocals s (side_with_operands s x y v w)
 two_locals s x y None w = tt
 two_locals s x y (Some v) None = tt
 two_locals s x y (Some v) (Some w) = arg_locals (set_reg s x v) y w ∙ set_locals s x v
@@ -100,7 +100,7 @@ lowered_locals b p s x false (Some t) h = h
 lowered_locals b p s x true (Some t) h = set_locals t x _ ∙ h
 
 refined_locals : (b : Limits) (p : PlanData) (s : State) (test : Cond) (x : ℕ) (y : Arg) (side : Bool) → KeepsLocals s (state_on_side b p test x y s side)
-refined_locals b p s test x y side = cond_both (is_reg x y) _ _ (KeepsLocals s) (λ _. one_locals s x _) (λ _. two_locals s x y _ _)
+refined_locals b p s test x y side = cond_both (is_operand_register x y) _ _ (KeepsLocals s) (λ _. one_locals s x _) (λ _. two_locals s x y _ _)
 
 branch_locals : (b : Limits) (p : PlanData) (s : State) (test : Cond) (x : ℕ) (y : Arg) (by : ℕ) (lowers side : Bool) → KeepsLocals s (refine_of b p (Branch test x y by lowers) s side)
 unfolding refine_of
@@ -117,7 +117,7 @@ lower_values_are b vs len values r lt =
     let at = lower-at vs r len within in
     subst (λ (v : Val). IsValue b v) (sym at.2) (values at.0 (omega (arith, at.1)))
 
-pub exit_proper : (b : Limits) (s : State) → IsProper b s → IsProperExit b (exit_of s)
+pub exit_proper : (b : Limits) (s : State) → IsProperState b s → IsProperExit b (exit_of s)
 exit_proper b s h = record { regs = lower_length s.regs h.regs; values = lower_values_are b s.regs h.regs h.values }
 
 pub after_proper : AfterIsProper
@@ -133,57 +133,57 @@ after_proper b s x kind ps px = record {
   few = ps.few;
 }
 
-module _ (b : Limits) (image : ImageData) (plan : PlanData) (key : Key) (p : ℕ) (s : State) (ground : IsGround b image plan) (proper : IsProper b s) where
-  set : IsSetting b plan s
+module _ (b : Limits) (image : ImageData) (plan : PlanData) (key : Key) (p : ℕ) (s : State) (ground : IsGround b image plan) (proper : IsProperState b s) where
+  set : IsSoundSetting b plan s
   set = setting_of b image plan s ground proper
 
-  stack_value : IsValue b (stack_of plan key s)
+  stack_value : IsValue b (entry_stack_of plan key s)
   stack_value = elim (cases_Bool key.is) [ inl e ↦ rw e (reg_value b plan s 26 set) | inr e ↦ rw e (word_value b plan.isp (ground.limits) ((ground.is_plan).words.isp)) ]
 
-  handler_proper : (n : ℕ) → IsProper b (entry_with (stack_of plan key s) false n true)
+  handler_proper : (n : ℕ) → IsProperState b (entry_state_with (entry_stack_of plan key s) false n true)
   handler_proper n = record {
-    regs = entry_length (stack_of plan key s) false n true;
-    values = entry_values b (stack_of plan key s) false n true ground.limits stack_value;
-    few = omega (arith, ap length (set_locals (record { regs = replicate 27 any_val; ie = false; ccpn = n; lower = true; locals = record { items = [] } }) 26 (stack_of plan key s)));
+    regs = entry_length (entry_stack_of plan key s) false n true;
+    values = entry_values b (entry_stack_of plan key s) false n true ground.limits stack_value;
+    few = omega (arith, ap length (set_locals (record { regs = replicate 27 any_val; ie = false; ccpn = n; lower = true; locals = record { items = [] } }) 26 (entry_stack_of plan key s)));
   }
 
-  aln_proper : IsProper b (aln_entry plan key s)
+  aln_proper : IsProperState b (aln_entry plan key s)
   aln_proper =
       let h = handler_proper s.ccpn in
-      let u = entry_with (stack_of plan key s) false s.ccpn true in
+      let u = entry_state_with (entry_stack_of plan key s) false s.ccpn true in
       record {
         regs = same_length u (word_val 4) (slot 15) ∙ h.regs;
         values = set_values_at b u (word_val 4) (slot 15) h.values (word_value b 4 (ground.limits) (omega arith));
         few = omega (arith, ap length (set_locals u 15 (word_val 4)), h.few);
       }
 
-  sys_proper : (tin : ℕ) → tin < 256 → IsProper b (sys_entry plan key s tin)
+  sys_proper : (tin : ℕ) → tin < 256 → IsProperState b (sys_entry plan key s tin)
   sys_proper tin small =
-      let u = set_reg s 26 (stack_of plan key s) in
+      let u = set_reg s 26 (entry_stack_of plan key s) in
       record {
         regs = sys_length plan key s tin ∙ proper.regs;
-        values = set_values_at b u (word_val tin) (slot 15) (set_values_at b s (stack_of plan key s) (slot 26) proper.values stack_value) (word_value b tin (ground.limits) (omega arith));
+        values = set_values_at b u (word_val tin) (slot 15) (set_values_at b s (entry_stack_of plan key s) (slot 26) proper.values stack_value) (word_value b tin (ground.limits) (omega arith));
         few = omega arith;
       }
 
-  call_proper : IsProper b (call_entry s)
+  call_proper : IsProperState b (call_entry s)
   call_proper = record { regs = proper.regs; values = proper.values; few = omega arith }
 
-  loaded_is : (shape : Shape) → IsShape shape → IsValue b (loaded_at b image plan s shape)
+  loaded_is : (shape : Shape) → IsShape shape → IsValue b (loaded_for_duties b image plan s shape)
   loaded_is (Load dst base offset size signed after) is = loaded_value image plan size signed ground.is_plan (λ x y. byte_lt image.segments x y ground.is_image.bytes) is.3 b (address_of b plan (Load dst base offset size signed after) s) ground.limits (address_value b plan (Load dst base offset size signed after) s set is)
   loaded_is _ is = any_value b (ground.limits)
 
-  next_proper : (shape : Shape) → IsShape shape → HasRoom b shape s → IsProper b (transfer_of b plan shape s (loaded_at b image plan s shape))
+  next_proper : (shape : Shape) → IsShape shape → EffectHasRoom b shape s → IsProperState b (transfer_of b plan shape s (loaded_for_duties b image plan s shape))
   next_proper shape is room =
-      let h = transfer_setting b plan s set shape (loaded_at b image plan s shape) is (loaded_is shape is) in
-      record { regs = h.regs; values = h.values; few = transfer_locals b plan s set shape (loaded_at b image plan s shape) room proper.few }
+      let h = transfer_setting b plan s set shape (loaded_for_duties b image plan s shape) is (loaded_is shape is) in
+      record { regs = h.regs; values = h.values; few = transfer_locals b plan s set shape (loaded_for_duties b image plan s shape) room proper.few }
 
-  branch_proper : (test : Cond) (x : ℕ) (y : Arg) (by : ℕ) (lowers side : Bool) → IsShape (Branch test x y by lowers) → (t : State) → refine_of b plan (Branch test x y by lowers) s side ≡ Some t → IsProper b t
+  branch_proper : (test : Cond) (x : ℕ) (y : Arg) (by : ℕ) (lowers side : Bool) → IsShape (Branch test x y by lowers) → (t : State) → refine_of b plan (Branch test x y by lowers) s side ≡ Some t → IsProperState b t
   branch_proper test x y by lowers side is t e =
       let h = (branch_grows b plan s s test x y by lowers side set set (covers_same s) is t e).0 in
       record { regs = h.regs; values = h.values; few = omega (arith, ap length (kept_locals s t _ (branch_locals b plan s test x y by lowers side) e), proper.few) }
 
-  proper_by : (shape : Shape) (n : ℕ) (d : Owed) → IsShape shape → HasRoom b shape s → DutyAt b image plan key p s n shape d → IsProperDuty b d.duty
+  proper_by : (shape : Shape) (n : ℕ) (d : Owed) → IsShape shape → EffectHasRoom b shape s → DutyAt b image plan key p s n shape d → IsProperDuty b d.duty
   proper_by _ n _ is room (next shape e) = next_proper shape is room
   proper_by _ n _ is room (straight test x y by lowers t e) = branch_proper test x y by lowers false is t e
   proper_by _ n _ is room (taken test x y by lowers t e) = branch_proper test x y by lowers true is t e

@@ -8,11 +8,11 @@ use Rattle.value_domain.specs.Limits.{Limits}
 use Rattle.depth_cert.specs.declared.keys.Key.{Key}
 use Rattle.cfg_recover.specs.Entries.{start_key, start_state}
 use Rattle.cfg_recover.specs.Duties.{Duty, jump, enter, resume, leave}
-use Rattle.cfg_recover.specs.Assignments.{Place, point, exit, Assignment, same_place, frame_of, asked, HasDuty, Joins, Derived, begins, joins, Closed, first_place, AllFaultless}
+use Rattle.cfg_recover.specs.Assignments.{Place, point, exit, Assignment, same_place, frame_of_place, asked_by_duty, HasDuty, Joins, Derived, begins, joins, Closed, first_place, AllFaultless}
 use Rattle.depth_cert.specs.Known.{Known, state, leaving}
-use Rattle.cfg_recover.specs.CertRefusals.{Enters, MeetsNeeds, Reaches, here, by_entry}
+use Rattle.cfg_recover.specs.CertRefusals.{EntersInAssignment, MeetsNeeds, Reaches, here, by_entry}
 use Rattle.depth_maker.specs.ProperAssignments.{AllProper}
-use Rattle.depth_maker.specs.MakerLaws.{AreLawful}
+use Rattle.depth_maker.specs.MakerLaws.{AreMakerLaws}
 use Rattle.depth_maker.proofs.PlaceLaws.{place_tells, place_same, from_if, resumed_some}
 use Rattle.depth_maker.proofs.Below.{derived_below}
 use Rattle.depth_maker.proofs.NeedLaws.{entered_above, reached_less}
@@ -23,12 +23,12 @@ entry_of k = point k k.entry
 
 -- ---- the place that a duty asks for
 -- in its own frame, or at the entry of one that it enters
-pub asked_where : (a : Assignment) (key : Key) (s : State) (d : Duty) (y : Place) (v : Known) → asked a key s d ≡ Some (y, v)
-    → (frame_of y ≡ key) ⊎ ((k : Key) × (u : State) × (d ≡ enter k u) × (y ≡ entry_of k))
-asked_where a key s (jump q t) y v e = let f : (point key q, state t) ≡ (y, v) = cc in inl (sym (ap (λ (w : Place × Known). frame_of w.0) f))
+pub asked_where : (a : Assignment) (key : Key) (s : State) (d : Duty) (y : Place) (v : Known) → asked_by_duty a key s d ≡ Some (y, v)
+    → (frame_of_place y ≡ key) ⊎ ((k : Key) × (u : State) × (d ≡ enter k u) × (y ≡ entry_of k))
+asked_where a key s (jump q t) y v e = let f : (point key q, state t) ≡ (y, v) = cc in inl (sym (ap (λ (w : Place × Known). frame_of_place w.0) f))
 asked_where a key s (enter k t) y v e = let f : (point k k.entry, state t) ≡ (y, v) = cc in inr (k, t, refl, sym (ap (λ (w : Place × Known). w.0) f))
-asked_where a key s (resume k q) y v e = let r = resumed_some key s k q (a (exit k)) y v e in inl (sym (ap frame_of r.2))
-asked_where a key s (leave x) y v e = let f : (exit key, leaving x) ≡ (y, v) = cc in inl (sym (ap (λ (w : Place × Known). frame_of w.0) f))
+asked_where a key s (resume k q) y v e = let r = resumed_some key s k q (a (exit k)) y v e in inl (sym (ap frame_of_place r.2))
+asked_where a key s (leave x) y v e = let f : (exit key, leaving x) ≡ (y, v) = cc in inl (sym (ap (λ (w : Place × Known). frame_of_place w.0) f))
 
 some_is : (o : Option Known) (v : Known) → o ≡ Some v → IsSome o
 some_is o v e = subst (λ (o : Option Known). IsSome o) (sym e) refl
@@ -44,37 +44,37 @@ module _ (b : Limits) (image : ImageData) (plan : PlanData) where
     some_joined : IsSome (after y)
     some_joined = some_is (after y) j.known (j.is y ∙ ap (λ t. if t then Some j.known else a y) (place_same y))
 
-    entry_joined : ((x : Place) (v : Known) → a x ≡ Some v → IsSome (a (entry_of (frame_of x)))) → IsSome (after (entry_of (frame_of y)))
+    entry_joined : ((x : Place) (v : Known) → a x ≡ Some v → IsSome (a (entry_of (frame_of_place x)))) → IsSome (after (entry_of (frame_of_place y)))
     entry_joined old =
         let k = j.asks in
         elim (asked_where a k.key k.before k.duty y j.value k.asks) [
           | inl same ↦ subst (λ (z : Key). IsSome (after (entry_of z))) (sym same) (some_stays (entry_of k.key) (old (point k.key k.addr) (state k.before) (k.has).at))
-          | inr e ↦ subst (λ (z : Place). IsSome (after (entry_of (frame_of z)))) (sym e.3) (subst (λ (z : Place). IsSome (after z)) e.3 some_joined)
+          | inr e ↦ subst (λ (z : Place). IsSome (after (entry_of (frame_of_place z)))) (sym e.3) (subst (λ (z : Place). IsSome (after z)) e.3 some_joined)
         ]
 
   -- a known frame has its entry point
-  pub entry_stands : (a : Assignment) → Derived b image plan a → (y : Place) (v : Known) → a y ≡ Some v → IsSome (a (entry_of (frame_of y)))
+  pub entry_stands : (a : Assignment) → Derived b image plan a → (y : Place) (v : Known) → a y ≡ Some v → IsSome (a (entry_of (frame_of_place y)))
   entry_stands _ (begins a is) y v at =
       elim (from_if (same_place y (first_place image plan)) (state (start_state plan)) None (a y) v (is y) at) [
-        | inl h ↦ subst (λ (z : Place). IsSome (a (entry_of (frame_of z)))) (sym (place_tells y (first_place image plan) h.0))
+        | inl h ↦ subst (λ (z : Place). IsSome (a (entry_of (frame_of_place z)))) (sym (place_tells y (first_place image plan) h.0))
             (subst (λ (z : Place). IsSome (a z)) (place_tells y (first_place image plan) h.0) (some_is (a y) v at))
         | inr h ↦ (let q : None ≡ Some v = h.1 in cc)
       ]
   entry_stands _ (joins a after z d j) y v at =
       elim (from_if (same_place y z) j.known (a y) (after y) v (j.is y) at) [
-        | inl h ↦ subst (λ (x : Place). IsSome (after (entry_of (frame_of x)))) (sym (place_tells y z h.0)) (entry_joined a after z j (entry_stands a d))
-        | inr h ↦ some_stays a after z j (entry_of (frame_of y)) (entry_stands a d y v h.1)
+        | inl h ↦ subst (λ (x : Place). IsSome (after (entry_of (frame_of_place x)))) (sym (place_tells y z h.0)) (entry_joined a after z j (entry_stands a d))
+        | inr h ↦ some_stays a after z j (entry_of (frame_of_place y)) (entry_stands a d y v h.1)
       ]
 
   -- ---- from the start
   -- a frame that a reached one enters is reached
-  pub reaches_then : (c : Assignment) (j t : Key) (p : ℕ) (s : State) → Enters b image plan c j p s t → (k : Key) → Reaches b image plan c j k → Reaches b image plan c t k
+  pub reaches_then : (c : Assignment) (j t : Key) (p : ℕ) (s : State) → EntersInAssignment b image plan c j p s t → (k : Key) → Reaches b image plan c j k → Reaches b image plan c t k
   reaches_then c j t p s e _ here = by_entry j p s t e here
   reaches_then c j t p s e _ (by_entry k q u l f r) = by_entry k q u l f (reaches_then c j t p s e l r)
 
-  module _ (laws : AreLawful b image plan) (c : Assignment) (closed : Closed b image plan c) (faultless : AllFaultless b image plan c) (pc : AllProper b c) where
+  module _ (laws : AreMakerLaws b image plan) (c : Assignment) (closed : Closed b image plan c) (faultless : AllFaultless b image plan c) (pc : AllProper b c) where
     joined_reached : (a after : Assignment) (y : Place) → Derived b image plan a → Joins b image plan a after y
-        → ((x : Place) (v : Known) → a x ≡ Some v → Reaches b image plan c (frame_of x) (start_key image plan)) → Reaches b image plan c (frame_of y) (start_key image plan)
+        → ((x : Place) (v : Known) → a x ≡ Some v → Reaches b image plan c (frame_of_place x) (start_key image plan)) → Reaches b image plan c (frame_of_place y) (start_key image plan)
     joined_reached a after y d j old =
         let k = j.asks in
         let from = old (point k.key k.addr) (state k.before) (k.has).at in
@@ -82,24 +82,24 @@ module _ (b : Limits) (image : ImageData) (plan : PlanData) where
         elim (asked_where a k.key k.before k.duty y j.value k.asks) [
           | inl same ↦ subst (λ (z : Key). Reaches b image plan c z (start_key image plan)) (sym same) from
           | inr e ↦
-              (let has : Enters b image plan a k.key k.addr k.before e.0 = record { entered = e.1; has = subst (HasDuty b image plan a k.key k.addr k.before) e.2 k.has } in
+              (let has : EntersInAssignment b image plan a k.key k.addr k.before e.0 = record { entered = e.1; has = subst (HasDuty b image plan a k.key k.addr k.before) e.2 k.has } in
               let up = entered_above b image plan laws c closed faultless pc a h.0 h.1 k.key k.addr k.before e.0 has in
-              subst (λ (z : Place). Reaches b image plan c (frame_of z) (start_key image plan)) (sym e.3) (reaches_then c k.key e.0 k.addr up.0 up.1 (start_key image plan) from))
+              subst (λ (z : Place). Reaches b image plan c (frame_of_place z) (start_key image plan)) (sym e.3) (reaches_then c k.key e.0 k.addr up.0 up.1 (start_key image plan) from))
         ]
 
     -- each frame of a derived assignment is entered from the start in the closed one
-    pub derived_reached : (a : Assignment) → Derived b image plan a → (y : Place) (v : Known) → a y ≡ Some v → Reaches b image plan c (frame_of y) (start_key image plan)
+    pub derived_reached : (a : Assignment) → Derived b image plan a → (y : Place) (v : Known) → a y ≡ Some v → Reaches b image plan c (frame_of_place y) (start_key image plan)
     derived_reached _ (begins a is) y v at =
         elim (from_if (same_place y (first_place image plan)) (state (start_state plan)) None (a y) v (is y) at) [
-          | inl h ↦ subst (λ (z : Place). Reaches b image plan c (frame_of z) (start_key image plan)) (sym (place_tells y (first_place image plan) h.0)) here
+          | inl h ↦ subst (λ (z : Place). Reaches b image plan c (frame_of_place z) (start_key image plan)) (sym (place_tells y (first_place image plan) h.0)) here
           | inr h ↦ (let q : None ≡ Some v = h.1 in cc)
         ]
     derived_reached _ (joins a after z d j) y v at =
         elim (from_if (same_place y z) j.known (a y) (after y) v (j.is y) at) [
-          | inl h ↦ subst (λ (x : Place). Reaches b image plan c (frame_of x) (start_key image plan)) (sym (place_tells y z h.0)) (joined_reached a after z d j (derived_reached a d))
+          | inl h ↦ subst (λ (x : Place). Reaches b image plan c (frame_of_place x) (start_key image plan)) (sym (place_tells y z h.0)) (joined_reached a after z d j (derived_reached a d))
           | inr h ↦ derived_reached a d y v h.1
         ]
 
     -- so no frame needs more than the start
-    pub needs_at_most : (a : Assignment) → Derived b image plan a → (needs : Key → ℕ) → MeetsNeeds b image plan c needs → (y : Place) (v : Known) → a y ≡ Some v → needs (frame_of y) ≤ needs (start_key image plan)
-    needs_at_most a d needs m y v at = reached_less b image plan c needs m (frame_of y) (start_key image plan) (derived_reached a d y v at)
+    pub needs_at_most : (a : Assignment) → Derived b image plan a → (needs : Key → ℕ) → MeetsNeeds b image plan c needs → (y : Place) (v : Known) → a y ≡ Some v → needs (frame_of_place y) ≤ needs (start_key image plan)
+    needs_at_most a d needs m y v at = reached_less b image plan c needs m (frame_of_place y) (start_key image plan) (derived_reached a d y v at)

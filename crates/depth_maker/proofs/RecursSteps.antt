@@ -8,12 +8,11 @@ use Rattle.depth_cert.specs.declared.keys.Key.{Key}
 use Rattle.depth_cert.specs.Keys.{number_of_key}
 use Rattle.cfg_recover.specs.Assignments.{point}
 use Rattle.depth_cert.specs.Known.{Known, state}
-use Rattle.frame_places.specs.Numbers.{number_in}
-use Rattle.frame_places.specs.NodeGraph.{IsFirstRecurring, IsRecurring, AreReaching, AreBetween}
-use Rattle.frame_places.specs.Marks.{IsMarked}
-use Rattle.depth_maker.specs.Recursing.{EdgesOn, EntersMarked, IsFirstMarked, IsRecursion, RecursBy, RecursFirstBy, orders_in}
-use Rattle.depth_maker.specs.Rows.{IsRowAt, IsSource}
-use Rattle.depth_maker.specs.Spots.{place_of}
+use Rattle.frame_places.specs.Numbers.{frame_number_in}
+use Rattle.frame_places.specs.NodeGraph.{IsFirstRecurring, IsRecurring, AreReaching, AreEdgesBetween, IsMarked}
+use Rattle.depth_maker.specs.Recursing.{RecursionEdgesOn, IsRecursiveByMarks, IsFirstRecursive, IsRecursion, RecursBy, RecursFirstBy, recursion_orders_in}
+use Rattle.depth_maker.specs.Rows.{IsRowAt, IsRowSource}
+use Rattle.depth_maker.specs.Spots.{place_of_spot}
 use Rattle.depth_maker.specs.TableView.{seen}
 use Rattle.frame_places.specs.declared.places.Spot.{Spot}
 use Rattle.frame_places.specs.declared.places.Spot.TheVariants.{Point}
@@ -26,34 +25,34 @@ use Rattle.depth_maker.proofs.RecursLaws.{row_enters, row_entered, owner, edges_
 use Rattle.depth_maker.proofs.PointEntries.{placed}
 
 -- ---- one point
-module _ (s : Source) (source : IsSource s) (marks : List Bool) (k : Key) (p : ℕ) where
+module _ (s : Source) (source : IsRowSource s) (marks : List Bool) (k : Key) (p : ℕ) where
   -- a point enters a marked frame if its row has a marked number
   pub row_marked : (row : NeedRow)
       → ((u : State) × ((seen s.table.now).cells (point k p) ≡ Some (state u)) × IsRowAt (s.ground.now).bounds.now (s.ground.now).image.now (s.ground.now).plan.now (s.table.now).frames.items k p u row)
       → (r : Bool) → (IsTrue r → (t : ℕ) × Contains row.into.items t × IsMarked marks t) × (((t : ℕ) × Contains row.into.items t × IsMarked marks t) → IsTrue r)
-      → (IsTrue r → EntersMarked s marks k p) × (EntersMarked s marks k p → IsTrue r)
+      → (IsTrue r → IsRecursiveByMarks s marks k p) × (IsRecursiveByMarks s marks k p → IsTrue r)
   unfolding seen
   row_marked row h r tells = (
     (λ y.
         let f = tells.0 y in
-        let x = row_entered _ _ _ (seen s.table.now).cells (source.done).closed (map place_of (s.table.now).points.items) (s.table.now).frames.items ((source.done).counted).each k p h.0 row h.1 h.2 f.0 f.1 in
+        let x = row_entered _ _ _ (seen s.table.now).cells (source.done).closed (map place_of_spot (s.table.now).points.items) (s.table.now).frames.items ((source.done).counted).each k p h.0 row h.1 h.2 f.0 f.1 in
         record { before = h.0; next = x.0; enters = x.1; marked = subst (IsMarked marks) (sym x.2) f.2 }),
     (λ e. tells.1 (
-      number_in (s.table.now).frames.items e.next,
-      row_enters _ _ _ (seen s.table.now).cells (source.done).closed (map place_of (s.table.now).points.items) (s.table.now).frames.items ((source.done).counted).each k p h.0 row h.1 h.2 e.before e.next e.enters,
+      frame_number_in (s.table.now).frames.items e.next,
+      row_enters _ _ _ (seen s.table.now).cells (source.done).closed (map place_of_spot (s.table.now).points.items) (s.table.now).frames.items ((source.done).counted).each k p h.0 row h.1 h.2 e.before e.next e.enters,
       e.marked,
     )),
   )
 
-  pub none_marked : (seen s.table.now).cells (point k p) ≡ None → EntersMarked s marks k p → ⊥
+  pub none_marked : (seen s.table.now).cells (point k p) ≡ None → IsRecursiveByMarks s marks k p → ⊥
   none_marked none e = let f : None ≡ Some (state e.before) = sym none ∙ ((e.enters).has).at in cc
 
 -- ---- one more place
 module _ (s : Source) (marks : List Bool) (k : Key) (ys : List Spot) where
-  pub first_none : IsFirstMarked s marks k [] None
+  pub first_none : IsFirstRecursive s marks k [] None
   first_none p c e = absurd (omega (arith, c.1))
 
-  pub first_past : (p q : ℕ) → IsFirstMarked s marks k ys (Some p) → p ≤ q → IsFirstMarked s marks k (ys ++ Point k q ∷ []) (Some p)
+  pub first_past : (p q : ℕ) → IsFirstRecursive s marks k ys (Some p) → p ≤ q → IsFirstRecursive s marks k (ys ++ Point k q ∷ []) (Some p)
   first_past p q h le = (
     h.0,
     (λ r c e.
@@ -63,14 +62,14 @@ module _ (s : Source) (marks : List Bool) (k : Key) (ys : List Spot) where
         ]),
   )
 
-  pub first_other : (y : Spot) (first : Option ℕ) → IsFirstMarked s marks k ys first → ((p : ℕ) → y ≡ Point k p → EntersMarked s marks k p → ⊥) → IsFirstMarked s marks k (ys ++ y ∷ []) first
+  pub first_other : (y : Spot) (first : Option ℕ) → IsFirstRecursive s marks k ys first → ((p : ℕ) → y ≡ Point k p → IsRecursiveByMarks s marks k p → ⊥) → IsFirstRecursive s marks k (ys ++ y ∷ []) first
   first_other y None h out = λ r c e. elim (Contains-push_cases ys y (Point k r) c) [ inl i ↦ h r i e | inr same ↦ out r same e ]
   first_other y (Some p) h out = (h.0, (λ r c e. elim (Contains-push_cases ys y (Point k r) c) [ inl i ↦ h.1 r i e | inr same ↦ absurd (out r same e) ]))
 
-  pub first_not : (q : ℕ) (first : Option ℕ) → IsFirstMarked s marks k ys first → (EntersMarked s marks k q → ⊥) → IsFirstMarked s marks k (ys ++ Point k q ∷ []) first
-  first_not q first h out = first_other (Point k q) first h (λ p same e. out (let f : p ≡ q = cc in subst (EntersMarked s marks k) f e))
+  pub first_not : (q : ℕ) (first : Option ℕ) → IsFirstRecursive s marks k ys first → (IsRecursiveByMarks s marks k q → ⊥) → IsFirstRecursive s marks k (ys ++ Point k q ∷ []) first
+  first_not q first h out = first_other (Point k q) first h (λ p same e. out (let f : p ≡ q = cc in subst (IsRecursiveByMarks s marks k) f e))
 
-  pub first_here : (q : ℕ) (first : Option ℕ) → IsFirstMarked s marks k ys first → ((p : ℕ) → first ≡ Some p → q < p) → EntersMarked s marks k q → IsFirstMarked s marks k (ys ++ Point k q ∷ []) (Some q)
+  pub first_here : (q : ℕ) (first : Option ℕ) → IsFirstRecursive s marks k ys first → ((p : ℕ) → first ≡ Some p → q < p) → IsRecursiveByMarks s marks k q → IsFirstRecursive s marks k (ys ++ Point k q ∷ []) (Some q)
   first_here q None h less m = (
     m,
     (λ r c e.
@@ -89,17 +88,17 @@ module _ (s : Source) (marks : List Bool) (k : Key) (ys : List Spot) where
   )
 
 -- ---- the whole
-module _ (s : Source) (source : IsSource s) (edges : List FrameEdge) (es : EdgesOn s edges) where
-  pub edges_within : AreBetween edges (length (s.table.now).frames.items)
+module _ (s : Source) (source : IsRowSource s) (edges : List FrameEdge) (es : RecursionEdgesOn s edges) where
+  pub edges_within : AreEdgesBetween edges (length (s.table.now).frames.items)
   unfolding seen
-  edges_within = edges_between _ _ _ (seen s.table.now).cells (source.done).closed (map place_of (s.table.now).points.items) (s.table.now).frames.items ((source.done).counted).each es.0 es.1 edges es.2
+  edges_within = edges_between _ _ _ (seen s.table.now).cells (source.done).closed (map place_of_spot (s.table.now).points.items) (s.table.now).frames.items ((source.done).counted).each es.0 es.1 edges es.2
 
   -- if no frame is recursive, no point is
   pub none_recurs : ((i : ℕ) → IsRecurring edges i → ⊥) → IsRecursion s None
   unfolding seen
   none_recurs none k p r =
-      none (number_in (s.table.now).frames.items k)
-      (recurs_ring _ _ _ (seen s.table.now).cells (source.done).closed (map place_of (s.table.now).points.items) (s.table.now).frames.items ((source.done).counted).each es.0 es.1 edges es.2 k p r)
+      none (frame_number_in (s.table.now).frames.items k)
+      (recurs_ring _ _ _ (seen s.table.now).cells (source.done).closed (map place_of_spot (s.table.now).points.items) (s.table.now).frames.items ((source.done).counted).each es.0 es.1 edges es.2 k p r)
 
   -- a recursive point has a place in the table
   stands : (k : Key) (p : ℕ) → RecursBy s k p → Contains (s.table.now).points.items (Point k p)
@@ -109,58 +108,58 @@ module _ (s : Source) (source : IsSource s) (edges : List FrameEdge) (es : Edges
   frame_of_point : (k : Key) (p : ℕ) → RecursBy s k p → Contains (s.table.now).frames.items k
   unfolding seen
   frame_of_point k p r =
-      owner _ _ _ (seen s.table.now).cells (source.done).closed (map place_of (s.table.now).points.items) (s.table.now).frames.items ((source.done).counted).each k p r.before r.into r.enters
+      owner _ _ _ (seen s.table.now).cells (source.done).closed (map place_of_spot (s.table.now).points.items) (s.table.now).frames.items ((source.done).counted).each k p r.before r.into r.enters
 
   -- the frame of a number
-  pub key_there : (node : ℕ) → IsFirstRecurring (orders_in s) edges (Some node) → (frames : List Key) (d : Key) → frames ≡ (s.table.now).frames.items
+  pub key_there : (node : ℕ) → IsFirstRecurring (recursion_orders_in s) edges (Some node) → (frames : List Key) (d : Key) → frames ≡ (s.table.now).frames.items
       → get_or frames node d ≡ get_or (s.table.now).frames.items node (get_or frames node d)
   key_there node first frames d same =
       let lt : node < length (s.table.now).frames.items = omega (arith, first.0, length-map (s.table.now).frames.items number_of_key) in
       ap (λ (l : List Key). get_or l node d) same ∙ get_or_default (s.table.now).frames.items node d (get_or frames node d) lt
 
-  module _ (nodes node : ℕ) (k : Key) (first : IsFirstRecurring (orders_in s) edges (Some node)) (marks : List Bool) (reaching : AreReaching edges nodes node marks) (is : k ≡ get_or (s.table.now).frames.items node k) where
+  module _ (nodes node : ℕ) (k : Key) (first : IsFirstRecurring (recursion_orders_in s) edges (Some node)) (marks : List Bool) (reaching : AreReaching edges nodes node marks) (is : k ≡ get_or (s.table.now).frames.items node k) where
     pub in_frames : node < length (s.table.now).frames.items
     in_frames = omega (arith, first.0, length-map (s.table.now).frames.items number_of_key)
 
     own : Contains (s.table.now).frames.items k
     own = (node, in_frames, sym is)
 
-    number : number_in (s.table.now).frames.items k ≡ node
+    number : frame_number_in (s.table.now).frames.items k ≡ node
     unfolding seen
-    number = ap (number_in (s.table.now).frames.items) is ∙ number_at (s.table.now).frames.items node k (((source.done).counted).each).once_each in_frames
+    number = ap (frame_number_in (s.table.now).frames.items) is ∙ number_at (s.table.now).frames.items node k (((source.done).counted).each).once_each in_frames
 
-    at_node : AreReaching edges nodes (number_in (s.table.now).frames.items k) marks
+    at_node : AreReaching edges nodes (frame_number_in (s.table.now).frames.items k) marks
     at_node = subst (λ (n : ℕ). AreReaching edges nodes n marks) (sym number) reaching
 
-    marked : (p : ℕ) → RecursBy s k p → EntersMarked s marks k p
+    marked : (p : ℕ) → RecursBy s k p → IsRecursiveByMarks s marks k p
     unfolding seen
     marked p r = record {
       before = r.before;
       next = r.into;
       enters = r.enters;
-      marked = recurs_marked _ _ _ (seen s.table.now).cells (source.done).closed (map place_of (s.table.now).points.items) (s.table.now).frames.items ((source.done).counted).each es.0 es.1 edges es.2 k own nodes marks at_node p r;
+      marked = recurs_marked _ _ _ (seen s.table.now).cells (source.done).closed (map place_of_spot (s.table.now).points.items) (s.table.now).frames.items ((source.done).counted).each es.0 es.1 edges es.2 k own nodes marks at_node p r;
     }
 
     -- the frame has a recursive point
-    pub one_stands : IsFirstMarked s marks k (s.table.now).points.items None → ⊥
+    pub one_stands : IsFirstRecursive s marks k (s.table.now).points.items None → ⊥
     unfolding seen
     one_stands none =
-        let x = ring_recurs _ _ _ (seen s.table.now).cells (source.done).closed (map place_of (s.table.now).points.items) (s.table.now).frames.items ((source.done).counted).each es.0 es.1 edges es.2 k own
+        let x = ring_recurs _ _ _ (seen s.table.now).cells (source.done).closed (map place_of_spot (s.table.now).points.items) (s.table.now).frames.items ((source.done).counted).each es.0 es.1 edges es.2 k own
         (subst (IsRecurring edges) (sym number) first.1) in
         none x.0 (stands k x.0 x.1) (marked x.0 x.1)
 
     -- the first of these is the first of all
-    pub first_recurs : (p : ℕ) → IsFirstMarked s marks k (s.table.now).points.items (Some p) → RecursFirstBy s k p
+    pub first_recurs : (p : ℕ) → IsFirstRecursive s marks k (s.table.now).points.items (Some p) → RecursFirstBy s k p
     unfolding seen
     first_recurs p h = record {
-      recurs = marked_recurs _ _ _ (seen s.table.now).cells (source.done).closed (map place_of (s.table.now).points.items) (s.table.now).frames.items ((source.done).counted).each es.0 es.1 edges es.2 k own nodes marks at_node
+      recurs = marked_recurs _ _ _ (seen s.table.now).cells (source.done).closed (map place_of_spot (s.table.now).points.items) (s.table.now).frames.items ((source.done).counted).each es.0 es.1 edges es.2 k own nodes marks at_node
           p (h.0).before (h.0).next (h.0).enters (h.0).marked;
       first = λ j q r.
           let here = derived_in_range _ _ _ (s.ground.now).sound (seen s.table.now).cells (source.done).derived (point k p) (state (h.0).before) (((h.0).enters).has).at in
           let there = derived_in_range _ _ _ (s.ground.now).sound (seen s.table.now).cells (source.done).derived (point j q) (state r.before) ((r.enters).has).at in
-          point_first _ _ _ (seen s.table.now).cells (source.done).closed (map place_of (s.table.now).points.items) (s.table.now).frames.items ((source.done).counted).each k j p q own (frame_of_point j q r) here.0 there.0 here.1
-          (subst (λ (n : ℕ). slice_index (orders_in s) n ≤ slice_index (orders_in s) (number_in (s.table.now).frames.items j)) (sym number)
-          (first.2 (number_in (s.table.now).frames.items j)
-          (recurs_ring _ _ _ (seen s.table.now).cells (source.done).closed (map place_of (s.table.now).points.items) (s.table.now).frames.items ((source.done).counted).each es.0 es.1 edges es.2 j q r)))
+          point_first _ _ _ (seen s.table.now).cells (source.done).closed (map place_of_spot (s.table.now).points.items) (s.table.now).frames.items ((source.done).counted).each k j p q own (frame_of_point j q r) here.0 there.0 here.1
+          (subst (λ (n : ℕ). slice_index (recursion_orders_in s) n ≤ slice_index (recursion_orders_in s) (frame_number_in (s.table.now).frames.items j)) (sym number)
+          (first.2 (frame_number_in (s.table.now).frames.items j)
+          (recurs_ring _ _ _ (seen s.table.now).cells (source.done).closed (map place_of_spot (s.table.now).points.items) (s.table.now).frames.items ((source.done).counted).each es.0 es.1 edges es.2 j q r)))
           (λ same. let mine = subst (λ (z : Key). RecursBy s z q) (sym same) r in h.1 q (stands k q mine) (marked q mine));
     }

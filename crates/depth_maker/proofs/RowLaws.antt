@@ -14,17 +14,17 @@ use Rattle.cfg_recover.specs.declared.local_rules.Located.{Located}
 use Rattle.cfg_recover.specs.LocalFaults.{StandsFaultless}
 use Rattle.cfg_recover.specs.Duties.{enter, duties_of}
 use Rattle.cfg_recover.specs.Entries.{start_key}
-use Rattle.cfg_recover.specs.Assignments.{Place, point, Assignment, frame_of, Closed, Derived, AllFaultless}
+use Rattle.cfg_recover.specs.Assignments.{Place, point, Assignment, frame_of_place, Closed, Derived, AllFaultless}
 use Rattle.depth_cert.specs.Known.{Known, state}
-use Rattle.cfg_recover.specs.CertRefusals.{Enters, MeetsNeeds, AreLeastNeeds}
+use Rattle.cfg_recover.specs.CertRefusals.{EntersInAssignment, MeetsNeeds, AreLeastNeeds}
 use Rattle.cfg_recover.proofs.CodeLaws.{IsCode-one}
 use Rattle.cfg_recover.proofs.Members.{contains_map}
 use Rattle.depth_maker.specs.Counts.{AreCounted}
 use Rattle.depth_maker.specs.EnteredFrames.{entered_in}
-use Rattle.frame_places.specs.Numbers.{number_in}
+use Rattle.frame_places.specs.Numbers.{frame_number_in}
 use Rattle.depth_maker.specs.ProperAssignments.{AllProper}
-use Rattle.depth_maker.specs.MakerLaws.{AreLawful}
-use Rattle.frame_places.specs.RowNeeds.{Meets, IsLow, IsWithin}
+use Rattle.depth_maker.specs.MakerLaws.{AreMakerLaws}
+use Rattle.frame_places.specs.RowNeeds.{MeetsRows, AreNeedsLow, AreRowsWithin}
 use Rattle.depth_maker.specs.Rows.{AreRows}
 use Rattle.depth_maker.specs.Needs.{need_by}
 use Rattle.frame_places.specs.declared.needs.row.NeedRow.{NeedRow}
@@ -42,12 +42,12 @@ mapped {X} f (x ∷ xs) y c = at (λ h. mapped f xs y h) c.0 c.1 c.2 where
 
 module _ (b : Limits) (image : ImageData) (plan : PlanData) (a : Assignment) (closed : Closed b image plan a) (ps : List Place) (ks : List Key) (counted : AreCounted a ps ks) where
   -- known frames have numbers
-  pub known_frame : (y : Place) (v : Known) → a y ≡ Some v → Contains ks (frame_of y)
+  pub known_frame : (y : Place) (v : Known) → a y ≡ Some v → Contains ks (frame_of_place y)
   known_frame y v at = counted.frames y (subst (λ (o : Option Known). IsSome o) (sym at) refl)
 
   -- the frames that a point enters, from the duties of its row
   pub enters_of : (k : Key) (p : ℕ) (u : State) (found : Located) (l : Key) → a (point k p) ≡ Some (state u) → StandsFaultless b image plan k p u found
-      → Contains (entered_in (duties_of b image plan k p u found.shape found.size)) l → Enters b image plan a k p u l
+      → Contains (entered_in (duties_of b image plan k p u found.shape found.size)) l → EntersInAssignment b image plan a k p u l
   enters_of k p u found l at stands c =
       let o = entered_owed (duties_of b image plan k p u found.shape found.size) l c in
       record {
@@ -56,7 +56,7 @@ module _ (b : Limits) (image : ImageData) (plan : PlanData) (a : Assignment) (cl
       }
 
   -- an entered frame is known
-  pub entered_frame : (k : Key) (p : ℕ) (u : State) (l : Key) → Enters b image plan a k p u l → Contains ks l
+  pub entered_frame : (k : Key) (p : ℕ) (u : State) (l : Key) → EntersInAssignment b image plan a k p u l → Contains ks l
   entered_frame k p u l e =
       let c = closed.duties (point l l.entry) (state e.entered) (record { key = k; addr = p; before = u; duty = enter l e.entered; has = e.has; asks = refl }) in
       known_frame (point l l.entry) c.known c.at
@@ -66,11 +66,11 @@ module _ (b : Limits) (image : ImageData) (plan : PlanData) (a : Assignment) (cl
   pub first : Key
   first = start_key image plan
 
-  known : (y : Place) (v : Known) → a y ≡ Some v → Contains ks (frame_of y)
+  known : (y : Place) (v : Known) → a y ≡ Some v → Contains ks (frame_of_place y)
   known y v at = known_frame b image plan a closed ps ks counted y v at
 
   -- ---- needs meet the rows
-  pub meets_rows : (need : Key → ℕ) → MeetsNeeds b image plan a need → Meets (λ i. need (get_or ks i first)) rows
+  pub meets_rows : (need : Key → ℕ) → MeetsNeeds b image plan a need → MeetsRows (λ i. need (get_or ks i first)) rows
   meets_rows need m row c =
       let s = are.sound row c in
       let k = s.0 in
@@ -82,7 +82,7 @@ module _ (b : Limits) (image : ImageData) (plan : PlanData) (a : Assignment) (cl
       record {
         held = subst (λ (n : ℕ). n ≤ need (get_or ks row.node first)) (sym r.held) (subst (λ (z : Key). length u.locals.items ≤ need z) (sym own) (m.locals k p u s.3));
         into = λ t i.
-            let x = mapped (number_in ks) (entered_in (duties_of b image plan k p u (r.found).shape (r.found).size)) t (subst (λ (l : List ℕ). Contains l t) r.into i) in
+            let x = mapped (frame_number_in ks) (entered_in (duties_of b image plan k p u (r.found).shape (r.found).size)) t (subst (λ (l : List ℕ). Contains l t) r.into i) in
             let e = enters_of b image plan a closed ps ks counted k p u r.found x.0 s.3 r.stands x.1 in
             let there : get_or ks t first ≡ x.0 = ap (λ n. get_or ks n first) (sym x.2) ∙ (numbered_at ks x.0 first (entered_frame b image plan a closed ps ks counted k p u x.0 e)).1 in
             let h = m.entered k p u x.0 e in
@@ -91,7 +91,7 @@ module _ (b : Limits) (image : ImageData) (plan : PlanData) (a : Assignment) (cl
       }
 
   -- ---- numbers that meet the rows are needs
-  pub meets_needs : (needs : List ℕ) → Meets (λ i. slice_index needs i) rows → MeetsNeeds b image plan a (need_by ks needs)
+  pub meets_needs : (needs : List ℕ) → MeetsRows (λ i. slice_index needs i) rows → MeetsNeeds b image plan a (need_by ks needs)
   meets_needs needs m = record {
     locals = λ k p u at.
         let c = are.complete k p u at in
@@ -103,31 +103,31 @@ module _ (b : Limits) (image : ImageData) (plan : PlanData) (a : Assignment) (cl
         let one = IsCode-one image plan p (e.has).shape (r.found).shape (e.has).size (r.found).size (e.has).code (r.stands).code in
         let listed = subst (λ (z : Shape). Contains (duties_of b image plan k p u z (r.found).size) (e.has).owed) one.0 (subst (λ (z : ℕ). Contains (duties_of b image plan k p u (e.has).shape z) (e.has).owed) one.1 (e.has).listed) in
         let there = owed_entered (duties_of b image plan k p u (r.found).shape (r.found).size) (e.has).owed l e.entered listed (e.has).is in
-        let i = subst (λ (z : List ℕ). Contains z (number_in ks l)) (sym r.into) (contains_map (number_in ks) (entered_in (duties_of b image plan k p u (r.found).shape (r.found).size)) l there) in
-        let h = (m c.0 c.1).into (number_in ks l) i in
+        let i = subst (λ (z : List ℕ). Contains z (frame_number_in ks l)) (sym r.into) (contains_map (frame_number_in ks) (entered_in (duties_of b image plan k p u (r.found).shape (r.found).size)) l there) in
+        let h = (m c.0 c.1).into (frame_number_in ks l) i in
         subst (λ (n : ℕ). n + 1 + need_by ks needs l ≤ need_by ks needs k) r.held (subst (λ (j : ℕ). (c.0).held + 1 + need_by ks needs l ≤ slice_index needs j) r.node h);
   }
 
   -- least numbers are least needs
-  pub least_by : (needs : List ℕ) → length needs ≡ length ks → Meets (λ i. slice_index needs i) rows → IsLow needs rows → AreLeastNeeds b image plan a (need_by ks needs)
+  pub least_by : (needs : List ℕ) → length needs ≡ length ks → MeetsRows (λ i. slice_index needs i) rows → AreNeedsLow needs rows → AreLeastNeeds b image plan a (need_by ks needs)
   least_by needs len m low = record {
     meets = meets_needs needs m;
     least = λ other o k.
-        elim (cases_lt (number_in ks k) (length ks)) [
-          | inl lt ↦ subst (λ (z : Key). need_by ks needs k ≤ other z) (number_below ks k first lt) (low (λ i. other (get_or ks i first)) (meets_rows other o) (number_in ks k) (omega arith))
-          | inr ge ↦ (let z = get_or_past needs (number_in ks k) 0 (omega arith) in omega (arith, z))
+        elim (cases_lt (frame_number_in ks k) (length ks)) [
+          | inl lt ↦ subst (λ (z : Key). need_by ks needs k ≤ other z) (number_below ks k first lt) (low (λ i. other (get_or ks i first)) (meets_rows other o) (frame_number_in ks k) (omega arith))
+          | inr ge ↦ (let z = get_or_past needs (frame_number_in ks k) 0 (omega arith) in omega (arith, z))
         ];
   }
 
   -- the rows are about these frames
-  pub rows_within : AllProper b a → AreLimits b → IsWithin rows (length ks)
+  pub rows_within : AllProper b a → AreLimits b → AreRowsWithin rows (length ks)
   rows_within proper limits = record {
     node = λ row c. let s = are.sound row c in subst (λ (n : ℕ). n < length ks) (sym (s.4).node) (numbered_at ks s.0 first (known (point s.0 s.1) (state s.2) s.3)).0;
     held = λ row c. let s = are.sound row c in let f = (proper (point s.0 s.1) (state s.2) s.3).few in omega (arith, (s.4).held, f, limits.few_locals);
     into = λ row t c i.
         let s = are.sound row c in
         let r = s.4 in
-        let x = mapped (number_in ks) (entered_in (duties_of b image plan s.0 s.1 s.2 (r.found).shape (r.found).size)) t (subst (λ (l : List ℕ). Contains l t) r.into i) in
+        let x = mapped (frame_number_in ks) (entered_in (duties_of b image plan s.0 s.1 s.2 (r.found).shape (r.found).size)) t (subst (λ (l : List ℕ). Contains l t) r.into i) in
         let e = enters_of b image plan a closed ps ks counted s.0 s.1 s.2 r.found x.0 s.3 r.stands x.1 in
         subst (λ (n : ℕ). n < length ks) x.2 (numbered_at ks x.0 first (entered_frame b image plan a closed ps ks counted s.0 s.1 s.2 x.0 e)).0;
   }
@@ -137,8 +137,8 @@ module _ (b : Limits) (image : ImageData) (plan : PlanData) (a : Assignment) (cl
   some_of (Some v) h = (v, refl)
 
   -- if some number of each choice is above the cap, the start's is
-  pub above_by : (laws : AreLawful b image plan) (derived : Derived b image plan a) (faultless : AllFaultless b image plan a) (proper : AllProper b a) (cap : ℕ)
-      → ((other : ℕ → ℕ) → Meets other rows → (i : ℕ) × (i < length ks) × (cap < other i)) → (need : Key → ℕ) → MeetsNeeds b image plan a need → cap < need (start_key image plan)
+  pub above_by : (laws : AreMakerLaws b image plan) (derived : Derived b image plan a) (faultless : AllFaultless b image plan a) (proper : AllProper b a) (cap : ℕ)
+      → ((other : ℕ → ℕ) → MeetsRows other rows → (i : ℕ) × (i < length ks) × (cap < other i)) → (need : Key → ℕ) → MeetsNeeds b image plan a need → cap < need (start_key image plan)
   above_by laws derived faultless proper cap none need m =
       let h = none (λ i. need (get_or ks i first)) (meets_rows need m) in
       let k = get_or ks h.0 first in

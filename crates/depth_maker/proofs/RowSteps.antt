@@ -10,20 +10,20 @@ use Rattle.std.proofs.lemmas.List.Elements.{Contains-append_left, Contains-push,
 use Rattle.std.proofs.lemmas.List.Sorted.{Contains-permutation, IsPermutation-sym}
 use Rattle.std.proofs.lemmas.Option.{get_or_from_slice_get, slice_get-get_or, slice_get-map, slice_get_within}
 use Rattle.indexmap.specs.IndexMap.{IndexMap, get, keys}
-use Rattle.depth_cert.specs.Known.{IsStateAt, Known, state, leaving}
+use Rattle.depth_cert.specs.Known.{IsKnownState, Known, state, leaving}
 use Rattle.small_states.specs.declared.known.Outline.{Outline}
 use Rattle.frame_places.specs.Marks.{value_for}
-use Rattle.frame_places.specs.Numbers.{AreNumbers, number_in}
+use Rattle.frame_places.specs.Numbers.{AreFrameNumbers, frame_number_in}
 use Rattle.frame_places.specs.declared.places.Marked.{Marked}
 use Rattle.value_domain.specs.declared.states.State.{State}
 use Rattle.depth_cert.specs.declared.keys.Key.{Key}
 use Rattle.cfg_recover.specs.Assignments.{point, exit}
 use Rattle.depth_cert.specs.Proper.{IsProperKnown}
-use Rattle.depth_maker.specs.Rows.{IsRowAt, AddsPoint, AllKnownBy, HaveRows, IsDraft, IsKnownPoint, IsPlainRow, IsPointRow, IsSource, RowsOn}
+use Rattle.depth_maker.specs.Rows.{IsRowAt, AddsPointRow, RowFramesKnownBy, HaveRows, IsDraft, IsKnownRowPoint, IsPlainRow, IsPointRow, IsRowSource, RowsOn}
 use Rattle.depth_maker.specs.TableInvariant.{IsDone}
 use Rattle.depth_maker.specs.TableView.{seen}
 use Rattle.frame_places.specs.Spots.{spot_eq}
-use Rattle.depth_maker.specs.Spots.{place_of}
+use Rattle.depth_maker.specs.Spots.{place_of_spot}
 use Rattle.depth_maker.proofs.Lawful.{lawful}
 use Rattle.depth_maker.proofs.PlaceKinds.{IsOfKind, derived_kinds}
 use Rattle.depth_maker.proofs.PlaceLaws.{one_state}
@@ -54,27 +54,27 @@ done_state g t done k p w at = of_kind w (derived_kinds _ _ _ (seen t).cells don
   of_kind (leaving x) h = absurd h
 
 -- a state that was read is the known one
-pub read_there : (g : Ground) (t : made.Table) → IsDone g t → (k : Key) (p : ℕ) (w : Known) (u : State) → value_for t.places (Point k p) ≡ Some w → IsStateAt w u → value_for t.places (Point k p) ≡ Some (state u)
+pub read_there : (g : Ground) (t : made.Table) → IsDone g t → (k : Key) (p : ℕ) (w : Known) (u : State) → value_for t.places (Point k p) ≡ Some w → IsKnownState w u → value_for t.places (Point k p) ≡ Some (state u)
 read_there g t done k p w u at is =
     let e = done_state g t done k p w at in
-    let same : u ≡ e.0 = subst (λ (v : Known). IsStateAt v u) e.1 is in
+    let same : u ≡ e.0 = subst (λ (v : Known). IsKnownState v u) e.1 is in
     at ∙ ap (λ (v : Known). Some v) (e.1 ∙ ap state (sym same))
 
 -- the frames of a point, and those that it enters, are known
-pub all_known : (v : Visit) (t : made.Table) → IsDone v.ground.now t → (seen t).cells (point v.key v.addr) ≡ Some (state v.state.now) → AllKnownBy v t.frames.items
+pub all_known : (v : Visit) (t : made.Table) → IsDone v.ground.now t → (seen t).cells (point v.key v.addr) ≡ Some (state v.state.now) → RowFramesKnownBy v t.frames.items
 unfolding seen
 all_known v t done at =
     let c = (done.counted).each in
     record {
-      own = known_frame _ _ _ (seen t).cells done.closed (map place_of t.points.items) t.frames.items c (point v.key v.addr) (state v.state.now) at;
+      own = known_frame _ _ _ (seen t).cells done.closed (map place_of_spot t.points.items) t.frames.items c (point v.key v.addr) (state v.state.now) at;
       entered = λ found stands k i.
-          entered_frame _ _ _ (seen t).cells done.closed (map place_of t.points.items) t.frames.items c v.key v.addr v.state.now k
-          (enters_of _ _ _ (seen t).cells done.closed (map place_of t.points.items) t.frames.items c v.key v.addr v.state.now found k at stands i);
+          entered_frame _ _ _ (seen t).cells done.closed (map place_of_spot t.points.items) t.frames.items c v.key v.addr v.state.now k
+          (enters_of _ _ _ (seen t).cells done.closed (map place_of_spot t.points.items) t.frames.items c v.key v.addr v.state.now found k at stands i);
     }
 
 -- ---- one point
 -- the value of a point of the table
-pub known_there : (s : Source) (at : KnownPoint) → IsKnownPoint s at → value_for (s.table.now).places (Point at.key at.addr) ≡ Some (at.known.now).value
+pub known_there : (s : Source) (at : KnownPoint) → IsKnownRowPoint s at → value_for (s.table.now).places (Point at.key at.addr) ≡ Some (at.known.now).value
 known_there s at is = ap (option_map (λ (m : Marked Known). m.value)) is.known
 
 -- equal places have the same state, so a row of one is a row of the other
@@ -93,14 +93,14 @@ pub index_there : {X S : Type 0} (m : IndexMap Spot X S) (i : ℕ) (q : Spot) (v
 index_there {X} m i q v at = slice_get-map (λ (e : Spot × X). e.0) m.entries i ∙ ap (option_map (λ (e : Spot × X). e.0)) (sym at)
 
 -- the number of a frame that was looked up
-pub number_there : (s : Source) → IsSource s → (k : Key) (p : ℕ) (m : Marked Known) (n : ℕ) → get spot_eq (s.table.now).places (Point k p) ≡ Some m
-    → ((frames : List Key) → AreNumbers s.numbers.now frames frames → Contains frames k → n ≡ number_in frames k) → n ≡ number_in (s.table.now).frames.items k
+pub number_there : (s : Source) → IsRowSource s → (k : Key) (p : ℕ) (m : Marked Known) (n : ℕ) → get spot_eq (s.table.now).places (Point k p) ≡ Some m
+    → ((frames : List Key) → AreFrameNumbers s.numbers.now frames frames → Contains frames k → n ≡ frame_number_in frames k) → n ≡ frame_number_in (s.table.now).frames.items k
 unfolding seen
 number_there s source k p m n at is =
     let done = source.done in
     let t = s.table.now in
     is t.frames.items source.numbers
-    (known_frame _ _ _ (seen t).cells done.closed (map place_of t.points.items) t.frames.items (done.counted).each (point k p) m.value (ap (option_map (λ (m : Marked Known). m.value)) at))
+    (known_frame _ _ _ (seen t).cells done.closed (map place_of_spot t.points.items) t.frames.items (done.counted).each (point k p) m.value (ap (option_map (λ (m : Marked Known). m.value)) at))
 
 no_outline : (n i : ℕ) (o : Outline) → slice_get (replicate n None) i ≡ Some (Some o) → ⊥
 no_outline zero i o e = let f : None ≡ Some (Some o) = e in cc
@@ -140,7 +140,7 @@ draft_same s i q old new there so rows outlines here =
 
 -- the row of a point is added
 pub draft_more : (s : Source) (i : ℕ) (q : Spot) (old mid new : Draft) (at : KnownPoint) → slice_get (keys (s.table.now).places) i ≡ Some q → IsDraft s i old → mid.rows ≡ old.rows → mid.outlines ≡ old.outlines
-    → q ≡ Point at.key at.addr → AddsPoint s mid new at → IsDraft s (i + 1) new
+    → q ≡ Point at.key at.addr → AddsPointRow s mid new at → IsDraft s (i + 1) new
 draft_more s i q old mid new at there so rows outlines is add =
     let row = add.0 in
     let r = add.1 in

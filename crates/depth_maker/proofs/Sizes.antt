@@ -16,7 +16,7 @@ use Rattle.cfg_recover.specs.RulesHoldOrFail.{limits_in, Accepts}
 use Rattle.depth_cert.specs.Keys.{same_key}
 use Rattle.cfg_recover.specs.Assignments.{Place, point, exit, same_place, known_in}
 use Rattle.depth_cert.specs.Known.{Known}
-use Rattle.cfg_recover.specs.CertRefusals.{HasManyNodes, HasManyPoints, IsTooLarge}
+use Rattle.cfg_recover.specs.CertRefusals.{HasManyNodes, HasManyPoints, IsPastCertLimits}
 use Rattle.cfg_recover.proofs.Members.{contains_map, contains_flat}
 use Rattle.depth_maker.specs.DutiesGrow.{IsGround}
 use Rattle.frame_places.proofs.KeyLaws.{key_tells, key_same}
@@ -113,8 +113,8 @@ module _ (cert : CertData) (is_cert : IsCert cert) where
       subst (Contains (places_of cert.nodes)) (sym (s.1).2) (node_of_point (s.1).0 (s.1).1 (subst (λ (y : Place). IsSome (known_in cert y)) (s.1).2 s.0)).1) in
       absurd (omega (arith, h.more, is_cert.points, length-places cert.nodes, le))
 
-  pub cert_within : IsTooLarge (known_in cert) → ⊥
+  pub cert_within : IsPastCertLimits (known_in cert) → ⊥
   cert_within h = elim h [ inl n ↦ few_nodes n | inr n ↦ few_points n ]
 
-pub accepted_within : (image : ImageData) (plan : PlanData) (cert : CertData) → IsGround (limits_in plan cert) image plan → image.entry < 2 ^ 32 → IsCert cert → Accepts image plan cert → IsTooLarge (known_in cert) → ⊥
+pub accepted_within : (image : ImageData) (plan : PlanData) (cert : CertData) → IsGround (limits_in plan cert) image plan → image.entry < 2 ^ 32 → IsCert cert → Accepts image plan cert → IsPastCertLimits (known_in cert) → ⊥
 accepted_within image plan cert ground entry is_cert accepted = cert_within cert is_cert

@@ -19,16 +19,16 @@ use Rattle.depth_cert.specs.Nodes.{NodeData, IsNode, need_of}
 use Rattle.depth_cert.specs.Certs.{CertData, IsCert, find_node}
 use Rattle.cfg_recover.specs.Code.{IsCode}
 use Rattle.cfg_recover.specs.Entries.{start_key, start_state}
-use Rattle.depth_cert.specs.Exits.{after_of, ExitCovers}
+use Rattle.depth_cert.specs.Exits.{state_after_exit, ExitCovers}
 use Rattle.cfg_recover.specs.LocalFaults.{IsFaultless}
 use Rattle.cfg_recover.specs.Duties.{Duty, jump, enter, resume, leave, Owed, duties_of}
-use Rattle.cfg_recover.specs.RulesHoldOrFail.{limits_in, HasPoint, IsMet, IsNeedAbove, HasNeed, RuleHolds, HoldsAtNode, Accepts}
-use Rattle.cfg_recover.specs.Assignments.{Place, point, exit, known_at, known_in, CoversAt, asked, resumed, HasDuty}
+use Rattle.cfg_recover.specs.RulesHoldOrFail.{limits_in, HasPoint, IsMet, EntryNeedRuleHolds, NeedRuleHolds, RuleHolds, HoldsAtNode, Accepts}
+use Rattle.cfg_recover.specs.Assignments.{Place, point, exit, known_at, known_in, CoversAt, asked_by_duty, asked_by_resume, HasDuty}
 use Rattle.depth_cert.specs.Known.{Known, state, leaving, CoversKnown}
-use Rattle.depth_cert.specs.Proper.{IsProper}
+use Rattle.depth_cert.specs.Proper.{IsProperState}
 use Rattle.cfg_recover.proofs.CodeLaws.{IsCode-bounded}
 use Rattle.depth_maker.specs.DutiesGrow.{IsGround}
-use Rattle.depth_maker.specs.MakerLaws.{IsSolution}
+use Rattle.depth_maker.specs.MakerLaws.{IsMakerSolution}
 use Rattle.depth_maker.proofs.KeyDuties.{HasKey, duties_keys}
 use Rattle.depth_maker.proofs.Accepted.{at_point, at_exit, find_agrees}
 
@@ -53,7 +53,7 @@ one_of : {A : Type 0} (o : Option A) (x y : A) → o ≡ Some x → o ≡ Some y
 one_of o x y e f = let g : Some x ≡ Some y = sym e ∙ f in cc
 
 module _ (image : ImageData) (plan : PlanData) (cert : CertData) (ground : IsGround (limits_in plan cert) image plan) (entry : image.entry < 2 ^ 32) (is_cert : IsCert cert)
-    (solution : IsSolution (limits_in plan cert) image plan (known_in cert) (λ k. need_of (find_node k cert.nodes)))
+    (solution : IsMakerSolution (limits_in plan cert) image plan (known_in cert) (λ k. need_of (find_node k cert.nodes)))
     (entries : (n : NodeData) → Contains cert.nodes n → IsSome (find_point (n.key).entry n.points)) where
   node_is : (n : NodeData) → Contains cert.nodes n → IsNode cert.version n
   node_is n c = subst (IsNode cert.version) c.2 (is_cert.nodes c.0 n c.1)
@@ -89,7 +89,7 @@ module _ (image : ImageData) (plan : PlanData) (cert : CertData) (ground : IsGro
     faultless : IsFaultless (limits_in plan cert) image plan n.key q.addr q.state
     faultless = solution.faultless n.key q.addr q.state known
 
-    proper : IsProper (limits_in plan cert) q.state
+    proper : IsProperState (limits_in plan cert) q.state
     proper = solution.proper (point n.key q.addr) (state q.state) known
 
     -- what is known at a place of this node
@@ -106,19 +106,19 @@ module _ (image : ImageData) (plan : PlanData) (cert : CertData) (ground : IsGro
           duties_keys (limits_in plan cert) image plan n.key q.addr q.state (record { limits = ground.limits; plan = ground.is_plan; regs = proper.regs; values = proper.values }) key shape size
           (IsCode-bounded image plan q.addr shape size code) d c
 
-      covered : (d : Duty) → HasDuty (limits_in plan cert) image plan (known_in cert) n.key q.addr q.state d → (y : Place) (v : Known) → asked (known_in cert) n.key q.state d ≡ Some (y, v) → CoversAt (known_in cert) y v
+      covered : (d : Duty) → HasDuty (limits_in plan cert) image plan (known_in cert) n.key q.addr q.state d → (y : Place) (v : Known) → asked_by_duty (known_in cert) n.key q.state d ≡ Some (y, v) → CoversAt (known_in cert) y v
       covered d h y v e = solution.closed.duties y v (record { key = n.key; addr = q.addr; before = q.state; duty = d; has = h; asks = e })
 
       resumed_met : (j : Key) (p : ℕ) → HasKey (resume j p) → HasDuty (limits_in plan cert) image plan (known_in cert) n.key q.addr q.state (resume j p)
-          → (o : Option NodeData) → find_node j cert.nodes ≡ o → IfSome o (λ m. IfSome m.exit (λ x. HasPoint n p (after_of q.state x j.kind)))
+          → (o : Option NodeData) → find_node j cert.nodes ≡ o → IfSome o (λ m. IfSome m.exit (λ x. HasPoint n p (state_after_exit q.state x j.kind)))
       resumed_met j p is h None e = tt
       resumed_met j p is h (Some m) e = at m.exit refl where
-        at : (o : Option Exit) → m.exit ≡ o → IfSome o (λ x. HasPoint n p (after_of q.state x j.kind))
+        at : (o : Option Exit) → m.exit ≡ o → IfSome o (λ x. HasPoint n p (state_after_exit q.state x j.kind))
         at None f = tt
         at (Some x) f =
             let there : known_in cert (exit j) ≡ Some (leaving x) = ap (option_and_then (known_at (exit j))) (agrees j is ∙ e) ∙ ap (option_map leaving) f in
-            let c = covered (resume j p) h (point n.key p) (state (after_of q.state x j.kind)) (ap (resumed n.key q.state j p) there) in
-            here p c.known (after_of q.state x j.kind) c.at c.covers
+            let c = covered (resume j p) h (point n.key p) (state (state_after_exit q.state x j.kind)) (ap (asked_by_resume n.key q.state j p) there) in
+            here p c.known (state_after_exit q.state x j.kind) c.at c.covers
 
       met : (d : Duty) → HasKey d → HasDuty (limits_in plan cert) image plan (known_in cert) n.key q.addr q.state d → IsMet cert n q.state d
       met (jump p t) is h = let c = covered (jump p t) h (point n.key p) (state t) refl in here p c.known t c.at c.covers
@@ -131,7 +131,7 @@ module _ (image : ImageData) (plan : PlanData) (cert : CertData) (ground : IsGro
           let same : n ≡ (a.2).node = one_of _ n (a.2).node found (a.2).found in
           subst (λ (o : Option Exit). IsSomeAnd o (λ y. ExitCovers y x)) (sym (ap (λ (m : NodeData). m.exit) same ∙ (a.2).is)) over
 
-      needed : (d : Duty) → HasDuty (limits_in plan cert) image plan (known_in cert) n.key q.addr q.state d → IsNeedAbove cert n q.state d
+      needed : (d : Duty) → HasDuty (limits_in plan cert) image plan (known_in cert) n.key q.addr q.state d → EntryNeedRuleHolds cert n q.state d
       needed (enter j t) h = at (find_node j cert.nodes) refl where
         at : (o : Option NodeData) → find_node j cert.nodes ≡ o → IfSome o (λ m. length q.state.locals.items + 1 + m.need ≤ n.need)
         at None e = tt
@@ -140,7 +140,7 @@ module _ (image : ImageData) (plan : PlanData) (cert : CertData) (ground : IsGro
             omega (arith, le, ap need_of e, ap need_of (node_found n member))
       needed _ h = tt
 
-      has_need : HasNeed image plan cert n q (duties_of (limits_in plan cert) image plan n.key q.addr q.state shape size)
+      has_need : NeedRuleHolds image plan cert n q (duties_of (limits_in plan cert) image plan n.key q.addr q.state shape size)
       has_need = record {
         locals = let le = solution.needs.locals n.key q.addr q.state known in omega (arith, le, ap need_of (node_found n member));
         entered = λ i d lt. needed (get_or _ i d).duty (duty (get_or _ i d) (i, lt, get_or_default _ i (get_or _ i d) d lt));

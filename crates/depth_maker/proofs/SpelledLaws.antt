@@ -22,22 +22,22 @@ use Rattle.value_domain.proofs.RangeLaws.{span_count, set_value}
 use Rattle.depth_cert.specs.declared.keys.Key.{Key}
 use Rattle.depth_cert.specs.declared.points.Point as located
 use Rattle.depth_cert.specs.Keys.{IsKey, number_of_key, same_key}
-use Rattle.depth_cert.specs.Points.{IsWellOf, IsState, IsPoint, find_point}
+use Rattle.depth_cert.specs.Points.{IsWellCertValue, IsState, IsPoint, find_point}
 use Rattle.depth_cert.specs.Exits.{IsExit}
 use Rattle.depth_cert.specs.Nodes.{NodeData, IsNode, need_of, count_points}
 use Rattle.depth_cert.specs.Certs.{CertData, IsCert}
 use Rattle.cfg_recover.specs.Entries.{start_key}
-use Rattle.cfg_recover.specs.Assignments.{Place, point, exit, Assignment, same_place, frame_of, known_at, known_in, Closed, Derived, AllFaultless}
-use Rattle.depth_cert.specs.Known.{Known, state, leaving, exit_at}
-use Rattle.depth_cert.specs.Proper.{IsProper, IsProperExit, IsProperKnown}
+use Rattle.cfg_recover.specs.Assignments.{Place, point, exit, Assignment, same_place, frame_of_place, known_at, known_in, Closed, Derived, AllFaultless}
+use Rattle.depth_cert.specs.Known.{Known, state, leaving, exit_if_known}
+use Rattle.depth_cert.specs.Proper.{IsProperState, IsProperExit, IsProperKnown}
 use Rattle.cfg_recover.specs.CertRefusals.{AreLeastNeeds}
 use Rattle.cfg_recover.proofs.Members.{contains_map}
 use Rattle.depth_maker.specs.Counts.{AreCounted}
 use Rattle.depth_maker.specs.DutiesGrow.{IsGround}
 use Rattle.depth_maker.specs.LeastCertMade.{IsWritten, needs_in}
-use Rattle.frame_places.specs.Spots.{AreRanged, is_point_of, spot_address, spot_number}
-use Rattle.depth_maker.specs.SpelledCert.{HasBytes, addresses_in, cert_with, node_at, point_at, state_at}
-use Rattle.depth_maker.specs.Spots.{place_of}
+use Rattle.frame_places.specs.Spots.{AreRangedSpots, is_point_of, spot_address, spot_number}
+use Rattle.depth_maker.specs.SpelledCert.{HasSpelledCcpns, spelled_addresses_in, spelled_cert_with, spelled_node_at, spelled_point_at, spelled_state_at}
+use Rattle.depth_maker.specs.Spots.{place_of_spot}
 use Rattle.frame_places.specs.declared.places.Spot.{Spot}
 use Rattle.frame_places.specs.declared.places.Spot.TheVariants.{Point, Exit}
 use Rattle.depth_maker.proofs.Accepted.{one_number}
@@ -55,12 +55,12 @@ use Rattle.depth_maker.proofs.TableLaws.{derived_proper}
 
 -- ---- values
 -- a value at the limits is one that certificates of the version may have
-pub well_of : (plan : PlanData) (version : ℕ) (v : Val) → IsValue (limits_for plan version) v → IsWellOf version v
+pub well_of : (plan : PlanData) (version : ℕ) (v : Val) → IsValue (limits_for plan version) v → IsWellCertValue version v
 well_of plan version (Set ws) is = let well = is.well in (well, (set_value (limits_for plan version) ws well).1 is)
 well_of plan version (Span lo last step) is = let well = is.well in (well.0, span_count (limits_for plan version) lo last step is, well.2)
 
-values_well : (plan : PlanData) (version : ℕ) (vs : List Val) → AreValues (limits_for plan version) vs → All (IsWellOf version) vs
-values_well plan version vs are k d lt = subst (IsWellOf version) (sym (get_or_default vs k d any_val lt)) (well_of plan version (get_or vs k any_val) (are k lt))
+values_well : (plan : PlanData) (version : ℕ) (vs : List Val) → AreValues (limits_for plan version) vs → All (IsWellCertValue version) vs
+values_well plan version vs are k d lt = subst (IsWellCertValue version) (sym (get_or_default vs k d any_val lt)) (well_of plan version (get_or vs k any_val) (are k lt))
 
 -- what is there
 pub value_in : (o : Option Known) → IsSome o → (v : Known) × (o ≡ Some v)
@@ -89,7 +89,7 @@ at_most_one ks distinct (Exit j) = none ks where
 
 module _ (b : Limits) (image : ImageData) (plan : PlanData) (ground : IsGround b image plan) (a : Assignment)
     (derived : Derived b image plan a) (closed : Closed b image plan a) (faultless : AllFaultless b image plan a)
-    (fs : List Key) (qs : List Spot) (counted : AreCounted a (map place_of qs) fs) (few_points : length qs ≤ 2 ^ 16) (few_frames : length fs ≤ 2048)
+    (fs : List Key) (qs : List Spot) (counted : AreCounted a (map place_of_spot qs) fs) (few_points : length qs ≤ 2 ^ 16) (few_frames : length fs ≤ 2048)
     (ks : List Key) (ps : List Spot) (frames : IsPermutation fs ks) (points : IsPermutation qs ps) (rising_points : IsNonDecreasingBy spot_number ps) where
   -- ---- frames and points
   kind : (y : Place) (v : Known) → a y ≡ Some v → IsOfKind y v
@@ -101,8 +101,8 @@ module _ (b : Limits) (image : ImageData) (plan : PlanData) (ground : IsGround b
   in_range : (y : Place) (v : Known) → a y ≡ Some v → IsInRange y
   in_range = derived_in_range b image plan ground a derived
 
-  known_frame : (y : Place) → IsSome (a y) → Contains ks (frame_of y)
-  known_frame y h = Contains-permutation fs ks (frame_of y) frames (counted.frames y h)
+  known_frame : (y : Place) → IsSome (a y) → Contains ks (frame_of_place y)
+  known_frame y h = Contains-permutation fs ks (frame_of_place y) frames (counted.frames y h)
 
   entered : (k : Key) → Contains ks k → IsSome (a (point k k.entry))
   entered k c = counted.entered k (Contains-permutation ks fs k (IsPermutation-sym fs ks frames) c)
@@ -113,8 +113,8 @@ module _ (b : Limits) (image : ImageData) (plan : PlanData) (ground : IsGround b
   distinct_frames : IsDistinct same_key ks
   distinct_frames = IsDistinct-IsPermutation same_key ((decides same_key key_tells key_same).symm) fs ks frames counted.once_each
 
-  distinct_points : IsDistinct same_place (map place_of ps)
-  distinct_points = IsDistinct-IsPermutation same_place ((decides same_place place_tells place_same).symm) (map place_of qs) (map place_of ps) (IsPermutation-map place_of qs ps points) counted.once
+  distinct_points : IsDistinct same_place (map place_of_spot ps)
+  distinct_points = IsDistinct-IsPermutation same_place ((decides same_place place_tells place_same).symm) (map place_of_spot qs) (map place_of_spot ps) (IsPermutation-map place_of_spot qs ps points) counted.once
 
   rising_keys : IsNonDecreasingBy (λ (k : Key). number_of_key k) ks → IsStrictlyIncreasing (map (λ (k : Key). number_of_key k) ks)
   rising_keys rising_frames = strict (λ (k : Key). number_of_key k) ks no_key rising_frames (λ i lt e.
@@ -126,11 +126,11 @@ module _ (b : Limits) (image : ImageData) (plan : PlanData) (ground : IsGround b
       cc)
 
   -- each point is there once
-  apart_points : AllPairs (λ x y. same_place (place_of x) (place_of y) ≡ false) ps
+  apart_points : AllPairs (λ x y. same_place (place_of_spot x) (place_of_spot y) ≡ false) ps
   apart_points i j d lt l =
-      let h = apart_from_distinct same_place (map place_of ps) i j (place_of d) distinct_points lt (omega (arith, l, length-map ps place_of)) in
-      let one = get_or-map place_of ps i d (place_of d) (omega (arith, lt, l)) in
-      let two = get_or-map place_of ps j d (place_of d) l in
+      let h = apart_from_distinct same_place (map place_of_spot ps) i j (place_of_spot d) distinct_points lt (omega (arith, l, length-map ps place_of_spot)) in
+      let one = get_or-map place_of_spot ps i d (place_of_spot d) (omega (arith, lt, l)) in
+      let two = get_or-map place_of_spot ps j d (place_of_spot d) l in
       sym (λ t. same_place (one t) (two t)) ∙ h
 
   module _ (k : Key) where
@@ -150,118 +150,118 @@ module _ (b : Limits) (image : ImageData) (plan : PlanData) (ground : IsGround b
         below : (n x y p q : ℕ) → x ≤ y → x ≡ n * 2 ^ 32 + p → y ≡ n * 2 ^ 32 + q → p ≤ q
         below n x y p q le e f = omega arith
 
-    rising_addresses : IsStrictlyIncreasing (addresses_in ps k)
+    rising_addresses : IsStrictlyIncreasing (spelled_addresses_in ps k)
     rising_addresses = strict spot_address kept (Exit no_key) rising_kept (λ i lt e.
         let x = get_or kept i (Exit no_key) in
         let y = get_or kept (i + 1) (Exit no_key) in
         let same : x ≡ y = of_frame i (Exit no_key) (omega (arith, lt)) ∙ ap (λ (n : ℕ). Point k n) e ∙ sym (of_frame (i + 1) (Exit no_key) lt) in
-        let apart = AllPairs-filter (λ x y. same_place (place_of x) (place_of y) ≡ false) (is_point_of k) ps apart_points i (i + 1) (Exit no_key) (omega arith) lt in
-        let f : true ≡ false = sym (place_same (place_of x)) ∙ ap (λ (z : Spot). same_place (place_of x) (place_of z)) same ∙ apart in
+        let apart = AllPairs-filter (λ x y. same_place (place_of_spot x) (place_of_spot y) ≡ false) (is_point_of k) ps apart_points i (i + 1) (Exit no_key) (omega arith) lt in
+        let f : true ≡ false = sym (place_same (place_of_spot x)) ∙ ap (λ (z : Spot). same_place (place_of_spot x) (place_of_spot z)) same ∙ apart in
         cc)
 
     -- the addresses are those of the known points
-    has_address : (p : ℕ) → IsSome (a (point k p)) → Contains (addresses_in ps k) p
+    has_address : (p : ℕ) → IsSome (a (point k p)) → Contains (spelled_addresses_in ps k) p
     has_address p h =
         let there = Contains-permutation qs ps (Point k p) points (placed qs k p (counted.points k p h)) in
         contains_map spot_address (filter (is_point_of k) ps) (Point k p) (filter_has (is_point_of k) ps (Point k p) there (key_same k))
 
-    pub address_known : (p : ℕ) → Contains (addresses_in ps k) p → IsSome (a (point k p))
+    pub address_known : (p : ℕ) → Contains (spelled_addresses_in ps k) p → IsSome (a (point k p))
     address_known p c =
         let m = contained_map spot_address (filter (is_point_of k) ps) p c in
         let f = has_filter (is_point_of k) ps m.0 m.1 in
         let is : m.0 ≡ Point k p = point_here k m.0 f.1 ∙ ap (λ (n : ℕ). Point k n) m.2 in
         let there = Contains-permutation ps qs (Point k p) (IsPermutation-sym qs ps points) (subst (Contains ps) is f.0) in
-        (counted.known (point k p) (contains_map place_of qs (Point k p) there)).0
+        (counted.known (point k p) (contains_map place_of_spot qs (Point k p) there)).0
 
   -- all points of the list may be in a certificate
-  pub are_ranged : AreRanged ps
+  pub are_ranged : AreRangedSpots ps
   are_ranged q c =
-      let m = contains_map place_of qs q (Contains-permutation ps qs q (IsPermutation-sym qs ps points) c) in
-      let known = counted.known (place_of q) m in
-      let v = value_in (a (place_of q)) known.0 in
-      at q (place_of q) refl known.1 (in_range (place_of q) v.0 v.1)
+      let m = contains_map place_of_spot qs q (Contains-permutation ps qs q (IsPermutation-sym qs ps points) c) in
+      let known = counted.known (place_of_spot q) m in
+      let v = value_in (a (place_of_spot q)) known.0 in
+      at q (place_of_spot q) refl known.1 (in_range (place_of_spot q) v.0 v.1)
     where
-      at : (q : Spot) (y : Place) → place_of q ≡ y → (k : Key) × (p : ℕ) × (y ≡ point k p) → IsInRange y → (k : Key) × (p : ℕ) × (q ≡ Point k p) × IsKey k × (p < 2 ^ 32)
+      at : (q : Spot) (y : Place) → place_of_spot q ≡ y → (k : Key) × (p : ℕ) × (y ≡ point k p) → IsInRange y → (k : Key) × (p : ℕ) × (q ≡ Point k p) × IsKey k × (p < 2 ^ 32)
       at (Point j p) y e is range = let r = subst IsInRange (sym e) range in (j, p, refl, r.0, r.1)
       at (Exit j) y e is range = absurd (let f : exit j ≡ point is.0 is.1 = e ∙ is.2 in cc)
 
   -- ---- the certificate
   module _ (rising_frames : IsNonDecreasingBy (λ (k : Key). number_of_key k) ks) (version : ℕ) (known_version : (version ≡ 1) ⊎ (version ≡ 2)) (of_version : b ≡ limits_for plan version) (need : Key → ℕ) (needs : AreLeastNeeds b image plan a need) (few : (k : Key) → need k ≤ plan.areas - plan.reserve) (areas : plan.areas ≤ 4096)
-      (bytes : All (λ k. HasBytes (node_at a need (addresses_in ps) k)) ks) where
+      (bytes : All (λ k. HasSpelledCcpns (spelled_node_at a need (spelled_addresses_in ps) k)) ks) where
     abbrev node : Key → NodeData
-    node k = node_at a need (addresses_in ps) k
+    node k = spelled_node_at a need (spelled_addresses_in ps) k
 
     abbrev cert : CertData
-    cert = cert_with version a need (addresses_in ps) ks
+    cert = spelled_cert_with version a need (spelled_addresses_in ps) ks
 
     found : (k : Key) → Contains ks k → find (λ n. same_key n.key k) cert.nodes ≡ Some (node k)
-    found k c = find_mapped (λ n. same_key n.key k) (node_at a need (addresses_in ps)) k (key_same k) (λ z e. ap (node_at a need (addresses_in ps)) (key_tells z k e)) ks c
+    found k c = find_mapped (λ n. same_key n.key k) (spelled_node_at a need (spelled_addresses_in ps)) k (key_same k) (λ z e. ap (spelled_node_at a need (spelled_addresses_in ps)) (key_tells z k e)) ks c
 
     not_found : (k : Key) → (Contains ks k → ⊥) → find (λ n. same_key n.key k) cert.nodes ≡ None
     not_found k absent =
-        find_unmapped (λ n. same_key n.key k) (node_at a need (addresses_in ps)) ks
+        find_unmapped (λ n. same_key n.key k) (spelled_node_at a need (spelled_addresses_in ps)) ks
         (λ z c. elim (cases_Bool (same_key z k)) [ inl e ↦ absurd (absent (subst (Contains ks) (key_tells z k e) c)) | inr e ↦ e ])
 
-    point_found : (k : Key) (p : ℕ) → Contains (addresses_in ps k) p → find_point p (node k).points ≡ Some (point_at a k p)
-    point_found k p c = find_mapped (λ (q : located.Point). eqb q.addr p) (point_at a k) p (eq-eqb p p refl) (λ z e. ap (point_at a k) (eqb-true z p e)) (addresses_in ps k) c
+    point_found : (k : Key) (p : ℕ) → Contains (spelled_addresses_in ps k) p → find_point p (node k).points ≡ Some (spelled_point_at a k p)
+    point_found k p c = find_mapped (λ (q : located.Point). eqb q.addr p) (spelled_point_at a k) p (eq-eqb p p refl) (λ z e. ap (spelled_point_at a k) (eqb-true z p e)) (spelled_addresses_in ps k) c
 
-    point_not_found : (k : Key) (p : ℕ) → (Contains (addresses_in ps k) p → ⊥) → find_point p (node k).points ≡ None
+    point_not_found : (k : Key) (p : ℕ) → (Contains (spelled_addresses_in ps k) p → ⊥) → find_point p (node k).points ≡ None
     point_not_found k p absent =
-        find_unmapped (λ (q : located.Point). eqb q.addr p) (point_at a k) (addresses_in ps k)
-        (λ z c. elim (cases_Bool (eqb z p)) [ inl e ↦ absurd (absent (subst (Contains (addresses_in ps k)) (eqb-true z p e) c)) | inr e ↦ e ])
+        find_unmapped (λ (q : located.Point). eqb q.addr p) (spelled_point_at a k) (spelled_addresses_in ps k)
+        (λ z c. elim (cases_Bool (eqb z p)) [ inl e ↦ absurd (absent (subst (Contains (spelled_addresses_in ps k)) (eqb-true z p e) c)) | inr e ↦ e ])
 
     -- ---- what it says
-    unknown : (y : Place) → (Contains ks (frame_of y) → ⊥) → None ≡ a y
+    unknown : (y : Place) → (Contains ks (frame_of_place y) → ⊥) → None ≡ a y
     unknown y absent = at (a y) refl where
       at : (o : Option Known) → a y ≡ o → None ≡ a y
       at None e = sym e
       at (Some v) e = absurd (absent (known_frame y (some_of (a y) v e)))
 
-    state_back : (k : Key) (p : ℕ) → IsSome (a (point k p)) → Some (state (state_at (a (point k p)))) ≡ a (point k p)
+    state_back : (k : Key) (p : ℕ) → IsSome (a (point k p)) → Some (state (spelled_state_at (a (point k p)))) ≡ a (point k p)
     state_back k p h = let v = value_in (a (point k p)) h in at v.0 v.1 (kind (point k p) v.0 v.1) where
-      at : (v : Known) → a (point k p) ≡ Some v → IsOfKind (point k p) v → Some (state (state_at (a (point k p)))) ≡ a (point k p)
-      at (state s) e h = ap (λ (o : Option Known). Some (state (state_at o))) e ∙ sym e
+      at : (v : Known) → a (point k p) ≡ Some v → IsOfKind (point k p) v → Some (state (spelled_state_at (a (point k p)))) ≡ a (point k p)
+      at (state s) e h = ap (λ (o : Option Known). Some (state (spelled_state_at o))) e ∙ sym e
       at (leaving x) e h = absurd h
 
-    none_back : (k : Key) (p : ℕ) → (Contains (addresses_in ps k) p → ⊥) → None ≡ a (point k p)
+    none_back : (k : Key) (p : ℕ) → (Contains (spelled_addresses_in ps k) p → ⊥) → None ≡ a (point k p)
     none_back k p absent = at (a (point k p)) refl where
       at : (o : Option Known) → a (point k p) ≡ o → None ≡ a (point k p)
       at None e = sym e
       at (Some v) e = absurd (absent (has_address k p (some_of (a (point k p)) v e)))
 
-    exit_back : (k : Key) → option_map leaving (exit_at (a (exit k))) ≡ a (exit k)
+    exit_back : (k : Key) → option_map leaving (exit_if_known (a (exit k))) ≡ a (exit k)
     exit_back k = at (a (exit k)) refl where
-      at : (o : Option Known) → a (exit k) ≡ o → option_map leaving (exit_at (a (exit k))) ≡ a (exit k)
-      at None e = ap (λ (o : Option Known). option_map leaving (exit_at o)) e ∙ sym e
-      at (Some (leaving x)) e = ap (λ (o : Option Known). option_map leaving (exit_at o)) e ∙ sym e
+      at : (o : Option Known) → a (exit k) ≡ o → option_map leaving (exit_if_known (a (exit k))) ≡ a (exit k)
+      at None e = ap (λ (o : Option Known). option_map leaving (exit_if_known o)) e ∙ sym e
+      at (Some (leaving x)) e = ap (λ (o : Option Known). option_map leaving (exit_if_known o)) e ∙ sym e
       at (Some (state s)) e = absurd (kind (exit k) (state s) e)
 
     known_point : (k : Key) (p : ℕ) → known_at (point k p) (node k) ≡ a (point k p)
     known_point k p =
-        elim (has_or_not eqb (λ x y e. eqb-true x y e) (λ x. eq-eqb x x refl) (addresses_in ps k) p) [
+        elim (has_or_not eqb (λ x y e. eqb-true x y e) (λ x. eq-eqb x x refl) (spelled_addresses_in ps k) p) [
           | inl c ↦ ap (option_map (λ (q : located.Point). state q.state)) (point_found k p c) ∙ state_back k p (address_known k p c)
           | inr n ↦ ap (option_map (λ (q : located.Point). state q.state)) (point_not_found k p n) ∙ none_back k p n
         ]
 
-    known_node : (y : Place) → known_at y (node (frame_of y)) ≡ a y
+    known_node : (y : Place) → known_at y (node (frame_of_place y)) ≡ a y
     known_node (point k p) = known_point k p
     known_node (exit k) = exit_back k
 
     pub known_same : (y : Place) → known_in cert y ≡ a y
     known_same y =
-        elim (has_or_not same_key key_tells key_same ks (frame_of y)) [
-          | inl c ↦ ap (option_and_then (known_at y)) (found (frame_of y) c) ∙ known_node y
-          | inr n ↦ ap (option_and_then (known_at y)) (not_found (frame_of y) n) ∙ unknown y n
+        elim (has_or_not same_key key_tells key_same ks (frame_of_place y)) [
+          | inl c ↦ ap (option_and_then (known_at y)) (found (frame_of_place y) c) ∙ known_node y
+          | inr n ↦ ap (option_and_then (known_at y)) (not_found (frame_of_place y) n) ∙ unknown y n
         ]
 
     -- ---- what it keeps
-    states : (k : Key) (p : ℕ) → ((point_at a k p).state).ccpn < 2 ^ 8 → Contains (addresses_in ps k) p → IsPoint version (point_at a k p)
+    states : (k : Key) (p : ℕ) → ((spelled_point_at a k p).state).ccpn < 2 ^ 8 → Contains (spelled_addresses_in ps k) p → IsPoint version (spelled_point_at a k p)
     states k p byte c = let v = value_in (a (point k p)) (address_known k p c) in at v.0 v.1 (kind (point k p) v.0 v.1) where
-      at : (v : Known) → a (point k p) ≡ Some v → IsOfKind (point k p) v → IsPoint version (point_at a k p)
+      at : (v : Known) → a (point k p) ≡ Some v → IsOfKind (point k p) v → IsPoint version (spelled_point_at a k p)
       at (leaving x) e h = absurd h
       at (state s) e h =
-          let is : s ≡ state_at (a (point k p)) = sym (ap state_at e) in
-          let good : IsProper b s = proper (point k p) (state s) e in
+          let is : s ≡ spelled_state_at (a (point k p)) = sym (ap spelled_state_at e) in
+          let good : IsProperState b s = proper (point k p) (state s) e in
           let same : IsState version s = record {
             regs = good.regs;
             values = values_well plan version s.regs (subst (λ (b : Limits). AreValues b s.regs) of_version good.values);
@@ -270,7 +270,7 @@ module _ (b : Limits) (image : ImageData) (plan : PlanData) (ground : IsGround b
           } in
           record { addr = (in_range (point k p) (state s) e).1; state = subst (IsState version) is same }
 
-    exits_are : (k : Key) (o : Option Known) → a (exit k) ≡ o → IfSome (exit_at o) (λ e. e.ccpn < 2 ^ 8) → IfSome (exit_at o) (λ e. ((k.kind ≡ 1) ⊎ (k.kind ≡ 3)) × IsExit version e)
+    exits_are : (k : Key) (o : Option Known) → a (exit k) ≡ o → IfSome (exit_if_known o) (λ e. e.ccpn < 2 ^ 8) → IfSome (exit_if_known o) (λ e. ((k.kind ≡ 1) ⊎ (k.kind ≡ 3)) × IsExit version e)
     exits_are k (Some (leaving x)) e byte =
         let good : IsProperExit b x = proper (exit k) (leaving x) e in
         ((in_range (exit k) (leaving x) e).1, record { lower = good.regs; values = values_well plan version x.lower (subst (λ (b : Limits). AreValues b x.lower) of_version good.values); ccpn = byte })
@@ -278,39 +278,39 @@ module _ (b : Limits) (image : ImageData) (plan : PlanData) (ground : IsGround b
 
     node_is : (k : Key) → Contains ks k → IsNode version (node k)
     node_is k c =
-        let byte = All-contains (λ k. HasBytes (node_at a need (addresses_in ps) k)) ks k bytes c in
+        let byte = All-contains (λ k. HasSpelledCcpns (spelled_node_at a need (spelled_addresses_in ps) k)) ks k bytes c in
         record {
           key = frame_key k c;
           need = let le = few k in omega (arith, le, areas);
           exit = exits_are k (a (exit k)) refl byte.exit;
-          rising = subst IsStrictlyIncreasing (sym (map_twice (λ (q : located.Point). q.addr) (point_at a k) (addresses_in ps k) ∙ map-id (addresses_in ps k))) (rising_addresses k);
+          rising = subst IsStrictlyIncreasing (sym (map_twice (λ (q : located.Point). q.addr) (spelled_point_at a k) (spelled_addresses_in ps k) ∙ map-id (spelled_addresses_in ps k))) (rising_addresses k);
           points =
-              All-map (IsPoint version) (point_at a k) (addresses_in ps k)
-              (λ i d lt. states k (get_or (addresses_in ps k) i d)
-              (subst (λ (q : located.Point). (q.state).ccpn < 2 ^ 8) (get_or-map (point_at a k) (addresses_in ps k) i d (point_at a k d) lt)
-              (byte.points i (point_at a k d) (omega (arith, lt, length-map (addresses_in ps k) (point_at a k)))))
-              (Contains-get_or (addresses_in ps k) i d lt));
+              All-map (IsPoint version) (spelled_point_at a k) (spelled_addresses_in ps k)
+              (λ i d lt. states k (get_or (spelled_addresses_in ps k) i d)
+              (subst (λ (q : located.Point). (q.state).ccpn < 2 ^ 8) (get_or-map (spelled_point_at a k) (spelled_addresses_in ps k) i d (spelled_point_at a k d) lt)
+              (byte.points i (spelled_point_at a k d) (omega (arith, lt, length-map (spelled_addresses_in ps k) (spelled_point_at a k)))))
+              (Contains-get_or (spelled_addresses_in ps k) i d lt));
         }
 
     few_kept : count_points cert.nodes ≤ 2 ^ 16
     few_kept =
-        let one : count_points (map (node_at a need (addresses_in ps)) ks) ≡ sum_by (λ k. length (map (point_at a k) (addresses_in ps k))) ks = sum_twice (λ (n : NodeData). length n.points) (node_at a need (addresses_in ps)) ks in
-        let two : sum_by (λ k. length (map (point_at a k) (addresses_in ps k))) ks ≡ sum_by (λ k. length (filter (is_point_of k) ps)) ks =
-        ap (λ (f : Key → ℕ). sum_by f ks) (λ i k. (length-map (addresses_in ps k) (point_at a k) ∙ length-map (filter (is_point_of k) ps) spot_address) i) in
+        let one : count_points (map (spelled_node_at a need (spelled_addresses_in ps)) ks) ≡ sum_by (λ k. length (map (spelled_point_at a k) (spelled_addresses_in ps k))) ks = sum_twice (λ (n : NodeData). length n.points) (spelled_node_at a need (spelled_addresses_in ps)) ks in
+        let two : sum_by (λ k. length (map (spelled_point_at a k) (spelled_addresses_in ps k))) ks ≡ sum_by (λ k. length (filter (is_point_of k) ps)) ks =
+        ap (λ (f : Key → ℕ). sum_by f ks) (λ i k. (length-map (spelled_addresses_in ps k) (spelled_point_at a k) ∙ length-map (filter (is_point_of k) ps) spot_address) i) in
         omega (arith, one, two, sum_of_filters is_point_of ks (at_most_one ks distinct_frames) ps, length_permutation qs ps points, few_points)
 
     is_cert : IsCert cert
     is_cert = record {
       version = known_version;
-      few = omega (arith, length-map ks (node_at a need (addresses_in ps)), length_permutation fs ks frames, few_frames);
-      rising = subst IsStrictlyIncreasing (sym (map_twice (λ (n : NodeData). number_of_key n.key) (node_at a need (addresses_in ps)) ks)) (rising_keys rising_frames);
-      nodes = All-map (IsNode version) (node_at a need (addresses_in ps)) ks (λ i d lt. node_is (get_or ks i d) (Contains-get_or ks i d lt));
+      few = omega (arith, length-map ks (spelled_node_at a need (spelled_addresses_in ps)), length_permutation fs ks frames, few_frames);
+      rising = subst IsStrictlyIncreasing (sym (map_twice (λ (n : NodeData). number_of_key n.key) (spelled_node_at a need (spelled_addresses_in ps)) ks)) (rising_keys rising_frames);
+      nodes = All-map (IsNode version) (spelled_node_at a need (spelled_addresses_in ps)) ks (λ i d lt. node_is (get_or ks i d) (Contains-get_or ks i d lt));
       points = few_kept;
     }
 
     entries : (n : NodeData) → Contains cert.nodes n → IsSome (find_point (n.key).entry n.points)
     entries n c =
-        let m = contained_map (node_at a need (addresses_in ps)) ks n c in
+        let m = contained_map (spelled_node_at a need (spelled_addresses_in ps)) ks n c in
         subst (λ (n : NodeData). IsSome (find_point (n.key).entry n.points)) m.2
         (subst (λ (o : Option located.Point). IsSome o) (sym (point_found m.0 (m.0).entry (has_address m.0 (m.0).entry (entered m.0 m.1)))) refl)
 
@@ -318,8 +318,8 @@ module _ (b : Limits) (image : ImageData) (plan : PlanData) (ground : IsGround b
     need_here : (k : Key) → Contains ks k → needs_in cert k ≡ need k
     need_here k c = ap need_of (found k c)
 
-    need_agrees : (y : Place) (v : Known) → a y ≡ Some v → need (frame_of y) ≡ needs_in cert (frame_of y)
-    need_agrees y v e = sym (need_here (frame_of y) (known_frame y (some_of (a y) v e)))
+    need_agrees : (y : Place) (v : Known) → a y ≡ Some v → need (frame_of_place y) ≡ needs_in cert (frame_of_place y)
+    need_agrees y v e = sym (need_here (frame_of_place y) (known_frame y (some_of (a y) v e)))
 
     least_needs : AreLeastNeeds b image plan a (needs_in cert)
     least_needs = record {
@@ -338,7 +338,7 @@ module _ (b : Limits) (image : ImageData) (plan : PlanData) (ground : IsGround b
         let le = few (start_key image plan) in
         omega (arith, le, need_here (start_key image plan) c)
 
-    pub is_written : IsWritten image plan version (cert_with version a need (addresses_in ps) ks)
+    pub is_written : IsWritten image plan version (spelled_cert_with version a need (spelled_addresses_in ps) ks)
     is_written =
         let same : known_in cert ≡ a = λ i y. known_same y i in
         record {

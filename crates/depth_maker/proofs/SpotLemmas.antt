@@ -8,15 +8,15 @@ use Rattle.frame_places.proofs.SpotLemmas.{spot_tells, spot_refl}
 use Rattle.depth_maker.proofs.PlaceLaws.{place_tells, place_same}
 use Rattle.frame_places.specs.declared.places.Spot.{Spot}
 use Rattle.frame_places.specs.declared.places.Spot.TheVariants.{Point, Exit}
-use Rattle.depth_maker.specs.Spots.{spot_of, place_of}
+use Rattle.depth_maker.specs.Spots.{spot_of, place_of_spot}
 use Rattle.frame_places.specs.Spots.{spot_eq}
 
 -- back and forth
-pub back : (x : Place) → place_of (spot_of x) ≡ x
+pub back : (x : Place) → place_of_spot (spot_of x) ≡ x
 back (point k p) = refl
 back (exit k) = refl
 
-pub forth : (x : Spot) → spot_of (place_of x) ≡ x
+pub forth : (x : Spot) → spot_of (place_of_spot x) ≡ x
 forth (Point f p) = refl
 forth (Exit f) = refl
 
@@ -27,7 +27,7 @@ agrees x y =
       | inl e ↦ subst (λ (z : Place). spot_eq (spot_of z) (spot_of x) ≡ true) (place_tells x y e) (spot_refl (spot_of x)) ∙ sym e
       | inr e ↦ elim (cases_Bool (spot_eq (spot_of y) (spot_of x))) [
         | inl t ↦
-            let one : y ≡ x = sym (back y) ∙ ap place_of (spot_tells (spot_of y) (spot_of x) t) ∙ back x in
+            let one : y ≡ x = sym (back y) ∙ ap place_of_spot (spot_tells (spot_of y) (spot_of x) t) ∙ back x in
             let no : true ≡ false = sym (place_same x) ∙ ap (same_place x) (sym one) ∙ e in
             cc
         | inr f ↦ f ∙ sym e

@@ -10,15 +10,17 @@ use Rattle.value_domain.specs.Limits.{Limits}
 use Rattle.depth_cert.specs.declared.keys.Key.{Key}
 use Rattle.cfg_recover.specs.Code.{IsCode}
 use Rattle.cfg_recover.specs.Entries.{start_state}
-use Rattle.depth_cert.specs.Exits.{after_of}
+use Rattle.depth_cert.specs.Exits.{state_after_exit}
 use Rattle.cfg_recover.specs.LocalFaults.{IsFaultless}
 use Rattle.cfg_recover.specs.Duties.{Duty, jump, enter, resume, leave, Owed, duties_of}
-use Rattle.cfg_recover.specs.Assignments.{Place, point, exit, Assignment, same_place, CoversAt, raised, asked, Joins, Derived, begins, joins, Closed, first_place, AllFaultless}
+use Rattle.cfg_recover.specs.Assignments.{Place, point, exit, Assignment, same_place, CoversAt, raised_at_place, asked_by_duty, Joins, Derived, begins, joins, Closed, first_place, AllFaultless}
 use Rattle.depth_cert.specs.Known.{Known, state, leaving, CoversKnown}
-use Rattle.depth_cert.specs.Proper.{IsProper, IsProperKnown}
+use Rattle.depth_cert.specs.Proper.{IsProperState, IsProperKnown}
 use Rattle.depth_maker.specs.ProperAssignments.{IsProperDuty, AllProper}
-use Rattle.depth_maker.specs.MakerLaws.{AreLawful}
-use Rattle.depth_maker.specs.TableView.{TableView, Settled, IsResumed, IsTable, Marks}
+use Rattle.depth_maker.specs.MakerLaws.{AreMakerLaws}
+use Rattle.depth_maker.specs.TableView.{TableView}
+use Rattle.depth_maker.specs.Joins.{Marks}
+use Rattle.depth_maker.specs.TableInvariant.{IsTable, Settled, IsResumed}
 use Rattle.depth_maker.proofs.PlaceLaws.{place_tells, place_same, from_if, one_state, resumed_some}
 use Rattle.depth_maker.proofs.Below.{asks_proper}
 
@@ -26,9 +28,9 @@ same_or_not : (v : Bool) → (v ≡ true) ⊎ (v ≡ false)
 same_or_not true = inl refl
 same_or_not false = inr refl
 
-module _ (b : Limits) (image : ImageData) (plan : PlanData) (laws : AreLawful b image plan) where
+module _ (b : Limits) (image : ImageData) (plan : PlanData) (laws : AreMakerLaws b image plan) where
   -- ---- what derived assignments know
-  raised_proper : (o : Option Known) (v u : Known) → ((w : Known) → o ≡ Some w → IsProperKnown b w) → IsProperKnown b v → raised b o v ≡ Some u → IsProperKnown b u
+  raised_proper : (o : Option Known) (v u : Known) → ((w : Known) → o ≡ Some w → IsProperKnown b w) → IsProperKnown b v → raised_at_place b o v ≡ Some u → IsProperKnown b u
   raised_proper None v u old pv is = let e : v ≡ u = cc in subst (IsProperKnown b) e pv
   raised_proper (Some w) v u old pv is = laws.joined_proper w v u (old w refl) pv is
 
@@ -50,11 +52,11 @@ module _ (b : Limits) (image : ImageData) (plan : PlanData) (laws : AreLawful b 
   derived_proper _ (begins a is) = begun_proper a is
   derived_proper _ (joins a after y d j) = joined_proper a after y (derived_proper a d) j
 
-  raised_above : (o : Option Known) (v u w : Known) → ((w : Known) → o ≡ Some w → IsProperKnown b w) → IsProperKnown b v → raised b o v ≡ Some u → o ≡ Some w → CoversKnown u w
+  raised_above : (o : Option Known) (v u w : Known) → ((w : Known) → o ≡ Some w → IsProperKnown b w) → IsProperKnown b v → raised_at_place b o v ≡ Some u → o ≡ Some w → CoversKnown u w
   raised_above None v u w old pv is at = absurd (let q : None ≡ Some w = at in cc)
   raised_above (Some x) v u w old pv is at = let e : x ≡ w = (let f : Some x ≡ Some w = at in cc) in subst (CoversKnown u) e (laws.joined_above x v u (old x refl) pv is).0
 
-  raised_covers : (o : Option Known) (v u : Known) → ((w : Known) → o ≡ Some w → IsProperKnown b w) → IsProperKnown b v → raised b o v ≡ Some u → CoversKnown u v
+  raised_covers : (o : Option Known) (v u : Known) → ((w : Known) → o ≡ Some w → IsProperKnown b w) → IsProperKnown b v → raised_at_place b o v ≡ Some u → CoversKnown u v
   raised_covers None v u old pv is = let e : v ≡ u = (let f : Some v ≡ Some u = is in cc) in subst (λ (k : Known). CoversKnown k v) e (laws.covers_same v)
   raised_covers (Some w) v u old pv is = (laws.joined_above w v u (old w refl) pv is).1
 
@@ -102,7 +104,7 @@ module _ (b : Limits) (image : ImageData) (plan : PlanData) (laws : AreLawful b 
     proper = derived_proper t.cells is.derived
 
     -- if a point has no new work, its duties are settled still
-    pub settled_stays : (k : Key) (p : ℕ) (s : State) (d : Duty) → u.queued (point k p) ≡ false → IsProper b s → IsProperDuty b d → Settled t k p s d → Settled u k p s d
+    pub settled_stays : (k : Key) (p : ℕ) (s : State) (d : Duty) → u.queued (point k p) ≡ false → IsProperState b s → IsProperDuty b d → Settled t k p s d → Settled u k p s d
     settled_stays k p s (jump q v) free ps pd h = covers_stays t.cells u.cells y proper j (point k q) (state v) pd h
     settled_stays k p s (enter l v) free ps pd h = covers_stays t.cells u.cells y proper j (point l l.entry) (state v) pd h
     settled_stays k p s (leave x) free ps pd h = covers_stays t.cells u.cells y proper j (exit k) (leaving x) pd h
@@ -117,7 +119,7 @@ module _ (b : Limits) (image : ImageData) (plan : PlanData) (laws : AreLawful b 
       where
         back : (x : Known) → t.cells (exit l) ≡ Some x → IsResumed t k s l q x → IsResumed u k s l q x
         back (state v) at h = tt
-        back (leaving x) at h = covers_stays t.cells u.cells y proper j (point k q) (state (after_of s x l.kind)) (laws.after_proper s x l.kind ps (proper (exit l) (leaving x) at)) h
+        back (leaving x) at h = covers_stays t.cells u.cells y proper j (point k q) (state (state_after_exit s x l.kind)) (laws.after_proper s x l.kind ps (proper (exit l) (leaving x) at)) h
 
     -- if a point has no new work, its state is the old one
     pub idle_before : (x : Place) → u.idle x ≡ true → (t.idle x ≡ true) × (u.cells x ≡ t.cells x)
@@ -152,7 +154,7 @@ module _ (b : Limits) (image : ImageData) (plan : PlanData) (laws : AreLawful b 
     settled_again k p s (resume l q) h = ((λ x at. back x (h.0 x (sym (cells (exit l)) ∙ at))), reads (exit l) (point k p) h.1) where
       back : (x : Known) → IsResumed t k s l q x → IsResumed u k s l q x
       back (state v) h = tt
-      back (leaving x) h = covers_again (point k q) (state (after_of s x l.kind)) h
+      back (leaving x) h = covers_again (point k q) (state (state_after_exit s x l.kind)) h
 
     -- other marks: with more work and more readers, it is a table still
     pub table_marked : IsTable b image plan t → ((x : Place) → u.idle x ≡ true → t.idle x ≡ true) → Derived b image plan u.cells → IsTable b image plan u
@@ -201,13 +203,13 @@ module _ (b : Limits) (image : ImageData) (plan : PlanData) (laws : AreLawful b 
           moved (λ l q r. (shape : Shape) (n : ℕ) (d : Owed) → IsCode image plan q shape n → Contains (duties_of b image plan l q r shape n) d → Settled u l q r d.duty) l q r (parts l q r e here) all
 
   -- a settled duty is covered
-  pub settled_covers : (t : TableView) (k : Key) (p : ℕ) (s : State) (d : Duty) (y : Place) (v : Known) → Settled t k p s d → asked t.cells k s d ≡ Some (y, v) → CoversAt t.cells y v
+  pub settled_covers : (t : TableView) (k : Key) (p : ℕ) (s : State) (d : Duty) (y : Place) (v : Known) → Settled t k p s d → asked_by_duty t.cells k s d ≡ Some (y, v) → CoversAt t.cells y v
   settled_covers t k p s (jump q u) y v h is = let f : (point k q, state u) ≡ (y, v) = cc in subst (λ (w : Place × Known). CoversAt t.cells w.0 w.1) f h
   settled_covers t k p s (enter l u) y v h is = let f : (point l l.entry, state u) ≡ (y, v) = cc in subst (λ (w : Place × Known). CoversAt t.cells w.0 w.1) f h
   settled_covers t k p s (leave x) y v h is = let f : (exit k, leaving x) ≡ (y, v) = cc in subst (λ (w : Place × Known). CoversAt t.cells w.0 w.1) f h
   settled_covers t k p s (resume l q) y v h is =
       let r = resumed_some k s l q (t.cells (exit l)) y v is in
-      let f : (point k q, state (after_of s r.0 l.kind)) ≡ (y, v) = λ i. (r.2 i, r.3 i) in
+      let f : (point k q, state (state_after_exit s r.0 l.kind)) ≡ (y, v) = λ i. (r.2 i, r.3 i) in
       subst (λ (w : Place × Known). CoversAt t.cells w.0 w.1) f (h.0 (leaving r.0) r.1)
 
   -- with no work left

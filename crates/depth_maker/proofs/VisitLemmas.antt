@@ -12,21 +12,21 @@ use Rattle.depth_cert.specs.declared.keys.Key.{Key}
 use Rattle.cfg_recover.specs.Entries.{start_key, start_state}
 use Rattle.cfg_recover.specs.LocalFaults.{IsFaultless}
 use Rattle.cfg_recover.specs.Assignments.{Assignment, Place, point, exit, same_place, Derived, begins, Closed, first_place, AllFaultless}
-use Rattle.depth_cert.specs.Known.{IsStateAt, Known, state, leaving}
+use Rattle.depth_cert.specs.Known.{IsKnownState, Known, state, leaving}
 use Rattle.depth_maker.specs.Covered.{EntriesCovered}
-use Rattle.depth_maker.specs.MakerLaws.{AreLawful}
+use Rattle.depth_maker.specs.MakerLaws.{AreMakerLaws}
 use Rattle.depth_maker.proofs.TableLaws.{derived_proper, table_closed, table_marked, settled_again}
 use Rattle.depth_maker.proofs.PlaceKinds.{IsOfKind, derived_kinds}
 use Rattle.depth_maker.proofs.CoveredLaws.{covered_again}
 use Rattle.depth_maker.proofs.LevelSteps.{rises_then, same_level}
 use Rattle.depth_maker.proofs.PartLemmas.{keeps_all}
-use Rattle.depth_maker.specs.TableLevels.{Rises}
+use Rattle.depth_maker.specs.TableLevels.{LevelRises}
 use Rattle.frame_places.specs.declared.places.Spot.{Spot}
 use Rattle.frame_places.specs.declared.places.Spot.TheVariants.{Point, Exit}
 use Rattle.depth_cert.specs.declared.points.Exit as exits
 use Rattle.frame_places.specs.declared.places.Mark.{Mark}
 use Rattle.frame_places.specs.declared.places.Marked.{Marked}
-use Rattle.frame_places.specs.Numbers.{StandsAt}
+use Rattle.frame_places.specs.Numbers.{PlaceHasNumber}
 use Rattle.std.specs.Option.{option_map}
 use Rattle.frame_places.specs.declared.places.Mark.TheVariants.{Idle, Plain, Queued, Open}
 use Rattle.std.specs.declared.vec.Vec.{Vec}
@@ -34,13 +34,14 @@ use Rattle.std.specs.declared.alloc.Global.{Global}
 use Rattle.depth_maker.specs.EnteredFrames.{IsPlainIn}
 use Rattle.depth_maker.specs.declared.table.Table as made
 use Rattle.frame_places.specs.Spots.{spot_eq}
-use Rattle.depth_maker.specs.Spots.{spot_of, place_of}
+use Rattle.depth_maker.specs.Spots.{spot_of, place_of_spot}
 use Rattle.depth_maker.proofs.SpotLemmas.{back, forth, agrees}
 use Rattle.frame_places.proofs.SpotLemmas.{spot_tells, spot_refl}
-use Rattle.frame_places.specs.Marks.{idle_mark, is_idle, is_queued, settled_mark, Reads, mark_for, value_for, AllListed, AreKnown, MarksAs}
-use Rattle.depth_maker.specs.TableInvariant.{AreExitsRead, IsFine}
+use Rattle.frame_places.specs.Marks.{idle_mark, is_idle, is_queued, settled_mark, IsAmongReaders, mark_for, value_for, AllListed, AreKnown, MarksAs}
+use Rattle.depth_maker.specs.TableInvariant.{TableReadsExits, IsFine}
 use Rattle.depth_maker.specs.TableView.{seen}
-use Rattle.depth_maker.specs.Visits.{IsVisited, IsOpenAt, NoneOpen, AllSettled, PointJoined}
+use Rattle.depth_maker.specs.Visits.{IsVisited, IsVisitOpenAt, NoVisitOpen, VisitJoinsPoint}
+use Rattle.depth_maker.specs.VisitDuties.{AllSettledByVisit}
 use Rattle.depth_maker.specs.Counts.{IsCountedIn}
 use Rattle.frame_places.proofs.MarkLemmas.{sides}
 use Rattle.frame_places.proofs.NearbyLemmas.{had_at, queued_mark}
@@ -49,7 +50,7 @@ use Rattle.frame_places.proofs.WorkLemmas.{takes_left, takes_only}
 use Rattle.depth_maker.proofs.CountedLemmas.{counted_again, counted_start}
 
 -- ---- one place gets a mark
-module _ (b : Limits) (image : ImageData) (plan : PlanData) (laws : AreLawful b image plan) (s t : made.Table) (x : Spot) (w : Mark) (marks_as : MarksAs s.places t.places x w) (readers : t.readers ≡ s.readers)
+module _ (b : Limits) (image : ImageData) (plan : PlanData) (laws : AreMakerLaws b image plan) (s t : made.Table) (x : Spot) (w : Mark) (marks_as : MarksAs s.places t.places x w) (readers : t.readers ≡ s.readers)
     (points : t.points.items ≡ s.points.items) (frames : t.frames.items ≡ s.frames.items) (covered : t.covered ≡ s.covered) where
   the_cells : (q : Spot) → value_for t.places q ≡ value_for s.places q
   the_cells q = marks_as.values q
@@ -58,8 +59,8 @@ module _ (b : Limits) (image : ImageData) (plan : PlanData) (laws : AreLawful b 
   unfolding seen
   the_derived d = subst (λ (a : Assignment). Derived b image plan a) (λ i q. sym (the_cells (spot_of q)) i) d
 
-  the_readers : (z q : Spot) → Reads (get spot_eq s.readers z) q → Reads (get spot_eq t.readers z) q
-  the_readers z q h = subst (λ m. Reads (get spot_eq m z) q) (sym readers) h
+  the_readers : (z q : Spot) → IsAmongReaders (get spot_eq s.readers z) q → IsAmongReaders (get spot_eq t.readers z) q
+  the_readers z q h = subst (λ m. IsAmongReaders (get spot_eq m z) q) (sym readers) h
 
   the_counts : IsCountedIn s.places s.points.items s.frames.items → IsCountedIn t.places t.points.items t.frames.items
   the_counts c = counted_again s.places t.places s.points.items t.points.items s.frames.items t.frames.items (λ q. the_cells (spot_of q)) points frames c
@@ -68,17 +69,17 @@ module _ (b : Limits) (image : ImageData) (plan : PlanData) (laws : AreLawful b 
   unfolding seen
   the_covered h = covered_again b plan (seen s).cells (seen t).cells (λ q. the_cells (spot_of q)) t.covered (subst (EntriesCovered b plan (seen s).cells) (sym covered) h)
 
-  the_exits : AreExitsRead s.readers → AreExitsRead t.readers
-  the_exits h k p q reads = h k p q (subst (λ m. Reads (get spot_eq m (Point k p)) q) readers reads)
+  the_exits : TableReadsExits s.readers → TableReadsExits t.readers
+  the_exits h k p q reads = h k p q (subst (λ m. IsAmongReaders (get spot_eq m (Point k p)) q) readers reads)
 
-  the_known : ((z : Spot) → AreKnown s.places (Reads (get spot_eq s.readers z))) → (z : Spot) → AreKnown t.places (Reads (get spot_eq t.readers z))
-  the_known h z q reads = subst (λ (o : Option Known). IsSome o) (sym (the_cells q)) (h z q (subst (λ m. Reads (get spot_eq m z) q) readers reads))
+  the_known : ((z : Spot) → AreKnown s.places (IsAmongReaders (get spot_eq s.readers z))) → (z : Spot) → AreKnown t.places (IsAmongReaders (get spot_eq t.readers z))
+  the_known h z q reads = subst (λ (o : Option Known). IsSome o) (sym (the_cells q)) (h z q (subst (λ m. IsAmongReaders (get spot_eq m z) q) readers reads))
 
   side : (q : Spot) → ((spot_eq x q ≡ true) × (mark_for t.places q ≡ Some w)) ⊎ ((spot_eq x q ≡ false) × (mark_for t.places q ≡ mark_for s.places q))
   side q = sides (spot_eq x q) (Some w) (mark_for s.places q) (mark_for t.places q) (marks_as.marks q)
 
   -- a place taken off the list
-  pub opened : w ≡ Open → IsFine b image plan s → NoneOpen s → Takes s.work t.work t.near → StandsAt s.places t.near x → IsFine b image plan t × IsOpenAt t x
+  pub opened : w ≡ Open → IsFine b image plan s → NoVisitOpen s → Takes s.work t.work t.near → PlaceHasNumber s.places t.near x → IsFine b image plan t × IsVisitOpenAt t x
   unfolding seen
   opened open_ fine none takes stands =
       let here : (q : Spot) → ((spot_eq x q ≡ true) × (mark_for t.places q ≡ Some Open)) ⊎ ((spot_eq x q ≡ false) × (mark_for t.places q ≡ mark_for s.places q)) =
@@ -98,7 +99,7 @@ module _ (b : Limits) (image : ImageData) (plan : PlanData) (laws : AreLawful b 
                       elim (takes_only s.work t.work t.near f.0 takes f.1) [
                         | inl has ↦ (f.0, has, marks_as.numbers f.0 q f.2)
                         | inr e ↦
-                            (let one : x ≡ q = same_Some x q (sym stands ∙ subst (λ (n : ℕ). StandsAt s.places n q) (sym e) f.2) in
+                            (let one : x ≡ q = same_Some x q (sym stands ∙ subst (λ (n : ℕ). PlaceHasNumber s.places n q) (sym e) f.2) in
                             let no : true ≡ false = sym (subst (λ (k : Spot). spot_eq x k ≡ true) one (spot_refl x)) ∙ r.0 in cc)
                       ])
                 ];
@@ -148,13 +149,13 @@ module _ (b : Limits) (image : ImageData) (plan : PlanData) (laws : AreLawful b 
       }
 
   -- the end of a visit: the point is idle now, and all that it owes is settled
-  pub finished : is_idle (Some w) ≡ true → (Some w ≡ Some Plain → IsPlainIn image plan x) → IsFine b image plan s → IsOpenAt s x → all_work t.work ≡ all_work s.work
-      → ((k : Key) (p : ℕ) (u : State) → place_of x ≡ point k p → (seen s).cells (point k p) ≡ Some (state u) → IsFaultless b image plan k p u × AllSettled b image plan s k p u) → IsFine b image plan t × NoneOpen t
+  pub finished : is_idle (Some w) ≡ true → (Some w ≡ Some Plain → IsPlainIn image plan x) → IsFine b image plan s → IsVisitOpenAt s x → all_work t.work ≡ all_work s.work
+      → ((k : Key) (p : ℕ) (u : State) → place_of_spot x ≡ point k p → (seen s).cells (point k p) ≡ Some (state u) → IsFaultless b image plan k p u × AllSettledByVisit b image plan s k p u) → IsFine b image plan t × NoVisitOpen t
   unfolding seen
   finished idles told fine opening work paid =
-      let idle : (q : Place) → is_idle (mark_for t.places (spot_of q)) ≡ true → (is_idle (mark_for s.places (spot_of q)) ≡ true) ⊎ (place_of x ≡ q) =
+      let idle : (q : Place) → is_idle (mark_for t.places (spot_of q)) ≡ true → (is_idle (mark_for s.places (spot_of q)) ≡ true) ⊎ (place_of_spot x ≡ q) =
       λ q h. elim (side (spot_of q)) [
-        | inl l ↦ inr (ap place_of (spot_tells x (spot_of q) l.0) ∙ back q)
+        | inl l ↦ inr (ap place_of_spot (spot_tells x (spot_of q) l.0) ∙ back q)
         | inr r ↦ inl (sym (ap is_idle r.1) ∙ h)
       ] in (
         record {
@@ -198,19 +199,19 @@ module _ (b : Limits) (image : ImageData) (plan : PlanData) (laws : AreLawful b 
 
 -- ---- what was joined
 -- the point has its state still, and is the visited one
-pub duties_open : (b : Limits) (image : ImageData) (plan : PlanData) (s t : made.Table) (x : Spot) → IsOpenAt s x → PointJoined b image plan s t x → mark_for t.places x ≡ Some Open → IsOpenAt t x
+pub duties_open : (b : Limits) (image : ImageData) (plan : PlanData) (s t : made.Table) (x : Spot) → IsVisitOpenAt s x → VisitJoinsPoint b image plan s t x → mark_for t.places x ≡ Some Open → IsVisitOpenAt t x
 duties_open b image plan s t x opening paid at = record {
   at = at;
   only = λ q here. opening.only q (sym ((paid.keeps).each q (ap is_queued here)).0 ∙ here);
-  stands = subst (λ (n : ℕ). StandsAt t.places n x) (sym (paid.keeps).near) ((paid.keeps).numbers s.near x opening.stands);
+  stands = subst (λ (n : ℕ). PlaceHasNumber t.places n x) (sym (paid.keeps).near) ((paid.keeps).numbers s.near x opening.stands);
 }
 
-pub duties_closed : (b : Limits) (image : ImageData) (plan : PlanData) (s t : made.Table) (x : Spot) → IsOpenAt s x → PointJoined b image plan s t x → (mark_for t.places x ≡ Some Open → ⊥) → NoneOpen t
+pub duties_closed : (b : Limits) (image : ImageData) (plan : PlanData) (s t : made.Table) (x : Spot) → IsVisitOpenAt s x → VisitJoinsPoint b image plan s t x → (mark_for t.places x ≡ Some Open → ⊥) → NoVisitOpen t
 duties_closed b image plan s t x opening paid not q at =
     not (subst (λ (k : Spot). mark_for t.places k ≡ Some Open) (opening.only q (sym ((paid.keeps).each q (ap is_queued at)).0 ∙ at)) at)
 
-pub duties_settled : (b : Limits) (image : ImageData) (plan : PlanData) (s t : made.Table) (x : Spot) → PointJoined b image plan s t x → mark_for t.places x ≡ Some Open
-    → (k : Key) (p : ℕ) (u : State) → place_of x ≡ point k p → (seen t).cells (point k p) ≡ Some (state u) → IsFaultless b image plan k p u × AllSettled b image plan t k p u
+pub duties_settled : (b : Limits) (image : ImageData) (plan : PlanData) (s t : made.Table) (x : Spot) → VisitJoinsPoint b image plan s t x → mark_for t.places x ≡ Some Open
+    → (k : Key) (p : ℕ) (u : State) → place_of_spot x ≡ point k p → (seen t).cells (point k p) ≡ Some (state u) → IsFaultless b image plan k p u × AllSettledByVisit b image plan t k p u
 unfolding seen
 duties_settled b image plan s t x paid opening k p u e at =
     let is : spot_of (point k p) ≡ x = sym (ap spot_of e) ∙ forth x in
@@ -222,7 +223,7 @@ duties_settled b image plan s t x paid opening k p u e at =
 -- ---- the start, and the end
 pub begun_table : (b : Limits) (image : ImageData) (plan : PlanData) (t : made.Table) (x : Spot) (v : Known) → x ≡ spot_of (first_place image plan) → v ≡ state (start_state plan)
     → ((q : Spot) → value_for t.places q ≡ (if spot_eq x q then Some v else None)) → ((q : Spot) → mark_for t.places q ≡ (if spot_eq x q then Some Queued else None)) → AllListed t.places (all_work t.work)
-    → t.points.items ≡ x ∷ [] → t.frames.items ≡ start_key image plan ∷ [] → t.covered ≡ record { interrupts = record { last = None; before = None }; call = None } → ((z : Spot) → get spot_eq t.readers z ≡ None) → IsFine b image plan t × NoneOpen t
+    → t.points.items ≡ x ∷ [] → t.frames.items ≡ start_key image plan ∷ [] → t.covered ≡ record { interrupts = record { last = None; before = None }; call = None } → ((z : Spot) → get spot_eq t.readers z ≡ None) → IsFine b image plan t × NoVisitOpen t
 unfolding seen
 begun_table b image plan t x v place known cells marks listed points frames none unread =
     let side : (q : Spot) → ((spot_eq x q ≡ true) × (mark_for t.places q ≡ Some Queued)) ⊎ ((spot_eq x q ≡ false) × (mark_for t.places q ≡ None)) =
@@ -233,7 +234,7 @@ begun_table b image plan t x v place known cells marks listed points frames none
       | inr r ↦ (let no : true ≡ false = sym h ∙ ap is_idle r.1 in cc)
     ] in
     let test : (q : Place) → spot_eq x (spot_of q) ≡ same_place q (first_place image plan) = λ q. ap (λ (z : Spot). spot_eq z (spot_of q)) place ∙ agrees q (first_place image plan) in
-    let unread_by : (z q : Spot) → Reads (get spot_eq t.readers z) q → ⊥ = λ z q h. subst (λ (o : Option (Vec Spot Global)). Reads o q) (unread z) h in (
+    let unread_by : (z q : Spot) → IsAmongReaders (get spot_eq t.readers z) q → ⊥ = λ z q h. subst (λ (o : Option (Vec Spot Global)). IsAmongReaders o q) (unread z) h in (
       record {
         table = record {
           derived = begins (seen t).cells
@@ -271,7 +272,7 @@ marked_known : (o : Option (Marked Known)) (v : Known) → option_map (λ m. m.v
 marked_known None v e = (let no : None ≡ Some v = e in cc)
 marked_known (Some m) v e = refl
 
-pub closed_table : (b : Limits) (image : ImageData) (plan : PlanData) (laws : AreLawful b image plan) (t : made.Table) → IsFine b image plan t → NoneOpen t → ((q : Spot) → mark_for t.places q ≡ Some Queued → ⊥)
+pub closed_table : (b : Limits) (image : ImageData) (plan : PlanData) (laws : AreMakerLaws b image plan) (t : made.Table) → IsFine b image plan t → NoVisitOpen t → ((q : Spot) → mark_for t.places q ≡ Some Queued → ⊥)
     → Derived b image plan (seen t).cells × Closed b image plan (seen t).cells × AllFaultless b image plan (seen t).cells
 unfolding seen
 closed_table b image plan laws t fine none left =
@@ -297,7 +298,7 @@ exit_known b image plan t k w fine at = of_kind w (derived_kinds b image plan (s
 
 -- the value at the visited point is a state
 pub own_state : (b : Limits) (image : ImageData) (plan : PlanData) (t : made.Table) (k : Key) (p : ℕ) (y : Spot) (old : Marked Known) → IsFine b image plan t → slice_get t.places.entries t.near ≡ Some (y, old)
-    → get spot_eq t.places y ≡ Some old → StandsAt t.places t.near (Point k p) → (u : State) × (old.value ≡ state u) × (value_for t.places (Point k p) ≡ Some (state u))
+    → get spot_eq t.places y ≡ Some old → PlaceHasNumber t.places t.near (Point k p) → (u : State) × (old.value ≡ state u) × (value_for t.places (Point k p) ≡ Some (state u))
 own_state b image plan t k p y old fine entry value stands =
     let at : value_for t.places (Point k p) ≡ Some old.value = ap (option_map (λ (m : Marked Known). m.value)) (had_at t.places t.near (Point k p) y old entry value stands) in
     let e = point_state b image plan t k p old.value fine at in
@@ -305,20 +306,20 @@ own_state b image plan t k p y old fine entry value stands =
 
 -- the state that was read there
 pub state_there : (b : Limits) (image : ImageData) (plan : PlanData) (t : made.Table) (k : Key) (p : ℕ) (y : Spot) (old : Marked Known) (u : State) → IsFine b image plan t → slice_get t.places.entries t.near ≡ Some (y, old)
-    → get spot_eq t.places y ≡ Some old → StandsAt t.places t.near (Point k p) → IsStateAt old.value u → value_for t.places (Point k p) ≡ Some (state u)
+    → get spot_eq t.places y ≡ Some old → PlaceHasNumber t.places t.near (Point k p) → IsKnownState old.value u → value_for t.places (Point k p) ≡ Some (state u)
 state_there b image plan t k p y old u fine entry value stands read =
     let e = own_state b image plan t k p y old fine entry value stands in
-    let is : u ≡ e.0 = subst (λ (w : Known). IsStateAt w u) e.1 read in
+    let is : u ≡ e.0 = subst (λ (w : Known). IsKnownState w u) e.1 read in
     e.2 ∙ ap (λ (w : State). Some (state w)) (sym is)
 
 -- the state of the visited point
-pub visited_at : (b : Limits) (image : ImageData) (plan : PlanData) (laws : AreLawful b image plan) (t : made.Table) (k : Key) (p : ℕ) (u : State) → IsFine b image plan t → StandsAt t.places t.near (Point k p)
+pub visited_at : (b : Limits) (image : ImageData) (plan : PlanData) (laws : AreMakerLaws b image plan) (t : made.Table) (k : Key) (p : ℕ) (u : State) → IsFine b image plan t → PlaceHasNumber t.places t.near (Point k p)
     → value_for t.places (Point k p) ≡ Some (state u) → IsVisited b image plan t k p u
 unfolding seen
 visited_at b image plan laws t k p u fine stands at = record { fine = fine; proper = derived_proper b image plan laws (seen t).cells (fine.table).derived (point k p) (state u) at; at = λ free. at; stands = stands }
 
 -- an exit owes nothing
-pub duties_exit : (b : Limits) (image : ImageData) (plan : PlanData) (s : made.Table) (k : Key) → IsFine b image plan s → PointJoined b image plan s s (Exit k)
+pub duties_exit : (b : Limits) (image : ImageData) (plan : PlanData) (s : made.Table) (k : Key) → IsFine b image plan s → VisitJoinsPoint b image plan s s (Exit k)
 duties_exit b image plan s k fine = record {
   fine = fine;
   keeps = keeps_all b image plan s;
@@ -340,7 +341,7 @@ same_fine b image plan s t is work fine = subst (IsFine b image plan) (sym is) (
 })
 
 -- a place without work was taken off the list
-pub passed_over : (b : Limits) (image : ImageData) (plan : PlanData) (s t : made.Table) (x : Spot) (number : ℕ) → t ≡ (record s { work = t.work }) → Takes s.work t.work number → StandsAt s.places number x
+pub passed_over : (b : Limits) (image : ImageData) (plan : PlanData) (s t : made.Table) (x : Spot) (number : ℕ) → t ≡ (record s { work = t.work }) → Takes s.work t.work number → PlaceHasNumber s.places number x
     → is_queued (mark_for s.places x) ≡ false → IsFine b image plan s → IsFine b image plan t
 unfolding seen
 passed_over b image plan s t x number is takes stands idle fine = subst (IsFine b image plan) (sym is) (record {
@@ -351,7 +352,7 @@ passed_over b image plan s t x number is takes stands idle fine = subst (IsFine 
         elim (takes_only s.work t.work number f.0 takes f.1) [
           | inl has ↦ (f.0, has, f.2)
           | inr e ↦
-              (let one : x ≡ q = same_Some x q (sym stands ∙ subst (λ (n : ℕ). StandsAt s.places n q) (sym e) f.2) in
+              (let one : x ≡ q = same_Some x q (sym stands ∙ subst (λ (n : ℕ). PlaceHasNumber s.places n q) (sym e) f.2) in
               let no : false ≡ true = sym idle ∙ ap (λ (k : Spot). is_queued (mark_for s.places k)) one ∙ ap is_queued at in cc)
         ]);
     known = λ n c. (fine.listed).known n (takes_left s.work t.work number n takes c);
@@ -373,14 +374,14 @@ plain_marked true told e = told refl
 plain_marked false told e = (let no : Some Idle ≡ Some Plain = e in cc)
 
 -- what the point owes was joined, and it is idle now, unless it has new work
-pub ended : (b : Limits) (image : ImageData) (plan : PlanData) (laws : AreLawful b image plan) (s m t : made.Table) (x : Spot) (plain : Bool) → (plain ≡ true → IsPlainIn image plan x) → t.readers ≡ m.readers
-    → t.points.items ≡ m.points.items → t.frames.items ≡ m.frames.items → t.covered ≡ m.covered → all_work t.work ≡ all_work m.work → MarksAs m.places t.places x (settled_mark plain (mark_for m.places x)) → IsOpenAt s x
-    → PointJoined b image plan s m x → IsFine b image plan t × NoneOpen t × Rises s t
+pub ended : (b : Limits) (image : ImageData) (plan : PlanData) (laws : AreMakerLaws b image plan) (s m t : made.Table) (x : Spot) (plain : Bool) → (plain ≡ true → IsPlainIn image plan x) → t.readers ≡ m.readers
+    → t.points.items ≡ m.points.items → t.frames.items ≡ m.frames.items → t.covered ≡ m.covered → all_work t.work ≡ all_work m.work → MarksAs m.places t.places x (settled_mark plain (mark_for m.places x)) → IsVisitOpenAt s x
+    → VisitJoinsPoint b image plan s m x → IsFine b image plan t × NoVisitOpen t × LevelRises s t
 ended b image plan laws s m t x plain told readers points frames covered work marks opening paid = by_mark (is_queued (mark_for m.places x)) refl where
-  higher : Rises s t
+  higher : LevelRises s t
   higher = rises_then s m t (paid.keeps).rises (inr (same_level m t marks.values points frames, work))
 
-  by_mark : (e : Bool) → is_queued (mark_for m.places x) ≡ e → IsFine b image plan t × NoneOpen t × Rises s t
+  by_mark : (e : Bool) → is_queued (mark_for m.places x) ≡ e → IsFine b image plan t × NoVisitOpen t × LevelRises s t
   by_mark true e =
       let at : mark_for m.places x ≡ Some Queued = queued_mark (mark_for m.places x) e in
       let same : (q : Spot) → mark_for t.places q ≡ mark_for m.places q =

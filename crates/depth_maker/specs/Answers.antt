@@ -3,7 +3,7 @@ use Rattle.std.specs.Prelude.{◌≡◌, ℕ, List}
 use Rattle.elf_image.specs.Images.{ImageData}
 use Rattle.tcd_plan.specs.PlanData.{PlanData}
 use Rattle.value_domain.specs.Thresholds.{limits_for}
-use Rattle.cfg_recover.specs.CertRefusals.{IsRefusal, IsRefusalWith, IsFault}
+use Rattle.cfg_recover.specs.CertRefusals.{IsRefusal, IsRefusalWith, IsRefusalFault}
 use Rattle.depth_maker.specs.LeastCertMade.{AreMade}
 use Rattle.depth_maker.specs.declared.inputs_and_limits.Ground.{Ground}
 use Rattle.depth_maker.specs.declared.answering.MakeErr.{MakeErr}
@@ -13,22 +13,22 @@ use Rattle.depth_cert.specs.declared.keys.Key.{Key}
 use Rattle.cfg_recover.specs.Assignments.{point}
 use Rattle.frame_places.specs.declared.refusals.Refusal.{Refusal}
 use Rattle.frame_places.specs.declared.refusals.Refusal.TheVariants as refusal
-use Rattle.depth_maker.specs.Spots.{place_of}
+use Rattle.depth_maker.specs.Spots.{place_of_spot}
 use Rattle.depth_cert.specs.Certs.{CertData, IsCert}
 use Rattle.cfg_recover.specs.RulesHoldOrFail.{Accepts}
 
--- no certificate of this version is accepted
+-- what a refusal by the maker says: no certificate of this version is accepted
 abbrev pub NoneAccepted : ImageData → PlanData → ℕ → Type 0
 NoneAccepted image plan version = (cert : CertData) → IsCert cert → cert.version ≡ version → Accepts image plan cert → ⊥
 
--- a refusal names a fault, or that too many areas are needed, and no certificate of the version is
--- accepted
+-- a refusal by the maker: it names a fault, or that too many areas are needed, and no certificate
+-- of the version is accepted
 abbrev pub IsRefused : ImageData → PlanData → ℕ → MakeErr → Type 0
 IsRefused image plan version (Refused rule key addr) = IsRefusal image plan version rule key addr × NoneAccepted image plan version
 IsRefused image plan version NoMemory = Unit {0}
 
 -- ---- by the types of the code
--- the limits are those of the version
+-- the ground of the maker's answer has the limits of this certificate version
 abbrev pub IsGroundOf : Ground → ℕ → Type 0
 IsGroundOf g version = g.bounds.now ≡ limits_for g.plan.now version
 
@@ -47,7 +47,7 @@ IsRefusedOn g version e = IsRefused g.image.now g.plan.now version e
 
 -- the fault holds
 abbrev pub Answered : Limits → ImageData → PlanData → Refusal → Type 0
-Answered b image plan (refusal.Fault rule x) = (k : Key) × (p : ℕ) × (place_of x ≡ point k p) × IsFault b image plan rule k p
+Answered b image plan (refusal.Fault rule x) = (k : Key) × (p : ℕ) × (place_of_spot x ≡ point k p) × IsRefusalFault b image plan rule k p
 Answered b image plan refusal.NoMemory = Unit {0}
 
 -- the fault holds

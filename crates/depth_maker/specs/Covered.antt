@@ -9,10 +9,14 @@ use Rattle.cfg_recover.specs.Assignments.{Assignment, CoversAt, point}
 use Rattle.depth_maker.specs.InterruptHandlers.{ContextsEntered}
 use Rattle.depth_maker.specs.declared.covered.CoveredEntries.{CoveredEntries}
 use Rattle.depth_maker.specs.declared.last_call.LastCall.{LastCall}
-use Rattle.depth_maker.specs.EnteredFrames.{called_key}
+use Rattle.depth_cert.specs.Keys.{call_kind}
+
+-- the frame of the function at this address, as the last covered call enters it
+abbrev pub called_key : LastCall → ℕ → Key
+called_key h t = record { kind = call_kind; entry = t; prio = h.prio; is = h.is }
 
 -- the entries of the functions are covered
-pub record AreCalled (b : Limits) (a : Assignment) (h : LastCall) : Type 0 where
+pub record AreCallsCovered (b : Limits) (a : Assignment) (h : LastCall) : Type 0 where
   pub proper : IsProperKnown b h.entry
   pub each : (t : ℕ) → Contains h.targets.items t → CoversAt a (point (called_key h t) t) h.entry
 
@@ -23,8 +27,8 @@ pub record IsCallOf (h : LastCall) (k : Key) (ts : List ℕ) (v : Known) : Type 
   pub is : h.is ≡ k.is
   pub entry : h.entry ≡ v
 
--- A call of these functions from a frame of this key, with this state at their entries, asks for no
--- more.
+-- a call of these functions from a frame of this key, with this state at their entries, asks for no
+-- more than the last covered call
 pub record IsWithinCall (h : LastCall) (k : Key) (ts : List ℕ) (v : Known) : Type 0 where
   pub targets : h.targets.items ≡ ts
   pub prio : h.prio ≡ k.prio
@@ -32,9 +36,9 @@ pub record IsWithinCall (h : LastCall) (k : Key) (ts : List ℕ) (v : Known) : T
   pub below : CoversKnown h.entry v
 
 -- the entries of the functions of the last call are covered, if there is one
-abbrev pub IsCallEntered : Limits → Assignment → Option LastCall → Type 0
-IsCallEntered b a call = IfSome call (AreCalled b a)
+abbrev pub IsLastCallCovered : Limits → Assignment → Option LastCall → Type 0
+IsLastCallCovered b a call = IfSome call (AreCallsCovered b a)
 
 -- what was asked for last is covered
 abbrev pub EntriesCovered : Limits → PlanData → Assignment → CoveredEntries → Type 0
-EntriesCovered b plan a covered = ContextsEntered b plan a covered.interrupts × IsCallEntered b a covered.call
+EntriesCovered b plan a covered = ContextsEntered b plan a covered.interrupts × IsLastCallCovered b a covered.call

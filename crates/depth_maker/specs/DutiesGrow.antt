@@ -11,17 +11,17 @@ use Rattle.value_domain.specs.declared.values.Val.{Val}
 use Rattle.value_domain.specs.Values.{IsBelow}
 use Rattle.vd_transfer.specs.EffectsOnStates.{transfer_of, address_of}
 use Rattle.vd_transfer.specs.Branches.{refine_of}
-use Rattle.vd_transfer.specs.Soundness.{IsSetting}
+use Rattle.vd_transfer.specs.Soundness.{IsSoundSetting}
 use Rattle.value_domain.specs.declared.states.State.{State}
 use Rattle.value_domain.specs.Limits.{Limits, AreLimits}
 use Rattle.value_domain.specs.State.{Covers}
 use Rattle.depth_cert.specs.declared.keys.Key.{Key}
 use Rattle.depth_cert.specs.declared.points.Exit.{Exit}
 use Rattle.cfg_recover.specs.Code.{IsCode}
-use Rattle.depth_cert.specs.Exits.{after_of, ExitCovers}
+use Rattle.depth_cert.specs.Exits.{state_after_exit, ExitCovers}
 use Rattle.cfg_recover.specs.LocalFaults.{IsFaultless}
 use Rattle.cfg_recover.specs.Duties.{Duty, jump, enter, resume, leave, Owed, duties_of}
-use Rattle.depth_cert.specs.Proper.{IsProper, IsProperExit}
+use Rattle.depth_cert.specs.Proper.{IsProperState, IsProperExit}
 
 -- a duty asks for no more than another, at the same place
 abbrev pub IsDutyBelow : Duty → Duty → Type 0
@@ -47,7 +47,7 @@ pub record IsOwedBelow (d e : Owed) : Type 0 where
   pub rule : d.rule ≡ e.rule
   pub duty : IsDutyBelow d.duty e.duty
 
--- limits, a plan and an image
+-- what the growth of duties is stated for: well-formed limits, a plan and an image
 pub record IsGround (b : Limits) (image : ImageData) (plan : PlanData) : Type 0 where
   pub limits : AreLimits b
   pub is_plan : IsPlan plan
@@ -56,38 +56,40 @@ pub record IsGround (b : Limits) (image : ImageData) (plan : PlanData) : Type 0 
 -- a point without a fault of its own has none with a smaller state
 abbrev pub FaultsFall : Type 0
 FaultsFall =
-    (b : Limits) (image : ImageData) (plan : PlanData) (key : Key) (p : ℕ) (s t : State) → IsGround b image plan → IsProper b s → IsProper b t → Covers t s
+    (b : Limits) (image : ImageData) (plan : PlanData) (key : Key) (p : ℕ) (s t : State) → IsGround b image plan → IsProperState b s → IsProperState b t → Covers t s
     → IsFaultless b image plan key p t → IsFaultless b image plan key p s
 
 -- each duty with a smaller state asks for no more than one with the larger
 abbrev pub DutiesGrow : Type 0
 DutiesGrow =
     (b : Limits) (image : ImageData) (plan : PlanData) (key : Key) (p : ℕ) (s t : State) (shape : Shape) (n : ℕ) (d : Owed) → IsGround b image plan
-    → IsProper b s → IsProper b t → Covers t s → IsFaultless b image plan key p t → IsCode image plan p shape n
+    → IsProperState b s → IsProperState b t → Covers t s → IsFaultless b image plan key p t → IsCode image plan p shape n
     → Contains (duties_of b image plan key p s shape n) d → (e : Owed) × Contains (duties_of b image plan key p t shape n) e × IsOwedBelow d e
 
 -- the state after a return grows with the caller's and the exit
 abbrev pub AfterGrows : Type 0
 AfterGrows =
-    (b : Limits) (s t : State) (x y : Exit) (kind : ℕ) → IsProper b s → IsProper b t → IsProperExit b x → IsProperExit b y → Covers t s → ExitCovers y x
-    → Covers (after_of t y kind) (after_of s x kind)
+    (b : Limits) (s t : State) (x y : Exit) (kind : ℕ) → IsProperState b s → IsProperState b t → IsProperExit b x → IsProperExit b y → Covers t s → ExitCovers y x
+    → Covers (state_after_exit t y kind) (state_after_exit s x kind)
 
 -- ---- effects
--- the state after an instruction grows with the one before it and with the loaded value
+-- for the growth of duties: the state after an instruction grows with the one before it and with
+-- the loaded value
 abbrev pub TransfersGrow : Type 0
 TransfersGrow =
-    (b : Limits) (plan : PlanData) (s t : State) (shape : Shape) (v w : Val) → IsSetting b plan s → IsSetting b plan t → Covers t s → IsShape shape → IsBelow v w
+    (b : Limits) (plan : PlanData) (s t : State) (shape : Shape) (v w : Val) → IsSoundSetting b plan s → IsSoundSetting b plan t → Covers t s → IsShape shape → IsBelow v w
     → Covers (transfer_of b plan shape t w) (transfer_of b plan shape s v)
 
--- the addresses of an access grow with the state
+-- for the growth of duties: the addresses of an instruction's access grow with the state before it
 abbrev pub AddressesGrow : Type 0
 AddressesGrow =
-    (b : Limits) (plan : PlanData) (s t : State) (shape : Shape) → IsSetting b plan s → IsSetting b plan t → Covers t s → IsShape shape
+    (b : Limits) (plan : PlanData) (s t : State) (shape : Shape) → IsSoundSetting b plan s → IsSoundSetting b plan t → Covers t s → IsShape shape
     → IsBelow (address_of b plan shape s) (address_of b plan shape t)
 
--- a side of a branch that is possible is possible with a larger state, and leads to a larger state
+-- for the growth of duties: a side of a branch that is possible is possible with a larger state,
+-- and leads to a larger state
 abbrev pub SidesGrow : Type 0
 SidesGrow =
-    (b : Limits) (plan : PlanData) (s t u : State) (test : Cond) (x : ℕ) (y : Arg) (by : ℕ) (lowers side : Bool) → IsSetting b plan s → IsSetting b plan t → Covers t s
+    (b : Limits) (plan : PlanData) (s t u : State) (test : Cond) (x : ℕ) (y : Arg) (by : ℕ) (lowers side : Bool) → IsSoundSetting b plan s → IsSoundSetting b plan t → Covers t s
     → IsShape (Branch test x y by lowers) → refine_of b plan (Branch test x y by lowers) s side ≡ Some u
     → (w : State) × (refine_of b plan (Branch test x y by lowers) t side ≡ Some w) × Covers w u

@@ -13,24 +13,23 @@ use Rattle.tc_isa.specs.InBounds.{IsShape}
 use Rattle.frame_places.specs.declared.places.Spot.{Spot}
 use Rattle.frame_places.specs.declared.places.Spot.TheVariants.{Point, Exit}
 use Rattle.cfg_recover.specs.Duties.{Duty, jump, enter, resume, leave, Owed, entries_of, misaligned_of}
-use Rattle.depth_cert.specs.Keys.{call_kind}
-use Rattle.depth_maker.specs.declared.last_call.LastCall.{LastCall}
+use Rattle.depth_maker.specs.declared.inputs_and_limits.Visit.{Visit}
 
--- the frame that a duty enters, if any
+-- the frame that a duty enters, if any, as a list of entered frames
 abbrev pub entered_by : Duty → List Key
 entered_by (jump q t) = []
 entered_by (enter k t) = k ∷ []
 entered_by (resume k q) = []
 entered_by (leave x) = []
 
--- the frames that duties enter, in their order
+-- the entered frames of a list of duties, in their order, as the maker's rows of needs have them
 abbrev pub entered_in : List Owed → List Key
 entered_in ds = flat_map (λ d. entered_by d.duty) ds
 
 -- an instruction of this shape enters no frame by itself if none of its accesses breaks rule 10;
 -- interrupts may be taken
-abbrev pub EntersNone : PlanData → Shape → Type 0
-EntersNone plan shape =
+abbrev pub EntersNoFrame : PlanData → Shape → Type 0
+EntersNoFrame plan shape =
     (b : Limits) (k : Key) (p : ℕ) (u : State) (n : ℕ) → LocalRule b plan k p u shape 10 → (entered_in (entries_of plan k p u shape n) ≡ []) × (entered_in (misaligned_of b plan k u shape) ≡ [])
 
 -- the instruction there enters no frame by itself
@@ -39,13 +38,13 @@ pub record IsPlainAt (image : ImageData) (plan : PlanData) (p : ℕ) : Type 0 wh
   pub size : ℕ
   pub code : IsCode image plan p shape size
   pub shaped : IsShape shape
-  pub enters : EntersNone plan shape
+  pub enters : EntersNoFrame plan shape
 
 -- the same for a place; an exit has no instruction
 abbrev pub IsPlainIn : ImageData → PlanData → Spot → Type 0
 IsPlainIn image plan (Point k p) = IsPlainAt image plan p
 IsPlainIn image plan (Exit k) = Unit {0}
 
--- the frame of a function at this address
-abbrev pub called_key : LastCall → ℕ → Key
-called_key h t = record { kind = call_kind; entry = t; prio = h.prio; is = h.is }
+-- the instruction at the visited point enters no frame by itself
+abbrev pub IsPlainBy : Visit → Type 0
+IsPlainBy v = IsPlainAt (v.ground.now).image.now (v.ground.now).plan.now v.addr

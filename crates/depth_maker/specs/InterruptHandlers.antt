@@ -1,42 +1,44 @@
 -- The handlers of interrupts: the contexts in which their entries are covered, and the numbers of
 -- their frames.
-use Rattle.std.specs.Prelude.{◌≡◌, ◌<◌, ◌≤◌, ℕ, Bool, true, false, IsTrue, if◌then◌else◌, Option, IfSome, Contains, List, map, filter, nat_lt, []}
+use Rattle.std.specs.Prelude.{◌≡◌, ◌<◌, ◌≤◌, ℕ, Bool, true, false, IsTrue, if◌then◌else◌, Option, IfSome, Contains, List, map, filter, nat_lt, Some, []}
 use Rattle.tcd_plan.specs.PlanData.{PlanData}
 use Rattle.value_domain.specs.declared.values.Val.{Val}
 use Rattle.value_domain.specs.declared.states.State.{State}
 use Rattle.value_domain.specs.Limits.{Limits}
-use Rattle.value_domain.specs.State.{join_of, a10_of}
-use Rattle.value_domain.specs.Values.{IsBelow, IsValue, word_val}
+use Rattle.value_domain.specs.State.{a10_of}
+use Rattle.value_domain.specs.Values.{join_of, IsBelow, IsValue, word_val}
 use Rattle.depth_cert.specs.Known.{state}
-use Rattle.depth_cert.specs.Proper.{IsProper}
+use Rattle.depth_cert.specs.Proper.{IsProperState}
 use Rattle.cfg_recover.specs.Assignments.{Assignment, CoversAt, point}
-use Rattle.cfg_recover.specs.Entries.{entry_with, irq_key}
+use Rattle.cfg_recover.specs.Entries.{entry_state_with, irq_key}
 use Rattle.depth_maker.specs.declared.interrupt_contexts.InterruptContext.{InterruptContext}
 use Rattle.depth_maker.specs.declared.interrupt_contexts.LastInterrupts.{LastInterrupts}
 use Rattle.indexmap.specs.IndexMap.{IndexMap}
 use Rattle.depth_cert.specs.declared.keys.Key.{Key}
-use Rattle.frame_places.specs.Numbers.{AreNumbers, number_in}
+use Rattle.frame_places.specs.Numbers.{AreFrameNumbers, frame_number_in}
 use Rattle.depth_maker.specs.declared.handlers.Handler.{Handler}
+use Rattle.depth_maker.specs.declared.table.Table as made
 
--- the stack pointer at the handlers' entries
+-- the stack pointer at the entries of the interrupt handlers in a context that the maker notes
 abbrev pub context_stack : PlanData → InterruptContext → Val
 context_stack plan h = if h.is then h.sp else word_val plan.isp
 
 -- the entry of the handler of interrupt p is covered
-pub record IsEntered (b : Limits) (plan : PlanData) (a : Assignment) (h : InterruptContext) (p : ℕ) : Type 0 where
-  pub proper : IsProper b (entry_with (context_stack plan h) false p true)
-  pub covers : CoversAt a (point (irq_key plan p) (irq_key plan p).entry) (state (entry_with (context_stack plan h) false p true))
+pub record IsHandlerEntered (b : Limits) (plan : PlanData) (a : Assignment) (h : InterruptContext) (p : ℕ) : Type 0 where
+  pub proper : IsProperState b (entry_state_with (context_stack plan h) false p true)
+  pub covers : CoversAt a (point (irq_key plan p) (irq_key plan p).entry) (state (entry_state_with (context_stack plan h) false p true))
 
 -- the entries of the handlers of all stated interrupts above the context's priority are covered
-pub record AreEntered (b : Limits) (plan : PlanData) (a : Assignment) (h : InterruptContext) : Type 0 where
+pub record AreHandlersEntered (b : Limits) (plan : PlanData) (a : Assignment) (h : InterruptContext) : Type 0 where
   pub stack : IsValue b h.sp
-  pub each : (p : ℕ) → Contains plan.irqs p → h.ccpn < p → IsEntered b plan a h p
+  pub each : (p : ℕ) → Contains plan.irqs p → h.ccpn < p → IsHandlerEntered b plan a h p
 
 -- the entries are covered in a context, if there is one
 abbrev pub IsContextEntered : Limits → PlanData → Assignment → Option InterruptContext → Type 0
-IsContextEntered b plan a interrupts = IfSome interrupts (AreEntered b plan a)
+IsContextEntered b plan a interrupts = IfSome interrupts (AreHandlersEntered b plan a)
 
--- the entries are covered in the last two contexts
+-- the entries of the interrupt handlers are covered in the last two contexts that the maker's table
+-- notes
 abbrev pub ContextsEntered : Limits → PlanData → Assignment → LastInterrupts → Type 0
 ContextsEntered b plan a interrupts = IsContextEntered b plan a interrupts.last × IsContextEntered b plan a interrupts.before
 
@@ -51,12 +53,12 @@ pub record IsAlike (h : InterruptContext) (inner : Bool) (s : State) : Type 0 wh
   pub same : h.is ≡ inner
   pub ccpn : h.ccpn ≡ s.ccpn
 
--- the context with its A10 joined with another
+-- the maker's noted context of interrupts, with its A10 joined with another
 abbrev pub joined_context : Limits → InterruptContext → Val → InterruptContext
 joined_context b h v = record h { sp = join_of b h.sp v }
 
--- A frame with this state takes no interrupt that the context doesn't: its CCPN isn't lower. On the
--- interrupt stack its A10 is covered.
+-- a frame with this state takes no interrupt that the maker's noted context doesn't: its CCPN isn't
+-- lower; on the interrupt stack its A10 is covered
 pub record IsWithinContext (h : InterruptContext) (inner : Bool) (s : State) : Type 0 where
   pub same : h.is ≡ inner
   pub above : h.ccpn ≤ s.ccpn
@@ -65,7 +67,7 @@ pub record IsWithinContext (h : InterruptContext) (inner : Bool) (s : State) : T
 -- the handlers of these interrupts, each with the number of its frame if it is one of these frames
 pub record AreHandlers (plan : PlanData) (frames : List Key) (irqs : List ℕ) (handlers : List Handler) : Type 0 where
   pub priorities : map (λ h. h.prio) handlers ≡ irqs
-  pub each : (h : Handler) → Contains handlers h → Contains frames (irq_key plan h.prio) → h.node ≡ number_in frames (irq_key plan h.prio)
+  pub each : (h : Handler) → Contains handlers h → Contains frames (irq_key plan h.prio) → h.node ≡ frame_number_in frames (irq_key plan h.prio)
 
 -- the frames of the handlers above a priority
 abbrev pub nodes_above : ℕ → List Handler → List ℕ
@@ -76,6 +78,13 @@ abbrev pub nodes_taken : Bool → ℕ → List Handler → List ℕ
 nodes_taken ie m handlers = if ie then nodes_above m handlers else []
 
 -- frames by their numbers, and the handlers of all stated interrupts with theirs
-pub record AreNumbered {S : Type 0} (plan : PlanData) (numbers : IndexMap Key ℕ S) (handlers : List Handler) (frames : List Key) : Type 0 where
-  pub all : AreNumbers numbers frames frames
+pub record AreNumberedHandlers {S : Type 0} (plan : PlanData) (numbers : IndexMap Key ℕ S) (handlers : List Handler) (frames : List Key) : Type 0 where
+  pub all : AreFrameNumbers numbers frames frames
   pub taken : AreHandlers plan frames plan.irqs handlers
+
+-- the last context of interrupts in the table covers the entries of the interrupt handlers for each
+-- frame with this CCPN, on this stack
+pub record HasNotedInterrupts (t : made.Table) (is : Bool) (ccpn : ℕ) : Type 0 where
+  pub context : InterruptContext
+  pub last : (t.covered).interrupts.last ≡ Some context
+  pub within : (s : State) → s.ccpn ≡ ccpn → IsWithinContext context is s

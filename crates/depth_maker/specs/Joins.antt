@@ -1,5 +1,5 @@
 -- What a join does to the maker's table.
-use Rattle.std.specs.Prelude.{◌≡◌, ℕ, Bool, true, false, Option, None, Some, is_some, map, Result, Ok, Err}
+use Rattle.std.specs.Prelude.{◌≡◌, ℕ, Bool, true, false, Option, None, Some, is_some, map, Result, Ok, Err, ◌⊎◌}
 use Rattle.indexmap.specs.IndexMap.{get}
 use Rattle.elf_image.specs.Images.{ImageData}
 use Rattle.tcd_plan.specs.PlanData.{PlanData}
@@ -7,71 +7,71 @@ use Rattle.value_domain.specs.declared.states.State.{State}
 use Rattle.value_domain.specs.Limits.{Limits}
 use Rattle.depth_cert.specs.declared.keys.Key.{Key}
 use Rattle.cfg_recover.specs.Duties.{Duty}
-use Rattle.cfg_recover.specs.Assignments.{point, CoversAt, Asks, raised}
+use Rattle.cfg_recover.specs.Assignments.{point, CoversAt, Asks, raised_at_place, Place, same_place}
 use Rattle.depth_cert.specs.Known.{Known, CoversKnown}
-use Rattle.depth_cert.specs.Proper.{IsProper}
+use Rattle.depth_cert.specs.Proper.{IsProperState}
 use Rattle.depth_maker.specs.ProperAssignments.{IsProperDuty}
-use Rattle.depth_maker.specs.TableView.{Settled, seen}
+use Rattle.depth_maker.specs.TableView.{seen, TableView}
+use Rattle.depth_maker.specs.TableInvariant.{Settled, FineOn, IsFine}
 use Rattle.frame_places.specs.declared.places.Spot.{Spot}
 use Rattle.frame_places.specs.declared.refusals.Refusal.{Refusal}
 use Rattle.frame_places.specs.Spots.{spot_eq}
-use Rattle.depth_maker.specs.Spots.{spot_of, place_of}
+use Rattle.depth_maker.specs.Spots.{spot_of, place_of_spot}
 use Rattle.frame_places.specs.Counting.{frames_after, points_after}
-use Rattle.frame_places.specs.Marks.{is_queued, mark_for, value_for, AllListed, Puts, Reads}
-use Rattle.frame_places.specs.Numbers.{KeepsNumbers, StandsAt}
+use Rattle.frame_places.specs.Marks.{is_queued, mark_for, value_for, AllListed, PutsPlaceValue, IsAmongReaders}
+use Rattle.frame_places.specs.Numbers.{KeepsNumbers, PlaceHasNumber}
 use Rattle.frame_places.specs.Work.{all_work}
 use Rattle.depth_maker.specs.Counts.{AreFew}
-use Rattle.depth_maker.specs.TableLevels.{Rises}
+use Rattle.depth_maker.specs.TableLevels.{LevelRises}
 use Rattle.depth_maker.specs.declared.inputs_and_limits.Ground.{Ground}
 use Rattle.depth_maker.specs.declared.table.Table as made
-use Rattle.depth_maker.specs.TableInvariant.{FineOn, IsFine}
 use Rattle.depth_maker.specs.Answers.{AnsweredOn}
 
 -- v, which wasn't covered, was joined at y alone: y is queued now, and counted
 pub record JoinedAlone (b : Limits) (s t : made.Table) (y : Spot) (v : Known) : Type 0 where
   pub known : Known
-  pub raises : raised b (value_for s.places y) v ≡ Some known
+  pub raises : raised_at_place b (value_for s.places y) v ≡ Some known
   pub new : (w : Known) → value_for s.places y ≡ Some w → CoversKnown w v → ⊥
-  pub puts : Puts s.places t.places y known
+  pub puts : PutsPlaceValue s.places t.places y known
   pub listed : AllListed t.places (all_work t.work)
   pub near : t.near ≡ s.near
   pub readers : t.readers ≡ s.readers
   pub covered : t.covered ≡ s.covered
   pub points : t.points.items ≡ points_after (is_some (value_for s.places y)) s.points.items y
   pub frames : t.frames.items ≡ frames_after (is_some (value_for s.places y)) s.frames.items y
-  pub few : AreFew (map place_of t.points.items) t.frames.items
+  pub few : AreFew (map place_of_spot t.points.items) t.frames.items
 
 -- a join keeps places without new work as they are
-pub record Keeps (b : Limits) (image : ImageData) (plan : PlanData) (s t : made.Table) : Type 0 where
+pub record JoinKeeps (b : Limits) (image : ImageData) (plan : PlanData) (s t : made.Table) : Type 0 where
   pub each :
       (x : Spot) → is_queued (mark_for t.places x) ≡ false
       → (mark_for t.places x ≡ mark_for s.places x) × (value_for t.places x ≡ value_for s.places x)
-  pub readers : (z x : Spot) → Reads (get spot_eq s.readers z) x → Reads (get spot_eq t.readers z) x
+  pub readers : (z x : Spot) → IsAmongReaders (get spot_eq s.readers z) x → IsAmongReaders (get spot_eq t.readers z) x
   pub read :
-      (z x : Spot) → Reads (get spot_eq s.readers z) x → is_queued (mark_for t.places x) ≡ false → value_for t.places z ≡ value_for s.places z
+      (z x : Spot) → IsAmongReaders (get spot_eq s.readers z) x → is_queued (mark_for t.places x) ≡ false → value_for t.places z ≡ value_for s.places z
   pub settled :
-      (k : Key) (p : ℕ) (u : State) (d : Duty) → is_queued (mark_for t.places (spot_of (point k p))) ≡ false → IsProper b u → IsProperDuty b d
+      (k : Key) (p : ℕ) (u : State) (d : Duty) → is_queued (mark_for t.places (spot_of (point k p))) ≡ false → IsProperState b u → IsProperDuty b d
       → Settled (seen s) k p u d → Settled (seen t) k p u d
-  pub rises : Rises s t
+  pub rises : LevelRises s t
   pub near : t.near ≡ s.near
   pub numbers : KeepsNumbers s.places t.places
 
 -- v was joined at y
 pub record Joined (b : Limits) (image : ImageData) (plan : PlanData) (s t : made.Table) (y : Spot) (v : Known) : Type 0 where
   pub fine : IsFine b image plan t
-  pub covers : CoversAt (seen t).cells (place_of y) v
-  pub keeps : Keeps b image plan s t
+  pub covers : CoversAt (seen t).cells (place_of_spot y) v
+  pub keeps : JoinKeeps b image plan s t
 
 -- nothing was joined: at most there is more room for places
 pub record IsLeft (g : Ground) (s t : made.Table) : Type 0 where
   pub fine : FineOn g t
-  pub keeps : Keeps g.bounds.now g.image.now g.plan.now s t
+  pub keeps : JoinKeeps g.bounds.now g.image.now g.plan.now s t
   pub entries : t.places.entries ≡ s.places.entries
   pub rest : t ≡ record s { places = t.places }
 
--- v flows into y from some point
+-- what a join is asked for: v flows into y from some point of the maker's table
 abbrev pub AsksOn : Ground → made.Table → Spot → Known → Type 0
-AsksOn g t y v = Asks g.bounds.now g.image.now g.plan.now (seen t).cells (place_of y) v
+AsksOn g t y v = Asks g.bounds.now g.image.now g.plan.now (seen t).cells (place_of_spot y) v
 
 -- v was joined at y alone
 abbrev pub JoinedAloneOn : Ground → made.Table → made.Table → Spot → Known → Type 0
@@ -81,7 +81,7 @@ JoinedAloneOn g s t y v = JoinedAlone g.bounds.now s t y v
 -- holds
 abbrev pub AddsOn : Ground → made.Table → made.Table → Spot → Known → Result (Option ℕ) Refusal → Type 0
 AddsOn g s t y v (Ok None) = JoinedAloneOn g s t y v
-AddsOn g s t y v (Ok (Some number)) = StandsAt t.places number y × IsLeft g s t
+AddsOn g s t y v (Ok (Some number)) = PlaceHasNumber t.places number y × IsLeft g s t
 AddsOn g s t y v (Err e) = AnsweredOn g e
 
 -- v was joined at y: alone if the result is true; otherwise it was covered already, or more places
@@ -94,3 +94,10 @@ JoinsOn g s t y v (Err e) = AnsweredOn g e
 -- v was joined at y
 abbrev pub JoinedOn : Ground → made.Table → made.Table → Spot → Known → Type 0
 JoinedOn g s t y v = Joined g.bounds.now g.image.now g.plan.now s t y v
+
+-- a join at y marks y and all its readers as queued, and keeps the other marks of the table
+pub record Marks (a b : TableView) (y : Place) : Type 0 where
+  pub each :
+      (q : Place) → ((b.queued q ≡ true) × (b.idle q ≡ false))
+      ⊎ ((b.idle q ≡ a.idle q) × (b.queued q ≡ a.queued q) × (same_place q y ≡ false) × (a.reads y q → ⊥))
+  pub reads : (z x : Place) → a.reads z x → b.reads z x

@@ -17,10 +17,11 @@ use Rattle.cfg_recover.specs.Entries.{start_key}
 use Rattle.cfg_recover.specs.RulesHoldOrFail.{Accepts}
 use Rattle.depth_cert.specs.Keys.{same_key}
 use Rattle.cfg_recover.specs.Assignments.{Derived, Closed, IsBelowAt, known_in, point, exit, AllFaultless}
-use Rattle.cfg_recover.specs.CertRefusals.{AreLeastNeeds, IsLeast}
-use Rattle.depth_cert.specs.Spelling.{bytes_of}
+use Rattle.cfg_recover.specs.CertRefusals.{AreLeastNeeds, IsLeastAssignment}
+use Rattle.depth_cert.specs.Spelling.{bytes_of_cert}
 
--- the needs that a certificate states; a frame without a node needs nothing
+-- the needs of frames that a certificate states, which are compared with the least ones; a frame
+-- without a node needs nothing
 abbrev pub needs_in : CertData → Key → ℕ
 needs_in cert k = need_of (find (λ n. same_key n.key k) cert.nodes)
 
@@ -29,11 +30,12 @@ pub record IsNoWorse (image : ImageData) (plan : PlanData) (cert other : CertDat
   pub below : IsBelowAt (known_in cert) (known_in other)
   pub needs : (k : Key) → needs_in cert k ≤ needs_in other k
 
--- the certificate that is made: accepted, and the least of its version
+-- the least certificate, which is to be made: it is accepted, and its assignment and its needs are
+-- the least of its version
 pub record IsMade (image : ImageData) (plan : PlanData) (version : ℕ) (cert : CertData) : Type 0 where
   pub of_version : cert.version ≡ version
   pub accepted : Accepts image plan cert
-  pub least : IsLeast (limits_for plan version) image plan (known_in cert)
+  pub least : IsLeastAssignment (limits_for plan version) image plan (known_in cert)
   pub needs : AreLeastNeeds (limits_for plan version) image plan (known_in cert) (needs_in cert)
   pub best : (other : CertData) → IsCert other → other.version ≡ version → Accepts image plan other → IsNoWorse image plan cert other
 
@@ -67,6 +69,6 @@ pub record IsWritten (image : ImageData) (plan : PlanData) (version : ℕ) (cert
 -- the bytes spell the certificate that is to be made
 pub record AreMade (image : ImageData) (plan : PlanData) (version : ℕ) (bytes : List ℕ) : Type 0 where
   pub cert : CertData
-  pub spell : bytes ≡ bytes_of cert
+  pub spell : bytes ≡ bytes_of_cert cert
   pub is_cert : IsCert cert
   pub made : IsMade image plan version cert

@@ -10,7 +10,7 @@ use Rattle.depth_cert.specs.Certs.{CertData, IsCert, find_node}
 use Rattle.cfg_recover.specs.Entries.{start_key, start_state}
 use Rattle.cfg_recover.specs.RulesHoldOrFail.{Accepts, limits_in}
 use Rattle.cfg_recover.specs.Assignments.{Assignment, Closed, Derived, IsBelowAt, known_in, AllFaultless}
-use Rattle.cfg_recover.specs.CertRefusals.{IsFault, IsRefusalWith, IsTooLarge, MeetsNeeds, IsRefusal}
+use Rattle.cfg_recover.specs.CertRefusals.{IsRefusalFault, IsRefusalWith, IsPastCertLimits, MeetsNeeds, IsRefusal}
 use Rattle.depth_maker.specs.DutiesGrow.{IsGround, IsOwedBelow}
 use Rattle.depth_maker.specs.ProperAssignments.{AllProper, IsProperDuty}
 use Rattle.tc_isa.specs.declared.shapes.Shape.{Shape}
@@ -18,34 +18,35 @@ use Rattle.value_domain.specs.declared.states.State.{State}
 use Rattle.value_domain.specs.State.{Covers}
 use Rattle.depth_cert.specs.declared.points.Exit.{Exit}
 use Rattle.cfg_recover.specs.Code.{IsCode}
-use Rattle.depth_cert.specs.Exits.{after_of, ExitCovers}
+use Rattle.depth_cert.specs.Exits.{state_after_exit, ExitCovers}
 use Rattle.cfg_recover.specs.LocalFaults.{IsFaultless}
 use Rattle.cfg_recover.specs.Duties.{Owed, duties_of}
 use Rattle.depth_cert.specs.Known.{Known, CoversKnown, joined_known}
-use Rattle.depth_cert.specs.Proper.{IsProper, IsProperExit, IsProperKnown}
+use Rattle.depth_cert.specs.Proper.{IsProperState, IsProperExit, IsProperKnown}
 use Rattle.depth_maker.specs.declared.answering.MakeErr.TheVariants.{Refused}
 use Rattle.depth_maker.specs.Answers.{IsRefused, NoneAccepted}
 use Rattle.value_domain.specs.Thresholds.{limits_for}
 use Rattle.depth_maker.specs.LeastCertMade.{IsMade, IsWritten, IsLeastAccepted}
 
--- every derived assignment is below every closed one without faults of its own
+-- law of the maker: every derived assignment is below every closed one without faults of its own
 abbrev pub DerivedIsBelow : Type 0
 DerivedIsBelow =
     (b : Limits) (image : ImageData) (plan : PlanData) (c a : Assignment) → IsGround b image plan → Closed b image plan c → AllFaultless b image plan c → AllProper b c
     → Derived b image plan a → IsBelowAt a c
 
--- if there is a closed one within the limits without faults of its own, no derived one has a fault
+-- law of the maker: if there is a closed assignment within the limits without faults of its own, no
+-- derived one has a fault
 abbrev pub FaultsRefute : Type 0
 FaultsRefute =
     (b : Limits) (image : ImageData) (plan : PlanData) (c : Assignment) (r : ℕ) (k : Key) (p : ℕ) → IsGround b image plan → Closed b image plan c → AllFaultless b image plan c → AllProper b c
-    → (IsTooLarge c → ⊥) → IsFault b image plan r k p → ⊥
+    → (IsPastCertLimits c → ⊥) → IsRefusalFault b image plan r k p → ⊥
 
 -- a closed assignment at the limits, without faults of its own, whose needs are met
-pub record IsSolution (b : Limits) (image : ImageData) (plan : PlanData) (a : Assignment) (need : Key → ℕ) : Type 0 where
+pub record IsMakerSolution (b : Limits) (image : ImageData) (plan : PlanData) (a : Assignment) (need : Key → ℕ) : Type 0 where
   pub closed : Closed b image plan a
   pub faultless : AllFaultless b image plan a
   pub proper : AllProper b a
-  pub within : IsTooLarge a → ⊥
+  pub within : IsPastCertLimits a → ⊥
   pub needs : MeetsNeeds b image plan a need
   pub start : need (start_key image plan) ≤ plan.areas - plan.reserve
 
@@ -53,23 +54,24 @@ pub record IsSolution (b : Limits) (image : ImageData) (plan : PlanData) (a : As
 abbrev pub AcceptedIsClosed : Type 0
 AcceptedIsClosed =
     (image : ImageData) (plan : PlanData) (cert : CertData) → IsGround (limits_in plan cert) image plan → image.entry < 2 ^ 32 → IsCert cert → Accepts image plan cert
-    → IsSolution (limits_in plan cert) image plan (known_in cert) (λ k. need_of (find_node k cert.nodes))
+    → IsMakerSolution (limits_in plan cert) image plan (known_in cert) (λ k. need_of (find_node k cert.nodes))
 
--- if a certificate is accepted, no refusal holds
+-- law of the maker: if a certificate is accepted, no refusal of the maker holds
 abbrev pub RefusalsRefute : Type 0
 RefusalsRefute =
     (image : ImageData) (plan : PlanData) (cert : CertData) (r : ℕ) (k : Key) (p : ℕ) → IsGround (limits_in plan cert) image plan → image.entry < 2 ^ 32 → IsCert cert → Accepts image plan cert
     → IsRefusalWith (limits_in plan cert) image plan r k p → ⊥
 
--- a certificate of a solution, whose nodes have their entry points, is accepted
+-- law of the maker: a certificate of a maker's solution, whose nodes have their entry points, is
+-- accepted
 abbrev pub SolutionIsAccepted : Type 0
 SolutionIsAccepted =
     (image : ImageData) (plan : PlanData) (cert : CertData) → IsGround (limits_in plan cert) image plan → image.entry < 2 ^ 32 → IsCert cert
-    → IsSolution (limits_in plan cert) image plan (known_in cert) (λ k. need_of (find_node k cert.nodes))
+    → IsMakerSolution (limits_in plan cert) image plan (known_in cert) (λ k. need_of (find_node k cert.nodes))
     → ((n : NodeData) → Contains cert.nodes n → IsSome (find_point (n.key).entry n.points)) → Accepts image plan cert
 
 -- covering is transitive, joins are least, and what points owe grows with their states
-pub record AreLawful (b : Limits) (image : ImageData) (plan : PlanData) : Type 0 where
+pub record AreMakerLaws (b : Limits) (image : ImageData) (plan : PlanData) : Type 0 where
   pub covers_same : (v : Known) → CoversKnown v v
   pub covers_through : (v w u : Known) → IsProperKnown b v → IsProperKnown b w → CoversKnown u w → CoversKnown w v → CoversKnown u v
   pub joined_above : (v w u : Known) → IsProperKnown b v → IsProperKnown b w → joined_known b v w ≡ Some u → CoversKnown u v × CoversKnown u w
@@ -77,27 +79,27 @@ pub record AreLawful (b : Limits) (image : ImageData) (plan : PlanData) : Type 0
   pub joined_least :
       (v w d : Known) → IsProperKnown b v → IsProperKnown b w → IsProperKnown b d → CoversKnown d v → CoversKnown d w
       → (u : Known) × (joined_known b v w ≡ Some u) × CoversKnown d u
-  pub start_proper : IsProper b (start_state plan)
-  pub faults_fall : (key : Key) (p : ℕ) (s t : State) → IsProper b s → IsProper b t → Covers t s → IsFaultless b image plan key p t → IsFaultless b image plan key p s
+  pub start_proper : IsProperState b (start_state plan)
+  pub faults_fall : (key : Key) (p : ℕ) (s t : State) → IsProperState b s → IsProperState b t → Covers t s → IsFaultless b image plan key p t → IsFaultless b image plan key p s
   pub duties_grow :
-      (key : Key) (p : ℕ) (s t : State) (shape : Shape) (n : ℕ) (d : Owed) → IsProper b s → IsProper b t → Covers t s → IsFaultless b image plan key p t
+      (key : Key) (p : ℕ) (s t : State) (shape : Shape) (n : ℕ) (d : Owed) → IsProperState b s → IsProperState b t → Covers t s → IsFaultless b image plan key p t
       → IsCode image plan p shape n → Contains (duties_of b image plan key p s shape n) d
       → (e : Owed) × Contains (duties_of b image plan key p t shape n) e × IsOwedBelow d e
   pub duties_proper :
-      (key : Key) (p : ℕ) (s : State) (shape : Shape) (n : ℕ) (d : Owed) → IsProper b s → IsFaultless b image plan key p s
+      (key : Key) (p : ℕ) (s : State) (shape : Shape) (n : ℕ) (d : Owed) → IsProperState b s → IsFaultless b image plan key p s
       → IsCode image plan p shape n → Contains (duties_of b image plan key p s shape n) d → IsProperDuty b d.duty
   pub after_grows :
-      (s t : State) (x y : Exit) (kind : ℕ) → IsProper b s → IsProper b t → IsProperExit b x → IsProperExit b y → Covers t s → ExitCovers y x
-      → Covers (after_of t y kind) (after_of s x kind)
-  pub after_proper : (s : State) (x : Exit) (kind : ℕ) → IsProper b s → IsProperExit b x → IsProper b (after_of s x kind)
+      (s t : State) (x y : Exit) (kind : ℕ) → IsProperState b s → IsProperState b t → IsProperExit b x → IsProperExit b y → Covers t s → ExitCovers y x
+      → Covers (state_after_exit t y kind) (state_after_exit s x kind)
+  pub after_proper : (s : State) (x : Exit) (kind : ℕ) → IsProperState b s → IsProperExit b x → IsProperState b (state_after_exit s x kind)
 
--- if a place is refused, each certificate of the version is refused
+-- law of the maker: if it refuses at a place, each certificate of the version is refused
 abbrev pub RefusalsHold : Type 0
 RefusalsHold =
     (image : ImageData) (plan : PlanData) (version rule : ℕ) (key : Key) (addr : ℕ) (cert : CertData) → IsRefused image plan version (Refused rule key addr)
     → IsCert cert → cert.version ≡ version → Accepts image plan cert → ⊥
 
--- such a certificate is the one that is to be made
+-- law of the maker: the certificate that it writes is the one that is to be made
 abbrev pub WrittenIsMade : Type 0
 WrittenIsMade =
     (image : ImageData) (plan : PlanData) (version : ℕ) (cert : CertData) → IsGround (limits_for plan version) image plan → image.entry < 2 ^ 32
@@ -109,6 +111,6 @@ RefusedIsNone =
     (image : ImageData) (plan : PlanData) (version r : ℕ) (k : Key) (p : ℕ) → IsGround (limits_for plan version) image plan → image.entry < 2 ^ 32
     → IsRefusal image plan version r k p → NoneAccepted image plan version
 
--- each certificate that is made is one
+-- law of the maker: each certificate that is made is a least accepted one
 abbrev pub MadeIsLeast : Type 0
 MadeIsLeast = (image : ImageData) (plan : PlanData) (version : ℕ) (cert : CertData) → IsMade image plan version cert → IsLeastAccepted image plan version cert

@@ -8,11 +8,11 @@ use Rattle.cfg_recover.specs.CertRefusals.{AreLeastNeeds, MeetsNeeds}
 use Rattle.depth_maker.specs.Recursing.{IsRecursion}
 use Rattle.depth_maker.specs.TableView.{seen}
 use Rattle.depth_maker.specs.declared.rows.Source.{Source}
-use Rattle.frame_places.specs.Numbers.{number_in}
+use Rattle.frame_places.specs.Numbers.{frame_number_in}
 
 -- the need of a frame, from needs by numbers
 abbrev pub need_by : List Key → List ℕ → Key → ℕ
-need_by frames needs k = slice_index needs (number_in frames k)
+need_by frames needs k = slice_index needs (frame_number_in frames k)
 
 -- the least needs, all within the areas without the reserve; or the start's is above them in any
 -- case
@@ -25,9 +25,9 @@ NeedsOn s None =
     → ((s.ground.now).plan.now).areas - ((s.ground.now).plan.now).reserve < need (start_key (s.ground.now).image.now (s.ground.now).plan.now)
 
 -- the least needs; or that the start's is above the areas, and the first recursion, if any
-abbrev pub NeedsOrPlace : Source → Result (Vec ℕ Global) (Option (Key × ℕ)) → Type 0
-NeedsOrPlace s (Ok needs) = NeedsOn s (Some needs)
-NeedsOrPlace s (Err place) = NeedsOn s None × IsRecursion s place
+abbrev pub NeedsOrRecursion : Source → Result (Vec ℕ Global) (Option (Key × ℕ)) → Type 0
+NeedsOrRecursion s (Ok needs) = NeedsOn s (Some needs)
+NeedsOrRecursion s (Err place) = NeedsOn s None × IsRecursion s place
 
 -- the least needs of the table's frames, by their numbers; none is above the areas without the
 -- reserve

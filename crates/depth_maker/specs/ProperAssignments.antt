@@ -8,12 +8,12 @@ use Rattle.value_domain.specs.Limits.{Limits}
 use Rattle.depth_cert.specs.declared.keys.Key.{Key}
 use Rattle.depth_cert.specs.declared.points.Exit.{Exit}
 use Rattle.cfg_recover.specs.Code.{IsCode}
-use Rattle.depth_cert.specs.Exits.{after_of}
+use Rattle.depth_cert.specs.Exits.{state_after_exit}
 use Rattle.cfg_recover.specs.LocalFaults.{IsFaultless}
 use Rattle.cfg_recover.specs.Duties.{Owed, duties_of, Duty, jump, enter, resume, leave}
 use Rattle.cfg_recover.specs.Assignments.{Place, Assignment}
 use Rattle.depth_cert.specs.Known.{Known}
-use Rattle.depth_cert.specs.Proper.{IsProper, IsProperExit, IsProperKnown}
+use Rattle.depth_cert.specs.Proper.{IsProperState, IsProperExit, IsProperKnown}
 use Rattle.depth_maker.specs.DutiesGrow.{IsGround}
 use Rattle.indexmap.specs.IndexMap.{IndexMap}
 use Rattle.frame_places.specs.declared.places.Spot.{Spot}
@@ -26,8 +26,8 @@ AllProper b a = (y : Place) (v : Known) → a y ≡ Some v → IsProperKnown b v
 
 -- a duty asks for a state or an exit at the limits
 abbrev pub IsProperDuty : Limits → Duty → Type 0
-IsProperDuty b (jump q t) = IsProper b t
-IsProperDuty b (enter k t) = IsProper b t
+IsProperDuty b (jump q t) = IsProperState b t
+IsProperDuty b (enter k t) = IsProperState b t
 IsProperDuty b (resume k q) = Unit {0}
 IsProperDuty b (leave x) = IsProperExit b x
 
@@ -35,11 +35,11 @@ IsProperDuty b (leave x) = IsProperExit b x
 abbrev pub DutiesAreProper : Type 0
 DutiesAreProper =
     (b : Limits) (image : ImageData) (plan : PlanData) (key : Key) (p : ℕ) (s : State) (shape : Shape) (n : ℕ) (d : Owed) → IsGround b image plan
-    → IsProper b s → IsFaultless b image plan key p s → IsCode image plan p shape n → Contains (duties_of b image plan key p s shape n) d → IsProperDuty b d.duty
+    → IsProperState b s → IsFaultless b image plan key p s → IsCode image plan p shape n → Contains (duties_of b image plan key p s shape n) d → IsProperDuty b d.duty
 
--- the state after a return is at the limits
+-- law of assignments at the limits: the state after a return is at the limits too
 abbrev pub AfterIsProper : Type 0
-AfterIsProper = (b : Limits) (s : State) (x : Exit) (kind : ℕ) → IsProper b s → IsProperExit b x → IsProper b (after_of s x kind)
+AfterIsProper = (b : Limits) (s : State) (x : Exit) (kind : ℕ) → IsProperState b s → IsProperExit b x → IsProperState b (state_after_exit s x kind)
 
 -- all that is known is at the limits
 abbrev pub CellsProper : {S : Type 0} → Limits → IndexMap Spot (Marked Known) S → Type 0

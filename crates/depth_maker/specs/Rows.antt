@@ -11,7 +11,7 @@ use Rattle.small_states.specs.CompactForms.{IsOutline}
 use Rattle.small_states.specs.declared.known.Outline.{Outline}
 use Rattle.depth_maker.specs.EnteredFrames.{entered_in}
 use Rattle.depth_maker.specs.InterruptHandlers.{AreHandlers, nodes_taken}
-use Rattle.frame_places.specs.Numbers.{AreNumbers, number_in}
+use Rattle.frame_places.specs.Numbers.{AreFrameNumbers, frame_number_in}
 use Rattle.frame_places.specs.Spots.{spot_eq}
 use Rattle.depth_maker.specs.TableInvariant.{IsDone}
 use Rattle.depth_maker.specs.TableView.{seen}
@@ -36,9 +36,9 @@ use Rattle.cfg_recover.specs.Duties.{duties_of}
 pub record IsRowAt (b : Limits) (image : ImageData) (plan : PlanData) (frames : List Key) (k : Key) (p : ℕ) (u : State) (row : NeedRow) : Type 0 where
   pub found : Located
   pub stands : StandsFaultless b image plan k p u found
-  pub node : row.node ≡ number_in frames k
+  pub node : row.node ≡ frame_number_in frames k
   pub held : row.held ≡ length u.locals.items
-  pub into : row.into.items ≡ map (number_in frames) (entered_in (duties_of b image plan k p u found.shape found.size))
+  pub into : row.into.items ≡ map (frame_number_in frames) (entered_in (duties_of b image plan k p u found.shape found.size))
 
 -- each row is that of a point, and each point has its row
 pub record AreRows (b : Limits) (image : ImageData) (plan : PlanData) (a : Assignment) (frames : List Key) (rows : List NeedRow) : Type 0 where
@@ -50,7 +50,7 @@ abbrev pub IsRowBy : Visit → List Key → NeedRow → Type 0
 IsRowBy v frames row = IsRowAt (v.ground.now).bounds.now (v.ground.now).image.now (v.ground.now).plan.now frames v.key v.addr v.state.now row
 
 -- the point's frame and those that it enters are among these
-pub record AllKnownBy (v : Visit) (frames : List Key) : Type 0 where
+pub record RowFramesKnownBy (v : Visit) (frames : List Key) : Type 0 where
   pub own : Contains frames v.key
   pub entered : (found : Located) → StandsBy v found → (k : Key) → Contains (entered_in (duties_by v found)) k → Contains frames k
 
@@ -59,9 +59,9 @@ abbrev pub RowsOn : Ground → made.Table → List NeedRow → Type 0
 RowsOn g t rows = AreRows g.bounds.now g.image.now g.plan.now (seen t).cells t.frames.items rows
 
 -- a table without work, the numbers of its frames, and its handlers
-pub record IsSource (s : Source) : Type 0 where
+pub record IsRowSource (s : Source) : Type 0 where
   pub done : IsDone s.ground.now s.table.now
-  pub numbers : AreNumbers s.numbers.now (s.table.now).frames.items (s.table.now).frames.items
+  pub numbers : AreFrameNumbers s.numbers.now (s.table.now).frames.items (s.table.now).frames.items
   pub handlers : AreHandlers (s.ground.now).plan.now (s.table.now).frames.items ((s.ground.now).plan.now).irqs s.handlers.now
 
 -- the row of a known point
@@ -71,9 +71,9 @@ IsPointRow s k p row =
     × IsRowAt (s.ground.now).bounds.now (s.ground.now).image.now (s.ground.now).plan.now (s.table.now).frames.items k p u row
 
 -- the value and the mark of a point, and the number of its frame
-pub record IsKnownPoint (s : Source) (at : KnownPoint) : Type 0 where
+pub record IsKnownRowPoint (s : Source) (at : KnownPoint) : Type 0 where
   pub known : get spot_eq (s.table.now).places (Point at.key at.addr) ≡ Some at.known.now
-  pub node : at.node ≡ number_in (s.table.now).frames.items at.key
+  pub node : at.node ≡ frame_number_in (s.table.now).frames.items at.key
 
 -- ---- equal rows
 -- the row of a point of this frame with this outline, whose instruction enters no frame by itself
@@ -87,7 +87,7 @@ abbrev pub HaveRows : Source → List NeedRow → List (Option Outline) → Type
 HaveRows s rows outlines = (number : ℕ) (o : Outline) → slice_get outlines number ≡ Some (Some o) → (row : NeedRow) × Contains rows row × IsPlainRow s number o row
 
 -- a point is plain, and its outline is the list's for its frame
-pub record HasRow (outlines : List (Option Outline)) (node : ℕ) (known : Marked Known) : Type 0 where
+pub record HasEqualRow (outlines : List (Option Outline)) (node : ℕ) (known : Marked Known) : Type 0 where
   pub outline : Outline
   pub there : slice_get outlines node ≡ Some (Some outline)
   pub is : IsOutline known.value outline
@@ -108,9 +108,9 @@ pub record AddsRow (s : Source) (old new : Draft) (row : NeedRow) : Type 0 where
   pub outlines : HaveRows s old.rows.items old.outlines.items → HaveRows s new.rows.items new.outlines.items
 
 -- the row of a plain point is appended
-abbrev pub AddsPlain : Source → Draft → Draft → ℕ → Outline → Type 0
-AddsPlain s old new node o = (row : NeedRow) × IsPlainRow s node o row × AddsRow s old new row
+abbrev pub AddsPlainRow : Source → Draft → Draft → ℕ → Outline → Type 0
+AddsPlainRow s old new node o = (row : NeedRow) × IsPlainRow s node o row × AddsRow s old new row
 
 -- the row of a point is appended
-abbrev pub AddsPoint : Source → Draft → Draft → KnownPoint → Type 0
-AddsPoint s old new at = (row : NeedRow) × IsPointRow s at.key at.addr row × AddsRow s old new row
+abbrev pub AddsPointRow : Source → Draft → Draft → KnownPoint → Type 0
+AddsPointRow s old new at = (row : NeedRow) × IsPointRow s at.key at.addr row × AddsRow s old new row

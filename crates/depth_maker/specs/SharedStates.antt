@@ -15,13 +15,11 @@ use Rattle.frame_places.specs.declared.places.Spot.TheVariants.{Point}
 use Rattle.frame_places.specs.declared.refusals.Refusal.{Refusal}
 use Rattle.frame_places.specs.Marks.{value_for}
 use Rattle.depth_maker.specs.Answers.{AnsweredOn}
-use Rattle.depth_maker.specs.EnteredFrames.{EntersNone, IsPlainAt}
-use Rattle.depth_maker.specs.InterruptHandlers.{IsWithinContext}
+use Rattle.depth_maker.specs.EnteredFrames.{EntersNoFrame, IsPlainAt}
 use Rattle.depth_maker.specs.Joins.{IsLeft}
 use Rattle.depth_maker.specs.VisitDuties.{DutiesJoined}
-use Rattle.depth_maker.specs.Visits.{PointJoinedOn}
+use Rattle.depth_maker.specs.Visits.{VisitJoinsPointOn}
 use Rattle.depth_maker.specs.declared.inputs_and_limits.Site.{Site}
-use Rattle.depth_maker.specs.declared.interrupt_contexts.InterruptContext.{InterruptContext}
 use Rattle.depth_maker.specs.declared.table.Table as made
 
 -- The instruction at p breaks no rule by itself, whatever the state. A point there owes this
@@ -33,24 +31,17 @@ pub record SharesState (image : ImageData) (plan : PlanData) (p next : ℕ) : Ty
   pub shaped : IsShape shape
   pub local : (b : Limits) (k : Key) (u : State) (r : ℕ) → LocalRule b plan k p u shape r
   pub duties : (b : Limits) (k : Key) (u : State) → duties_of b image plan k p u shape size ≡ owed 4 (jump next u) ∷ interrupts_of plan k u
-  pub enters : EntersNone plan shape
-
--- the entries of the last context of interrupts cover those of each frame with this CCPN, on this
--- stack
-pub record IsNotedFor (t : made.Table) (is : Bool) (ccpn : ℕ) : Type 0 where
-  pub context : InterruptContext
-  pub last : (t.covered).interrupts.last ≡ Some context
-  pub within : (s : State) → s.ccpn ≡ ccpn → IsWithinContext context is s
+  pub enters : EntersNoFrame plan shape
 
 -- the entries of all interrupts that may be taken at the point are covered; its CCPN is a byte
-abbrev pub IsQuiet : Site → made.Table → Type 0
-IsQuiet v t =
+abbrev pub MayShareState : Site → made.Table → Type 0
+MayShareState v t =
     (u : State) → value_for t.places (Point v.key v.addr) ≡ Some (state u)
     → DutiesJoined (v.ground.now).bounds.now (v.ground.now).image.now (v.ground.now).plan.now t t v.key v.addr u (interrupts_of (v.ground.now).plan.now v.key u) × (u.ccpn < 256)
 
 -- what the point owes was joined, and its instruction enters no frame by itself; or nothing was
 -- joined; or the refusal holds
-abbrev pub PassedBy : Site → made.Table → made.Table → Result Bool Refusal → Type 0
-PassedBy v s t (Ok true) = PointJoinedOn v.ground.now s t (Point v.key v.addr) × IsPlainAt (v.ground.now).image.now (v.ground.now).plan.now v.addr
-PassedBy v s t (Ok false) = IsLeft v.ground.now s t
-PassedBy v s t (Err e) = AnsweredOn v.ground.now e
+abbrev pub StateSharedBy : Site → made.Table → made.Table → Result Bool Refusal → Type 0
+StateSharedBy v s t (Ok true) = VisitJoinsPointOn v.ground.now s t (Point v.key v.addr) × IsPlainAt (v.ground.now).image.now (v.ground.now).plan.now v.addr
+StateSharedBy v s t (Ok false) = IsLeft v.ground.now s t
+StateSharedBy v s t (Err e) = AnsweredOn v.ground.now e

@@ -13,12 +13,12 @@ use Rattle.depth_cert.specs.declared.points.Exit as exits
 use Rattle.depth_cert.specs.declared.points.Point as points
 use Rattle.depth_cert.specs.Nodes.{NodeData}
 use Rattle.depth_cert.specs.Certs.{CertData}
-use Rattle.depth_cert.specs.Spelling.{bytes_of, bytes_of_exit, bytes_of_node, bytes_of_point}
+use Rattle.depth_cert.specs.Spelling.{bytes_of_cert, bytes_of_exit, bytes_of_node, bytes_of_point}
 use Rattle.cfg_recover.specs.Assignments.{Place, point, exit, Assignment}
-use Rattle.depth_cert.specs.Known.{Known, state, leaving, exit_at}
+use Rattle.depth_cert.specs.Known.{Known, state, leaving, exit_if_known}
 use Rattle.depth_maker.specs.LeastCertMade.{IsWritten}
 use Rattle.depth_maker.specs.Needs.{need_by, NeedsAre}
-use Rattle.depth_maker.specs.Rows.{IsSource}
+use Rattle.depth_maker.specs.Rows.{IsRowSource}
 use Rattle.depth_maker.specs.TableView.{seen}
 use Rattle.frame_places.specs.PointEntries.{AreEntries, place_at, points_in}
 use Rattle.frame_places.specs.Spots.{is_point_of, spot_address, spot_eq}
@@ -32,66 +32,66 @@ use Rattle.depth_maker.specs.declared.inputs_and_limits.Ground.{Ground}
 
 -- ---- places in order
 -- the addresses of frame k's points, in the order of the list
-abbrev pub addresses_in : List Spot → Key → List ℕ
-addresses_in ps k = map spot_address (filter (is_point_of k) ps)
+abbrev pub spelled_addresses_in : List Spot → Key → List ℕ
+spelled_addresses_in ps k = map spot_address (filter (is_point_of k) ps)
 
 -- ---- nodes
 -- a state without values
-abbrev pub no_state : State
-no_state = record { regs = []; ie = false; ccpn = 0; lower = false; locals = record { items = [] } }
+abbrev pub no_spelled_state : State
+no_spelled_state = record { regs = []; ie = false; ccpn = 0; lower = false; locals = record { items = [] } }
 
 -- the known state
-abbrev pub state_at : Option Known → State
-state_at None = no_state
-state_at (Some (state s)) = s
-state_at (Some (leaving x)) = no_state
+abbrev pub spelled_state_at : Option Known → State
+spelled_state_at None = no_spelled_state
+spelled_state_at (Some (state s)) = s
+spelled_state_at (Some (leaving x)) = no_spelled_state
 
 -- the point of frame k at an address
-abbrev pub point_at : Assignment → Key → ℕ → points.Point
-point_at a k p = record { addr = p; state = state_at (a (point k p)) }
+abbrev pub spelled_point_at : Assignment → Key → ℕ → points.Point
+spelled_point_at a k p = record { addr = p; state = spelled_state_at (a (point k p)) }
 
 -- the node of frame k, with its points at these addresses
-abbrev pub node_at : Assignment → (Key → ℕ) → (Key → List ℕ) → Key → NodeData
-node_at a need addresses k = record { key = k; need = need k; exit = exit_at (a (exit k)); points = map (point_at a k) (addresses k) }
+abbrev pub spelled_node_at : Assignment → (Key → ℕ) → (Key → List ℕ) → Key → NodeData
+spelled_node_at a need addresses k = record { key = k; need = need k; exit = exit_if_known (a (exit k)); points = map (spelled_point_at a k) (addresses k) }
 
 -- the certificate with the nodes of these frames
-abbrev pub cert_with : ℕ → Assignment → (Key → ℕ) → (Key → List ℕ) → List Key → CertData
-cert_with version a need addresses ks = record { version = version; nodes = map (node_at a need addresses) ks }
+abbrev pub spelled_cert_with : ℕ → Assignment → (Key → ℕ) → (Key → List ℕ) → List Key → CertData
+spelled_cert_with version a need addresses ks = record { version = version; nodes = map (spelled_node_at a need addresses) ks }
 
--- each CCPN in the node is a byte
-pub record HasBytes (n : NodeData) : Type 0 where
+-- each CCPN in a node of the spelled certificate is a byte
+pub record HasSpelledCcpns (n : NodeData) : Type 0 where
   pub exit : IfSome n.exit (λ e. e.ccpn < 2 ^ 8)
   pub points : All (λ p. (p.state).ccpn < 2 ^ 8) n.points
 
 -- ---- by the types of the code
 
 -- the limits are those of the version
-abbrev pub IsOfVersion : Source → ℕ → Type 0
-IsOfVersion s version = (s.ground.now).bounds.now ≡ limits_for (s.ground.now).plan.now version
+abbrev pub IsSpelledVersion : Source → ℕ → Type 0
+IsSpelledVersion s version = (s.ground.now).bounds.now ≡ limits_for (s.ground.now).plan.now version
 
 -- what is known at a place of the table
-abbrev pub known_on : Source → Place → Option Known
-known_on s y = (seen s.table.now).cells y
+abbrev pub spelled_known_on : Source → Place → Option Known
+spelled_known_on s y = (seen s.table.now).cells y
 
 -- the exit of a frame, if it is known
-abbrev pub exit_on : Source → Key → Option exits.Exit
-exit_on s k = exit_at ((seen s.table.now).cells (exit k))
+abbrev pub spelled_exit_on : Source → Key → Option exits.Exit
+spelled_exit_on s k = exit_if_known ((seen s.table.now).cells (exit k))
 
 -- the point of a frame at an address, with its known state
-abbrev pub point_on : Source → Key → ℕ → points.Point
-point_on s k p = point_at (seen s.table.now).cells k p
+abbrev pub spelled_point_on : Source → Key → ℕ → points.Point
+spelled_point_on s k p = spelled_point_at (seen s.table.now).cells k p
 
 -- the node of a frame, with the points of a list
-abbrev pub node_on : Source → List ℕ → List Spot → Key → NodeData
-node_on s needs ps k = node_at (seen s.table.now).cells (need_by (s.table.now).frames.items needs) (addresses_in ps) k
+abbrev pub spelled_node_on : Source → List ℕ → List Spot → Key → NodeData
+spelled_node_on s needs ps k = spelled_node_at (seen s.table.now).cells (need_by (s.table.now).frames.items needs) (spelled_addresses_in ps) k
 
 -- the certificate with the nodes of these frames
-abbrev pub cert_on : Source → ℕ → List ℕ → List Key → List Spot → CertData
-cert_on s version needs ks ps = cert_with version (seen s.table.now).cells (need_by (s.table.now).frames.items needs) (addresses_in ps) ks
+abbrev pub spelled_cert_on : Source → ℕ → List ℕ → List Key → List Spot → CertData
+spelled_cert_on s version needs ks ps = spelled_cert_with version (seen s.table.now).cells (need_by (s.table.now).frames.items needs) (spelled_addresses_in ps) ks
 
 -- a table without work, the least needs of its frames, and its points in order
-pub record IsOrdered (o : Ordered) : Type 0 where
-  pub source : IsSource o.source.now
+pub record IsSpelledInOrder (o : Ordered) : Type 0 where
+  pub source : IsRowSource o.source.now
   pub needs : NeedsAre o.source.now o.needs.now
   pub unique : IsUnique spot_eq ((o.source.now).table.now).places
   pub points : IsPermutation (points_in ((o.source.now).table.now).places) (spots_of o)
@@ -100,60 +100,60 @@ pub record IsOrdered (o : Ordered) : Type 0 where
 
 -- ---- what is appended
 -- a point, whose CCPN is a byte
-pub record WritesPoint (s : Source) (k : Key) (p : ℕ) (old new : List ℕ) : Type 0 where
-  pub bytes : new ≡ old ++ bytes_of_point (point_on s k p)
-  pub ccpn : ((point_on s k p).state).ccpn < 2 ^ 8
+pub record SpellsTablePoint (s : Source) (k : Key) (p : ℕ) (old new : List ℕ) : Type 0 where
+  pub bytes : new ≡ old ++ bytes_of_point (spelled_point_on s k p)
+  pub ccpn : ((spelled_point_on s k p).state).ccpn < 2 ^ 8
 
 -- these points of frame k
-pub record WritesPoints (s : Source) (k : Key) (qs : List Spot) (old new : List ℕ) : Type 0 where
-  pub bytes : new ≡ old ++ flat_map (λ q. bytes_of_point (point_on s k (spot_address q))) qs
-  pub ccpn : All (λ q. ((point_on s k (spot_address q)).state).ccpn < 2 ^ 8) qs
+pub record SpellsTablePoints (s : Source) (k : Key) (qs : List Spot) (old new : List ℕ) : Type 0 where
+  pub bytes : new ≡ old ++ flat_map (λ q. bytes_of_point (spelled_point_on s k (spot_address q))) qs
+  pub ccpn : All (λ q. ((spelled_point_on s k (spot_address q)).state).ccpn < 2 ^ 8) qs
 
 -- the exit of frame k, or that none is known
-pub record WritesExit (s : Source) (k : Key) (old new : List ℕ) : Type 0 where
-  pub bytes : new ≡ old ++ bytes_of_exit (exit_on s k)
-  pub ccpn : IfSome (exit_on s k) (λ e. e.ccpn < 2 ^ 8)
+pub record SpellsTableExit (s : Source) (k : Key) (old new : List ℕ) : Type 0 where
+  pub bytes : new ≡ old ++ bytes_of_exit (spelled_exit_on s k)
+  pub ccpn : IfSome (spelled_exit_on s k) (λ e. e.ccpn < 2 ^ 8)
 
 -- the node of frame k
-pub record WritesNode (o : Ordered) (k : Key) (old new : List ℕ) : Type 0 where
-  pub bytes : new ≡ old ++ bytes_of_node (node_on o.source.now o.needs.now (spots_of o) k)
-  pub ccpn : HasBytes (node_on o.source.now o.needs.now (spots_of o) k)
+pub record SpellsTableNode (o : Ordered) (k : Key) (old new : List ℕ) : Type 0 where
+  pub bytes : new ≡ old ++ bytes_of_node (spelled_node_on o.source.now o.needs.now (spots_of o) k)
+  pub ccpn : HasSpelledCcpns (spelled_node_on o.source.now o.needs.now (spots_of o) k)
 
 -- the nodes of these frames
-pub record WritesNodes (o : Ordered) (ks : List Key) (old new : List ℕ) : Type 0 where
-  pub bytes : new ≡ old ++ flat_map (λ k. bytes_of_node (node_on o.source.now o.needs.now (spots_of o) k)) ks
-  pub ccpn : All (λ k. HasBytes (node_on o.source.now o.needs.now (spots_of o) k)) ks
+pub record SpellsTableNodes (o : Ordered) (ks : List Key) (old new : List ℕ) : Type 0 where
+  pub bytes : new ≡ old ++ flat_map (λ k. bytes_of_node (spelled_node_on o.source.now o.needs.now (spots_of o) k)) ks
+  pub ccpn : All (λ k. HasSpelledCcpns (spelled_node_on o.source.now o.needs.now (spots_of o) k)) ks
 
 -- the whole certificate
-pub record WritesCert (o : Ordered) (version : ℕ) (ks : List Key) (out : List ℕ) : Type 0 where
-  pub bytes : out ≡ bytes_of (cert_on o.source.now version o.needs.now ks (spots_of o))
-  pub ccpn : All (λ k. HasBytes (node_on o.source.now o.needs.now (spots_of o) k)) ks
+pub record SpellsTableCert (o : Ordered) (version : ℕ) (ks : List Key) (out : List ℕ) : Type 0 where
+  pub bytes : out ≡ bytes_of_cert (spelled_cert_on o.source.now version o.needs.now ks (spots_of o))
+  pub ccpn : All (λ k. HasSpelledCcpns (spelled_node_on o.source.now o.needs.now (spots_of o) k)) ks
 
 -- these frames are the table's
-abbrev pub AreFrames : Ordered → List Key → Type 0
-AreFrames o ks = IsPermutation ((o.source.now).table.now).frames.items ks
+abbrev pub AreSpelledFrames : Ordered → List Key → Type 0
+AreSpelledFrames o ks = IsPermutation ((o.source.now).table.now).frames.items ks
 
 -- the entry of a point of frame k
-pub record IsPointOf (s : Source) (k : Key) (x : PointEntry) : Type 0 where
+pub record IsSpelledPointOf (s : Source) (k : Key) (x : PointEntry) : Type 0 where
   pub within : x.entry < length (keys (s.table.now).places)
   pub is : place_at (s.table.now).places x ≡ Point k (spot_address (place_at (s.table.now).places x))
 
 -- the entries of points of frame k
-abbrev pub ArePointsOf : Source → Key → List PointEntry → Type 0
-ArePointsOf s k xs = (x : PointEntry) → Contains xs x → IsPointOf s k x
+abbrev pub AreSpelledPointsOf : Source → Key → List PointEntry → Type 0
+AreSpelledPointsOf s k xs = (x : PointEntry) → Contains xs x → IsSpelledPointOf s k x
 
 -- a frame of the table
-abbrev pub IsFrameOf : Source → Key → Type 0
-IsFrameOf s k = Contains (s.table.now).frames.items k
+abbrev pub IsSpelledFrameOf : Source → Key → Type 0
+IsSpelledFrameOf s k = Contains (s.table.now).frames.items k
 
 -- the bytes spell the certificate that is to be written
 abbrev pub IsSpelled : ImageData → PlanData → ℕ → List ℕ → Type 0
-IsSpelled image plan version bytes = (cert : CertData) × (bytes ≡ bytes_of cert) × IsWritten image plan version cert
+IsSpelled image plan version bytes = (cert : CertData) × (bytes ≡ bytes_of_cert cert) × IsWritten image plan version cert
 
 -- the same, by the types of the code
 abbrev pub IsSpelledOn : Source → ℕ → List ℕ → Type 0
 IsSpelledOn s version bytes = IsSpelled (s.ground.now).image.now (s.ground.now).plan.now version bytes
 
 -- the bytes spell the certificate that is to be written
-abbrev pub AreWritten : Ground → ℕ → List ℕ → Type 0
-AreWritten g version bytes = (cert : CertData) × (bytes ≡ bytes_of cert) × IsWritten g.image.now g.plan.now version cert
+abbrev pub AreSpelledBytes : Ground → ℕ → List ℕ → Type 0
+AreSpelledBytes g version bytes = (cert : CertData) × (bytes ≡ bytes_of_cert cert) × IsWritten g.image.now g.plan.now version cert

@@ -15,9 +15,9 @@ spot_of (point k p) = Point k p
 spot_of (exit k) = Exit k
 
 -- a place of the code's type
-abbrev pub place_of : Spot → Place
-place_of (Point k p) = point k p
-place_of (Exit k) = exit k
+abbrev pub place_of_spot : Spot → Place
+place_of_spot (Point k p) = point k p
+place_of_spot (Exit k) = exit k
 
 -- the places of these entries of the table
 abbrev pub spots_on : Source → List PointEntry → List Spot

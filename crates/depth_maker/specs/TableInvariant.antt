@@ -1,5 +1,5 @@
 -- The maker's table between two steps, and at the end.
-use Rattle.std.specs.Prelude.{ℕ, ◌≡◌, Some}
+use Rattle.std.specs.Prelude.{ℕ, ◌≡◌, Some, true, Contains}
 use Rattle.indexmap.specs.IndexMap.{IndexMap, get}
 use Rattle.std.specs.declared.vec.Vec.{Vec}
 use Rattle.std.specs.declared.alloc.Global.{Global}
@@ -7,31 +7,59 @@ use Rattle.elf_image.specs.Images.{ImageData}
 use Rattle.tcd_plan.specs.PlanData.{PlanData}
 use Rattle.value_domain.specs.Limits.{Limits}
 use Rattle.depth_cert.specs.declared.keys.Key.{Key}
-use Rattle.cfg_recover.specs.Assignments.{Closed, Derived, AllFaultless}
-use Rattle.depth_maker.specs.TableView.{IsTable, seen}
+use Rattle.cfg_recover.specs.Assignments.{Closed, Derived, AllFaultless, point, CoversAt, exit}
+use Rattle.depth_maker.specs.TableView.{seen, TableView}
 use Rattle.frame_places.specs.declared.places.Spot.{Spot}
 use Rattle.frame_places.specs.declared.places.Spot.TheVariants.{Point}
 use Rattle.depth_maker.specs.declared.table.Table as made
 use Rattle.frame_places.specs.Spots.{spot_eq}
-use Rattle.frame_places.specs.Marks.{mark_for, AllListed, AreKnown, Reads}
+use Rattle.frame_places.specs.Marks.{mark_for, AllListed, AreKnown, IsAmongReaders}
 use Rattle.frame_places.specs.Work.{all_work}
 use Rattle.depth_maker.specs.Counts.{IsCountedIn}
 use Rattle.depth_maker.specs.Covered.{EntriesCovered}
 use Rattle.depth_maker.specs.declared.inputs_and_limits.Ground.{Ground}
-use Rattle.depth_cert.specs.Known.{Known}
+use Rattle.depth_cert.specs.Known.{Known, state, leaving}
 use Rattle.frame_places.specs.declared.places.Marked.{Marked}
 use Rattle.frame_places.specs.declared.places.Mark.TheVariants.{Plain}
 use Rattle.depth_maker.specs.EnteredFrames.{IsPlainIn}
+use Rattle.value_domain.specs.declared.states.State.{State}
+use Rattle.depth_cert.specs.Exits.{state_after_exit}
+use Rattle.cfg_recover.specs.Duties.{Duty, jump, enter, resume, leave, Owed, duties_of}
+use Rattle.tc_isa.specs.declared.shapes.Shape.{Shape}
+use Rattle.cfg_recover.specs.Code.{IsCode}
+use Rattle.cfg_recover.specs.LocalFaults.{IsFaultless}
 
 -- ---- the table
 
 -- only exits are read
-abbrev pub AreExitsRead : {S : Type 0} → IndexMap Spot (Vec Spot Global) S → Type 0
-AreExitsRead readers = (k : Key) (p : ℕ) (q : Spot) → Reads (get spot_eq readers (Point k p)) q → ⊥
+abbrev pub TableReadsExits : {S : Type 0} → IndexMap Spot (Vec Spot Global) S → Type 0
+TableReadsExits readers = (k : Key) (p : ℕ) (q : Spot) → IsAmongReaders (get spot_eq readers (Point k p)) q → ⊥
 
--- the instruction of a place that is marked as plain enters no frame by itself
-abbrev pub ArePlain : {S : Type 0} → ImageData → PlanData → IndexMap Spot (Marked Known) S → Type 0
-ArePlain image plan places = (q : Spot) → mark_for places q ≡ Some Plain → IsPlainIn image plan q
+-- invariant of the maker's table: the instruction of a place that is marked as plain enters no
+-- frame by itself
+abbrev pub ArePlainInTable : {S : Type 0} → ImageData → PlanData → IndexMap Spot (Marked Known) S → Type 0
+ArePlainInTable image plan places = (q : Spot) → mark_for places q ≡ Some Plain → IsPlainIn image plan q
+
+-- the table covers the point after a return, by what is known of the exit
+abbrev pub IsResumed : TableView → Key → State → Key → ℕ → Known → Type 0
+IsResumed t key s k q (leaving x) = CoversAt t.cells (point key q) (state (state_after_exit s x k.kind))
+IsResumed t key s k q (state u) = Unit {0}
+
+-- in the table, a duty of a point is covered, and the point reads the exit that the duty depends on
+abbrev pub Settled : TableView → Key → ℕ → State → Duty → Type 0
+Settled t key p s (jump q u) = CoversAt t.cells (point key q) (state u)
+Settled t key p s (enter k u) = CoversAt t.cells (point k k.entry) (state u)
+Settled t key p s (resume k q) = ((x : Known) → t.cells (exit k) ≡ Some x → IsResumed t key s k q x) × t.reads (exit k) (point key p)
+Settled t key p s (leave x) = CoversAt t.cells (exit key) (leaving x)
+
+-- the invariant of the table as seen: it is derived, and each duty of a point without work is
+-- covered
+pub record IsTable (b : Limits) (image : ImageData) (plan : PlanData) (t : TableView) : Type 0 where
+  pub derived : Derived b image plan t.cells
+  pub own : (k : Key) (p : ℕ) (s : State) → t.cells (point k p) ≡ Some (state s) → t.idle (point k p) ≡ true → IsFaultless b image plan k p s
+  pub settled :
+      (k : Key) (p : ℕ) (s : State) (shape : Shape) (n : ℕ) (d : Owed) → t.cells (point k p) ≡ Some (state s) → t.idle (point k p) ≡ true
+      → IsCode image plan p shape n → Contains (duties_of b image plan k p s shape n) d → Settled t k p s d.duty
 
 -- the table between two steps
 pub record IsFine (b : Limits) (image : ImageData) (plan : PlanData) (t : made.Table) : Type 0 where
@@ -39,16 +67,16 @@ pub record IsFine (b : Limits) (image : ImageData) (plan : PlanData) (t : made.T
   pub listed : AllListed t.places (all_work t.work)
   pub counted : IsCountedIn t.places t.points.items t.frames.items
   pub covered : EntriesCovered b plan (seen t).cells t.covered
-  pub exits : AreExitsRead t.readers
-  pub readers : (z : Spot) → AreKnown t.places (Reads (get spot_eq t.readers z))
-  pub plain : ArePlain image plan t.places
+  pub exits : TableReadsExits t.readers
+  pub readers : (z : Spot) → AreKnown t.places (IsAmongReaders (get spot_eq t.readers z))
+  pub plain : ArePlainInTable image plan t.places
 
 -- the least closed assignment: no place has work
 pub record IsDone (g : Ground) (t : made.Table) : Type 0 where
   pub derived : Derived g.bounds.now g.image.now g.plan.now (seen t).cells
   pub closed : Closed g.bounds.now g.image.now g.plan.now (seen t).cells
   pub faultless : AllFaultless g.bounds.now g.image.now g.plan.now (seen t).cells
-  pub plain : ArePlain g.image.now g.plan.now t.places
+  pub plain : ArePlainInTable g.image.now g.plan.now t.places
   pub counted : IsCountedIn t.places t.points.items t.frames.items
 
 -- ---- by the types of the code

@@ -3,35 +3,35 @@ use Rattle.std.specs.Prelude.{◌≡◌, ◌+◌, ◌-◌, ◌<◌, ◌⊎◌, �
 use Rattle.std.specs.List.{count_by, sum_by}
 use Rattle.value_domain.specs.declared.values.Val.{Val}
 use Rattle.value_domain.specs.Values.{members}
-use Rattle.depth_cert.specs.Keys.{byte_of}
+use Rattle.depth_cert.specs.Keys.{cert_flag_byte}
 use Rattle.depth_cert.specs.Known.{Known, state, leaving}
 use Rattle.frame_places.specs.declared.places.Spot.TheVariants as spots
 use Rattle.depth_maker.specs.declared.table.Table as made
 use Rattle.frame_places.specs.Marks.{value_for}
 use Rattle.frame_places.specs.Work.{all_work}
 
--- the number of members of all these values
-abbrev pub size_of : List Val → ℕ
-size_of vs = sum_by (λ v. length (members v)) vs
+-- the level of values: the number of all their members
+abbrev pub level_of_values : List Val → ℕ
+level_of_values vs = sum_by (λ v. length (members v)) vs
 
--- the rank of a state or an exit; what covers it has no lower rank
-abbrev pub rank_of : Known → ℕ
-rank_of (state s) = size_of s.regs + byte_of s.ie + (256 - s.ccpn) + byte_of (not s.lower) + count_by not s.locals.items
-rank_of (leaving x) = size_of x.lower + byte_of x.ie + (256 - x.ccpn)
+-- the level of a state or an exit; what covers it has no lower level
+abbrev pub level_of_known : Known → ℕ
+level_of_known (state s) = level_of_values s.regs + cert_flag_byte s.ie + (256 - s.ccpn) + cert_flag_byte (not s.lower) + count_by not s.locals.items
+level_of_known (leaving x) = level_of_values x.lower + cert_flag_byte x.ie + (256 - x.ccpn)
 
--- the rank of a place; 0 if it is unknown
-abbrev pub rank_at : Option Known → ℕ
-rank_at None = 0
-rank_at (Some v) = 1 + rank_of v
+-- the level of a place; 0 if it is unknown
+abbrev pub level_of_place : Option Known → ℕ
+level_of_place None = 0
+level_of_place (Some v) = 1 + level_of_known v
 
--- the sum of the ranks of all points and exits
+-- the level of a table: the sum of the levels of all points and exits
 unfoldable pub level : made.Table → ℕ
-level t = sum_by (λ q. rank_at (value_for t.places q)) t.points.items + sum_by (λ k. rank_at (value_for t.places (spots.Exit k))) t.frames.items
+level t = sum_by (λ q. level_of_place (value_for t.places q)) t.points.items + sum_by (λ k. level_of_place (value_for t.places (spots.Exit k))) t.frames.items
 
 -- the level rose, or the work list is as it was
-abbrev pub Rises : made.Table → made.Table → Type 0
-Rises s t = (level s < level t) ⊎ ((level t ≡ level s) × (all_work t.work ≡ all_work s.work))
+abbrev pub LevelRises : made.Table → made.Table → Type 0
+LevelRises s t = (level s < level t) ⊎ ((level t ≡ level s) × (all_work t.work ≡ all_work s.work))
 
 -- the level rose, or the work list is shorter by one place
-abbrev pub Steps : made.Table → made.Table → Type 0
-Steps s t = (level s < level t) ⊎ ((level t ≡ level s) × (length (all_work s.work) ≡ length (all_work t.work) + 1))
+abbrev pub LevelAdvances : made.Table → made.Table → Type 0
+LevelAdvances s t = (level s < level t) ⊎ ((level t ≡ level s) × (length (all_work s.work) ≡ length (all_work t.work) + 1))

@@ -13,26 +13,25 @@ use Rattle.cfg_recover.specs.declared.local_rules.Located.{Located}
 use Rattle.cfg_recover.specs.LocalFaults.{StandsFaultless, IsFaultless}
 use Rattle.cfg_recover.specs.Code.{IsCode}
 use Rattle.cfg_recover.specs.Entries.{call_key, call_entry, sys_key, sys_entry}
-use Rattle.cfg_recover.specs.Duties.{Duty, Owed, duties_of, entered_and_back, entries_of, interrupts_of, loaded_at, misaligned_entry, misaligned_of, next_of, owed, successors_of, enter, resume}
+use Rattle.cfg_recover.specs.Duties.{Duty, Owed, duties_of, entered_and_back, entries_of, interrupts_of, loaded_for_duties, misaligned_entry, misaligned_of, next_of, owed, successors_of, enter, resume}
 use Rattle.cfg_recover.specs.Assignments.{point}
-use Rattle.depth_maker.specs.TableView.{Settled, seen}
+use Rattle.depth_maker.specs.TableView.{seen}
+use Rattle.depth_maker.specs.TableInvariant.{Settled, IsFine}
 use Rattle.depth_maker.specs.Spots.{spot_of}
 use Rattle.frame_places.specs.Marks.{is_queued, mark_for}
-use Rattle.depth_maker.specs.EnteredFrames.{IsPlainAt}
 use Rattle.depth_maker.specs.declared.inputs_and_limits.Visit.{Visit}
-use Rattle.depth_maker.specs.Joins.{Keeps}
+use Rattle.depth_maker.specs.Joins.{JoinKeeps}
 use Rattle.depth_maker.specs.declared.table.Table as made
-use Rattle.depth_maker.specs.TableInvariant.{IsFine}
 
--- these duties of the point p of frame k, which has the state u, were joined, unless the point has
--- new work
+-- of what the visited point p of frame k owes by its state u, these duties were joined, unless the
+-- point has new work
 pub record DutiesJoined (b : Limits) (image : ImageData) (plan : PlanData) (s t : made.Table) (k : Key) (p : ℕ) (u : State) (ds : List Owed) : Type 0 where
   pub fine : IsFine b image plan t
-  pub keeps : Keeps b image plan s t
+  pub keeps : JoinKeeps b image plan s t
   pub settled : is_queued (mark_for t.places (spot_of (point k p))) ≡ false → (d : Owed) → Contains ds d → Settled (seen t) k p u d.duty
 
 -- the point owes this duty by its state u, and has no fault of its own
-pub record Owes (b : Limits) (image : ImageData) (plan : PlanData) (k : Key) (p : ℕ) (u : State) (d : Duty) : Type 0 where
+pub record VisitedPointOwes (b : Limits) (image : ImageData) (plan : PlanData) (k : Key) (p : ℕ) (u : State) (d : Duty) : Type 0 where
   pub faultless : IsFaultless b image plan k p u
   pub shape : Shape
   pub size : ℕ
@@ -43,17 +42,17 @@ pub record Owes (b : Limits) (image : ImageData) (plan : PlanData) (k : Key) (p 
 
 -- the point owes this duty
 abbrev pub OwesDuty : Visit → Duty → Type 0
-OwesDuty v d = Owes (v.ground.now).bounds.now (v.ground.now).image.now (v.ground.now).plan.now v.key v.addr v.state.now d
+OwesDuty v d = VisitedPointOwes (v.ground.now).bounds.now (v.ground.now).image.now (v.ground.now).plan.now v.key v.addr v.state.now d
 
 -- the point owes each of these duties
 abbrev pub OwesAll : Visit → List Owed → Type 0
-OwesAll v ds = (d : Owed) → Contains ds d → Owes (v.ground.now).bounds.now (v.ground.now).image.now (v.ground.now).plan.now v.key v.addr v.state.now d.duty
+OwesAll v ds = (d : Owed) → Contains ds d → VisitedPointOwes (v.ground.now).bounds.now (v.ground.now).image.now (v.ground.now).plan.now v.key v.addr v.state.now d.duty
 
--- these duties of the point were joined
+-- of what the visited point owes, these duties were joined
 abbrev pub JoinedBy : Visit → made.Table → made.Table → List Owed → Type 0
 JoinedBy v s t ds = DutiesJoined (v.ground.now).bounds.now (v.ground.now).image.now (v.ground.now).plan.now s t v.key v.addr v.state.now ds
 
--- the instruction at the point, where no rule's own part fails
+-- the instruction at the visited point, where no rule's own part fails, so that its duties are owed
 abbrev pub StandsBy : Visit → Located → Type 0
 StandsBy v found = StandsFaultless (v.ground.now).bounds.now (v.ground.now).image.now (v.ground.now).plan.now v.key v.addr v.state.now found
 
@@ -64,7 +63,7 @@ side_by v shape taken = refine_of (v.ground.now).bounds.now (v.ground.now).plan.
 -- the state after an instruction of this shape
 abbrev pub step_by : Visit → Shape → State
 step_by v shape =
-    transfer_of (v.ground.now).bounds.now (v.ground.now).plan.now shape v.state.now (loaded_at (v.ground.now).bounds.now (v.ground.now).image.now (v.ground.now).plan.now v.state.now shape)
+    transfer_of (v.ground.now).bounds.now (v.ground.now).plan.now shape v.state.now (loaded_for_duties (v.ground.now).bounds.now (v.ground.now).image.now (v.ground.now).plan.now v.state.now shape)
 
 -- to continue at the next instruction
 abbrev pub next_by : Visit → Located → List Owed
@@ -98,13 +97,9 @@ access_by v found = misaligned_of (v.ground.now).bounds.now (v.ground.now).plan.
 abbrev pub interrupts_by : Visit → List Owed
 interrupts_by v = interrupts_of (v.ground.now).plan.now v.key v.state.now
 
--- these duties stay joined
+-- of what the visited point owes, these duties stay joined
 abbrev pub StayJoined : Visit → made.Table → made.Table → List Owed → Type 0
 StayJoined v m t ds = (s : made.Table) → JoinedBy v s m ds → JoinedBy v s t ds
-
--- the instruction at the point enters no frame by itself
-abbrev pub IsPlainBy : Visit → Type 0
-IsPlainBy v = IsPlainAt (v.ground.now).image.now (v.ground.now).plan.now v.addr
 
 -- all that the point owes
 abbrev pub duties_by : Visit → Located → List Owed
@@ -117,3 +112,7 @@ enters_by v targets = map (λ t. owed 5 (enter (call_key v.key t) (call_entry v.
 -- to return after each of these functions
 abbrev pub resumes_by : Visit → ℕ → List ℕ → List Owed
 resumes_by v back targets = map (λ t. owed 4 (resume (call_key v.key t) back)) targets
+
+-- all duties that the visited point owes are covered
+pub record AllSettledByVisit (b : Limits) (image : ImageData) (plan : PlanData) (t : made.Table) (k : Key) (p : ℕ) (u : State) : Type 0 where
+  pub each : (shape : Shape) (n : ℕ) (d : Owed) → IsCode image plan p shape n → Contains (duties_of b image plan k p u shape n) d → Settled (seen t) k p u d.duty

@@ -1,85 +1,79 @@
 -- Visits of places, and the steps and turns over the work list.
-use Rattle.std.specs.Prelude.{◌≡◌, ◌<◌, ℕ, Bool, true, false, Some, Contains, Result, Ok, Err, []}
+use Rattle.std.specs.Prelude.{◌≡◌, ◌<◌, ℕ, Bool, true, false, Some, Result, Ok, Err, []}
 use Rattle.elf_image.specs.Images.{ImageData}
 use Rattle.tcd_plan.specs.PlanData.{PlanData}
 use Rattle.value_domain.specs.declared.states.State.{State}
 use Rattle.value_domain.specs.Limits.{Limits}
 use Rattle.depth_cert.specs.declared.keys.Key.{Key}
-use Rattle.tc_isa.specs.declared.shapes.Shape.{Shape}
-use Rattle.cfg_recover.specs.Code.{IsCode}
 use Rattle.cfg_recover.specs.LocalFaults.{IsFaultless}
-use Rattle.cfg_recover.specs.Duties.{Owed, duties_of}
 use Rattle.cfg_recover.specs.Assignments.{point}
 use Rattle.depth_cert.specs.Known.{state}
-use Rattle.depth_cert.specs.Proper.{IsProper}
-use Rattle.depth_maker.specs.TableView.{Settled, seen}
+use Rattle.depth_cert.specs.Proper.{IsProperState}
+use Rattle.depth_maker.specs.TableView.{seen}
+use Rattle.depth_maker.specs.TableInvariant.{FineOn, IsFine}
 use Rattle.frame_places.specs.declared.places.Spot.{Spot}
 use Rattle.frame_places.specs.declared.places.Mark.TheVariants.{Open}
 use Rattle.frame_places.specs.declared.refusals.Refusal.{Refusal}
-use Rattle.depth_maker.specs.Spots.{spot_of, place_of}
+use Rattle.depth_maker.specs.Spots.{spot_of, place_of_spot}
 use Rattle.frame_places.specs.Marks.{is_queued, mark_for}
-use Rattle.frame_places.specs.Numbers.{StandsAt}
+use Rattle.frame_places.specs.Numbers.{PlaceHasNumber}
 use Rattle.frame_places.specs.Work.{all_work}
-use Rattle.depth_maker.specs.TableLevels.{level, Rises, Steps}
+use Rattle.depth_maker.specs.TableLevels.{level, LevelRises, LevelAdvances}
 use Rattle.depth_maker.specs.declared.inputs_and_limits.Ground.{Ground}
 use Rattle.depth_maker.specs.declared.inputs_and_limits.Visit.{Visit}
-use Rattle.depth_maker.specs.Joins.{Keeps}
+use Rattle.depth_maker.specs.Joins.{JoinKeeps}
 use Rattle.depth_maker.specs.declared.table.Table as made
-use Rattle.depth_maker.specs.TableInvariant.{FineOn, IsFine}
 use Rattle.depth_maker.specs.Answers.{AnsweredOn}
+use Rattle.depth_maker.specs.VisitDuties.{AllSettledByVisit}
 
--- x is being visited, and no other place is
-pub record IsOpenAt (t : made.Table) (x : Spot) : Type 0 where
+-- a visit of x is under way, and no other place is being visited
+pub record IsVisitOpenAt (t : made.Table) (x : Spot) : Type 0 where
   pub at : mark_for t.places x ≡ Some Open
   pub only : (q : Spot) → mark_for t.places q ≡ Some Open → q ≡ x
-  pub stands : StandsAt t.places t.near x
+  pub stands : PlaceHasNumber t.places t.near x
 
--- some place is being visited
-abbrev pub IsOpen : made.Table → Type 0
-IsOpen t = (x : Spot) × IsOpenAt t x
+-- a visit is under way: some place is being visited
+abbrev pub HasVisitOpen : made.Table → Type 0
+HasVisitOpen t = (x : Spot) × IsVisitOpenAt t x
 
--- no place is being visited
-abbrev pub NoneOpen : made.Table → Type 0
-NoneOpen t = (q : Spot) → mark_for t.places q ≡ Some Open → ⊥
-
--- all that the point owes is covered
-pub record AllSettled (b : Limits) (image : ImageData) (plan : PlanData) (t : made.Table) (k : Key) (p : ℕ) (u : State) : Type 0 where
-  pub each : (shape : Shape) (n : ℕ) (d : Owed) → IsCode image plan p shape n → Contains (duties_of b image plan k p u shape n) d → Settled (seen t) k p u d.duty
+-- between visits: no place is being visited
+abbrev pub NoVisitOpen : made.Table → Type 0
+NoVisitOpen t = (q : Spot) → mark_for t.places q ≡ Some Open → ⊥
 
 -- the point x has no fault of its own; what it owes was joined, unless it has new work
-pub record PointJoined (b : Limits) (image : ImageData) (plan : PlanData) (s t : made.Table) (x : Spot) : Type 0 where
+pub record VisitJoinsPoint (b : Limits) (image : ImageData) (plan : PlanData) (s t : made.Table) (x : Spot) : Type 0 where
   pub fine : IsFine b image plan t
-  pub keeps : Keeps b image plan s t
-  pub faultless : (k : Key) (p : ℕ) (u : State) → place_of x ≡ point k p → (seen s).cells (point k p) ≡ Some (state u) → IsFaultless b image plan k p u
+  pub keeps : JoinKeeps b image plan s t
+  pub faultless : (k : Key) (p : ℕ) (u : State) → place_of_spot x ≡ point k p → (seen s).cells (point k p) ≡ Some (state u) → IsFaultless b image plan k p u
   pub settled :
-      (k : Key) (p : ℕ) (u : State) → place_of x ≡ point k p → (seen s).cells (point k p) ≡ Some (state u)
-      → is_queued (mark_for t.places x) ≡ false → AllSettled b image plan t k p u
+      (k : Key) (p : ℕ) (u : State) → place_of_spot x ≡ point k p → (seen s).cells (point k p) ≡ Some (state u)
+      → is_queued (mark_for t.places x) ≡ false → AllSettledByVisit b image plan t k p u
 
 -- between two joins of a visit: the point has the state u, unless it has new work
 pub record IsVisited (b : Limits) (image : ImageData) (plan : PlanData) (t : made.Table) (k : Key) (p : ℕ) (u : State) : Type 0 where
   pub fine : IsFine b image plan t
-  pub proper : IsProper b u
+  pub proper : IsProperState b u
   pub at : is_queued (mark_for t.places (spot_of (point k p))) ≡ false → (seen t).cells (point k p) ≡ Some (state u)
-  pub stands : StandsAt t.places t.near (spot_of (point k p))
+  pub stands : PlaceHasNumber t.places t.near (spot_of (point k p))
 
 -- what the point x owes was joined
-abbrev pub PointJoinedOn : Ground → made.Table → made.Table → Spot → Type 0
-PointJoinedOn g s t x = PointJoined g.bounds.now g.image.now g.plan.now s t x
+abbrev pub VisitJoinsPointOn : Ground → made.Table → made.Table → Spot → Type 0
+VisitJoinsPointOn g s t x = VisitJoinsPoint g.bounds.now g.image.now g.plan.now s t x
 
 -- a visit has ended: no place is being visited, and nothing was queued unless the level rose
-abbrev pub EndsOn : Ground → made.Table → made.Table → Type 0
-EndsOn g s t = FineOn g t × NoneOpen t × Rises s t
+abbrev pub VisitEndsOn : Ground → made.Table → made.Table → Type 0
+VisitEndsOn g s t = FineOn g t × NoVisitOpen t × LevelRises s t
 
 -- a step: the level rose, or the work list is shorter by one; false if nothing was listed
-abbrev pub StepsOn : Ground → made.Table → made.Table → Result Bool Refusal → Type 0
-StepsOn g s t (Ok false) = FineOn g t × NoneOpen t × (level t ≡ level s) × (all_work t.work ≡ [])
-StepsOn g s t (Ok true) = FineOn g t × NoneOpen t × Steps s t
-StepsOn g s t (Err e) = AnsweredOn g e
+abbrev pub VisitStepsOn : Ground → made.Table → made.Table → Result Bool Refusal → Type 0
+VisitStepsOn g s t (Ok false) = FineOn g t × NoVisitOpen t × (level t ≡ level s) × (all_work t.work ≡ [])
+VisitStepsOn g s t (Ok true) = FineOn g t × NoVisitOpen t × LevelAdvances s t
+VisitStepsOn g s t (Err e) = AnsweredOn g e
 
 -- a turn over the work list: the level rose if some work is left
-abbrev pub TurnsOn : Ground → made.Table → made.Table → Result Bool Refusal → Type 0
-TurnsOn g s t (Ok more) = FineOn g t × NoneOpen t × (more ≡ true → level s < level t) × (more ≡ false → all_work t.work ≡ [])
-TurnsOn g s t (Err e) = AnsweredOn g e
+abbrev pub VisitTurnsOn : Ground → made.Table → made.Table → Result Bool Refusal → Type 0
+VisitTurnsOn g s t (Ok more) = FineOn g t × NoVisitOpen t × (more ≡ true → level s < level t) × (more ≡ false → all_work t.work ≡ [])
+VisitTurnsOn g s t (Err e) = AnsweredOn g e
 
 -- between two joins: the point has the state that it is visited with, unless it has new work
 abbrev pub VisitedBy : Visit → made.Table → Type 0

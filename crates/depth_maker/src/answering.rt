@@ -2,18 +2,18 @@
 ghost use Rattle.std.specs.Prelude.{◌≡◌, ◌⊎◌, IfErr, IfOk};
 ghost use Rattle.depth_maker.specs.Answers.{AreMadeOn, IsGroundOf, IsRefused, IsRefusedOn, Refuses, AnsweredOn};
 ghost use Rattle.depth_maker.specs.LeastCertMade.{AreMade, IsMade};
-ghost use Rattle.depth_maker.specs.SpelledCert.{AreWritten};
-ghost use Rattle.depth_maker.specs.Rows.{IsSource};
+ghost use Rattle.depth_maker.specs.SpelledCert.{AreSpelledBytes};
+ghost use Rattle.depth_maker.specs.Rows.{IsRowSource};
 ghost use Rattle.depth_maker.specs.TableInvariant.{IsDone};
 ghost use Rattle.depth_maker.specs.declared.answering.MakeErr.TheVariants.{NoMemory};
 ghost use Rattle.frame_places.specs.declared.refusals.Refusal.TheVariants.{Fault};
 
-use crate::fixpoint::close;
-use crate::handlers::handlers;
+use crate::fixpoint::least_fixpoint;
+use crate::handlers::all_handler_frames;
 use crate::inputs_and_limits::Ground;
 use crate::needs::{frame_needs, needs_error};
 use crate::rows::Source;
-use crate::spelling::cert_bytes;
+use crate::spelling::spelled_cert_bytes;
 use crate::table::Table;
 use depth_cert::{Cert, CertErr, Key};
 use elf_image::Image;
@@ -54,7 +54,7 @@ impl From<tcd_base::NoMemory> for MakeErr {
 }
 
 /// Returns the refusal for a fault of a derived assignment at a place.
-fn error_at(_ground: &Ground, rule: u8, place: Spot) -> MakeErr
+fn answer_for_fault(_ground: &Ground, rule: u8, place: Spot) -> MakeErr
     requires { AnsweredOn _ground.now (Fault rule place) }
     ensures { Refuses _ground.now result }
 {
@@ -69,59 +69,64 @@ fn error_at(_ground: &Ground, rule: u8, place: Spot) -> MakeErr
 }
 
 /// Returns the refusal for a fault of a derived assignment.
-fn error_of(ground: &Ground, refusal: Refusal) -> MakeErr
+fn answer_for_refusal(ground: &Ground, refusal: Refusal) -> MakeErr
     requires { AnsweredOn ground.now refusal }
     ensures { Refuses ground.now result }
 {
     match refusal {
-        Refusal::Fault(rule, place) => error_at(ground, rule, place),
+        Refusal::Fault(rule, place) => answer_for_fault(ground, rule, place),
         Refusal::NoMemory => MakeErr::NoMemory,
     }
 }
 
 /// Returns the bytes of the certificate of a table without work, or why its needs are too great.
-fn bytes_from(alloc: Global, source: &Source, version: u8) -> Result<Vec<u8>, MakeErr>
-    requires source { IsSource source.now }
+fn answer_from_source(alloc: Global, source: &Source, version: u8) -> Result<Vec<u8>, MakeErr>
+    requires source { IsRowSource source.now }
     requires version { (version ≡ 1) ⊎ (version ≡ 2) }
     requires limits { IsGroundOf source.now.ground.now version }
-    ensures ok { IfOk result (λ out. AreWritten source.now.ground.now version out.items) }
+    ensures ok { IfOk result (λ out. AreSpelledBytes source.now.ground.now version out.items) }
     ensures err { IfErr result (Refuses source.now.ground.now) }
 {
     match frame_needs(alloc, source)? {
-        Ok(needs) => Ok(cert_bytes(alloc, source, version, needs.as_slice())?),
+        Ok(needs) => Ok(spelled_cert_bytes(alloc, source, version, needs.as_slice())?),
         Err(place) => Err(needs_error(source, place)),
     }
 }
 
 /// Returns the bytes of the certificate of a table without work, or why its needs are too great.
-fn bytes_by(alloc: Global, ground: &Ground, table: &Table, version: u8) -> Result<Vec<u8>, MakeErr>
+fn answer_from_table(
+    alloc: Global,
+    ground: &Ground,
+    table: &Table,
+    version: u8,
+) -> Result<Vec<u8>, MakeErr>
     requires done { IsDone ground.now table.now }
     requires version { (version ≡ 1) ⊎ (version ≡ 2) }
     requires limits { IsGroundOf ground.now version }
-    ensures ok { IfOk result (λ out. AreWritten ground.now version out.items) }
+    ensures ok { IfOk result (λ out. AreSpelledBytes ground.now version out.items) }
     ensures err { IfErr result (Refuses ground.now) }
 {
     let numbers = number_frames(alloc, table.frames.as_slice())?;
-    let handlers = handlers(alloc, ground.plan, &numbers)?;
+    let handlers = all_handler_frames(alloc, ground.plan, &numbers)?;
     let source = Source {
         ground,
         table,
         numbers: &numbers,
         handlers: handlers.as_slice(),
     };
-    bytes_from(alloc, &source, version)
+    answer_from_source(alloc, &source, version)
 }
 
 /// Returns the bytes of the least certificate within these limits, or why there is none.
-fn bytes_on(alloc: Global, ground: &Ground, version: u8) -> Result<Vec<u8>, MakeErr>
+fn answer_on_ground(alloc: Global, ground: &Ground, version: u8) -> Result<Vec<u8>, MakeErr>
     requires version { (version ≡ 1) ⊎ (version ≡ 2) }
     requires limits { IsGroundOf ground.now version }
     ensures made { IfOk result (λ out. AreMadeOn ground.now version out.items) }
     ensures refused { IfErr result (IsRefusedOn ground.now version) }
 {
-    match close(alloc, ground) {
-        Ok(table) => bytes_by(alloc, ground, &table, version),
-        Err(refusal) => Err(error_of(ground, refusal)),
+    match least_fixpoint(alloc, ground) {
+        Ok(table) => answer_from_table(alloc, ground, &table, version),
+        Err(refusal) => Err(answer_for_refusal(ground, refusal)),
     }
 }
 
@@ -145,7 +150,7 @@ pub fn make_bytes(
         image,
         plan,
     };
-    bytes_on(alloc, &ground, version)
+    answer_on_ground(alloc, &ground, version)
 }
 
 /// Returns the least certificate of version 1 or 2 that the rules accept, or why none is accepted.

@@ -9,13 +9,13 @@ ghost use Rattle.depth_maker.specs.VisitDuties.{enters_by, resumes_by, OwesAll, 
 ghost use Rattle.depth_maker.specs.Visits.{VisitedBy};
 
 use crate::inputs_and_limits::Visit;
-use crate::join_entries::{join_each_entry, join_entry_and_back, join_resume};
+use crate::join_entries::{join_each_entry, join_entry_and_back, join_return_after_entry};
 use crate::last_call::LastCall;
 use crate::table::Table;
 use arrayvec::ArrayVec;
 use cfg_recover::{direct_target, entered_key, targets};
 use depth_cert::CALL;
-use frame_places::{Refusal, has_work};
+use frame_places::{Refusal, has_queued_mark};
 use small_states::Incoming;
 use std::alloc::Global;
 use tc_isa::Target;
@@ -58,7 +58,7 @@ fn note_call(
     if targets.len() < 2 {
         return Ok(());
     }
-    if has_work(&table.places, table.near) {
+    if has_queued_mark(&table.places, table.near) {
         return Ok(());
     }
     let Some((_, own)) = table.places.get_index(table.near) else {
@@ -71,7 +71,7 @@ fn note_call(
 }
 
 /// Joins the entries of these functions, unless they are known to be covered.
-fn join_listed_entries(
+fn join_listed_call_entries(
     alloc: Global,
     table: &mut Table,
     v: &Visit,
@@ -94,7 +94,7 @@ fn join_listed_entries(
 }
 
 /// Joins the states after these functions returned at `back`.
-fn join_returns(
+fn join_call_returns(
     alloc: Global,
     table: &mut Table,
     v: &Visit,
@@ -109,7 +109,7 @@ fn join_returns(
 {
     for t in targets {
         let key = entered_key(&v.key, CALL, *t);
-        join_resume(alloc, table, v, key, back)?;
+        join_return_after_entry(alloc, table, v, key, back)?;
     }
     Ok(())
 }
@@ -134,11 +134,12 @@ fn join_listed_calls(
     ensures err { IfErr result (AnsweredOn v.now.ground.now) }
 {
     let targets = targets(v.ground.plan, v.state, v.addr, to);
-    join_listed_entries(alloc, table, v, entry, &targets)?;
-    join_returns(alloc, table, v, targets.as_slice(), back)
+    join_listed_call_entries(alloc, table, v, entry, &targets)?;
+    join_call_returns(alloc, table, v, targets.as_slice(), back)
 }
 
-/// Writes the change of a state by a call.
+/// Writes the change of the visited point's state by a call. The entries of the called functions
+/// are joined with it.
 #[inline(always)]
 fn enter_by_call(c: &mut Change, s: &State)
     ensures { state_after s.now c.new ≡ entries.call_entry s.now }

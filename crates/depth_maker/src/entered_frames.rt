@@ -1,19 +1,21 @@
 // The frames that an instruction enters.
-ghost use Rattle.std.specs.Prelude.{◌≡◌, ◌++◌, OnOk, IfOk, map};
+ghost use Rattle.std.specs.Prelude.{◌≡◌, ◌++◌, OnOk, IfOk, map, IsTrue};
 ghost use Rattle.tc_isa.specs.InBounds.{IsShape};
-ghost use Rattle.depth_cert.specs.Proper.{IsProper};
+ghost use Rattle.depth_cert.specs.Proper.{IsProperState};
 ghost use Rattle.cfg_recover.specs.Entries as frames;
-ghost use Rattle.depth_maker.specs.EnteredFrames.{entered_in};
+ghost use Rattle.depth_maker.specs.EnteredFrames.{entered_in, EntersNoFrame};
 ghost use Rattle.depth_maker.specs.VisitDuties.{StandsBy, access_by, entries_by};
 
-use crate::handlers::is_misaligned;
+use crate::handlers::may_enter_misaligned_handler;
 use crate::inputs_and_limits::Visit;
 use cfg_recover::{Located, aln_key, entered_key, sys_key, targets};
 use depth_cert::{CALL, Key};
 use std::alloc::{AllocError, Global};
 use tc_isa::Shape;
+use tcd_plan::Plan;
 
-fn add_calls(keys: &mut Vec<Key>, key: Key, targets: &[u32]) -> Result<(), AllocError>
+/// Appends the frames of these functions, which a call enters.
+fn add_called_frames(keys: &mut Vec<Key>, key: Key, targets: &[u32]) -> Result<(), AllocError>
     ensures { OnOk result
         (keys.new.items ≡ keys.old.items ++ map (frames.call_key key) targets.now) }
 {
@@ -23,7 +25,8 @@ fn add_calls(keys: &mut Vec<Key>, key: Key, targets: &[u32]) -> Result<(), Alloc
     Ok(())
 }
 
-fn add_entries(keys: &mut Vec<Key>, v: &Visit, found: &Located) -> Result<(), AllocError>
+/// Appends the frames that the instruction enters by a call or a system call.
+fn add_entered_frames(keys: &mut Vec<Key>, v: &Visit, found: &Located) -> Result<(), AllocError>
     requires { IsShape found.now.shape }
     ensures { OnOk result
         (keys.new.items
@@ -32,7 +35,7 @@ fn add_entries(keys: &mut Vec<Key>, v: &Visit, found: &Located) -> Result<(), Al
     match found.shape {
         Shape::Call { to } => {
             let targets = targets(v.ground.plan, v.state, v.addr, to);
-            add_calls(keys, v.key, targets.as_slice())
+            add_called_frames(keys, v.key, targets.as_slice())
         }
         Shape::Syscall { .. } => {
             keys.push(sys_key(v.ground.plan, &v.key))?;
@@ -42,13 +45,14 @@ fn add_entries(keys: &mut Vec<Key>, v: &Visit, found: &Located) -> Result<(), Al
     }
 }
 
-fn add_access(keys: &mut Vec<Key>, v: &Visit, found: &Located) -> Result<(), AllocError>
-    requires proper { IsProper v.now.ground.now.bounds.now v.now.state.now }
+/// Appends the frame of the handler of misaligned accesses, if the instruction may enter it.
+fn add_misaligned_frame(keys: &mut Vec<Key>, v: &Visit, found: &Located) -> Result<(), AllocError>
+    requires proper { IsProperState v.now.ground.now.bounds.now v.now.state.now }
     requires stands { StandsBy v.now found.now }
     ensures { OnOk result
         (keys.new.items ≡ keys.old.items ++ entered_in (access_by v.now found.now)) }
 {
-    if is_misaligned(v, found) {
+    if may_enter_misaligned_handler(v, found) {
         keys.push(aln_key(v.ground.plan, &v.key))?;
     }
     Ok(())
@@ -60,14 +64,29 @@ pub(crate) fn entered_frames(
     v: &Visit,
     found: &Located,
 ) -> Result<Vec<Key>, AllocError>
-    requires proper { IsProper v.now.ground.now.bounds.now v.now.state.now }
+    requires proper { IsProperState v.now.ground.now.bounds.now v.now.state.now }
     requires stands { StandsBy v.now found.now }
     ensures { IfOk result (λ keys. keys.items
         ≡ entered_in (entries_by v.now found.now.shape found.now.size)
         ++ entered_in (access_by v.now found.now)) }
 {
     let mut keys = Vec::new(alloc);
-    add_entries(&mut keys, v, found)?;
-    add_access(&mut keys, v, found)?;
+    add_entered_frames(&mut keys, v, found)?;
+    add_misaligned_frame(&mut keys, v, found)?;
     Ok(keys)
+}
+
+/// Returns true only if an instruction of this shape enters no frame by itself. Without traps of
+/// misaligned accesses, accesses are aligned.
+pub(crate) fn enters_no_frame(plan: &Plan, shape: Shape) -> bool
+    ensures { IsTrue result → EntersNoFrame plan.now shape }
+{
+    let trapped = plan.aln;
+    match shape {
+        Shape::Call { .. } => false,
+        Shape::Syscall { .. } => false,
+        Shape::Load { .. } => !trapped,
+        Shape::Store { .. } => !trapped,
+        _ => true,
+    }
 }

@@ -3,18 +3,20 @@ ghost use Rattle.std.specs.Prelude.{◌≡◌, OnOk, IfOk, IfErr, None};
 ghost use Rattle.indexmap.specs.IndexMap.{get};
 ghost use Rattle.frame_places.specs.declared.places.Spot as spots;
 ghost use Rattle.frame_places.specs.Spots.{spot_eq};
-ghost use Rattle.cfg_recover.specs.SetOperations.{HoldsResults};
+ghost use Rattle.cfg_recover.specs.SetOperations.{HoldsCachedResults};
 ghost use Rattle.depth_maker.specs.TableInvariant.{FineOn, IsDone};
 ghost use Rattle.depth_maker.specs.Answers.{AnsweredOn};
-ghost use Rattle.depth_maker.specs.Visits.{EndsOn, IsOpen, NoneOpen, StepsOn, TurnsOn};
+ghost use Rattle.depth_maker.specs.Visits.{VisitEndsOn, HasVisitOpen, NoVisitOpen, VisitStepsOn, VisitTurnsOn};
 
 use crate::covered::CoveredEntries;
 use crate::inputs_and_limits::Ground;
 use crate::interrupt_contexts::LastInterrupts;
-use crate::table::{Table, first_room};
+use crate::table::{Table, first_table_room};
 use crate::visit::visit_place;
 use cfg_recover::{KnownCodes, OperationCache, start_key, start_state};
-use frame_places::{Refusal, Spot, Work, add, begin_visit, end_visit, has_work};
+use frame_places::{
+    Refusal, Spot, Work, add_queued_place, begin_visit, end_visit, has_queued_mark,
+};
 use indexmap::IndexMap;
 use small_states::{Incoming, ScratchState, SmallKnown};
 use std::alloc::Global;
@@ -27,8 +29,8 @@ pub(crate) struct VisitScratch {
     pub(crate) codes: KnownCodes,
 }
 
-/// Returns a map without readers.
-fn no_readers(alloc: Global) -> IndexMap<Spot, Vec<Spot>>
+/// Returns the readers of exits at the start of the fixpoint: there are none.
+fn fixpoint_start_readers(alloc: Global) -> IndexMap<Spot, Vec<Spot>>
     ensures { (z : spots.Spot) → get spot_eq result z ≡ None }
 {
     IndexMap::new(alloc)
@@ -36,8 +38,8 @@ fn no_readers(alloc: Global) -> IndexMap<Spot, Vec<Spot>>
 
 /// Returns the table with only the start.
 #[inline(never)]
-fn begin(alloc: Global, ground: &Ground) -> Result<Table, Refusal>
-    ensures ok { IfOk result (λ t. FineOn ground.now t × NoneOpen t) }
+fn begin_fixpoint(alloc: Global, ground: &Ground) -> Result<Table, Refusal>
+    ensures ok { IfOk result (λ t. FineOn ground.now t × NoVisitOpen t) }
     ensures err { IfErr result (AnsweredOn ground.now) }
 {
     let key = start_key(ground.image, ground.plan);
@@ -46,16 +48,16 @@ fn begin(alloc: Global, ground: &Ground) -> Result<Table, Refusal>
     let same = unchanged(&start);
     let incoming = Incoming::Changed(&start, &same);
     let cell = SmallKnown::new(alloc, ground.bounds, &incoming)?;
-    let mut places = IndexMap::with_capacity(alloc, first_room(ground.image))?;
+    let mut places = IndexMap::with_capacity(alloc, first_table_room(ground.image))?;
     let mut work = Work::new(alloc);
     let mut points = Vec::new(alloc);
     let mut frames = Vec::new(alloc);
     points.push(place)?;
     frames.push(key)?;
-    add(&mut places, &mut work, place, cell)?;
+    add_queued_place(&mut places, &mut work, place, cell)?;
     Ok(Table {
         places,
-        readers: no_readers(alloc),
+        readers: fixpoint_start_readers(alloc),
         work,
         points,
         frames,
@@ -71,7 +73,7 @@ fn begin(alloc: Global, ground: &Ground) -> Result<Table, Refusal>
 }
 
 /// Visits the place that was taken off the list.
-fn visit(
+fn fixpoint_visit(
     alloc: Global,
     ground: &Ground,
     table: &mut Table,
@@ -80,11 +82,11 @@ fn visit(
     cache: &mut OperationCache,
 ) -> Result<(), Refusal>
     requires fine { FineOn ground.now table.old }
-    requires opened { IsOpen table.old }
-    requires results { HoldsResults ground.now.bounds.now cache.old }
-    ensures ok { OnOk result (EndsOn ground.now table.old table.new) }
+    requires opened { HasVisitOpen table.old }
+    requires results { HoldsCachedResults ground.now.bounds.now cache.old }
+    ensures ok { OnOk result (VisitEndsOn ground.now table.old table.new) }
     ensures err { IfErr result (AnsweredOn ground.now) }
-    ensures results { HoldsResults ground.now.bounds.now cache.new }
+    ensures results { HoldsCachedResults ground.now.bounds.now cache.new }
 {
     let plain = visit_place(alloc, ground, table, scratch, change, cache)?;
     end_visit(&mut table.places, table.near, plain);
@@ -93,7 +95,7 @@ fn visit(
 
 /// Takes the next place off the list, and visits it if it still has work. Returns false if the list
 /// is empty.
-fn step(
+fn fixpoint_step(
     alloc: Global,
     ground: &Ground,
     table: &mut Table,
@@ -102,40 +104,40 @@ fn step(
     cache: &mut OperationCache,
 ) -> Result<bool, Refusal>
     requires fine { FineOn ground.now table.old }
-    requires none { NoneOpen table.old }
-    requires results { HoldsResults ground.now.bounds.now cache.old }
-    ensures steps { StepsOn ground.now table.old table.new result }
-    ensures results { HoldsResults ground.now.bounds.now cache.new }
+    requires none { NoVisitOpen table.old }
+    requires results { HoldsCachedResults ground.now.bounds.now cache.old }
+    ensures steps { VisitStepsOn ground.now table.old table.new result }
+    ensures results { HoldsCachedResults ground.now.bounds.now cache.new }
 {
     let Some(number) = table.work.pop() else {
         return Ok(false);
     };
-    if !has_work(&table.places, number) {
+    if !has_queued_mark(&table.places, number) {
         return Ok(true);
     }
     table.near = number;
     begin_visit(&mut table.places, number);
-    visit(alloc, ground, table, scratch, change, cache)?;
+    fixpoint_visit(alloc, ground, table, scratch, change, cache)?;
     Ok(true)
 }
 
 /// Takes up to as many places off the list as it has now, and 1,024 more, and visits those with
 /// work. Returns whether some are left.
 #[inline(never)]
-fn turn(
+fn fixpoint_turn(
     alloc: Global,
     ground: &Ground,
     table: &mut Table,
     scratch: &mut VisitScratch,
 ) -> Result<bool, Refusal>
     requires fine { FineOn ground.now table.old }
-    requires none { NoneOpen table.old }
-    ensures { TurnsOn ground.now table.old table.new result }
+    requires none { NoVisitOpen table.old }
+    ensures { VisitTurnsOn ground.now table.old table.new result }
 {
     let mut change = unchanged(scratch.state.state());
     let mut cache = OperationCache::empty();
     for _done in 0..table.work.len() + 1024 {
-        if !step(alloc, ground, table, scratch, &mut change, &mut cache)? {
+        if !fixpoint_step(alloc, ground, table, scratch, &mut change, &mut cache)? {
             return Ok(false);
         }
     }
@@ -145,15 +147,15 @@ fn turn(
 /// Returns the least closed assignment, or a fault of a derived one.
 // It is a function of its own, so that its stack room is free before the rows are made.
 #[inline(never)]
-pub(crate) fn close(alloc: Global, ground: &Ground) -> Result<Table, Refusal>
+pub(crate) fn least_fixpoint(alloc: Global, ground: &Ground) -> Result<Table, Refusal>
     ensures ok { IfOk result (IsDone ground.now) }
     ensures err { IfErr result (AnsweredOn ground.now) }
 {
-    let mut table = begin(alloc, ground)?;
+    let mut table = begin_fixpoint(alloc, ground)?;
     let mut scratch = VisitScratch {
         state: ScratchState::new(start_state(ground.plan)),
         codes: KnownCodes::new(),
     };
-    while turn(alloc, ground, &mut table, &mut scratch)? {}
+    while fixpoint_turn(alloc, ground, &mut table, &mut scratch)? {}
     Ok(table)
 }

@@ -1,16 +1,16 @@
 // The frames of the handlers of interrupts, by their numbers.
 ghost use Rattle.std.specs.Prelude.{◌≡◌, ◌≤◌, ◌<◌, ◌+◌, ◌++◌, ◌∷◌, [], List, IfOk, OnOk, length, vec_len, vec_capacity, if◌then◌else◌};
 ghost use Rattle.depth_cert.specs.declared.keys.Key as keys;
-ghost use Rattle.frame_places.specs.Numbers.{AreNumbers};
+ghost use Rattle.frame_places.specs.Numbers.{AreFrameNumbers};
 ghost use Rattle.depth_maker.specs.InterruptHandlers.{AreHandlers, nodes_above, nodes_taken};
-ghost use Rattle.depth_cert.specs.Proper.{IsProper};
+ghost use Rattle.depth_cert.specs.Proper.{IsProperState};
 ghost use Rattle.depth_maker.specs.VisitDuties.{StandsBy, access_by, misaligned_by};
 
 use crate::inputs_and_limits::Visit;
 use crate::join_entries::accesses_misaligned;
 use cfg_recover::{Located, irq_key};
 use depth_cert::Key;
-use frame_places::number_of;
+use frame_places::frame_number;
 use indexmap::IndexMap;
 use std::alloc::{AllocError, Global};
 use tc_isa::Shape;
@@ -24,40 +24,40 @@ pub(crate) struct Handler {
 }
 
 /// Returns the handlers of these interrupts.
-fn handlers_of(
+fn handler_frames_of(
     alloc: Global,
     plan: &Plan,
     numbers: &IndexMap<Key, usize>,
     irqs: &[u8],
 ) -> Result<Vec<Handler>, AllocError>
     ensures { IfOk result (λ handlers. (frames : List keys.Key)
-        → AreNumbers numbers.now frames frames
+        → AreFrameNumbers numbers.now frames frames
         → AreHandlers plan.now frames irqs.now handlers.items) }
 {
     let mut handlers = Vec::new(alloc);
     for p in irqs {
-        let node = number_of(numbers, irq_key(plan, *p));
+        let node = frame_number(numbers, irq_key(plan, *p));
         handlers.push(Handler { prio: *p, node })?;
     }
     Ok(handlers)
 }
 
 /// Returns the handlers of all stated interrupts.
-pub(crate) fn handlers(
+pub(crate) fn all_handler_frames(
     alloc: Global,
     plan: &Plan,
     numbers: &IndexMap<Key, usize>,
 ) -> Result<Vec<Handler>, AllocError>
     ensures { IfOk result (λ handlers. (frames : List keys.Key)
-        → AreNumbers numbers.now frames frames
+        → AreFrameNumbers numbers.now frames frames
         → AreHandlers plan.now frames plan.now.irqs handlers.items) }
 {
-    handlers_of(alloc, plan, numbers, plan.irqs.as_slice())
+    handler_frames_of(alloc, plan, numbers, plan.irqs.as_slice())
 }
 
 /// Appends the frame of a handler if its interrupt is above this priority. There is room for it.
 #[inline(always)]
-fn add_above(into: &mut Vec<usize>, ccpn: u8, handler: &Handler)
+fn add_handler_above(into: &mut Vec<usize>, ccpn: u8, handler: &Handler)
     requires { vec_len into.old < vec_capacity into.old }
     ensures items { into.new.items ≡ into.old.items ++ nodes_above ccpn (handler.now ∷ []) }
     ensures few { vec_len into.new ≤ vec_len into.old + 1 }
@@ -69,19 +69,20 @@ fn add_above(into: &mut Vec<usize>, ccpn: u8, handler: &Handler)
     into.push_reserved(handler.node);
 }
 
-/// Appends the frames of all handlers above this priority. There is room for them.
+/// Appends the numbers of the frames of all interrupt handlers above this priority. There is room
+/// for them.
 #[inline(always)]
-fn add_all_above(into: &mut Vec<usize>, ccpn: u8, handlers: &[Handler])
+fn add_handlers_above(into: &mut Vec<usize>, ccpn: u8, handlers: &[Handler])
     requires { vec_len into.old + length handlers.now ≤ vec_capacity into.old }
     ensures { into.new.items ≡ into.old.items ++ nodes_above ccpn handlers.now }
 {
     for h in handlers {
-        add_above(into, ccpn, h);
+        add_handler_above(into, ccpn, h);
     }
 }
 
 /// Appends the frames of the interrupts that may be taken: those above this priority if IE is on.
-pub(crate) fn add_taken(
+pub(crate) fn add_taken_handlers(
     into: &mut Vec<usize>,
     ie: bool,
     ccpn: u8,
@@ -93,14 +94,14 @@ pub(crate) fn add_taken(
         return Ok(());
     }
     into.reserve(handlers.len())?;
-    add_all_above(into, ccpn, handlers);
+    add_handlers_above(into, ccpn, handlers);
     Ok(())
 }
 
 /// Returns whether an access of the instruction may be misaligned and the plan has traps of
 /// misaligned accesses.
-pub(crate) fn is_misaligned(v: &Visit, found: &Located) -> bool
-    requires proper { IsProper v.now.ground.now.bounds.now v.now.state.now }
+pub(crate) fn may_enter_misaligned_handler(v: &Visit, found: &Located) -> bool
+    requires proper { IsProperState v.now.ground.now.bounds.now v.now.state.now }
     requires stands { StandsBy v.now found.now }
     ensures { access_by v.now found.now ≡ (if result then misaligned_by v.now ∷ [] else []) }
 {

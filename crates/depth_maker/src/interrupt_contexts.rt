@@ -2,12 +2,11 @@
 ghost use Rattle.std.specs.Prelude.{◌≡◌, IsTrue};
 ghost use Rattle.value_domain.specs.declared.states.State.{State};
 ghost use Rattle.value_domain.specs.Values.{IsBelow, IsValue, IsWell};
-ghost use Rattle.depth_maker.specs.InterruptHandlers.{IsAlike, IsContextOf, IsWithinContext, joined_context};
-ghost use Rattle.depth_maker.specs.SharedStates.{IsNotedFor};
+ghost use Rattle.depth_maker.specs.InterruptHandlers.{IsAlike, IsContextOf, IsWithinContext, joined_context, HasNotedInterrupts};
 ghost use Rattle.value_domain.specs.State.{a10_of};
-ghost use Rattle.depth_cert.specs.Proper.{IsProper};
+ghost use Rattle.depth_cert.specs.Proper.{IsProperState};
 ghost use Rattle.frame_places.specs.declared.places.Spot.TheVariants.{Point};
-ghost use Rattle.frame_places.specs.Numbers.{StandsAt};
+ghost use Rattle.frame_places.specs.Numbers.{PlaceHasNumber};
 ghost use Rattle.depth_maker.specs.TableInvariant.{FineOn};
 ghost use Rattle.depth_maker.specs.VisitDuties.{OwesAll, JoinedBy, StayJoined, interrupts_by};
 ghost use Rattle.depth_maker.specs.Visits.{VisitedBy};
@@ -17,7 +16,7 @@ ghost use Rattle.depth_cert.specs.Known.{state};
 use crate::inputs_and_limits::Visit;
 use crate::table::Table;
 use cfg_recover::interrupts;
-use frame_places::has_work;
+use frame_places::has_queued_mark;
 use value_domain::{A10_SLOT, Bounds, State, Val, join, leq};
 
 /// What the handlers' entries depend on at a point.
@@ -98,7 +97,7 @@ impl InterruptContext {
 
 /// Returns true only if the last contexts of interrupts show that the entries of all interrupts
 /// that may be taken are covered.
-pub(crate) fn are_noted(table: &Table, v: &Visit) -> bool
+pub(crate) fn is_interrupt_context_noted(table: &Table, v: &Visit) -> bool
     requires { VisitedBy v.now table.now }
     ensures { IsTrue result → JoinedBy v.now table.now table.now (interrupts_by v.now) }
 {
@@ -117,7 +116,7 @@ pub(crate) fn are_noted(table: &Table, v: &Visit) -> bool
 /// that may be taken are covered in each frame with this CCPN.
 #[inline(always)]
 pub(crate) fn has_noted_interrupts(table: &Table, is: bool, ccpn: u8) -> bool
-    ensures { IsTrue result → IsNotedFor table.now is ccpn }
+    ensures { IsTrue result → HasNotedInterrupts table.now is ccpn }
 {
     match &table.covered.interrupts.last {
         Some(last) => last.covers_any_stack(is, ccpn),
@@ -131,13 +130,13 @@ pub(crate) fn has_noted_interrupts(table: &Table, is: bool, ccpn: u8) -> bool
 #[inline(never)]
 pub(crate) fn note_interrupts(table: &mut Table, v: &Visit)
     requires fine { FineOn v.now.ground.now table.old }
-    requires near { StandsAt table.old.places table.old.near (Point v.now.key v.now.addr) }
-    requires proper { IsProper v.now.ground.now.bounds.now v.now.state.now }
+    requires near { PlaceHasNumber table.old.places table.old.near (Point v.now.key v.now.addr) }
+    requires proper { IsProperState v.now.ground.now.bounds.now v.now.state.now }
     requires on { IsTrue v.now.state.now.ie }
     requires owes { OwesAll v.now (interrupts_by v.now) }
     ensures { StayJoined v.now table.old table.new (interrupts_by v.now) }
 {
-    if has_work(&table.places, table.near) {
+    if has_queued_mark(&table.places, table.near) {
         return;
     }
     if let Some(last) = &mut table.covered.interrupts.last {

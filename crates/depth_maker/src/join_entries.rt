@@ -1,8 +1,8 @@
 // Joins the entries of frames that the visited point enters.
 ghost use Rattle.std.specs.Prelude.{◌≡◌, OnOk, IfErr, [], ◌∷◌, not, ℕ};
-ghost use Rattle.tc_isa.specs.InBounds.{IsShape, IsSize};
+ghost use Rattle.tc_isa.specs.InBounds.{IsShape, IsShapeAccessSize};
 ghost use Rattle.vd_transfer.specs.Changes.{state_after};
-ghost use Rattle.depth_cert.specs.Proper.{IsProper};
+ghost use Rattle.depth_cert.specs.Proper.{IsProperState};
 ghost use Rattle.cfg_recover.specs.Entries.{irqs_of};
 ghost use Rattle.cfg_recover.specs.FlowDuties.{told_irqs};
 ghost use Rattle.frame_places.specs.declared.places.Spot.TheVariants.{Point, Exit};
@@ -17,26 +17,27 @@ ghost use Rattle.cfg_recover.specs.Assignments.{point};
 ghost use Rattle.depth_cert.specs.Known.{state};
 
 use crate::calls::join_call;
-use crate::handlers::is_misaligned;
+use crate::handlers::may_enter_misaligned_handler;
 use crate::inputs_and_limits::Visit;
-use crate::interrupt_contexts::{are_noted, note_interrupts};
-use crate::join_place::join_at;
+use crate::interrupt_contexts::{is_interrupt_context_noted, note_interrupts};
+use crate::join_place::join_at_place;
 use crate::join_successors::join_return;
 use crate::table::Table;
 use cfg_recover::{
-    Located, aln_key, entered_key, handler_change, interrupts, irq_key, is_aligned,
+    Located, aln_key, entered_key, handler_change, interrupts, irq_key, is_flow_access_aligned,
     misaligned_change, sys_key, system_change, targets,
 };
 use depth_cert::{CALL, Key};
-use frame_places::{Refusal, Spot, has_work, register};
+use frame_places::{Refusal, Spot, has_queued_mark, register_reader};
 use small_states::Incoming;
 use std::alloc::Global;
 use tc_isa::Shape;
 use vd_transfer::{Change, address_by};
 
-/// Joins the system call `tin`. It is a call of its own, since it has room for a change.
+/// Joins the entry of the handler of the system call `tin`, and the state after its return. It is a
+/// call of its own, since it has room for a change.
 #[inline(never)]
-fn join_system_call(
+fn join_system_call_entry(
     alloc: Global,
     table: &mut Table,
     v: &Visit,
@@ -71,15 +72,15 @@ pub(crate) fn join_entries(
     let back = v.addr.wrapping_add(size);
     match shape {
         Shape::Call { to } => join_call(alloc, table, v, to, back, c),
-        Shape::Syscall { tin } => join_system_call(alloc, table, v, tin, back),
+        Shape::Syscall { tin } => join_system_call_entry(alloc, table, v, tin, back),
         _ => Ok(()),
     }
 }
 
-/// Joins the entry of the handler of misaligned accesses. It is a call of its own, since it has
-/// room for a change.
+/// Joins the entry of the handler of misaligned accesses, as the other entries of the visited
+/// point. It is a call of its own, since it has room for a change.
 #[inline(never)]
-fn join_misaligned(alloc: Global, table: &mut Table, v: &Visit) -> Result<(), Refusal>
+fn join_misaligned_entry(alloc: Global, table: &mut Table, v: &Visit) -> Result<(), Refusal>
     requires visited { VisitedBy v.now table.old }
     requires owes { OwesAll v.now (misaligned_by v.now ∷ []) }
     ensures ok { OnOk result (JoinedBy v.now table.old table.new (misaligned_by v.now ∷ [])) }
@@ -104,15 +105,15 @@ pub(crate) fn join_access(
     ensures ok { OnOk result (JoinedBy v.now table.old table.new (access_by v.now found.now)) }
     ensures err { IfErr result (AnsweredOn v.now.ground.now) }
 {
-    if !is_misaligned(v, found) {
+    if !may_enter_misaligned_handler(v, found) {
         return Ok(());
     }
-    join_misaligned(alloc, table, v)
+    join_misaligned_entry(alloc, table, v)
 }
 
 /// Joins the entries of the handlers of these interrupts. `entry` is the change at an entry, except
 /// for its CCPN.
-fn join_irqs(
+fn join_each_handler_entry(
     alloc: Global,
     table: &mut Table,
     v: &Visit,
@@ -146,7 +147,7 @@ fn join_handlers(alloc: Global, table: &mut Table, v: &Visit, irqs: &[u8]) -> Re
     ensures err { IfErr result (AnsweredOn v.now.ground.now) }
 {
     let entry = handler_change(v.ground.bounds, v.ground.plan, &v.key, v.state, 0);
-    join_irqs(alloc, table, v, irqs, entry)
+    join_each_handler_entry(alloc, table, v, irqs, entry)
 }
 
 /// Joins the entries of the handlers of the interrupts that may be taken. There are none if IE is
@@ -160,7 +161,7 @@ pub(crate) fn join_interrupts(alloc: Global, table: &mut Table, v: &Visit) -> Re
     if !v.state.ie {
         return Ok(());
     }
-    if are_noted(&*table, v) {
+    if is_interrupt_context_noted(&*table, v) {
         return Ok(());
     }
     let irqs = interrupts(v.ground.plan, v.state);
@@ -197,15 +198,15 @@ pub(crate) fn join_each_entry(
 /// of its own, since it has room for a value.
 #[inline(never)]
 pub(crate) fn accesses_misaligned(v: &Visit, shape: Shape, size: u8) -> bool
-    requires proper { IsProper v.now.ground.now.bounds.now v.now.state.now }
+    requires proper { IsProperState v.now.ground.now.bounds.now v.now.state.now }
     requires shape { IsShape shape }
-    requires size { IsSize size }
+    requires size { IsShapeAccessSize size }
     ensures { result ≡ not (are_aligned (address_of v.now.ground.now.bounds.now
         v.now.ground.now.plan.now shape v.now.state.now) size) }
 {
     let g = v.ground;
     let at = address_by(g.bounds, g.plan, shape, v.state);
-    !is_aligned(g.bounds, &at, size)
+    !is_flow_access_aligned(g.bounds, &at, size)
 }
 
 /// Joins a changed state at the entry of a frame.
@@ -224,16 +225,16 @@ pub(crate) fn join_entry(
         (owed rule (enter key (state_after v.now.state.now c.now)) ∷ [])) }
     ensures err { IfErr result (AnsweredOn v.now.ground.now) }
 {
-    if has_work(&table.places, table.near) {
+    if has_queued_mark(&table.places, table.near) {
         return Ok(());
     }
     let incoming = Incoming::Changed(v.state, c);
-    join_at(alloc, table, v, &Spot::Point(key, key.entry), &incoming)
+    join_at_place(alloc, table, v, &Spot::Point(key, key.entry), &incoming)
 }
 
-/// Makes the point a reader of the exit of the frame that it enters, and joins the state after the
-/// return at `back`.
-pub(crate) fn join_resume(
+/// Makes the visited point a reader of the exit of the frame that it enters, and joins the state
+/// after the return at `back`.
+pub(crate) fn join_return_after_entry(
     alloc: Global,
     table: &mut Table,
     v: &Visit,
@@ -245,7 +246,7 @@ pub(crate) fn join_resume(
     ensures ok { OnOk result (JoinedBy v.now table.old table.new (owed 4 (resume key back) ∷ [])) }
     ensures err { IfErr result (AnsweredOn v.now.ground.now) }
 {
-    register(
+    register_reader(
         alloc,
         &mut table.readers,
         Spot::Exit(key),
@@ -273,5 +274,5 @@ pub(crate) fn join_entry_and_back(
     ensures err { IfErr result (AnsweredOn v.now.ground.now) }
 {
     join_entry(alloc, table, v, key, c)?;
-    join_resume(alloc, table, v, key, back)
+    join_return_after_entry(alloc, table, v, key, back)
 }

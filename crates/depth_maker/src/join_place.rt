@@ -5,14 +5,14 @@ ghost use Rattle.cfg_recover.specs.Assignments.{point};
 ghost use Rattle.depth_cert.specs.Known.{state};
 ghost use Rattle.small_states.specs.Incoming.{incoming_known, sender_state};
 ghost use Rattle.frame_places.specs.declared.places.Spot.TheVariants.{Point};
-ghost use Rattle.frame_places.specs.Marks.{AllListed, AreKnown, Reads, Requeues};
+ghost use Rattle.frame_places.specs.Marks.{AllListed, AreKnown, IsAmongReaders, Requeues};
 ghost use Rattle.frame_places.specs.Work.{all_work};
-ghost use Rattle.frame_places.specs.Numbers.{StandsAt};
+ghost use Rattle.frame_places.specs.Numbers.{PlaceHasNumber};
 ghost use Rattle.frame_places.specs.Spots.{spot_eq};
-ghost use Rattle.depth_maker.specs.TableInvariant.{AreExitsRead, FineOn};
+ghost use Rattle.depth_maker.specs.TableInvariant.{TableReadsExits, FineOn};
 ghost use Rattle.depth_maker.specs.TableView.{seen};
 ghost use Rattle.depth_maker.specs.Counts.{AreFew};
-ghost use Rattle.depth_maker.specs.Spots.{place_of};
+ghost use Rattle.depth_maker.specs.Spots.{place_of_spot};
 ghost use Rattle.depth_maker.specs.Answers.{AnsweredOn};
 ghost use Rattle.depth_maker.specs.Joins.{AddsOn, AsksOn, JoinedOn, JoinsOn};
 ghost use Rattle.depth_maker.specs.declared.inputs_and_limits.Ground.{Ground};
@@ -20,15 +20,16 @@ ghost use Rattle.depth_maker.specs.declared.inputs_and_limits.Ground.{Ground};
 use crate::inputs_and_limits::Visit;
 use crate::table::Table;
 use frame_places::{
-    LOCALS_RULE, Marked, Refusal, Spot, Work, add_or_find, count, put, requeue_readers_of,
+    LOCALS_RULE, Marked, Refusal, Spot, Work, add_or_find_place, count_place, put_place,
+    requeue_readers_of,
 };
 use indexmap::IndexMap;
-use small_states::{Incoming, SmallKnown, priority};
+use small_states::{Incoming, SmallKnown, incoming_priority};
 use std::alloc::{AllocError, Global};
 
 /// Joins what flows into `y`, which has this number, and queues `y`, unless it is covered. Returns
 /// whether it wasn't. The entry point of a frame waits for the next round if it was visited.
-fn join_known(
+fn join_known_place(
     alloc: Global,
     table: &mut Table,
     v: &Visit,
@@ -37,8 +38,8 @@ fn join_known(
     incoming: &Incoming,
 ) -> Result<bool, Refusal>
     requires fine { FineOn v.now.ground.now table.old }
-    requires there { StandsAt table.old.places number y.now }
-    requires near { StandsAt table.old.places table.old.near (Point v.now.key v.now.addr) }
+    requires there { PlaceHasNumber table.old.places number y.now }
+    requires near { PlaceHasNumber table.old.places table.old.near (Point v.now.key v.now.addr) }
     requires at { (seen table.old).cells (point v.now.key v.now.addr)
         ≡ Some (state v.now.state.now) }
     requires own { sender_state incoming.now ≡ v.now.state.now }
@@ -59,7 +60,7 @@ fn join_known(
     let Some(cell) = place.value.join_from(alloc, b, &own.value, incoming)? else {
         return Err(Refusal::Fault(LOCALS_RULE, *y));
     };
-    put(
+    put_place(
         &mut table.places,
         &mut table.work,
         number,
@@ -70,8 +71,8 @@ fn join_known(
 }
 
 /// Adds the place `y` with this value, which flows in, and counts it. If `y` is known, returns its
-/// number and adds nothing. It is never inlined: if `join_new` and `pass_on` each had its text, LLVM
-/// would inline neither `add_or_find` nor the pushes of `count`.
+/// number and adds nothing. It is never inlined: if `join_new_place` and `pass_on` each had its
+/// text, LLVM would inline neither `add_or_find_place` nor the pushes of `count_place`.
 #[inline(never)]
 pub(crate) fn add_place(
     table: &mut Table,
@@ -79,13 +80,13 @@ pub(crate) fn add_place(
     value: SmallKnown,
 ) -> Result<Option<usize>, Refusal>
     requires listed { AllListed table.old.places (all_work table.old.work) }
-    requires few { AreFew (map place_of table.old.points.items) table.old.frames.items }
+    requires few { AreFew (map place_of_spot table.old.points.items) table.old.frames.items }
     ensures { (g : Ground) → FineOn g table.old → AsksOn g table.old y value
         → AddsOn g table.old table.new y value result }
 {
-    match add_or_find(&mut table.places, &mut table.work, y, value)? {
+    match add_or_find_place(&mut table.places, &mut table.work, y, value)? {
         None => {
-            count(false, &mut table.points, &mut table.frames, y)?;
+            count_place(false, &mut table.points, &mut table.frames, y)?;
             Ok(None)
         }
         Some(number) => Ok(Some(number)),
@@ -94,7 +95,7 @@ pub(crate) fn add_place(
 
 /// Adds the place `y` with what flows in. If `y` is known, joins what flows in, unless it is
 /// covered. Returns whether it wasn't.
-fn join_new(
+fn join_new_place(
     alloc: Global,
     table: &mut Table,
     v: &Visit,
@@ -102,7 +103,7 @@ fn join_new(
     incoming: &Incoming,
 ) -> Result<bool, Refusal>
     requires fine { FineOn v.now.ground.now table.old }
-    requires near { StandsAt table.old.places table.old.near (Point v.now.key v.now.addr) }
+    requires near { PlaceHasNumber table.old.places table.old.near (Point v.now.key v.now.addr) }
     requires at { (seen table.old).cells (point v.now.key v.now.addr)
         ≡ Some (state v.now.state.now) }
     requires own { sender_state incoming.now ≡ v.now.state.now }
@@ -116,13 +117,13 @@ fn join_new(
     let value = own.value.apply(alloc, incoming)?;
     match add_place(table, *y, value)? {
         None => Ok(true),
-        Some(number) => join_known(alloc, table, v, number, y, incoming),
+        Some(number) => join_known_place(alloc, table, v, number, y, incoming),
     }
 }
 
 /// Joins what flows into `y` alone, unless it is covered. Returns whether it wasn't. After the last
 /// place that was found mostly nothing is known, so `y` is looked up as it is added.
-fn join_alone(
+fn join_place_alone(
     alloc: Global,
     table: &mut Table,
     v: &Visit,
@@ -130,7 +131,7 @@ fn join_alone(
     incoming: &Incoming,
 ) -> Result<bool, Refusal>
     requires fine { FineOn v.now.ground.now table.old }
-    requires near { StandsAt table.old.places table.old.near (Point v.now.key v.now.addr) }
+    requires near { PlaceHasNumber table.old.places table.old.near (Point v.now.key v.now.addr) }
     requires at { (seen table.old).cells (point v.now.key v.now.addr)
         ≡ Some (state v.now.state.now) }
     requires own { sender_state incoming.now ≡ v.now.state.now }
@@ -140,14 +141,14 @@ fn join_alone(
 {
     if table.near < table.places.len().saturating_sub(1) {
         if let Some(number) = table.places.get_index_of(y) {
-            return join_known(alloc, table, v, number, y, incoming);
+            return join_known_place(alloc, table, v, number, y, incoming);
         }
     }
-    join_new(alloc, table, v, y, incoming)
+    join_new_place(alloc, table, v, y, incoming)
 }
 
 /// Queues all readers of `y`. They wait for the next round, or are next. A point has no readers.
-fn requeue_readers(
+fn requeue_readers_after_join(
     places: &mut IndexMap<Spot, Marked<SmallKnown>>,
     work: &mut Work,
     readers: &IndexMap<Spot, Vec<Spot>>,
@@ -155,10 +156,10 @@ fn requeue_readers(
     waits: bool,
 ) -> Result<(), AllocError>
     requires listed { AllListed places.old (all_work work.old) }
-    requires exits { AreExitsRead readers.now }
-    requires known { AreKnown places.old (Reads (get spot_eq readers.now y.now)) }
+    requires exits { TableReadsExits readers.now }
+    requires known { AreKnown places.old (IsAmongReaders (get spot_eq readers.now y.now)) }
     ensures marks { OnOk result
-        (Requeues places.old places.new (Reads (get spot_eq readers.now y.now))) }
+        (Requeues places.old places.new (IsAmongReaders (get spot_eq readers.now y.now))) }
     ensures work { OnOk result (AllListed places.new (all_work work.new)) }
 {
     if let Spot::Point(_, _) = *y {
@@ -169,7 +170,7 @@ fn requeue_readers(
 
 /// Joins what flows from the visited point, which still has its state, into `y`. The readers of a
 /// known exit that rises wait for the next round.
-pub(crate) fn join_at(
+pub(crate) fn join_at_place(
     alloc: Global,
     table: &mut Table,
     v: &Visit,
@@ -177,7 +178,7 @@ pub(crate) fn join_at(
     incoming: &Incoming,
 ) -> Result<(), Refusal>
     requires fine { FineOn v.now.ground.now table.old }
-    requires near { StandsAt table.old.places table.old.near (Point v.now.key v.now.addr) }
+    requires near { PlaceHasNumber table.old.places table.old.near (Point v.now.key v.now.addr) }
     requires at { (seen table.old).cells (point v.now.key v.now.addr)
         ≡ Some (state v.now.state.now) }
     requires own { sender_state incoming.now ≡ v.now.state.now }
@@ -186,11 +187,11 @@ pub(crate) fn join_at(
         (JoinedOn v.now.ground.now table.old table.new y.now (incoming_known incoming.now)) }
     ensures err { IfErr result (AnsweredOn v.now.ground.now) }
 {
-    let _byte = priority(incoming);
+    let _byte = incoming_priority(incoming);
     let known = table.places.len();
-    if join_alone(alloc, table, v, y, incoming)? {
+    if join_place_alone(alloc, table, v, y, incoming)? {
         let again = table.places.len() == known;
-        requeue_readers(&mut table.places, &mut table.work, &table.readers, y, again)?;
+        requeue_readers_after_join(&mut table.places, &mut table.work, &table.readers, y, again)?;
     }
     Ok(())
 }

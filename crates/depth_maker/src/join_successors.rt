@@ -4,7 +4,7 @@ ghost use Rattle.tc_isa.specs.InBounds.{IsShape, IsTarget};
 ghost use Rattle.vd_transfer.specs.Changes.{state_after};
 ghost use Rattle.cfg_recover.specs.Assignments.{point};
 ghost use Rattle.cfg_recover.specs.LocalRules.{targets_of};
-ghost use Rattle.cfg_recover.specs.SetOperations.{HoldsResults};
+ghost use Rattle.cfg_recover.specs.SetOperations.{HoldsCachedResults};
 ghost use Rattle.cfg_recover.specs.Duties.{jumps_to, jump_on, owed, jump, resume, leave, leavings_of};
 ghost use Rattle.depth_cert.specs.Known.{state};
 ghost use Rattle.depth_maker.specs.TableView.{seen};
@@ -15,15 +15,15 @@ ghost use Rattle.indexmap.specs.IndexMap.{get};
 ghost use Rattle.depth_cert.specs.Exits.{exit_of};
 ghost use Rattle.frame_places.specs.declared.places.Spot.TheVariants.{Exit, Point};
 ghost use Rattle.frame_places.specs.Spots.{spot_eq};
-ghost use Rattle.frame_places.specs.Marks.{Reads};
+ghost use Rattle.frame_places.specs.Marks.{IsAmongReaders};
 
 use crate::inputs_and_limits::Visit;
-use crate::join_place::join_at;
+use crate::join_place::join_at_place;
 use crate::table::Table;
-use crate::visit::change_at;
+use crate::visit::write_visit_change;
 use cfg_recover::{Located, OperationCache, direct_target, targets};
 use depth_cert::{Key, SYS};
-use frame_places::{Refusal, Spot, has_work};
+use frame_places::{Refusal, Spot, has_queued_mark};
 use small_states::Incoming;
 use std::alloc::Global;
 use tc_isa::{Shape, Target};
@@ -173,12 +173,12 @@ fn join_step(
         ≡ Some (state v.now.state.now) }
     requires found { StandsBy v.now found.now }
     requires owes { OwesAll v.now (next_by v.now found.now) }
-    requires results { HoldsResults v.now.ground.now.bounds.now cache.old }
+    requires results { HoldsCachedResults v.now.ground.now.bounds.now cache.old }
     ensures ok { OnOk result (JoinedBy v.now table.old table.new (next_by v.now found.now)) }
     ensures err { IfErr result (AnsweredOn v.now.ground.now) }
-    ensures results { HoldsResults v.now.ground.now.bounds.now cache.new }
+    ensures results { HoldsCachedResults v.now.ground.now.bounds.now cache.new }
 {
-    change_at(v, found.shape, c, cache);
+    write_visit_change(v, found.shape, c, cache);
     join_first_jump(alloc, table, v, v.addr.wrapping_add(found.size), &*c)
 }
 
@@ -198,10 +198,10 @@ pub(crate) fn join_successors(
         ≡ Some (state v.now.state.now) }
     requires found { StandsBy v.now found.now }
     requires owes { OwesAll v.now (successors_by v.now found.now) }
-    requires results { HoldsResults v.now.ground.now.bounds.now cache.old }
+    requires results { HoldsCachedResults v.now.ground.now.bounds.now cache.old }
     ensures ok { OnOk result (JoinedBy v.now table.old table.new (successors_by v.now found.now)) }
     ensures err { IfErr result (AnsweredOn v.now.ground.now) }
-    ensures results { HoldsResults v.now.ground.now.bounds.now cache.new }
+    ensures results { HoldsCachedResults v.now.ground.now.bounds.now cache.new }
 {
     let shape = found.shape;
     match shape {
@@ -240,7 +240,7 @@ pub(crate) fn join_jump(
         (owed 4 (jump to (state_after v.now.state.now c.now)) ∷ [])) }
     ensures err { IfErr result (AnsweredOn v.now.ground.now) }
 {
-    if has_work(&table.places, table.near) {
+    if has_queued_mark(&table.places, table.near) {
         return Ok(());
     }
     join_first_jump(alloc, table, v, to, c)
@@ -265,7 +265,7 @@ pub(crate) fn join_first_jump(
     ensures err { IfErr result (AnsweredOn v.now.ground.now) }
 {
     let incoming = Incoming::Changed(v.state, c);
-    join_at(alloc, table, v, &Spot::Point(v.key, to), &incoming)
+    join_at_place(alloc, table, v, &Spot::Point(v.key, to), &incoming)
 }
 
 /// Joins the state at the exit of the point's frame, which it leaves.
@@ -277,11 +277,11 @@ pub(crate) fn join_exit(alloc: Global, table: &mut Table, v: &Visit) -> Result<(
         (JoinedBy v.now table.old table.new (owed rule (leave (exit_of v.now.state.now)) ∷ [])) }
     ensures err { IfErr result (AnsweredOn v.now.ground.now) }
 {
-    if has_work(&table.places, table.near) {
+    if has_queued_mark(&table.places, table.near) {
         return Ok(());
     }
     let incoming = Incoming::Leaving(v.state);
-    join_at(alloc, table, v, &Spot::Exit(v.key), &incoming)
+    join_at_place(alloc, table, v, &Spot::Exit(v.key), &incoming)
 }
 
 /// Joins the state after a frame returned at `back`, if the exit of that frame is known.
@@ -293,13 +293,13 @@ pub(crate) fn join_return(
     back: u32,
 ) -> Result<(), Refusal>
     requires visited { VisitedBy v.now table.old }
-    requires registered { Reads (get spot_eq table.old.readers (Exit key))
+    requires registered { IsAmongReaders (get spot_eq table.old.readers (Exit key))
         (Point v.now.key v.now.addr) }
     requires owes { OwesDuty v.now (resume key back) }
     ensures ok { OnOk result (JoinedBy v.now table.old table.new (owed 4 (resume key back) ∷ [])) }
     ensures err { IfErr result (AnsweredOn v.now.ground.now) }
 {
-    if has_work(&table.places, table.near) {
+    if has_queued_mark(&table.places, table.near) {
         return Ok(());
     }
     let Some(place) = table.places.get(&Spot::Exit(key)) else {
@@ -310,7 +310,7 @@ pub(crate) fn join_return(
     };
     let copy = exit.copy()?;
     let incoming = Incoming::After(v.state, &copy, key.kind);
-    join_at(alloc, table, v, &Spot::Point(v.key, back), &incoming)
+    join_at_place(alloc, table, v, &Spot::Point(v.key, back), &incoming)
 }
 
 /// Joins the exit if the instruction leaves the frame: RET, or RFE in a system call's handler.

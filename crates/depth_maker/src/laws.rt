@@ -3,21 +3,23 @@ ghost use Rattle.depth_maker.specs.DutiesGrow.{AddressesGrow, AfterGrows, Duties
 ghost use Rattle.depth_maker.specs.ProperAssignments.{AfterIsProper, DutiesAreProper};
 ghost use Rattle.depth_maker.specs.MakerLaws.{RefusalsHold, AcceptedIsClosed, DerivedIsBelow, FaultsRefute, RefusalsRefute, SolutionIsAccepted, RefusedIsNone, WrittenIsMade, MadeIsLeast};
 
-/// A point without a fault of its own has none with a smaller state, and then owes less.
+/// For the maker's growing states: a point without a fault of its own has none with a smaller
+/// state, and then owes less.
 pub fn growth_laws()
     ensures faults { FaultsFall }
     ensures duties { DutiesGrow }
     ensures proper { DutiesAreProper }
 {}
 
-/// The state after a return grows with the caller's state and the exit.
+/// For the maker's joins: the state after a return grows with the caller's state and the exit, and
+/// is at the limits.
 pub fn after_laws()
     ensures grows { AfterGrows }
     ensures proper { AfterIsProper }
 {}
 
-/// The effects of instructions grow with the state. A side of a branch that is possible is possible
-/// with a larger state.
+/// For the maker's growing states: the effects of instructions grow with the state. A side of a
+/// branch that is possible is possible with a larger state.
 pub fn effect_growth_laws()
     ensures transfers { TransfersGrow }
     ensures addresses { AddressesGrow }
@@ -31,7 +33,8 @@ pub fn derived_laws()
     ensures faults { FaultsRefute }
 {}
 
-/// An accepted certificate is a closed assignment without faults, and then no refusal holds.
+/// For the maker: an accepted certificate is a closed assignment without faults, and then no
+/// refusal of the maker holds.
 pub fn accepted_laws()
     ensures closed { AcceptedIsClosed }
     ensures refusals { RefusalsRefute }

@@ -1,7 +1,7 @@
 // The least needs of the frames of a closed table.
 ghost use Rattle.std.specs.Prelude.{◌≡◌, ◌≤◌, ◌-◌, IfOk, None};
-ghost use Rattle.depth_maker.specs.Rows.{IsSource, RowsOn};
-ghost use Rattle.depth_maker.specs.Needs.{NeedsOrPlace, NeedsOn};
+ghost use Rattle.depth_maker.specs.Rows.{IsRowSource, RowsOn};
+ghost use Rattle.depth_maker.specs.Needs.{NeedsOrRecursion, NeedsOn};
 ghost use Rattle.depth_maker.specs.Answers.{Refuses};
 ghost use Rattle.depth_maker.specs.Recursing.{IsRecursion};
 
@@ -14,8 +14,9 @@ use frame_places::{NEEDS_RULE, NeedRow, least_needs, soon_needs};
 use std::alloc::{AllocError, Global};
 use tcd_plan::Plan;
 
-/// Returns the areas without the reserve.
-pub(crate) fn usable(plan: &Plan) -> u32
+/// Returns the limit up to which the least needs of frames are looked for: the areas without the
+/// reserve.
+pub(crate) fn need_limit(plan: &Plan) -> u32
     ensures areas { result ≡ plan.now.areas - plan.now.reserve }
     ensures few { result ≤ 4096 }
 {
@@ -31,12 +32,12 @@ fn needs_by(
     rows: &[NeedRow],
     frames: &[Key],
 ) -> Result<Result<Vec<u32>, Option<(Key, u32)>>, AllocError>
-    requires source { IsSource source.now }
+    requires source { IsRowSource source.now }
     requires rows { RowsOn source.now.ground.now source.now.table.now rows.now }
     requires frames { frames.now ≡ source.now.table.now.frames.items }
-    ensures { IfOk result (NeedsOrPlace source.now) }
+    ensures { IfOk result (NeedsOrRecursion source.now) }
 {
-    let cap = usable(source.ground.plan);
+    let cap = need_limit(source.ground.plan);
     let soon = soon_needs(alloc, frames.len(), rows, cap)?;
     if let Some(found) = soon {
         return Ok(Ok(found));
@@ -59,8 +60,8 @@ pub(crate) fn frame_needs(
     alloc: Global,
     source: &Source,
 ) -> Result<Result<Vec<u32>, Option<(Key, u32)>>, AllocError>
-    requires { IsSource source.now }
-    ensures { IfOk result (NeedsOrPlace source.now) }
+    requires { IsRowSource source.now }
+    ensures { IfOk result (NeedsOrRecursion source.now) }
 {
     let mut rows = rows(alloc, source)?;
     let frames = source.table.frames.as_slice();
@@ -73,7 +74,7 @@ pub(crate) fn frame_needs(
 
 /// Returns the refusal if no needs are within the areas: at the first recursion, or at the start.
 pub(crate) fn needs_error(source: &Source, place: Option<(Key, u32)>) -> MakeErr
-    requires source { IsSource source.now }
+    requires source { IsRowSource source.now }
     requires none { NeedsOn source.now None }
     requires place { IsRecursion source.now place }
     ensures { Refuses source.now.ground.now result }

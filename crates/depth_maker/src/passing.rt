@@ -2,15 +2,15 @@
 ghost use Rattle.std.specs.Prelude.{IsTrue, IfSome};
 ghost use Rattle.cfg_recover.specs.Code.{LocatesCode};
 ghost use Rattle.frame_places.specs.declared.places.Spot.TheVariants.{Point};
-ghost use Rattle.frame_places.specs.Numbers.{StandsAt};
-ghost use Rattle.depth_maker.specs.SharedStates.{IsQuiet, PassedBy, SharesState};
+ghost use Rattle.frame_places.specs.Numbers.{PlaceHasNumber};
+ghost use Rattle.depth_maker.specs.SharedStates.{MayShareState, StateSharedBy, SharesState};
 ghost use Rattle.depth_maker.specs.TableInvariant.{FineOn};
 ghost use Rattle.tc_isa.specs.InBounds.{IsShape};
 
 use crate::inputs_and_limits::Site;
 use crate::interrupt_contexts::has_noted_interrupts;
 use crate::join_place::add_place;
-use crate::spelling::is_byte;
+use crate::spelling::ccpn_fits_byte;
 use crate::table::Table;
 use cfg_recover::direct_target;
 use frame_places::{Refusal, Spot};
@@ -40,10 +40,11 @@ fn passed_to(site: &Site) -> Option<u32>
 /// Returns true only if the visited point is the place that was found last, and the entries of all
 /// interrupts that may be taken there are covered.
 #[inline(always)]
-fn is_last_and_quiet(table: &Table, site: &Site) -> bool
+fn may_pass_state_on(table: &Table, site: &Site) -> bool
     requires fine { FineOn site.now.ground.now table.now }
-    requires near { StandsAt table.now.places table.now.near (Point site.now.key site.now.addr) }
-    ensures { IsTrue result → IsQuiet site.now table.now }
+    requires near { PlaceHasNumber table.now.places table.now.near
+        (Point site.now.key site.now.addr) }
+    ensures { IsTrue result → MayShareState site.now table.now }
 {
     if table.near < table.places.len().saturating_sub(1) {
         return false;
@@ -53,7 +54,7 @@ fn is_last_and_quiet(table: &Table, site: &Site) -> bool
     };
     match own.value.outline() {
         Some(outline) => {
-            is_byte(outline.ccpn);
+            ccpn_fits_byte(outline.ccpn);
             !outline.ie || has_noted_interrupts(table, site.key.is, outline.ccpn)
         }
         None => false,
@@ -68,16 +69,17 @@ fn is_last_and_quiet(table: &Table, site: &Site) -> bool
 /// known already, and the look-up here would be in vain.
 pub(crate) fn pass_on(alloc: Global, table: &mut Table, site: &Site) -> Result<bool, Refusal>
     requires fine { FineOn site.now.ground.now table.old }
-    requires near { StandsAt table.old.places table.old.near (Point site.now.key site.now.addr) }
+    requires near { PlaceHasNumber table.old.places table.old.near
+        (Point site.now.key site.now.addr) }
     requires code { LocatesCode site.now.ground.now.image.now site.now.ground.now.plan.now
         site.now.addr site.now.located.now }
     requires shape { IfSome site.now.located.now (λ found. IsShape found.shape) }
-    ensures { PassedBy site.now table.old table.new result }
+    ensures { StateSharedBy site.now table.old table.new result }
 {
     let Some(to) = passed_to(site) else {
         return Ok(false);
     };
-    if !is_last_and_quiet(&*table, site) {
+    if !may_pass_state_on(&*table, site) {
         return Ok(false);
     }
     let Some((_, own)) = table.places.get_index(table.near) else {

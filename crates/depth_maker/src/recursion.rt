@@ -1,30 +1,31 @@
 // The first point that enters a frame from which its own is reached.
 ghost use Rattle.std.specs.Prelude.{◌≡◌, ◌↔◌, IsTrue, IfOk, Some};
 ghost use Rattle.frame_places.specs.NodeGraph.{IsFirstRecurring};
-ghost use Rattle.depth_maker.specs.Recursing.{EdgesOn, EntersMarked, IsFirstMarked, IsFirstWith, IsRecursion, orders_in};
-ghost use Rattle.depth_maker.specs.Rows.{IsSource};
+ghost use Rattle.depth_maker.specs.Recursing.{RecursionEdgesOn, IsRecursiveByMarks, IsFirstRecursive, IsFirstRecursiveWith, IsRecursion, recursion_orders_in};
+ghost use Rattle.depth_maker.specs.Rows.{IsRowSource};
 ghost use Rattle.frame_places.specs.declared.places.Spot.TheVariants.{Point};
 
 use crate::rows::{KnownPoint, Source, point_row, rows};
 use cfg_recover::start_state;
 use depth_cert::Key;
 use frame_places::{
-    FrameEdge, Spot, address_in, edges_of, first_recurring, has_marked, nodes_reaching, number_of,
-    orders_of,
+    FrameEdge, Spot, address_in_frame, first_recurring, frame_edges, frame_number, frame_orders,
+    has_reaching_node, nodes_reaching,
 };
 use small_states::ScratchState;
 use std::alloc::{AllocError, Global};
 
 /// Returns whether the point enters a marked frame.
-fn enters_marked(
+fn is_recursive_by_marks(
     alloc: Global,
     source: &Source,
     marks: &[bool],
     key: Key,
     addr: u32,
 ) -> Result<bool, AllocError>
-    requires { IsSource source.now }
-    ensures { IfOk result (λ enters. IsTrue enters ↔ EntersMarked source.now marks.now key addr) }
+    requires { IsRowSource source.now }
+    ensures { IfOk result (λ enters. IsTrue enters
+        ↔ IsRecursiveByMarks source.now marks.now key addr) }
 {
     let place = Spot::Point(key, addr);
     let Some(known) = source.table.places.get(&place) else {
@@ -33,16 +34,16 @@ fn enters_marked(
     let at = KnownPoint {
         key,
         addr,
-        node: number_of(source.numbers, key),
+        node: frame_number(source.numbers, key),
         known,
     };
     let mut state = ScratchState::new(start_state(source.ground.plan));
     let row = point_row(alloc, source, &mut state, &at)?;
-    Ok(has_marked(marks, row.into.as_slice()))
+    Ok(has_reaching_node(marks, row.into.as_slice()))
 }
 
 /// Returns the first address among some places and this one. `first` is that of the others.
-fn address_with(
+fn recursive_address_with(
     alloc: Global,
     source: &Source,
     marks: &[bool],
@@ -50,15 +51,15 @@ fn address_with(
     addr: u32,
     first: Option<u32>,
 ) -> Result<Option<u32>, AllocError>
-    requires { IsSource source.now }
-    ensures { IfOk result (IsFirstWith source.now marks.now key (Point key addr) first) }
+    requires { IsRowSource source.now }
+    ensures { IfOk result (IsFirstRecursiveWith source.now marks.now key (Point key addr) first) }
 {
     if let Some(other) = first {
         if other <= addr {
             return Ok(Some(other));
         }
     }
-    if enters_marked(alloc, source, marks, key, addr)? {
+    if is_recursive_by_marks(alloc, source, marks, key, addr)? {
         Ok(Some(addr))
     } else {
         Ok(first)
@@ -66,7 +67,7 @@ fn address_with(
 }
 
 /// Returns the first address among some places and this one, which may be in any frame.
-fn place_with(
+fn recursive_address_at_place(
     alloc: Global,
     source: &Source,
     marks: &[bool],
@@ -74,29 +75,29 @@ fn place_with(
     place: Spot,
     first: Option<u32>,
 ) -> Result<Option<u32>, AllocError>
-    requires { IsSource source.now }
-    ensures { IfOk result (IsFirstWith source.now marks.now key place first) }
+    requires { IsRowSource source.now }
+    ensures { IfOk result (IsFirstRecursiveWith source.now marks.now key place first) }
 {
-    match address_in(key, place) {
+    match address_in_frame(key, place) {
         None => Ok(first),
-        Some(addr) => address_with(alloc, source, marks, key, addr, first),
+        Some(addr) => recursive_address_with(alloc, source, marks, key, addr, first),
     }
 }
 
 /// Returns the first address of the frame at which it enters a marked frame.
-fn first_address(
+fn first_recursive_address(
     alloc: Global,
     source: &Source,
     marks: &[bool],
     key: Key,
     points: &[Spot],
 ) -> Result<Option<u32>, AllocError>
-    requires { IsSource source.now }
-    ensures { IfOk result (IsFirstMarked source.now marks.now key points.now) }
+    requires { IsRowSource source.now }
+    ensures { IfOk result (IsFirstRecursive source.now marks.now key points.now) }
 {
     let mut first = None;
     for place in points {
-        first = place_with(alloc, source, marks, key, *place, first)?;
+        first = recursive_address_at_place(alloc, source, marks, key, *place, first)?;
     }
     Ok(first)
 }
@@ -109,16 +110,16 @@ fn recursion_in(
     frames: &[Key],
     node: usize,
 ) -> Result<Option<(Key, u32)>, AllocError>
-    requires source { IsSource source.now }
+    requires source { IsRowSource source.now }
     requires frames { frames.now ≡ source.now.table.now.frames.items }
-    requires edges { EdgesOn source.now edges.now }
-    requires first { IsFirstRecurring (orders_in source.now) edges.now (Some node) }
+    requires edges { RecursionEdgesOn source.now edges.now }
+    requires first { IsFirstRecurring (recursion_orders_in source.now) edges.now (Some node) }
     ensures { IfOk result (IsRecursion source.now) }
 {
     let marks = nodes_reaching(alloc, frames.len(), edges, node)?;
     let key = frames[node];
     let points = source.table.points.as_slice();
-    match first_address(alloc, source, marks.as_slice(), key, points)? {
+    match first_recursive_address(alloc, source, marks.as_slice(), key, points)? {
         Some(addr) => Ok(Some((key, addr))),
         None => unreachable!(),
     }
@@ -131,12 +132,12 @@ fn recursion_by(
     edges: &[FrameEdge],
     frames: &[Key],
 ) -> Result<Option<(Key, u32)>, AllocError>
-    requires source { IsSource source.now }
+    requires source { IsRowSource source.now }
     requires frames { frames.now ≡ source.now.table.now.frames.items }
-    requires edges { EdgesOn source.now edges.now }
+    requires edges { RecursionEdgesOn source.now edges.now }
     ensures { IfOk result (IsRecursion source.now) }
 {
-    let orders = orders_of(alloc, frames)?;
+    let orders = frame_orders(alloc, frames)?;
     match first_recurring(alloc, orders.as_slice(), edges)? {
         None => Ok(None),
         Some(node) => recursion_in(alloc, source, edges, frames, node),
@@ -146,11 +147,11 @@ fn recursion_by(
 /// Returns the first point, by key and address, that enters a frame from which its own is reached,
 /// or `None` if no point does.
 pub(crate) fn recursion(alloc: Global, source: &Source) -> Result<Option<(Key, u32)>, AllocError>
-    requires { IsSource source.now }
+    requires { IsRowSource source.now }
     ensures { IfOk result (IsRecursion source.now) }
 {
     let rows = rows(alloc, source)?;
-    let edges = edges_of(alloc, rows.as_slice())?;
+    let edges = frame_edges(alloc, rows.as_slice())?;
     let frames = source.table.frames.as_slice();
     recursion_by(alloc, source, edges.as_slice(), frames)
 }

@@ -2,19 +2,19 @@
 ghost use Rattle.std.specs.Prelude.{◌≡◌, ◌+◌, ◌<◌, List, IfOk, IsTrue, OnOk};
 ghost use Rattle.indexmap.specs.IndexMap.{index_map_len};
 ghost use Rattle.depth_cert.specs.declared.keys.Key as keys;
-ghost use Rattle.depth_cert.specs.Proper.{IsProper};
-ghost use Rattle.frame_places.specs.Numbers.{number_in};
-ghost use Rattle.depth_maker.specs.InterruptHandlers.{AreNumbered};
+ghost use Rattle.depth_cert.specs.Proper.{IsProperState};
+ghost use Rattle.frame_places.specs.Numbers.{frame_number_in};
+ghost use Rattle.depth_maker.specs.InterruptHandlers.{AreNumberedHandlers};
 ghost use Rattle.depth_maker.specs.VisitDuties.{StandsBy};
-ghost use Rattle.depth_maker.specs.Rows.{AddsPlain, AddsPoint, AllKnownBy, IsDraft, IsKnownPoint, IsPointRow, IsRowBy, HasRow, IsSource, RowsOn};
+ghost use Rattle.depth_maker.specs.Rows.{AddsPlainRow, AddsPointRow, RowFramesKnownBy, IsDraft, IsKnownRowPoint, IsPointRow, IsRowBy, HasEqualRow, IsRowSource, RowsOn};
 
 use crate::entered_frames::entered_frames;
-use crate::handlers::{Handler, add_taken};
+use crate::handlers::{Handler, add_taken_handlers};
 use crate::inputs_and_limits::{Ground, Visit};
 use crate::table::Table;
 use cfg_recover::{Located, local_check, start_state};
 use depth_cert::Key;
-use frame_places::{Marked, NeedRow, Spot, is_plain, number_near, numbers_of};
+use frame_places::{Marked, NeedRow, Spot, frame_number_near, frame_numbers, is_plain_mark};
 use indexmap::IndexMap;
 use small_states::{Outline, ScratchState, SmallKnown};
 use std::alloc::{AllocError, Global};
@@ -49,16 +49,17 @@ fn row_with(
     found: &Located,
 ) -> Result<NeedRow, AllocError>
     requires found { StandsBy v.now found.now }
-    requires proper { IsProper v.now.ground.now.bounds.now v.now.state.now }
+    requires proper { IsProperState v.now.ground.now.bounds.now v.now.state.now }
     ensures { IfOk result (λ row. (frames : List keys.Key)
-        → AreNumbered v.now.ground.now.plan.now source.now.numbers.now
+        → AreNumberedHandlers v.now.ground.now.plan.now source.now.numbers.now
         source.now.handlers.now frames
-        → AllKnownBy v.now frames → node ≡ number_in frames v.now.key → IsRowBy v.now frames row) }
+        → RowFramesKnownBy v.now frames → node ≡ frame_number_in frames v.now.key
+        → IsRowBy v.now frames row) }
 {
     let keys = entered_frames(alloc, v, found)?;
     let more = source.handlers.len();
-    let mut into = numbers_of(alloc, source.numbers, keys.as_slice(), more)?;
-    add_taken(&mut into, v.state.ie, v.state.ccpn, source.handlers)?;
+    let mut into = frame_numbers(alloc, source.numbers, keys.as_slice(), more)?;
+    add_taken_handlers(&mut into, v.state.ie, v.state.ccpn, source.handlers)?;
     Ok(NeedRow {
         node,
         held: v.state.locals.len() as u8,
@@ -73,8 +74,8 @@ pub(crate) fn point_row(
     state: &mut ScratchState,
     at: &KnownPoint,
 ) -> Result<NeedRow, AllocError>
-    requires source { IsSource source.now }
-    requires at { IsKnownPoint source.now at.now }
+    requires source { IsRowSource source.now }
+    requires at { IsKnownRowPoint source.now at.now }
     ensures { IfOk result (IsPointRow source.now at.now.key at.now.addr) }
 {
     let g = source.ground;
@@ -106,10 +107,10 @@ pub(crate) struct Draft {
 
 /// Returns true only if the frame has a row that is equal to that of a point with this value.
 #[inline(always)]
-fn has_row(outlines: &[Option<Outline>], node: usize, known: &Marked<SmallKnown>) -> bool
-    ensures { IsTrue result → HasRow outlines.now node known.now }
+fn has_equal_row(outlines: &[Option<Outline>], node: usize, known: &Marked<SmallKnown>) -> bool
+    ensures { IsTrue result → HasEqualRow outlines.now node known.now }
 {
-    if !is_plain(known.mark) {
+    if !is_plain_mark(known.mark) {
         return false;
     }
     let Some(Some(other)) = outlines.get(node) else {
@@ -123,17 +124,17 @@ fn has_row(outlines: &[Option<Outline>], node: usize, known: &Marked<SmallKnown>
 }
 
 /// Appends the row of a point whose instruction enters no frame by itself.
-fn add_plain(
+fn add_plain_row(
     alloc: Global,
     source: &Source,
     draft: &mut Draft,
     node: usize,
     outline: Outline,
 ) -> Result<(), AllocError>
-    ensures { OnOk result (AddsPlain source.now draft.old draft.new node outline) }
+    ensures { OnOk result (AddsPlainRow source.now draft.old draft.new node outline) }
 {
     let mut into = Vec::new(alloc);
-    add_taken(&mut into, outline.ie, outline.ccpn, source.handlers)?;
+    add_taken_handlers(&mut into, outline.ie, outline.ccpn, source.handlers)?;
     draft.rows.push(NeedRow {
         node,
         held: outline.held,
@@ -147,20 +148,20 @@ fn add_plain(
 
 /// Appends the row of a point. Few points need this call.
 #[inline(never)]
-fn add_point(
+fn add_point_row(
     alloc: Global,
     source: &Source,
     draft: &mut Draft,
     at: &KnownPoint,
 ) -> Result<(), AllocError>
-    requires source { IsSource source.now }
-    requires at { IsKnownPoint source.now at.now }
-    ensures { OnOk result (AddsPoint source.now draft.old draft.new at.now) }
+    requires source { IsRowSource source.now }
+    requires at { IsKnownRowPoint source.now at.now }
+    ensures { OnOk result (AddsPointRow source.now draft.old draft.new at.now) }
 {
-    if is_plain(at.known.mark) {
+    if is_plain_mark(at.known.mark) {
         let cell = &at.known.value;
         if let Some(outline) = cell.outline() {
-            add_plain(alloc, source, draft, at.node, outline)?;
+            add_plain_row(alloc, source, draft, at.node, outline)?;
             return Ok(());
         }
     }
@@ -177,7 +178,7 @@ fn add_row(
     draft: &mut Draft,
     entry: usize,
 ) -> Result<(), AllocError>
-    requires source { IsSource source.now }
+    requires source { IsRowSource source.now }
     requires entry { entry < index_map_len source.now.table.now.places }
     requires draft { IsDraft source.now entry draft.old }
     ensures { OnOk result (IsDraft source.now (entry + 1) draft.new) }
@@ -188,9 +189,9 @@ fn add_row(
     let Spot::Point(key, addr) = place else {
         return Ok(());
     };
-    let node = number_near(source.numbers, draft.node, key);
+    let node = frame_number_near(source.numbers, draft.node, key);
     draft.node = node;
-    if has_row(draft.outlines.as_slice(), node, known) {
+    if has_equal_row(draft.outlines.as_slice(), node, known) {
         return Ok(());
     }
     let at = KnownPoint {
@@ -199,14 +200,14 @@ fn add_row(
         node,
         known,
     };
-    add_point(alloc, source, draft, &at)?;
+    add_point_row(alloc, source, draft, &at)?;
     Ok(())
 }
 
 /// Returns the rows of all points. A plain point has none of its own if its outline is that of the
 /// last plain point of its frame.
 pub(crate) fn rows(alloc: Global, source: &Source) -> Result<Vec<NeedRow>, AllocError>
-    requires { IsSource source.now }
+    requires { IsRowSource source.now }
     ensures { IfOk result (λ rows. RowsOn source.now.ground.now source.now.table.now rows.items) }
 {
     let mut draft = Draft {

@@ -3,14 +3,15 @@ ghost use Rattle.std.specs.Prelude.{◌≡◌, ◌<◌, ◌^◌, ◌⊎◌, OnOk
 ghost use Rattle.frame_places.specs.PointEntries.{place_at};
 ghost use Rattle.frame_places.specs.Spots.{spot_address};
 ghost use Rattle.depth_maker.specs.Needs.{need_by, NeedsAre};
-ghost use Rattle.depth_maker.specs.Rows.{IsSource};
-ghost use Rattle.depth_maker.specs.SpelledCert.{AreFrames, ArePointsOf, IsFrameOf, IsOfVersion, IsOrdered, IsPointOf, IsSpelledOn, WritesCert, WritesExit, WritesNode, WritesNodes, WritesPoint, WritesPoints};
+ghost use Rattle.depth_maker.specs.Rows.{IsRowSource};
+ghost use Rattle.depth_maker.specs.SpelledCert.{AreSpelledFrames, AreSpelledPointsOf, IsSpelledFrameOf, IsSpelledVersion, IsSpelledInOrder, IsSpelledPointOf, IsSpelledOn, SpellsTableCert, SpellsTableExit, SpellsTableNode, SpellsTableNodes, SpellsTablePoint, SpellsTablePoints};
 ghost use Rattle.depth_maker.specs.Spots.{spots_on};
 
 use crate::rows::Source;
 use depth_cert::{Key, put_u16, write_exit, write_key};
 use frame_places::{
-    PointEntry, Spot, address_at, frames_in_order, number_of, points_in_order, points_of,
+    PointEntry, Spot, frame_number, frames_in_order, ordered_frame_points, place_address,
+    points_in_order,
 };
 use std::alloc::Global;
 use tcd_base::{NoMemory, put_u32};
@@ -18,55 +19,55 @@ use tcd_base::{NoMemory, put_u32};
 /// The magic bytes 54 43 44 43 of a certificate, as a little-endian word.
 const MAGIC: u32 = 0x4344_4354;
 
-/// A byte is below 256.
-pub(crate) fn is_byte(_byte: u8)
+/// A byte, such as a CCPN that the maker spells in the certificate, is below 256.
+pub(crate) fn ccpn_fits_byte(_byte: u8)
     ensures { _byte < 2 ^ 8 }
 {}
 
 /// Appends a point: its address and its state.
-fn write_point(
+fn spell_table_point(
     out: &mut Vec<u8>,
     source: &Source,
     _key: Key,
     point: &PointEntry,
 ) -> Result<(), NoMemory>
-    requires source { IsSource source.now }
-    requires point { IsPointOf source.now _key point.now }
-    ensures { OnOk result (WritesPoint source.now _key
+    requires source { IsRowSource source.now }
+    requires point { IsSpelledPointOf source.now _key point.now }
+    ensures { OnOk result (SpellsTablePoint source.now _key
         (spot_address (place_at source.now.table.now.places point.now))
         out.old.items out.new.items) }
 {
     let Some((place, known)) = source.table.places.get_index(point.entry) else {
         unreachable!();
     };
-    put_u32(out, address_at(place))?;
+    put_u32(out, place_address(place))?;
     let cell = &known.value;
     cell.spell_state(source.ground.bounds, out)?;
     Ok(())
 }
 
 /// Appends these points of a frame.
-fn write_points(
+fn spell_table_points(
     out: &mut Vec<u8>,
     source: &Source,
     key: Key,
     points: &[PointEntry],
 ) -> Result<(), NoMemory>
-    requires source { IsSource source.now }
-    requires points { ArePointsOf source.now key points.now }
-    ensures { OnOk result (WritesPoints source.now key (spots_on source.now points.now)
+    requires source { IsRowSource source.now }
+    requires points { AreSpelledPointsOf source.now key points.now }
+    ensures { OnOk result (SpellsTablePoints source.now key (spots_on source.now points.now)
         out.old.items out.new.items) }
 {
     for p in points {
-        write_point(out, source, key, p)?;
+        spell_table_point(out, source, key, p)?;
     }
     Ok(())
 }
 
 /// Appends the exit of a frame, or that none is known.
-fn write_exit_of(out: &mut Vec<u8>, source: &Source, key: Key) -> Result<(), NoMemory>
-    requires source { IsSource source.now }
-    ensures { OnOk result (WritesExit source.now key out.old.items out.new.items) }
+fn spell_table_exit(out: &mut Vec<u8>, source: &Source, key: Key) -> Result<(), NoMemory>
+    requires source { IsRowSource source.now }
+    ensures { OnOk result (SpellsTableExit source.now key out.old.items out.new.items) }
 {
     let Some(known) = source.table.places.get(&Spot::Exit(key)) else {
         write_exit(out, &None)?;
@@ -76,19 +77,19 @@ fn write_exit_of(out: &mut Vec<u8>, source: &Source, key: Key) -> Result<(), NoM
     let Some(exit) = cell.exit() else {
         unreachable!();
     };
-    is_byte(exit.ccpn);
+    ccpn_fits_byte(exit.ccpn);
     exit.spell(out)?;
     Ok(())
 }
 
 /// Returns the need of a frame.
-fn need_at(source: &Source, needs: &[u32], key: Key) -> u16
-    requires source { IsSource source.now }
+fn spelled_need_at(source: &Source, needs: &[u32], key: Key) -> u16
+    requires source { IsRowSource source.now }
     requires needs { NeedsAre source.now needs.now }
-    requires key { IsFrameOf source.now key }
+    requires key { IsSpelledFrameOf source.now key }
     ensures { result ≡ need_by (source.now.table.now).frames.items needs.now key }
 {
-    let number = number_of(source.numbers, key);
+    let number = frame_number(source.numbers, key);
     match needs.get(number) {
         Some(need) => *need as u16,
         None => 0,
@@ -104,63 +105,63 @@ pub(crate) struct Ordered<'a> {
 }
 
 /// Appends the node of a frame.
-fn write_frame(out: &mut Vec<u8>, ordered: &Ordered, key: Key) -> Result<(), NoMemory>
-    requires ordered { IsOrdered ordered.now }
-    requires key { IsFrameOf ordered.now.source.now key }
-    ensures { OnOk result (WritesNode ordered.now key out.old.items out.new.items) }
+fn spell_table_node(out: &mut Vec<u8>, ordered: &Ordered, key: Key) -> Result<(), NoMemory>
+    requires ordered { IsSpelledInOrder ordered.now }
+    requires key { IsSpelledFrameOf ordered.now.source.now key }
+    ensures { OnOk result (SpellsTableNode ordered.now key out.old.items out.new.items) }
 {
     let source = ordered.source;
-    let points = points_of(ordered.points, key);
+    let points = ordered_frame_points(ordered.points, key);
     write_key(out, &key)?;
-    put_u16(out, need_at(source, ordered.needs, key))?;
-    write_exit_of(out, source, key)?;
+    put_u16(out, spelled_need_at(source, ordered.needs, key))?;
+    spell_table_exit(out, source, key)?;
     put_u32(out, points.len() as u32)?;
-    write_points(out, source, key, points)?;
+    spell_table_points(out, source, key, points)?;
     Ok(())
 }
 
 /// Appends the nodes of these frames.
-fn write_frames(out: &mut Vec<u8>, ordered: &Ordered, frames: &[Key]) -> Result<(), NoMemory>
-    requires ordered { IsOrdered ordered.now }
-    requires frames { AreFrames ordered.now frames.now }
-    ensures { OnOk result (WritesNodes ordered.now frames.now out.old.items out.new.items) }
+fn spell_table_nodes(out: &mut Vec<u8>, ordered: &Ordered, frames: &[Key]) -> Result<(), NoMemory>
+    requires ordered { IsSpelledInOrder ordered.now }
+    requires frames { AreSpelledFrames ordered.now frames.now }
+    ensures { OnOk result (SpellsTableNodes ordered.now frames.now out.old.items out.new.items) }
 {
     for k in frames {
-        write_frame(out, ordered, *k)?;
+        spell_table_node(out, ordered, *k)?;
     }
     Ok(())
 }
 
 /// Returns the bytes of the certificate of these frames, which are in order.
-fn write_cert(
+fn spell_table_cert(
     alloc: Global,
     ordered: &Ordered,
     version: u8,
     frames: &[Key],
 ) -> Result<Vec<u8>, NoMemory>
-    requires ordered { IsOrdered ordered.now }
-    requires frames { AreFrames ordered.now frames.now }
-    ensures { IfOk result (λ out. WritesCert ordered.now version frames.now out.items) }
+    requires ordered { IsSpelledInOrder ordered.now }
+    requires frames { AreSpelledFrames ordered.now frames.now }
+    ensures { IfOk result (λ out. SpellsTableCert ordered.now version frames.now out.items) }
 {
     let mut out = Vec::new(alloc);
     put_u32(&mut out, MAGIC)?;
     put_u16(&mut out, u16::from(version))?;
     put_u16(&mut out, frames.len() as u16)?;
-    write_frames(&mut out, ordered, frames)?;
+    spell_table_nodes(&mut out, ordered, frames)?;
     Ok(out)
 }
 
 /// Returns the bytes of the certificate of a table without work, with the least needs of its
 /// frames.
-pub(crate) fn cert_bytes(
+pub(crate) fn spelled_cert_bytes(
     alloc: Global,
     source: &Source,
     version: u8,
     needs: &[u32],
 ) -> Result<Vec<u8>, NoMemory>
-    requires source { IsSource source.now }
+    requires source { IsRowSource source.now }
     requires known { (version ≡ 1) ⊎ (version ≡ 2) }
-    requires limits { IsOfVersion source.now version }
+    requires limits { IsSpelledVersion source.now version }
     requires needs { NeedsAre source.now needs.now }
     ensures { IfOk result (λ out. IsSpelledOn source.now version out.items) }
 {
@@ -171,6 +172,6 @@ pub(crate) fn cert_bytes(
         needs,
         points: points.as_slice(),
     };
-    let out = write_cert(alloc, &ordered, version, frames.as_slice())?;
+    let out = spell_table_cert(alloc, &ordered, version, frames.as_slice())?;
     Ok(out)
 }

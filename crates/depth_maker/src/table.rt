@@ -31,9 +31,9 @@ pub(crate) struct Table {
 /// a certificate; exits are places too, so more room may be needed later.
 const MOST_ROOM: usize = 65536;
 
-/// Returns the number of places to make room for at first: the number of halfwords in all segments,
-/// code and data, at most `MOST_ROOM`.
-pub(crate) fn first_room(image: &Image) -> usize {
+/// Returns the number of places that a new table makes room for at first: the number of halfwords
+/// in all segments, code and data, at most `MOST_ROOM`.
+pub(crate) fn first_table_room(image: &Image) -> usize {
     let mut room: usize = 0;
     for segment in image.segments.iter() {
         room = room.saturating_add(segment.bytes.len() / 2);

@@ -4,35 +4,35 @@ ghost use Rattle.cfg_recover.specs.Assignments.{point};
 ghost use Rattle.cfg_recover.specs.Code.{LocatesCode};
 ghost use Rattle.depth_cert.specs.Known.{state};
 ghost use Rattle.frame_places.specs.declared.places.Spot.TheVariants.{Point};
-ghost use Rattle.cfg_recover.specs.SetOperations.{HoldsResults};
-ghost use Rattle.depth_maker.specs.EnteredFrames.{EntersNone, IsPlainAt, IsPlainIn};
+ghost use Rattle.cfg_recover.specs.SetOperations.{HoldsCachedResults};
+ghost use Rattle.depth_maker.specs.EnteredFrames.{IsPlainAt, IsPlainIn, IsPlainBy};
 ghost use Rattle.depth_maker.specs.TableView.{seen};
 ghost use Rattle.depth_maker.specs.Answers.{AnsweredOn};
-ghost use Rattle.depth_maker.specs.VisitDuties.{IsPlainBy, JoinedBy, StandsBy, duties_by, step_by};
-ghost use Rattle.depth_maker.specs.Visits.{PointJoinedOn, VisitedBy};
+ghost use Rattle.depth_maker.specs.VisitDuties.{JoinedBy, StandsBy, duties_by, step_by};
+ghost use Rattle.depth_maker.specs.Visits.{VisitJoinsPointOn, VisitedBy};
 ghost use Rattle.frame_places.specs.declared.places.Spot as spots;
-ghost use Rattle.frame_places.specs.Numbers.{StandsAt};
+ghost use Rattle.frame_places.specs.Numbers.{PlaceHasNumber};
 ghost use Rattle.depth_maker.specs.TableInvariant.{FineOn};
 ghost use Rattle.tc_isa.specs.InBounds.{IsShape};
 ghost use Rattle.value_domain.specs.State.{AreValues};
 ghost use Rattle.vd_transfer.specs.Changes.{state_after};
-ghost use Rattle.vd_transfer.specs.EffectsOnStates.{HasRoom};
+ghost use Rattle.vd_transfer.specs.EffectsOnStates.{EffectHasRoom};
 
+use crate::entered_frames::enters_no_frame;
 use crate::fixpoint::VisitScratch;
 use crate::inputs_and_limits::{Ground, Site, Visit};
 use crate::join_entries::{join_access, join_entries, join_interrupts};
 use crate::join_successors::{join_leavings, join_successors};
 use crate::passing::pass_on;
 use crate::table::Table;
-use cfg_recover::{Located, OperationCache, check_located, step_change};
+use cfg_recover::{Located, OperationCache, check_located, successor_change};
 use frame_places::{Refusal, Spot};
 use std::alloc::Global;
 use tc_isa::Shape;
-use tcd_plan::Plan;
 use vd_transfer::Change;
 
 /// Joins all that the point owes. The change by its instruction is written over `c`.
-fn join_duties(
+fn join_visit_duties(
     alloc: Global,
     table: &mut Table,
     v: &Visit,
@@ -44,31 +44,16 @@ fn join_duties(
     requires at { (seen table.old).cells (point v.now.key v.now.addr)
         ≡ Some (state v.now.state.now) }
     requires found { StandsBy v.now found.now }
-    requires results { HoldsResults v.now.ground.now.bounds.now cache.old }
+    requires results { HoldsCachedResults v.now.ground.now.bounds.now cache.old }
     ensures ok { OnOk result (JoinedBy v.now table.old table.new (duties_by v.now found.now)) }
     ensures err { IfErr result (AnsweredOn v.now.ground.now) }
-    ensures results { HoldsResults v.now.ground.now.bounds.now cache.new }
+    ensures results { HoldsCachedResults v.now.ground.now.bounds.now cache.new }
 {
     join_successors(alloc, table, v, found, c, cache)?;
     join_entries(alloc, table, v, found.shape, found.size, c)?;
     join_access(alloc, table, v, found)?;
     join_interrupts(alloc, table, v)?;
     join_leavings(alloc, table, v, found.shape)
-}
-
-/// Returns true only if an instruction of this shape enters no frame by itself. Without traps of
-/// misaligned accesses, accesses are aligned.
-fn enters_none(plan: &Plan, shape: Shape) -> bool
-    ensures { IsTrue result → EntersNone plan.now shape }
-{
-    let trapped = plan.aln;
-    match shape {
-        Shape::Call { .. } => false,
-        Shape::Syscall { .. } => false,
-        Shape::Load { .. } => !trapped,
-        Shape::Store { .. } => !trapped,
-        _ => true,
-    }
 }
 
 /// Joins what the point owes, or a part of it if the point has new work. Returns true only if its
@@ -88,18 +73,18 @@ pub(crate) fn visit_point(
     requires code { LocatesCode v.now.ground.now.image.now v.now.ground.now.plan.now
         v.now.addr located.now }
     requires shape { IfSome located.now (λ found. IsShape found.shape) }
-    requires results { HoldsResults v.now.ground.now.bounds.now cache.old }
+    requires results { HoldsCachedResults v.now.ground.now.bounds.now cache.old }
     ensures ok { OnOk result
-        (PointJoinedOn v.now.ground.now table.old table.new (Point v.now.key v.now.addr)) }
+        (VisitJoinsPointOn v.now.ground.now table.old table.new (Point v.now.key v.now.addr)) }
     ensures plain { IfOk result (λ plain. IsTrue plain → IsPlainBy v.now) }
     ensures err { IfErr result (AnsweredOn v.now.ground.now) }
-    ensures results { HoldsResults v.now.ground.now.bounds.now cache.new }
+    ensures results { HoldsCachedResults v.now.ground.now.bounds.now cache.new }
 {
     let g = v.ground;
     match check_located(g.bounds, g.plan, &v.key, v.state, located) {
         Ok(found) => {
-            join_duties(alloc, table, v, found, c, cache)?;
-            Ok(enters_none(g.plan, found.shape))
+            join_visit_duties(alloc, table, v, found, c, cache)?;
+            Ok(enters_no_frame(g.plan, found.shape))
         }
         Err(rule) => Err(Refusal::Fault(rule, Spot::Point(v.key, v.addr))),
     }
@@ -116,17 +101,18 @@ fn read_and_visit(
     cache: &mut OperationCache,
 ) -> Result<bool, Refusal>
     requires fine { FineOn site.now.ground.now table.old }
-    requires near { StandsAt table.old.places table.old.near (Point site.now.key site.now.addr) }
+    requires near { PlaceHasNumber table.old.places table.old.near
+        (Point site.now.key site.now.addr) }
     requires code { LocatesCode site.now.ground.now.image.now site.now.ground.now.plan.now
         site.now.addr site.now.located.now }
     requires shape { IfSome site.now.located.now (λ found. IsShape found.shape) }
-    requires results { HoldsResults site.now.ground.now.bounds.now cache.old }
-    ensures ok { OnOk result (PointJoinedOn site.now.ground.now table.old table.new
+    requires results { HoldsCachedResults site.now.ground.now.bounds.now cache.old }
+    ensures ok { OnOk result (VisitJoinsPointOn site.now.ground.now table.old table.new
         (Point site.now.key site.now.addr)) }
     ensures plain { IfOk result (λ plain. IsTrue plain
         → IsPlainAt site.now.ground.now.image.now site.now.ground.now.plan.now site.now.addr) }
     ensures err { IfErr result (AnsweredOn site.now.ground.now) }
-    ensures results { HoldsResults site.now.ground.now.bounds.now cache.new }
+    ensures results { HoldsCachedResults site.now.ground.now.bounds.now cache.new }
 {
     let Some((_, place)) = table.places.get_index(table.near) else {
         unreachable!();
@@ -155,14 +141,14 @@ pub(crate) fn visit_place(
     cache: &mut OperationCache,
 ) -> Result<bool, Refusal>
     requires fine { FineOn ground.now table.old }
-    requires results { HoldsResults ground.now.bounds.now cache.old }
-    ensures ok { (x : spots.Spot) → StandsAt table.old.places table.old.near x
-        → OnOk result (PointJoinedOn ground.now table.old table.new x) }
-    ensures plain { (x : spots.Spot) → StandsAt table.old.places table.old.near x
+    requires results { HoldsCachedResults ground.now.bounds.now cache.old }
+    ensures ok { (x : spots.Spot) → PlaceHasNumber table.old.places table.old.near x
+        → OnOk result (VisitJoinsPointOn ground.now table.old table.new x) }
+    ensures plain { (x : spots.Spot) → PlaceHasNumber table.old.places table.old.near x
         → IfOk result (λ plain. IsTrue plain
         → IsPlainIn ground.now.image.now ground.now.plan.now x) }
     ensures err { IfErr result (AnsweredOn ground.now) }
-    ensures results { HoldsResults ground.now.bounds.now cache.new }
+    ensures results { HoldsCachedResults ground.now.bounds.now cache.new }
 {
     let Some((at, _)) = table.places.get_index(table.near) else {
         return Ok(false);
@@ -186,17 +172,22 @@ pub(crate) fn visit_place(
 /// Writes what the instruction makes of the state into `c`. The result of an operation on two sets
 /// may be in `cache`.
 #[inline(always)]
-pub(crate) fn change_at(v: &Visit, shape: Shape, c: &mut Change, cache: &mut OperationCache)
+pub(crate) fn write_visit_change(
+    v: &Visit,
+    shape: Shape,
+    c: &mut Change,
+    cache: &mut OperationCache,
+)
     requires shape { IsShape shape }
     requires values { AreValues v.now.ground.now.bounds.now v.now.state.now.regs }
-    requires room { HasRoom v.now.ground.now.bounds.now shape v.now.state.now }
-    requires results { HoldsResults v.now.ground.now.bounds.now cache.old }
+    requires room { EffectHasRoom v.now.ground.now.bounds.now shape v.now.state.now }
+    requires results { HoldsCachedResults v.now.ground.now.bounds.now cache.old }
     ensures change { state_after v.now.state.now c.new ≡ step_by v.now shape }
-    ensures results { HoldsResults v.now.ground.now.bounds.now cache.new }
+    ensures results { HoldsCachedResults v.now.ground.now.bounds.now cache.new }
 {
     let g = v.ground;
     if cache.change(g.bounds, g.plan, shape, v.state, c) {
         return;
     }
-    step_change(g.bounds, g.image, g.plan, shape, v.state, c);
+    successor_change(g.bounds, g.image, g.plan, shape, v.state, c);
 }

@@ -9,8 +9,8 @@ use Rattle.std.proofs.lemmas.Bool.Decides.{nat_tests}
 use Rattle.elf_image.specs.declared.headers.Header.{Header}
 use Rattle.elf_image.specs.declared.errors.ImageErr.TheVariants.{BadSegment}
 use Rattle.elf_image.specs.Images.{ImageData, SegmentData, IsImage, is_segment, are_apart, all_apart}
-use Rattle.elf_image.specs.ReadElf.{e_phoff, e_phnum, e_phentsize, header_at, headers_of, is_bad, has_bytes, meets, loads_of, segment_refusal, is_large, overlap_refusal, segment_of, image_of}
-use Rattle.elf_image.specs.WrittenElf.{elf_header, program_header, program_headers, contents_place, contents, file_of}
+use Rattle.elf_image.specs.ReadElf.{e_phoff, e_phnum, e_phentsize, header_at, headers_of, is_bad_header, has_bytes, meets, loads_of, segment_refusal, is_large, overlap_refusal, segment_of, image_of_file}
+use Rattle.elf_image.specs.WrittenElf.{elf_header, program_header, program_headers, elf_contents_offset, elf_contents, file_of}
 use Rattle.elf_image.proofs.Fields.{written_header, header_at-written, start-elf_header, entry-elf_header, phoff-elf_header, phentsize-elf_header, phnum-elf_header, length-elf_header, length-program_header}
 use Rattle.elf_image.proofs.Refusals.{image_of-loaded}
 
@@ -28,15 +28,15 @@ unfolding program_headers
 length-program_headers offset [] = refl
 length-program_headers offset (s ∷ ss) = omega (arith, length-append (program_header offset s.at (len s)) (program_headers (offset + len s) ss), length-program_header offset s.at (len s), length-program_headers (offset + len s) ss)
 
-length-contents : (ss : List SegmentData) → length (contents ss) ≡ size ss
-unfolding contents
+length-contents : (ss : List SegmentData) → length (elf_contents ss) ≡ size ss
+unfolding elf_contents
 length-contents ss = length-flat_map (λ (s : SegmentData). s.bytes) ss
 
 length_is : (i : ImageData) → length (file_of i) ≡ 52 + 32 * length i.segments + size i.segments
 unfolding file_of
 length_is i =
     let ss = i.segments in
-    omega (arith, length-append (elf_header i.entry (length ss)) (program_headers (contents_place ss) ss ++ contents ss), length-append (program_headers (contents_place ss) ss) (contents ss), length-elf_header i.entry (length ss), length-program_headers (contents_place ss) ss, length-contents ss)
+    omega (arith, length-append (elf_header i.entry (length ss)) (program_headers (elf_contents_offset ss) ss ++ elf_contents ss), length-append (program_headers (elf_contents_offset ss) ss) (elf_contents ss), length-elf_header i.entry (length ss), length-program_headers (elf_contents_offset ss) ss, length-contents ss)
 
 pub length-file_of : (i : ImageData) → IsImage i → length (file_of i) ≤ 2 ^ 30
 length-file_of i h = omega (arith, length_is i, h.few, h.small)
@@ -95,11 +95,11 @@ loads_again number offset (s ∷ ss) good =
     rw (loads_bytes number offset s.at (len s) p.some, tail) refl
 
 -- none of the headers is bad
-is_fine : (file : List ℕ) (number offset at n : ℕ) → e_phoff file ≡ 52 → 52 + 32 * (number + 1) ≤ length file → offset + n ≤ length file → at + n ≤ 2 ^ 32 → is_bad file (written_header number offset at n) ≡ false
-unfolding is_bad written_header
+is_fine : (file : List ℕ) (number offset at n : ℕ) → e_phoff file ≡ 52 → 52 + 32 * (number + 1) ≤ length file → offset + n ≤ length file → at + n ≤ 2 ^ 32 → is_bad_header file (written_header number offset at n) ≡ false
+unfolding is_bad_header written_header
 is_fine file number offset at n first whole inside below = grind (arith, nat_tests)
 
-fine_again : (file : List ℕ) (number offset : ℕ) (ss : List SegmentData) → e_phoff file ≡ 52 → 52 + 32 * (number + length ss) ≤ length file → offset + size ss ≤ length file → list_all is_segment ss ≡ true → find (is_bad file) (headers_from number offset ss) ≡ None
+fine_again : (file : List ℕ) (number offset : ℕ) (ss : List SegmentData) → e_phoff file ≡ 52 → 52 + 32 * (number + length ss) ≤ length file → offset + size ss ≤ length file → list_all is_segment ss ≡ true → find (is_bad_header file) (headers_from number offset ss) ≡ None
 unfolding headers_from
 fine_again file number offset [] first whole inside good = refl
 fine_again file number offset (s ∷ ss) first whole inside good =
@@ -150,12 +150,12 @@ part_again file front back bytes number offset at is place =
     let taken : take (length bytes) (drop offset file) ≡ bytes = ap (take (length bytes)) dropped ∙ take_at bytes back (length bytes) refl in
     ap (λ (b : List ℕ). record { at = at; bytes = b }) taken
 
-segments_again : (file front : List ℕ) (number offset : ℕ) (ss : List SegmentData) → file ≡ front ++ contents ss → length front ≡ offset → map (segment_of file) (headers_from number offset ss) ≡ ss
-unfolding headers_from contents
+segments_again : (file front : List ℕ) (number offset : ℕ) (ss : List SegmentData) → file ≡ front ++ elf_contents ss → length front ≡ offset → map (segment_of file) (headers_from number offset ss) ≡ ss
+unfolding headers_from elf_contents
 segments_again file front number offset [] is place = refl
 segments_again file front number offset (s ∷ ss) is place =
-    let head = part_again file front (contents ss) s.bytes number offset s.at is place in
-    let later : file ≡ (front ++ s.bytes) ++ contents ss = is ∙ sym (append_assoc front s.bytes (contents ss)) in
+    let head = part_again file front (elf_contents ss) s.bytes number offset s.at is place in
+    let later : file ≡ (front ++ s.bytes) ++ elf_contents ss = is ∙ sym (append_assoc front s.bytes (elf_contents ss)) in
     let tail = segments_again file (front ++ s.bytes) (number + 1) (offset + len s) ss later (omega (arith, length-append front s.bytes)) in
     rw (head, tail) refl
 
@@ -165,27 +165,27 @@ passed : (b : Bool) (n : ℕ) (o : Option Header) → n ≡ 32 → o ≡ None �
 passed true n o e h = rw (e, h) refl
 passed false n o e h = rw h refl
 
-no_refusal : (bytes : List ℕ) → e_phentsize bytes ≡ 32 → find (is_bad bytes) (headers_of bytes) ≡ None → segment_refusal bytes ≡ None
+no_refusal : (bytes : List ℕ) → e_phentsize bytes ≡ 32 → find (is_bad_header bytes) (headers_of bytes) ≡ None → segment_refusal bytes ≡ None
 unfolding segment_refusal
-no_refusal bytes e h = passed (ltb 0 (e_phnum bytes)) (e_phentsize bytes) (find (is_bad bytes) (headers_of bytes)) e h
+no_refusal bytes e h = passed (ltb 0 (e_phnum bytes)) (e_phentsize bytes) (find (is_bad_header bytes) (headers_of bytes)) e h
 
-pub image_of-file_of : (i : ImageData) → IsImage i → image_of (file_of i) ≡ Ok i
+pub image_of-file_of : (i : ImageData) → IsImage i → image_of_file (file_of i) ≡ Ok i
 unfolding file_of headers_of loads_of
 image_of-file_of i h =
     let ss = i.segments in
     let n = length ss in
-    let place = contents_place ss in
+    let place = elf_contents_offset ss in
     let header = elf_header i.entry n in
     let table = program_headers place ss in
-    let rest = table ++ contents ss in
+    let rest = table ++ elf_contents ss in
     let file = file_of i in
     let first : e_phoff file ≡ 52 = phoff-elf_header i.entry n rest in
     let count : e_phnum file ≡ n = phnum-elf_header i.entry n rest (omega (arith, h.few)) in
-    let again : headers_of file ≡ headers_from 0 place ss = ap (λ m. map (header_at file) (range_with_len 0 m)) count ∙ headers_again file header (contents ss) 0 place ss refl first (length-elf_header i.entry n) (omega (arith, h.few, h.small)) h.segments in
+    let again : headers_of file ≡ headers_from 0 place ss = ap (λ m. map (header_at file) (range_with_len 0 m)) count ∙ headers_again file header (elf_contents ss) 0 place ss refl first (length-elf_header i.entry n) (omega (arith, h.few, h.small)) h.segments in
     let loads : loads_of file ≡ headers_from 0 place ss = ap (filter has_bytes) again ∙ loads_again 0 place ss h.segments in
-    let fine : find (is_bad file) (headers_of file) ≡ None = ap (find (is_bad file)) again ∙ fine_again file 0 place ss first (omega (arith, length_is i)) (omega (arith, length_is i)) h.segments in
+    let fine : find (is_bad_header file) (headers_of file) ≡ None = ap (find (is_bad_header file)) again ∙ fine_again file 0 place ss first (omega (arith, length_is i)) (omega (arith, length_is i)) h.segments in
     let small : is_large (loads_of file) ≡ false = ap is_large loads ∙ not_large (headers_from 0 place ss) (omega (arith, length_again 0 place ss, h.few)) (omega (arith, size_again 0 place ss, h.small)) in
     let alone : overlap_refusal (loads_of file) ≡ None = ap overlap_refusal loads ∙ apart_again 0 place ss h.apart in
     let front : length (header ++ table) ≡ place = omega (arith, length-append header table, length-elf_header i.entry n, length-program_headers place ss) in
-    let same : map (segment_of file) (loads_of file) ≡ ss = ap (map (segment_of file)) loads ∙ segments_again file (header ++ table) 0 place ss (sym (append_assoc header table (contents ss))) front in
+    let same : map (segment_of file) (loads_of file) ≡ ss = ap (map (segment_of file)) loads ∙ segments_again file (header ++ table) 0 place ss (sym (append_assoc header table (elf_contents ss))) front in
     image_of-loaded file i.entry ss (sym (start-elf_header i.entry n rest)) (sym (no_refusal file (phentsize-elf_header i.entry n rest) fine)) small (sym alone) (sym (entry-elf_header i.entry n rest h.entry)) (sym same)

@@ -3,15 +3,15 @@ use Rattle.std.proofs.Common.{◌≡◌, ℕ, ◌+◌, ◌*◌, ◌^◌, ◌<◌
 use Rattle.std.proofs.lemmas.List.{get_or-append-add}
 use Rattle.std.proofs.lemmas.Bool.{le-ltb}
 use Rattle.elf_image.specs.declared.headers.Header.{Header}
-use Rattle.elf_image.specs.ReadElf.{half_at, word_at, e_entry, e_phoff, e_phentsize, e_phnum, header_at, start_refusal}
+use Rattle.elf_image.specs.ReadElf.{elf_half_at, elf_word_at, e_entry, e_phoff, e_phentsize, e_phnum, header_at, start_refusal}
 use Rattle.elf_image.specs.WrittenElf.{elf_header, program_header}
 
 get_or-behind : (front back : List ℕ) (k at : ℕ) → length front + k ≡ at → get_or (front ++ back) at 0 ≡ get_or back k 0
 get_or-behind front back k at e = rw (← e) (get_or-append-add front back k 0)
 
 -- a word after a front
-word_at-behind : (front back : List ℕ) (k at : ℕ) → length front + k ≡ at → word_at (front ++ back) at ≡ word_at back k
-unfolding word_at
+word_at-behind : (front back : List ℕ) (k at : ℕ) → length front + k ≡ at → elf_word_at (front ++ back) at ≡ elf_word_at back k
+unfolding elf_word_at
 word_at-behind front back k at e =
     let e0 = get_or-behind front back k at e in
     let e1 = get_or-behind front back (k + 1) (at + 1) (omega arith) in
@@ -22,23 +22,23 @@ word_at-behind front back k at e =
 -- ---- the ELF header
 
 pub start-elf_header : (entry count : ℕ) (rest : List ℕ) → start_refusal (elf_header entry count ++ rest) ≡ None
-unfolding start_refusal half_at elf_header
+unfolding start_refusal elf_half_at elf_header
 start-elf_header entry count rest = rw (le-ltb (length (elf_header entry count ++ rest)) 52 (omega arith)) refl
 
 pub entry-elf_header : (entry count : ℕ) (rest : List ℕ) → entry < 2 ^ 32 → e_entry (elf_header entry count ++ rest) ≡ entry
-unfolding word_at elf_header
+unfolding elf_word_at elf_header
 entry-elf_header entry count rest lt = omega arith
 
 pub phoff-elf_header : (entry count : ℕ) (rest : List ℕ) → e_phoff (elf_header entry count ++ rest) ≡ 52
-unfolding word_at elf_header
+unfolding elf_word_at elf_header
 phoff-elf_header entry count rest = refl
 
 pub phentsize-elf_header : (entry count : ℕ) (rest : List ℕ) → e_phentsize (elf_header entry count ++ rest) ≡ 32
-unfolding half_at elf_header
+unfolding elf_half_at elf_header
 phentsize-elf_header entry count rest = refl
 
 pub phnum-elf_header : (entry count : ℕ) (rest : List ℕ) → count < 2 ^ 16 → e_phnum (elf_header entry count ++ rest) ≡ count
-unfolding half_at elf_header
+unfolding elf_half_at elf_header
 phnum-elf_header entry count rest lt = omega arith
 
 pub length-elf_header : (entry count : ℕ) → length (elf_header entry count) ≡ 52
@@ -51,24 +51,24 @@ pub length-program_header : (offset at len : ℕ) → length (program_header off
 unfolding program_header
 length-program_header offset at len = refl
 
-kind_again : (offset at len : ℕ) (rest : List ℕ) → word_at (program_header offset at len ++ rest) 0 ≡ 1
-unfolding word_at program_header
+kind_again : (offset at len : ℕ) (rest : List ℕ) → elf_word_at (program_header offset at len ++ rest) 0 ≡ 1
+unfolding elf_word_at program_header
 kind_again offset at len rest = refl
 
-offset_again : (offset at len : ℕ) (rest : List ℕ) → offset < 2 ^ 32 → word_at (program_header offset at len ++ rest) 4 ≡ offset
-unfolding word_at program_header
+offset_again : (offset at len : ℕ) (rest : List ℕ) → offset < 2 ^ 32 → elf_word_at (program_header offset at len ++ rest) 4 ≡ offset
+unfolding elf_word_at program_header
 offset_again offset at len rest lt = omega arith
 
-address_again : (offset at len : ℕ) (rest : List ℕ) → at < 2 ^ 32 → word_at (program_header offset at len ++ rest) 12 ≡ at
-unfolding word_at program_header
+address_again : (offset at len : ℕ) (rest : List ℕ) → at < 2 ^ 32 → elf_word_at (program_header offset at len ++ rest) 12 ≡ at
+unfolding elf_word_at program_header
 address_again offset at len rest lt = omega arith
 
-file_size_again : (offset at len : ℕ) (rest : List ℕ) → len < 2 ^ 32 → word_at (program_header offset at len ++ rest) 16 ≡ len
-unfolding word_at program_header
+file_size_again : (offset at len : ℕ) (rest : List ℕ) → len < 2 ^ 32 → elf_word_at (program_header offset at len ++ rest) 16 ≡ len
+unfolding elf_word_at program_header
 file_size_again offset at len rest lt = omega arith
 
-memory_size_again : (offset at len : ℕ) (rest : List ℕ) → len < 2 ^ 32 → word_at (program_header offset at len ++ rest) 20 ≡ len
-unfolding word_at program_header
+memory_size_again : (offset at len : ℕ) (rest : List ℕ) → len < 2 ^ 32 → elf_word_at (program_header offset at len ++ rest) 20 ≡ len
+unfolding elf_word_at program_header
 memory_size_again offset at len rest lt = omega arith
 
 -- the header of a segment
@@ -80,8 +80,8 @@ unfolding header_at written_header
 header_at-written file front back number offset at len is first place small_offset small_at small_len =
     let h = program_header offset at len ++ back in
     let at_0 : e_phoff file + 32 * number ≡ length front = omega arith in
-    let word : (k : ℕ) → word_at file (e_phoff file + 32 * number + k) ≡ word_at h k = λ k. ap (λ (bytes : List ℕ). word_at bytes (e_phoff file + 32 * number + k)) is ∙ word_at-behind front h k (e_phoff file + 32 * number + k) (omega arith) in
-    let kind : word_at file (e_phoff file + 32 * number) ≡ 1 = ap (word_at file) (omega arith) ∙ word 0 ∙ kind_again offset at len back in
+    let word : (k : ℕ) → elf_word_at file (e_phoff file + 32 * number + k) ≡ elf_word_at h k = λ k. ap (λ (bytes : List ℕ). elf_word_at bytes (e_phoff file + 32 * number + k)) is ∙ word_at-behind front h k (e_phoff file + 32 * number + k) (omega arith) in
+    let kind : elf_word_at file (e_phoff file + 32 * number) ≡ 1 = ap (elf_word_at file) (omega arith) ∙ word 0 ∙ kind_again offset at len back in
     let a = word 4 ∙ offset_again offset at len back small_offset in
     let b = word 12 ∙ address_again offset at len back small_at in
     let c = word 16 ∙ file_size_again offset at len back small_len in

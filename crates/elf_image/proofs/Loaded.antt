@@ -9,7 +9,7 @@ use Rattle.std.proofs.lemmas.Bool.Decides.{nat_tests}
 use Rattle.elf_image.specs.declared.headers.Header.{Header}
 use Rattle.elf_image.specs.declared.errors.ImageErr.{ImageErr}
 use Rattle.elf_image.specs.declared.errors.ImageErr.TheVariants.{Overlap}
-use Rattle.elf_image.specs.Images.{SegmentData, AreBytes, IsImage, is_segment, are_apart, all_apart}
+use Rattle.elf_image.specs.Images.{SegmentData, AreSegmentBytes, IsImage, is_segment, are_apart, all_apart}
 use Rattle.elf_image.specs.ReadElf.{meets, loads_of, segment_refusal, is_large, overlap_refusal, segment_of}
 use Rattle.elf_image.proofs.Good.{Good, loads_good, unfound_head, unfound_tail}
 
@@ -31,7 +31,7 @@ all_below [] h k d lt = absurd (omega arith)
 all_below (x ∷ xs) h zero d lt = h 0
 all_below (x ∷ xs) h (suc k) d lt = all_below xs (λ j. h (suc j)) k d (omega arith)
 
-are_bytes : (bytes : List ℕ) (hs : List Header) → All (λ b. b < 2 ^ 8) bytes → AreBytes (map (segment_of bytes) hs)
+are_bytes : (bytes : List ℕ) (hs : List Header) → All (λ b. b < 2 ^ 8) bytes → AreSegmentBytes (map (segment_of bytes) hs)
 are_bytes bytes hs small =
     All-map (λ (s : SegmentData). All (λ b. b < 2 ^ 8) s.bytes) (segment_of bytes) hs
     (λ k h lt. All-take (λ b. b < 2 ^ 8) (get_or hs k h).file_size (drop (get_or hs k h).offset bytes) (All-drop (λ b. b < 2 ^ 8) (get_or hs k h).offset bytes small))

@@ -2,7 +2,7 @@
 use Rattle.std.proofs.Common.{◌≡◌, ℕ, suc, ◌+◌, ◌-◌, ◌<◌, ◌≤◌, List, [], ◌∷◌, map, find, cond, true, false, Some, refl, ap, ◌∙◌, arith}
 use Rattle.std.specs.List.{range_with_len}
 use Rattle.elf_image.specs.declared.headers.Header.{Header}
-use Rattle.elf_image.specs.ReadElf.{header_at, headers_of, e_phnum, is_bad}
+use Rattle.elf_image.specs.ReadElf.{header_at, headers_of, e_phnum, is_bad_header}
 
 -- the headers from a number up to the end
 unfoldable pub rest_of : List ℕ → ℕ → ℕ → List Header
@@ -31,8 +31,8 @@ unfolding header_at
 number-header_at bytes i = refl
 
 -- the first bad header of the rest: the next one if it is bad, else the first of those after it
-pub find_bad-now : (bytes : List ℕ) (i n : ℕ) → i < n → is_bad bytes (header_at bytes i) ≡ true → find (is_bad bytes) (rest_of bytes i n) ≡ Some (header_at bytes i)
-find_bad-now bytes i n lt bad = ap (find (is_bad bytes)) (rest_of-more bytes i n lt) ∙ ap (λ b. cond b (Some (header_at bytes i)) (find (is_bad bytes) (rest_of bytes (i + 1) n))) bad
+pub find_bad-now : (bytes : List ℕ) (i n : ℕ) → i < n → is_bad_header bytes (header_at bytes i) ≡ true → find (is_bad_header bytes) (rest_of bytes i n) ≡ Some (header_at bytes i)
+find_bad-now bytes i n lt bad = ap (find (is_bad_header bytes)) (rest_of-more bytes i n lt) ∙ ap (λ b. cond b (Some (header_at bytes i)) (find (is_bad_header bytes) (rest_of bytes (i + 1) n))) bad
 
-pub find_bad-later : (bytes : List ℕ) (i n : ℕ) → i < n → is_bad bytes (header_at bytes i) ≡ false → find (is_bad bytes) (rest_of bytes i n) ≡ find (is_bad bytes) (rest_of bytes (i + 1) n)
-find_bad-later bytes i n lt good = ap (find (is_bad bytes)) (rest_of-more bytes i n lt) ∙ ap (λ b. cond b (Some (header_at bytes i)) (find (is_bad bytes) (rest_of bytes (i + 1) n))) good
+pub find_bad-later : (bytes : List ℕ) (i n : ℕ) → i < n → is_bad_header bytes (header_at bytes i) ≡ false → find (is_bad_header bytes) (rest_of bytes i n) ≡ find (is_bad_header bytes) (rest_of bytes (i + 1) n)
+find_bad-later bytes i n lt good = ap (find (is_bad_header bytes)) (rest_of-more bytes i n lt) ∙ ap (λ b. cond b (Some (header_at bytes i)) (find (is_bad_header bytes) (rest_of bytes (i + 1) n))) good

@@ -36,30 +36,30 @@ all_apart [] = true
 all_apart (s ∷ ss) = list_all (are_apart s) ss && all_apart ss
 
 -- the bytes of the segments are numbers below 256
-abbrev pub AreBytes : List SegmentData → Type 0
-AreBytes segments = All (λ (s : SegmentData). All (λ b. b < 2 ^ 8) s.bytes) segments
+abbrev pub AreSegmentBytes : List SegmentData → Type 0
+AreSegmentBytes segments = All (λ (s : SegmentData). All (λ b. b < 2 ^ 8) s.bytes) segments
 
 -- the limits of an image
 pub record IsImage (i : ImageData) : Type 0 where
   pub entry : i.entry < 2 ^ 32
   pub few : length i.segments ≤ 64
   pub segments : IsTrue (list_all is_segment i.segments)
-  pub bytes : AreBytes i.segments
+  pub bytes : AreSegmentBytes i.segments
   pub apart : IsTrue (all_apart i.segments)
   pub small : sum_by (λ s. length s.bytes) i.segments ≤ 2 ^ 24
 
 -- the segment holds the address x
-abbrev pub holds : SegmentData → ℕ → Bool
-holds s x = nat_le s.at x && nat_lt x (s.at + length s.bytes)
+abbrev pub is_held_by_segment : SegmentData → ℕ → Bool
+is_held_by_segment s x = nat_le s.at x && nat_lt x (s.at + length s.bytes)
 
 -- the byte of the segment that holds x
-abbrev pub byte_in : List SegmentData → ℕ → Option ℕ
-byte_in [] x = None
-byte_in (s ∷ ss) x = if holds s x then slice_get s.bytes (x - s.at) else byte_in ss x
+abbrev pub segments_byte : List SegmentData → ℕ → Option ℕ
+segments_byte [] x = None
+segments_byte (s ∷ ss) x = if is_held_by_segment s x then slice_get s.bytes (x - s.at) else segments_byte ss x
 
 -- the byte of the image at x, None if no segment holds x
 abbrev pub image_byte : ImageData → ℕ → Option ℕ
-image_byte i x = byte_in i.segments x
+image_byte i x = segments_byte i.segments x
 
 -- the image has these bytes from an address on
 abbrev pub HoldsFrom : ImageData → ℕ → List ℕ → Type 0

@@ -9,12 +9,12 @@ use Rattle.elf_image.specs.declared.errors.ImageErr.{ImageErr}
 use Rattle.elf_image.specs.declared.errors.ImageErr.TheVariants.{Short, NotElf32Le, NotTriCore, NotExec, BadSegment, TooLarge, Overlap, NoMemory}
 
 -- the two bytes of a file from a place on, the least significant first (Elf32_Half in ELFDATA2LSB)
-unfoldable pub half_at : List ℕ → ℕ → ℕ
-half_at bytes at = slice_index bytes at + slice_index bytes (at + 1) * 2 ^ 8
+unfoldable pub elf_half_at : List ℕ → ℕ → ℕ
+elf_half_at bytes at = slice_index bytes at + slice_index bytes (at + 1) * 2 ^ 8
 
 -- the four bytes of a file from a place on (Elf32_Word, Elf32_Addr and Elf32_Off)
-unfoldable pub word_at : List ℕ → ℕ → ℕ
-word_at bytes at =
+unfoldable pub elf_word_at : List ℕ → ℕ → ℕ
+elf_word_at bytes at =
     slice_index bytes at + slice_index bytes (at + 1) * 2 ^ 8
     + slice_index bytes (at + 2) * 2 ^ 16 + slice_index bytes (at + 3) * 2 ^ 24
 
@@ -26,43 +26,43 @@ ident = 127 ∷ 69 ∷ 76 ∷ 70 ∷ 1 ∷ 1 ∷ []
 
 -- the kind of file
 abbrev pub e_type : List ℕ → ℕ
-e_type bytes = half_at bytes 16
+e_type bytes = elf_half_at bytes 16
 
 -- the machine that the file is for
 abbrev pub e_machine : List ℕ → ℕ
-e_machine bytes = half_at bytes 18
+e_machine bytes = elf_half_at bytes 18
 
 -- the address at which the program begins
 abbrev pub e_entry : List ℕ → ℕ
-e_entry bytes = word_at bytes 24
+e_entry bytes = elf_word_at bytes 24
 
 -- the offset of the program headers
 abbrev pub e_phoff : List ℕ → ℕ
-e_phoff bytes = word_at bytes 28
+e_phoff bytes = elf_word_at bytes 28
 
 -- the size of a program header, in bytes
 abbrev pub e_phentsize : List ℕ → ℕ
-e_phentsize bytes = half_at bytes 42
+e_phentsize bytes = elf_half_at bytes 42
 
 -- the number of program headers
 abbrev pub e_phnum : List ℕ → ℕ
-e_phnum bytes = half_at bytes 44
+e_phnum bytes = elf_half_at bytes 44
 
 -- ---- program headers, Elf32_Phdr
 
 -- the offset of the program header with this number
-abbrev pub place_of : List ℕ → ℕ → ℕ
-place_of bytes number = e_phoff bytes + 32 * number
+abbrev pub program_header_offset : List ℕ → ℕ → ℕ
+program_header_offset bytes number = e_phoff bytes + 32 * number
 
 -- the program header with this number, from 0: p_type, p_offset, p_paddr, p_filesz and p_memsz
 unfoldable pub header_at : List ℕ → ℕ → Header
 header_at bytes number = record {
   number = number;
-  kind = word_at bytes (place_of bytes number);
-  offset = word_at bytes (place_of bytes number + 4);
-  address = word_at bytes (place_of bytes number + 12);
-  file_size = word_at bytes (place_of bytes number + 16);
-  memory_size = word_at bytes (place_of bytes number + 20);
+  kind = elf_word_at bytes (program_header_offset bytes number);
+  offset = elf_word_at bytes (program_header_offset bytes number + 4);
+  address = elf_word_at bytes (program_header_offset bytes number + 12);
+  file_size = elf_word_at bytes (program_header_offset bytes number + 16);
+  memory_size = elf_word_at bytes (program_header_offset bytes number + 20);
 }
 
 -- the program headers of a file, in order
@@ -71,7 +71,7 @@ headers_of bytes = map (header_at bytes) (range_with_len 0 (e_phnum bytes))
 
 -- the program header isn't wholly in the file
 abbrev pub is_cut : List ℕ → ℕ → Bool
-is_cut bytes number = nat_lt (length bytes) (place_of bytes number + 32)
+is_cut bytes number = nat_lt (length bytes) (program_header_offset bytes number + 32)
 
 -- p_type is PT_LOAD
 abbrev pub is_load : Header → Bool
@@ -86,8 +86,8 @@ passes_bounds len h =
     || nat_lt h.memory_size h.file_size
 
 -- the program header isn't wholly in the file, or loads bytes that pass a bound
-unfoldable pub is_bad : List ℕ → Header → Bool
-is_bad bytes h = is_cut bytes h.number || (is_load h && passes_bounds (length bytes) h)
+unfoldable pub is_bad_header : List ℕ → Header → Bool
+is_bad_header bytes h = is_cut bytes h.number || (is_load h && passes_bounds (length bytes) h)
 
 -- the program header loads bytes of the file
 unfoldable pub has_bytes : Header → Bool
@@ -117,7 +117,7 @@ start_refusal bytes =
 unfoldable pub segment_refusal : List ℕ → Option ImageErr
 segment_refusal bytes =
     if nat_lt 0 (e_phnum bytes) && not (e_phentsize bytes == 32) then Some (BadSegment 0)
-    else option_map (λ h. BadSegment h.number) (find (is_bad bytes) (headers_of bytes))
+    else option_map (λ h. BadSegment h.number) (find (is_bad_header bytes) (headers_of bytes))
 
 -- more segments or bytes than an image can have
 unfoldable pub is_large : List Header → Bool
@@ -130,8 +130,8 @@ overlap_refusal (h ∷ hs) =
     option_or (option_map (λ k. Overlap h.number k.number) (find (meets h) hs)) (overlap_refusal hs)
 
 -- the first refusal, in the order of the checks
-unfoldable pub refusal_of : List ℕ → Option ImageErr
-refusal_of bytes =
+unfoldable pub image_refusal : List ℕ → Option ImageErr
+image_refusal bytes =
     option_or (start_refusal bytes)
     (option_or (segment_refusal bytes)
     (option_or (then_some (is_large (loads_of bytes)) TooLarge)
@@ -148,22 +148,22 @@ unfoldable pub image_of_loads : List ℕ → ImageData
 image_of_loads bytes = record { entry = e_entry bytes; segments = map (segment_of bytes) (loads_of bytes) }
 
 -- the refusal, if there is one, else this image
-abbrev pub unless : Option ImageErr → ImageData → Result ImageData ImageErr
-unless None i = Ok i
-unless (Some e) i = Err e
+abbrev pub image_unless_refused : Option ImageErr → ImageData → Result ImageData ImageErr
+image_unless_refused None i = Ok i
+image_unless_refused (Some e) i = Err e
 
 -- the image that the bytes of a file load, or the first refusal
-unfoldable pub image_of : List ℕ → Result ImageData ImageErr
-image_of bytes = unless (refusal_of bytes) (image_of_loads bytes)
+unfoldable pub image_of_file : List ℕ → Result ImageData ImageErr
+image_of_file bytes = image_unless_refused (image_refusal bytes) (image_of_loads bytes)
 
 -- a reader's answer is this one, or out of memory
-abbrev pub Gives : Result ImageData ImageErr → Result ImageData ImageErr → Type 0
-Gives (Ok i) answer = answer ≡ Ok i
-Gives (Err Short) answer = answer ≡ Err Short
-Gives (Err NotElf32Le) answer = answer ≡ Err NotElf32Le
-Gives (Err NotTriCore) answer = answer ≡ Err NotTriCore
-Gives (Err NotExec) answer = answer ≡ Err NotExec
-Gives (Err (BadSegment i)) answer = answer ≡ Err (BadSegment i)
-Gives (Err TooLarge) answer = answer ≡ Err TooLarge
-Gives (Err (Overlap i j)) answer = answer ≡ Err (Overlap i j)
-Gives (Err NoMemory) answer = Unit {0}
+abbrev pub GivesImage : Result ImageData ImageErr → Result ImageData ImageErr → Type 0
+GivesImage (Ok i) answer = answer ≡ Ok i
+GivesImage (Err Short) answer = answer ≡ Err Short
+GivesImage (Err NotElf32Le) answer = answer ≡ Err NotElf32Le
+GivesImage (Err NotTriCore) answer = answer ≡ Err NotTriCore
+GivesImage (Err NotExec) answer = answer ≡ Err NotExec
+GivesImage (Err (BadSegment i)) answer = answer ≡ Err (BadSegment i)
+GivesImage (Err TooLarge) answer = answer ≡ Err TooLarge
+GivesImage (Err (Overlap i j)) answer = answer ≡ Err (Overlap i j)
+GivesImage (Err NoMemory) answer = Unit {0}

@@ -1,12 +1,13 @@
 // The checks of an ELF file, in their order.
-ghost use Rattle.std.specs.Prelude.{◌≡◌, ◌+◌, ◌≤◌, ◌<◌, length, find, Option, Some, None, OnOk, ◌^◌};
+ghost use Rattle.std.specs.Prelude.{◌≡◌, ◌+◌, ◌≤◌, ◌<◌, length, find, Option, Some, None, OnOk, ◌^◌, ◌-◌, true};
 ghost use Rattle.std.specs.Result.{result_err};
 ghost use Rattle.std.specs.Option.{option_map};
-ghost use Rattle.elf_image.specs.ReadElf.{headers_of, is_bad, start_refusal, segment_refusal, meets, overlap_refusal, passes_bounds};
+ghost use Rattle.elf_image.specs.ReadElf.{headers_of, is_bad_header, start_refusal, segment_refusal, meets, overlap_refusal, passes_bounds, program_header_offset, header_at};
 
 use crate::ImageErr;
 use crate::headers::{
-    E_MACHINE, E_PHENTSIZE, E_PHNUM, E_TYPE, EM_TRICORE, ET_EXEC, Header, half_at, is_bad, meets,
+    E_MACHINE, E_PHENTSIZE, E_PHNUM, E_TYPE, EM_TRICORE, ET_EXEC, Header, PT_LOAD, elf_half_at,
+    header_at, program_header_offset,
 };
 
 // Checks that the file begins with the header of an executable for this machine.
@@ -21,10 +22,10 @@ pub(crate) fn check_start(bytes: &[u8]) -> Result<(), ImageErr>
     if !bytes.starts_with(&[127, 69, 76, 70, 1, 1]) {
         return Err(ImageErr::NotElf32Le);
     }
-    if half_at(bytes, E_MACHINE) != EM_TRICORE {
+    if elf_half_at(bytes, E_MACHINE) != EM_TRICORE {
         return Err(ImageErr::NotTriCore);
     }
-    if half_at(bytes, E_TYPE) != ET_EXEC {
+    if elf_half_at(bytes, E_TYPE) != ET_EXEC {
         return Err(ImageErr::NotExec);
     }
     Ok(())
@@ -33,11 +34,12 @@ pub(crate) fn check_start(bytes: &[u8]) -> Result<(), ImageErr>
 // Returns the number of the first bad program header.
 fn first_bad(bytes: &[u8]) -> Option<u32>
     requires { 52 ≤ length bytes.now }
-    ensures { result ≡ option_map (λ h. h.number) (find (is_bad bytes.now) (headers_of bytes.now)) }
+    ensures { result ≡ option_map (λ h. h.number)
+        (find (is_bad_header bytes.now) (headers_of bytes.now)) }
 {
-    let count = half_at(bytes, E_PHNUM);
+    let count = elf_half_at(bytes, E_PHNUM);
     for number in 0..count {
-        if is_bad(bytes, number) {
+        if is_bad_header(bytes, number) {
             return Some(u32::from(number));
         }
     }
@@ -50,7 +52,7 @@ pub(crate) fn check_segments(bytes: &[u8]) -> Result<(), ImageErr>
     requires { 52 ≤ length bytes.now }
     ensures { result_err result ≡ segment_refusal bytes.now }
 {
-    if half_at(bytes, E_PHNUM) > 0 && half_at(bytes, E_PHENTSIZE) != 32 {
+    if elf_half_at(bytes, E_PHNUM) > 0 && elf_half_at(bytes, E_PHENTSIZE) != 32 {
         return Err(ImageErr::BadSegment(0));
     }
     match first_bad(bytes) {
@@ -84,8 +86,8 @@ pub(crate) fn check_apart(loads: &[Header]) -> Result<(), ImageErr>
     Ok(())
 }
 
-// Returns true if the header's bytes pass the end of a file of this length, address 2^32 or the
-// header's own memory size.
+/// Returns true if a check refuses a program header: its bytes pass the end of a file of this
+/// length, address 2^32 or its own memory size.
 pub(crate) fn passes_bounds(len: usize, header: &Header) -> bool
     ensures { result ≡ passes_bounds len header.now }
 {
@@ -93,4 +95,28 @@ pub(crate) fn passes_bounds(len: usize, header: &Header) -> bool
     u64::from(header.offset) + size > len as u64
         || u64::from(header.address) + size > 1 << 32
         || header.memory_size < header.file_size
+}
+
+// Returns true if the program header with this number can't be used: it isn't wholly in the file,
+// or its bytes pass a bound.
+#[tactic(auto, unfolding(crate::specs::ReadElf::is_bad_header, crate::specs::ReadElf::header_at))]
+pub(crate) fn is_bad_header(bytes: &[u8], number: u16) -> bool
+    requires { 52 ≤ length bytes.now }
+    ensures { result ≡ is_bad_header bytes.now (header_at bytes.now number) }
+{
+    if program_header_offset(bytes, number) + 32 > bytes.len() {
+        return true;
+    }
+    let header = header_at(bytes, number);
+    header.kind == PT_LOAD && passes_bounds(bytes.len(), &header)
+}
+
+/// Returns true if the bytes that two program headers load share an address. A check refuses such
+/// an ELF file.
+#[tactic(auto, unfolding(crate::specs::ReadElf::meets))]
+pub(crate) fn meets(header: &Header, other: &Header) -> bool
+    ensures { result ≡ meets header.now other.now }
+{
+    let (at, other_at) = (u64::from(header.address), u64::from(other.address));
+    at < other_at + u64::from(other.file_size) && other_at < at + u64::from(header.file_size)
 }

@@ -1,12 +1,13 @@
 // Writes the ELF file of an image, part by part.
 ghost use Rattle.std.specs.Prelude.{◌≡◌, ◌++◌, ◌≤◌, ◌^◌, length, map, sum_by, OnOk, IfOk, IfErr};
 ghost use Rattle.elf_image.specs.Images.{segment_data};
-ghost use Rattle.elf_image.specs.WrittenElf.{elf_header, program_header, program_headers, contents, contents_place, file_of};
+ghost use Rattle.elf_image.specs.WrittenElf.{elf_header, program_header, program_headers, elf_contents, elf_contents_offset, file_of};
 
 use crate::{ImageErr, Segment};
 use std::alloc::Global;
 
-// Returns the ELF header of an executable with this entry and `count` program headers.
+/// Returns the ELF header that is written for an executable with this entry and `count` program
+/// headers.
 #[tactic(auto, unfolding(crate::specs::WrittenElf::elf_header))]
 fn elf_header(entry: u32, count: u16) -> [u8; 52]
     ensures { result ≡ elf_header entry count }
@@ -41,7 +42,8 @@ fn put_headers(out: &mut Vec<u8>, segments: &[Segment]) -> Result<(), ImageErr>
     requires few { length segments.now ≤ 64 }
     requires small { sum_by (λ s. length s.bytes) (map segment_data segments.now) ≤ 2 ^ 24 }
     ensures ok { let all = map segment_data segments.now in
-        OnOk result (out.new.items ≡ out.old.items ++ program_headers (contents_place all) all) }
+        OnOk result
+        (out.new.items ≡ out.old.items ++ program_headers (elf_contents_offset all) all) }
     ensures err { IfErr result (λ e. e ≡ ImageErr.NoMemory) }
 {
     let mut offset = 52 + 32 * segments.len() as u32;
@@ -54,10 +56,10 @@ fn put_headers(out: &mut Vec<u8>, segments: &[Segment]) -> Result<(), ImageErr>
 }
 
 // Appends the segments' bytes.
-#[tactic(auto, unfolding(crate::specs::WrittenElf::contents))]
+#[tactic(auto, unfolding(crate::specs::WrittenElf::elf_contents))]
 fn put_contents(out: &mut Vec<u8>, segments: &[Segment]) -> Result<(), ImageErr>
     ensures ok { OnOk result
-        (out.new.items ≡ out.old.items ++ contents (map segment_data segments.now)) }
+        (out.new.items ≡ out.old.items ++ elf_contents (map segment_data segments.now)) }
     ensures err { IfErr result (λ e. e ≡ ImageErr.NoMemory) }
 {
     for segment in segments {

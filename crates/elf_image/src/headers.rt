@@ -1,9 +1,8 @@
 // Reads the fields of an ELF file by their offsets.
 ghost use Rattle.std.specs.Prelude.{◌≡◌, ◌+◌, ◌*◌, ◌≤◌, ◌<◌, ◌^◌, length, ◌-◌, ◌⊎◌, None, IfOk, IfErr, true, false};
-ghost use Rattle.elf_image.specs.ReadElf.{half_at, word_at, place_of, header_at, passes_bounds, is_bad, has_bytes, meets, segment_refusal, loads_of, is_large};
+ghost use Rattle.elf_image.specs.ReadElf.{elf_half_at, elf_word_at, program_header_offset, header_at, has_bytes, segment_refusal, loads_of, is_large};
 
 use crate::ImageErr;
-use crate::file_checks::passes_bounds;
 use std::alloc::Global;
 
 /// The offset of the kind of file in the ELF header.
@@ -31,7 +30,7 @@ pub(crate) const ET_EXEC: u16 = 2;
 pub(crate) const EM_TRICORE: u16 = 44;
 
 /// The type of a program header whose bytes are loaded.
-const PT_LOAD: u32 = 1;
+pub(crate) const PT_LOAD: u32 = 1;
 
 /// A program header, with its number in the file.
 #[derive(Clone, Copy)]
@@ -44,61 +43,49 @@ pub(crate) struct Header {
     pub(crate) memory_size: u32,
 }
 
-#[tactic(auto, unfolding(crate::specs::ReadElf::half_at))]
-pub(crate) fn half_at(bytes: &[u8], at: usize) -> u16
+/// Returns the two bytes of an ELF file from a place on as a number (Elf32_Half).
+#[tactic(auto, unfolding(crate::specs::ReadElf::elf_half_at))]
+pub(crate) fn elf_half_at(bytes: &[u8], at: usize) -> u16
     requires { at + 2 ≤ length bytes.now }
-    ensures { result ≡ half_at bytes.now at }
+    ensures { result ≡ elf_half_at bytes.now at }
 {
     u16::from_le_bytes([bytes[at], bytes[at + 1]])
 }
 
-#[tactic(auto, unfolding(crate::specs::ReadElf::word_at))]
-pub(crate) fn word_at(bytes: &[u8], at: usize) -> u32
+/// Returns the four bytes of an ELF file from a place on as a number (Elf32_Word).
+#[tactic(auto, unfolding(crate::specs::ReadElf::elf_word_at))]
+pub(crate) fn elf_word_at(bytes: &[u8], at: usize) -> u32
     requires { at + 4 ≤ length bytes.now }
-    ensures { result ≡ word_at bytes.now at }
+    ensures { result ≡ elf_word_at bytes.now at }
 {
     u32::from_le_bytes([bytes[at], bytes[at + 1], bytes[at + 2], bytes[at + 3]])
 }
 
 // Returns the offset of the program header with this number.
-pub(crate) fn place_of(bytes: &[u8], number: u16) -> usize
+pub(crate) fn program_header_offset(bytes: &[u8], number: u16) -> usize
     requires { 52 ≤ length bytes.now }
-    ensures place { result ≡ place_of bytes.now number }
+    ensures place { result ≡ program_header_offset bytes.now number }
     ensures small { result < 2 ^ 33 }
 {
-    word_at(bytes, E_PHOFF) as usize + 32 * number as usize
+    elf_word_at(bytes, E_PHOFF) as usize + 32 * number as usize
 }
 
 // Reads the program header with this number, which is wholly in the file.
 #[tactic(auto, unfolding(crate::specs::ReadElf::header_at))]
 pub(crate) fn header_at(bytes: &[u8], number: u16) -> Header
     requires long { 52 ≤ length bytes.now }
-    requires whole { place_of bytes.now number + 32 ≤ length bytes.now }
+    requires whole { program_header_offset bytes.now number + 32 ≤ length bytes.now }
     ensures { result ≡ header_at bytes.now number }
 {
-    let place = place_of(bytes, number);
+    let place = program_header_offset(bytes, number);
     Header {
         number: u32::from(number),
-        kind: word_at(bytes, place),
-        offset: word_at(bytes, place + 4),
-        address: word_at(bytes, place + 12),
-        file_size: word_at(bytes, place + 16),
-        memory_size: word_at(bytes, place + 20),
+        kind: elf_word_at(bytes, place),
+        offset: elf_word_at(bytes, place + 4),
+        address: elf_word_at(bytes, place + 12),
+        file_size: elf_word_at(bytes, place + 16),
+        memory_size: elf_word_at(bytes, place + 20),
     }
-}
-
-// Returns true if the program header with this number can't be used: it isn't wholly in the file,
-// or its bytes pass a bound.
-#[tactic(auto, unfolding(crate::specs::ReadElf::is_bad, crate::specs::ReadElf::header_at))]
-pub(crate) fn is_bad(bytes: &[u8], number: u16) -> bool
-    requires { 52 ≤ length bytes.now }
-    ensures { result ≡ is_bad bytes.now (header_at bytes.now number) }
-{
-    if place_of(bytes, number) + 32 > bytes.len() {
-        return true;
-    }
-    let header = header_at(bytes, number);
-    header.kind == PT_LOAD && passes_bounds(bytes.len(), &header)
 }
 
 // Returns true if the program header loads bytes of the file (type PT_LOAD).
@@ -107,15 +94,6 @@ pub(crate) fn has_bytes(header: &Header) -> bool
     ensures { result ≡ has_bytes header.now }
 {
     header.kind == PT_LOAD && header.file_size > 0
-}
-
-// Returns true if two program headers that load bytes share an address.
-#[tactic(auto, unfolding(crate::specs::ReadElf::meets))]
-pub(crate) fn meets(header: &Header, other: &Header) -> bool
-    ensures { result ≡ meets header.now other.now }
-{
-    let (at, other_at) = (u64::from(header.address), u64::from(other.address));
-    at < other_at + u64::from(other.file_size) && other_at < at + u64::from(header.file_size)
 }
 
 // Collects the headers that load bytes, in order: at most 64, with at most 2^24 bytes together.
@@ -130,7 +108,7 @@ pub(crate) fn loads_of(alloc: Global, bytes: &[u8]) -> Result<Vec<Header>, Image
 {
     let mut loads = Vec::new(alloc);
     let mut total = 0u32;
-    let count = half_at(bytes, E_PHNUM);
+    let count = elf_half_at(bytes, E_PHNUM);
     for number in 0..count {
         let header = header_at(bytes, number);
         if has_bytes(&header) {

@@ -2,8 +2,8 @@
 use crate::ImageErr;
 use crate::file_checks::{check_apart, check_segments, check_start};
 use crate::file_writer::file_of;
-use crate::headers::{E_ENTRY, loads_of, word_at};
-use crate::segments::{Segment, byte_of, is_held, segments_of};
+use crate::headers::{E_ENTRY, elf_word_at, loads_of};
+use crate::segments::{Segment, is_held_by_segment, segment_byte, segments_of};
 use std::alloc::Global;
 use std::marker::Model;
 
@@ -29,14 +29,14 @@ impl Model for Image {
 impl Image {
     ghost use Rattle.std.specs.Prelude.{◌≡◌, ◌≤◌, ◌^◌, ◌↔◌, IsTrue, length, Some, Ok, IfOk, IfErr};
     ghost use Rattle.elf_image.specs.Images.{image_byte};
-    ghost use Rattle.elf_image.specs.ReadElf.{Gives, image_of};
+    ghost use Rattle.elf_image.specs.ReadElf.{GivesImage, image_of_file};
     ghost use Rattle.elf_image.specs.WrittenElf.{file_of};
 
     /// Reads an executable ELF file of 32 bits for this machine. The image has the segments of type
     /// PT_LOAD with bytes in the file, in the order of their headers, at their physical addresses.
     pub fn read(alloc: Global, bytes: &[u8]) -> Result<Image, ImageErr>
         requires { length bytes.now ≤ 2 ^ 30 }
-        ensures { Gives result (image_of bytes.now) }
+        ensures { GivesImage result (image_of_file bytes.now) }
     {
         check_start(bytes)?;
         check_segments(bytes)?;
@@ -44,17 +44,17 @@ impl Image {
         check_apart(&loads)?;
         let segments = segments_of(alloc, bytes, &loads)?;
         Ok(Image {
-            entry: word_at(bytes, E_ENTRY),
+            entry: elf_word_at(bytes, E_ENTRY),
             segments,
         })
     }
 
-    /// Writes the executable file of the image: the ELF header, a program header for each segment,
+    /// Writes the image as an executable file: the ELF header, a program header for each segment,
     /// and the segments' bytes without gaps. `read` gives the image back.
     pub fn write(&self, alloc: Global) -> Result<Vec<u8>, ImageErr>
         ensures bytes { IfOk result (λ v. v.items ≡ file_of self.now) }
         ensures small { IfOk result (λ v. length v.items ≤ 2 ^ 30) }
-        ensures again { IfOk result (λ v. image_of v.items ≡ Ok self.now) }
+        ensures again { IfOk result (λ v. image_of_file v.items ≡ Ok self.now) }
         ensures err { IfErr result (λ e. e ≡ ImageErr.NoMemory) }
     {
         file_of(alloc, self.entry, &self.segments)
@@ -65,8 +65,8 @@ impl Image {
         ensures byte { result ≡ image_byte self.now addr }
     {
         for segment in &self.segments {
-            if is_held(segment, addr) {
-                return byte_of(segment, addr);
+            if is_held_by_segment(segment, addr) {
+                return segment_byte(segment, addr);
             }
         }
         None

@@ -1,6 +1,6 @@
 // Segments: bytes from an address on, and those that an ELF file loads.
 ghost use Rattle.std.specs.Prelude.{◌≡◌, ◌≤◌, ◌<◌, ◌-◌, ◌^◌, All, map, slice_get, ◌+◌, length, IfOk, IfErr};
-ghost use Rattle.elf_image.specs.Images.{segment_data, holds, AreBytes};
+ghost use Rattle.elf_image.specs.Images.{segment_data, is_held_by_segment, AreSegmentBytes};
 ghost use Rattle.elf_image.specs.ReadElf.{segment_of};
 
 use crate::ImageErr;
@@ -14,21 +14,23 @@ pub struct Segment {
     pub bytes: Vec<u8>,
 }
 
-pub(crate) fn is_held(segment: &Segment, addr: u32) -> bool
-    ensures { result ≡ holds (segment_data segment.now) addr }
+/// Returns true if a segment of an image holds an address.
+pub(crate) fn is_held_by_segment(segment: &Segment, addr: u32) -> bool
+    ensures { result ≡ is_held_by_segment (segment_data segment.now) addr }
 {
     segment.at <= addr && ((addr - segment.at) as usize) < segment.bytes.len()
 }
 
-pub(crate) fn byte_of(segment: &Segment, addr: u32) -> Option<u8>
+/// Returns the byte of a segment at an address that isn't below its own.
+pub(crate) fn segment_byte(segment: &Segment, addr: u32) -> Option<u8>
     requires { segment.now.at ≤ addr }
     ensures { result ≡ slice_get segment.now.bytes.items (addr - segment.now.at) }
 {
     segment.bytes.get((addr - segment.at) as usize).copied()
 }
 
-// Establishes that bytes are numbers below 256.
-fn read_bytes(bytes: &[u8])
+/// A fact for proofs: the bytes of a segment are numbers below 256.
+fn segment_bytes_below_256(bytes: &[u8])
     ensures { All (λ b. b < 2 ^ 8) bytes.now }
 {
     for byte in bytes {
@@ -39,10 +41,10 @@ fn read_bytes(bytes: &[u8])
 /// Establishes that the bytes of segments are numbers below 256, which an image requires. It reads
 /// each byte and changes nothing.
 pub fn read_segments(segments: &[Segment])
-    ensures { AreBytes (map segment_data segments.now) }
+    ensures { AreSegmentBytes (map segment_data segments.now) }
 {
     for segment in segments {
-        read_bytes(&segment.bytes);
+        segment_bytes_below_256(&segment.bytes);
     }
 }
 

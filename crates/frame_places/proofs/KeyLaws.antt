@@ -2,22 +2,22 @@
 use Rattle.std.proofs.Common.{◌≡◌, Bool, true, false, refl, ◌&&◌, eqb}
 use Rattle.std.proofs.lemmas.Bool.{and_parts, eqb-true, eq-eqb}
 use Rattle.depth_cert.specs.declared.keys.Key.{Key}
-use Rattle.depth_cert.specs.Keys.{byte_of, same_key}
+use Rattle.depth_cert.specs.Keys.{cert_flag_byte, same_key}
 
-same_flag : (a b : Bool) → eqb (byte_of a) (byte_of b) ≡ true → a ≡ b
+same_flag : (a b : Bool) → eqb (cert_flag_byte a) (cert_flag_byte b) ≡ true → a ≡ b
 same_flag false false e = refl
 same_flag true true e = refl
 same_flag false true e = cc
 same_flag true false e = cc
 
-flag_same : (a : Bool) → eqb (byte_of a) (byte_of a) ≡ true
+flag_same : (a : Bool) → eqb (cert_flag_byte a) (cert_flag_byte a) ≡ true
 flag_same false = refl
 flag_same true = refl
 
 -- keys that compare as equal are equal
 pub key_tells : (k j : Key) → same_key k j ≡ true → k ≡ j
 key_tells k j e =
-    let h = and_parts (eqb k.kind j.kind && eqb k.entry j.entry && eqb k.prio j.prio) (eqb (byte_of k.is) (byte_of j.is)) e in
+    let h = and_parts (eqb k.kind j.kind && eqb k.entry j.entry && eqb k.prio j.prio) (eqb (cert_flag_byte k.is) (cert_flag_byte j.is)) e in
     let g = and_parts (eqb k.kind j.kind && eqb k.entry j.entry) (eqb k.prio j.prio) h.0 in
     let f = and_parts (eqb k.kind j.kind) (eqb k.entry j.entry) g.0 in
     let kind : k.kind ≡ j.kind = eqb-true k.kind j.kind f.0 in

@@ -10,10 +10,10 @@ use Rattle.frame_places.specs.declared.places.Spot.{Spot}
 use Rattle.frame_places.specs.declared.places.Mark.{Mark}
 use Rattle.frame_places.specs.declared.places.Marked.{Marked}
 use Rattle.frame_places.specs.declared.places.Mark.TheVariants.{Queued}
-use Rattle.frame_places.specs.Numbers.{StandsAt, KeepsNumbers}
+use Rattle.frame_places.specs.Numbers.{PlaceHasNumber, KeepsNumbers}
 use Rattle.frame_places.specs.Spots.{spot_eq}
 use Rattle.frame_places.proofs.SpotLemmas.{spot_tells, spot_refl}
-use Rattle.frame_places.specs.Marks.{AllListed, AreKnown, MarksAs, Puts, Requeues, is_queued, mark_for, value_for}
+use Rattle.frame_places.specs.Marks.{AllListed, AreKnown, MarksAs, PutsPlaceValue, Requeues, is_queued, mark_for, value_for}
 
 -- which side of an if
 pub sides : {X : Type 0} (b : Bool) (x y o : X) → o ≡ (if b then x else y) → ((b ≡ true) × (o ≡ x)) ⊎ ((b ≡ false) × (o ≡ y))
@@ -45,7 +45,7 @@ module _ {V S : Type 0} (a b : IndexMap Spot (Marked V) S) (x : Spot) (w : Marke
   }
 
   -- or its value
-  pub puts_as : w.mark ≡ Queued → KeepsNumbers a b → Puts a b x w.value
+  pub puts_as : w.mark ≡ Queued → KeepsNumbers a b → PutsPlaceValue a b x w.value
   puts_as queued numbers = record {
     values = values_after;
     marks = λ q. marks_after q ∙ ap (λ (m : Mark). if spot_eq x q then Some m else mark_for a q) queued;
@@ -66,17 +66,17 @@ marked_already a x mark at = record {
 
 -- ---- the list
 module _ {V S : Type 0} (a b : IndexMap Spot (Marked V) S) (work : List ℕ) (number : ℕ) (x : Spot) (is : (q : Spot) → mark_for b q ≡ (if spot_eq x q then Some Queued else mark_for a q)) (numbers : KeepsNumbers a b) where
-  pub AllListed-adds : (more : List ℕ) → Adds work more number → StandsAt b number x → AllListed a work → AllListed b more
+  pub AllListed-adds : (more : List ℕ) → Adds work more number → PlaceHasNumber b number x → AllListed a work → AllListed b more
   AllListed-adds more adds stands h = record {
     listed = λ q at.
         elim (sides (spot_eq x q) (Some Queued) (mark_for a q) (mark_for b q) (is q)) [
-          | inl l ↦ (number, adds_there work more number adds, subst (λ (k : Spot). StandsAt b number k) (spot_tells x q l.0) stands)
+          | inl l ↦ (number, adds_there work more number adds, subst (λ (k : Spot). PlaceHasNumber b number k) (spot_tells x q l.0) stands)
           | inr r ↦ (let f = h.listed q (sym r.1 ∙ at) in (f.0, adds_kept work more number f.0 adds f.1, numbers f.0 q f.2))
         ];
     known = λ n c.
         elim (adds_only work more number n adds c) [
           | inl before ↦ (let f = h.known n before in (f.0, numbers n f.0 f.1))
-          | inr e ↦ (x, subst (λ (k : ℕ). StandsAt b k x) e stands)
+          | inr e ↦ (x, subst (λ (k : ℕ). PlaceHasNumber b k x) e stands)
         ];
   }
 
@@ -147,5 +147,5 @@ module _ {V S : Type 0} (a b : IndexMap Spot (Marked V) S) (same : b.entries ≡
   pub same_mark : (q : Spot) → mark_for b q ≡ mark_for a q
   same_mark q = ap (λ (es : List (Spot × Marked V)). option_map (λ (m : Marked V). m.mark) (lookup (spot_eq q) es)) same
 
-  pub same_number : (number : ℕ) (q : Spot) → StandsAt a number q → StandsAt b number q
+  pub same_number : (number : ℕ) (q : Spot) → PlaceHasNumber a number q → PlaceHasNumber b number q
   same_number number q h = ap (λ (es : List (Spot × Marked V)). slice_get (keys_of es) number) same ∙ h

@@ -16,7 +16,7 @@ use Rattle.frame_places.specs.declared.places.Mark.{Mark}
 use Rattle.frame_places.specs.declared.places.Mark.TheVariants.{Queued}
 use Rattle.frame_places.specs.Spots.{spot_eq}
 use Rattle.frame_places.specs.Marks.{is_queued}
-use Rattle.frame_places.specs.Numbers.{StandsAt}
+use Rattle.frame_places.specs.Numbers.{PlaceHasNumber}
 use Rattle.frame_places.proofs.SpotLemmas.{spot_refl, spot_tells}
 
 turned : (x y : Spot) → spot_eq x y ≡ true → spot_eq y x ≡ true
@@ -31,47 +31,47 @@ spot_equiv = record {
 
 module _ {X S : Type 0} (m : IndexMap Spot X S) (number : ℕ) (x : Spot) where
   -- an entry of the map, and the place with its number
-  pub there : (v : X) → slice_get m.entries number ≡ Some (x, v) → StandsAt m number x
+  pub there : (v : X) → slice_get m.entries number ≡ Some (x, v) → PlaceHasNumber m number x
   there v e = slice_get-map (λ (p : Spot × X). p.0) m.entries number ∙ ap (option_map (λ (p : Spot × X). p.0)) e
 
-  entry_of : (o : Option (Spot × X)) → slice_get m.entries number ≡ o → StandsAt m number x → (v : X) × (slice_get m.entries number ≡ Some (x, v))
+  entry_of : (o : Option (Spot × X)) → slice_get m.entries number ≡ o → PlaceHasNumber m number x → (v : X) × (slice_get m.entries number ≡ Some (x, v))
   entry_of None e h = absurd (let no : None ≡ Some x = sym (slice_get-map (λ (p : Spot × X). p.0) m.entries number ∙ ap (option_map (λ (p : Spot × X). p.0)) e) ∙ h in cc)
   entry_of (Some p) e h =
       let same : p.0 ≡ x = same_Some p.0 x (sym (slice_get-map (λ (p : Spot × X). p.0) m.entries number ∙ ap (option_map (λ (p : Spot × X). p.0)) e) ∙ h) in
       (p.1, e ∙ ap (λ (k : Spot). Some (k, p.1)) same)
 
-  pub entry_at : StandsAt m number x → (v : X) × (slice_get m.entries number ≡ Some (x, v))
+  pub entry_at : PlaceHasNumber m number x → (v : X) × (slice_get m.entries number ≡ Some (x, v))
   entry_at h = entry_of (slice_get m.entries number) refl h
 
   -- no place has a number past the end
-  pub nowhere : slice_get m.entries number ≡ None → StandsAt m number x → ⊥
+  pub nowhere : slice_get m.entries number ≡ None → PlaceHasNumber m number x → ⊥
   nowhere none h = let e = entry_at h in (let no : false ≡ true = ap (λ (o : Option (Spot × X)). is_some o) (sym none ∙ e.1) in cc)
 
   -- the place of an entry
-  pub one_there : (k : Spot) (v : X) → slice_get m.entries number ≡ Some (k, v) → StandsAt m number x → k ≡ x
+  pub one_there : (k : Spot) (v : X) → slice_get m.entries number ≡ Some (k, v) → PlaceHasNumber m number x → k ≡ x
   one_there k v e h = same_Some k x (sym (slice_get-map (λ (p : Spot × X). p.0) m.entries number ∙ ap (option_map (λ (p : Spot × X). p.0)) e) ∙ h)
 
   -- the value there is the value of x
-  pub had_at : (k : Spot) (v : X) → slice_get m.entries number ≡ Some (k, v) → get spot_eq m k ≡ Some v → StandsAt m number x → get spot_eq m x ≡ Some v
+  pub had_at : (k : Spot) (v : X) → slice_get m.entries number ≡ Some (k, v) → get spot_eq m k ≡ Some v → PlaceHasNumber m number x → get spot_eq m x ≡ Some v
   had_at k v e had h = subst (λ (z : Spot). get spot_eq m z ≡ Some v) (one_there k v e h) had
 
   -- x is at the number that is found for it
-  pub index_there : index_of spot_eq m x ≡ Some number → StandsAt m number x
+  pub index_there : index_of spot_eq m x ≡ Some number → PlaceHasNumber m number x
   index_there e =
       let h = position-Some (spot_eq x) (keys m) number x e in
       slice_get-get_or (keys m) number x h.0 ∙ ap (λ (k : Spot). Some k) (sym (spot_tells x (get_or (keys m) number x) h.1))
 
   -- a value that is written there is the value of x, and the others stay
-  pub written_there : (w : X) → IsUnique spot_eq m → StandsAt m number x → (q : Spot) → get spot_eq (with_value_at m number w) q ≡ (if spot_eq x q then Some w else get spot_eq m q)
+  pub written_there : (w : X) → IsUnique spot_eq m → PlaceHasNumber m number x → (q : Spot) → get spot_eq (with_value_at m number w) q ≡ (if spot_eq x q then Some w else get spot_eq m q)
   written_there w unique h q = let e = entry_at h in (updates-with_value_at m number w spot_equiv unique x e.0 e.1).0 q
 
   -- a value at the number is the value of x
-  pub value_had : IsUnique spot_eq m → (v : X) → Some v ≡ slice_get (values m) number → StandsAt m number x → get spot_eq m x ≡ Some v
+  pub value_had : IsUnique spot_eq m → (v : X) → Some v ≡ slice_get (values m) number → PlaceHasNumber m number x → get spot_eq m x ≡ Some v
   value_had unique v at h =
       let e = entry_at h in
       hash_map_get_place spot_equiv m number x e.0 unique e.1 ∙ sym (slice_get-map (λ (p : Spot × X). p.1) m.entries number ∙ ap (option_map (λ (p : Spot × X). p.1)) e.1) ∙ sym at
 
-  pub no_value : None ≡ slice_get (values m) number → StandsAt m number x → ⊥
+  pub no_value : None ≡ slice_get (values m) number → PlaceHasNumber m number x → ⊥
   no_value none h =
       let e = entry_at h in
       let no : None ≡ Some e.0 = none ∙ slice_get-map (λ (p : Spot × X). p.1) m.entries number ∙ ap (option_map (λ (p : Spot × X). p.1)) e.1 in cc
@@ -90,8 +90,8 @@ first_there {X} y (e ∷ es) h = by (spot_eq y e.0) refl (λ i. first_there y es
       ap (λ (b : Bool). slice_get (e.0 ∷ keys_of es) (if not b then 1 + rest else 0)) t ∙ ap (λ (n : ℕ). slice_get (e.0 ∷ keys_of es) n) one
       ∙ next (subst (λ (b : Bool). IsSome (if b then Some e.1 else lookup (spot_eq y) es)) t h)
 
-pub found_there : {X S : Type 0} (m : IndexMap Spot X S) (y : Spot) (number : ℕ) → number ≡ insert_index spot_eq m y → IsSome (get spot_eq m y) → StandsAt m number y
-found_there m y number is h = subst (λ (n : ℕ). StandsAt m n y) (sym is) (first_there y m.entries h)
+pub found_there : {X S : Type 0} (m : IndexMap Spot X S) (y : Spot) (number : ℕ) → number ≡ insert_index spot_eq m y → IsSome (get spot_eq m y) → PlaceHasNumber m number y
+found_there m y number is h = subst (λ (n : ℕ). PlaceHasNumber m n y) (sym is) (first_there y m.entries h)
 
 -- ---- one more place
 slice_left : {X : Type 0} (xs ys : List X) (n : ℕ) (x : X) → slice_get xs n ≡ Some x → slice_get (xs ++ ys) n ≡ Some x
@@ -108,16 +108,16 @@ module _ {X S : Type 0} (m new : IndexMap Spot X S) (y : Spot) (w : X) (none : g
   keys_more = ap (λ (es : List (Spot × X)). keys_of es) (entries ∙ insert_entry-new spot_eq m y w none) ∙ map-append (λ (p : Spot × X). p.0) m.entries ((y, w) ∷ [])
 
   -- it is the last, and the others stay
-  pub added_last : StandsAt new (length m.entries) y
+  pub added_last : PlaceHasNumber new (length m.entries) y
   added_last =
       subst (λ (n : ℕ). slice_get (keys new) n ≡ Some y) (length-map m.entries (λ (p : Spot × X). p.0))
       (ap (λ (ks : List Spot). slice_get ks (length (keys m))) keys_more ∙ slice_end (keys m) y)
 
-  pub added_numbers : (n : ℕ) (q : Spot) → StandsAt m n q → StandsAt new n q
+  pub added_numbers : (n : ℕ) (q : Spot) → PlaceHasNumber m n q → PlaceHasNumber new n q
   added_numbers n q h = ap (λ (ks : List Spot). slice_get ks n) keys_more ∙ slice_left (keys m) (y ∷ []) n q h
 
 -- places keep their numbers
-pub written_numbers : {X S : Type 0} (m : IndexMap Spot X S) (number : ℕ) (w : X) → (n : ℕ) (q : Spot) → StandsAt m n q → StandsAt (with_value_at m number w) n q
+pub written_numbers : {X S : Type 0} (m : IndexMap Spot X S) (number : ℕ) (w : X) → (n : ℕ) (q : Spot) → PlaceHasNumber m n q → PlaceHasNumber (with_value_at m number w) n q
 written_numbers m number w n q h = ap (λ (ks : List Spot). slice_get ks n) (keys-with_value_at m number w) ∙ h
 
 -- a place that is marked as queued

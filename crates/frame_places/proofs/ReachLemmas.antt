@@ -10,9 +10,8 @@ use Rattle.std.specs.declared.alloc.Global.{Global}
 use Rattle.indexmap.specs.IndexMap.{IndexMap, get}
 use Rattle.frame_places.specs.declared.needs.reach.FrameEdge.{FrameEdge}
 use Rattle.frame_places.specs.declared.needs.row.NeedRow.{NeedRow}
-use Rattle.frame_places.specs.NodeGraph.{edge_to, AreEdges, AddsEdges, AreBetween, Leads, here, along, IsRecurring, unmarked, HasSource, AreSources, AreBelow, AddsSource, MarksNodes, IsMarking, AreReaching, IsFirstBefore, IsFirstRecurring}
+use Rattle.frame_places.specs.NodeGraph.{edge_to, AreEdges, AddsEdges, AreEdgesBetween, LeadsAlongEdges, here, along, IsRecurring, unmarked_nodes, HasEdgeSource, AreEdgeSources, AreEdgeSourcesBelow, AddsEdgeSource, MarksNodes, IsMarking, AreReaching, IsFirstRecurringBefore, IsFirstRecurring, IsMarked}
 use Rattle.frame_places.specs.Hashed.{edge_eq}
-use Rattle.frame_places.specs.Marks.{IsMarked}
 
 -- ---- one more mark
 marked_set : (marks : List Bool) (i k : ℕ) → IsMarked (set marks i true) k → IsMarked marks k ⊎ (k ≡ i)
@@ -32,7 +31,7 @@ marked_keeps marks i k lt m =
       | inr ne ↦ get_or-set_other marks i k true false ne ∙ m
     ]
 
-unmarked_less : (marks : List Bool) (i : ℕ) → i < length marks → get_or marks i false ≡ false → unmarked (set marks i true) < unmarked marks
+unmarked_less : (marks : List Bool) (i : ℕ) → i < length marks → get_or marks i false ≡ false → unmarked_nodes (set marks i true) < unmarked_nodes marks
 unmarked_less [] i lt e = absurd (omega arith)
 unmarked_less (true ∷ ms) zero lt e = cc
 unmarked_less (false ∷ ms) zero lt e = omega arith
@@ -113,14 +112,14 @@ nodes_more ns n a b d w x y h g = record {
 
 -- ---- all from which a node is reached
 -- the sources of a queued node are marked
-pub marking_more : {S : Type 0} (edges : List FrameEdge) (sources : IndexMap ℕ (Vec ℕ Global) S) (nodes j t : ℕ) (list : Vec ℕ Global) (a b : List Bool) (w x : List ℕ) → AreSources edges sources
+pub marking_more : {S : Type 0} (edges : List FrameEdge) (sources : IndexMap ℕ (Vec ℕ Global) S) (nodes j t : ℕ) (list : Vec ℕ Global) (a b : List Bool) (w x : List ℕ) → AreEdgeSources edges sources
     → get nat_eq sources t ≡ Some list → MarksNodes list.items a b w x → IsMarking edges nodes j a (w ++ t ∷ []) → IsMarking edges nodes j b x
 marking_more edges sources nodes j t list a b w x are at m old = record {
   all = m.same ∙ old.all;
   sound = λ k h.
       elim (m.only k h) [
         | inl o ↦ old.sound k o
-        | inr c ↦ along k t (are.sound k t (subst (λ (o : Option (Vec ℕ Global)). HasSource o k) (sym at) c)) (old.sound t (old.listed t (Contains-push w t)))
+        | inr c ↦ along k t (are.sound k t (subst (λ (o : Option (Vec ℕ Global)). HasEdgeSource o k) (sym at) c)) (old.sound t (old.listed t (Contains-push w t)))
       ];
   goal = m.keeps j old.goal;
   listed = λ k c.
@@ -133,7 +132,7 @@ marking_more edges sources nodes j t list a b w x are at m old = record {
         | inl o ↦ (elim (old.done k u e o) [
           | inl c ↦ (elim (Contains-push_cases w t u c) [
             | inl i ↦ inl (m.listed u i)
-            | inr same ↦ inr (m.marks k (subst (λ (o : Option (Vec ℕ Global)). HasSource o k) at (subst (λ (n : ℕ). HasSource (get nat_eq sources n) k) (sym same) (are.complete k u e))))
+            | inr same ↦ inr (m.marks k (subst (λ (o : Option (Vec ℕ Global)). HasEdgeSource o k) at (subst (λ (n : ℕ). HasEdgeSource (get nat_eq sources n) k) (sym same) (are.complete k u e))))
           ])
           | inr p ↦ inr (m.keeps k p)
         ])
@@ -142,7 +141,7 @@ marking_more edges sources nodes j t list a b w x are at m old = record {
 }
 
 -- a node without sources is skipped
-pub marking_past : {S : Type 0} (edges : List FrameEdge) (sources : IndexMap ℕ (Vec ℕ Global) S) (nodes j t : ℕ) (a : List Bool) (w : List ℕ) → AreSources edges sources
+pub marking_past : {S : Type 0} (edges : List FrameEdge) (sources : IndexMap ℕ (Vec ℕ Global) S) (nodes j t : ℕ) (a : List Bool) (w : List ℕ) → AreEdgeSources edges sources
     → get nat_eq sources t ≡ None → IsMarking edges nodes j a (w ++ t ∷ []) → IsMarking edges nodes j a w
 marking_past edges sources nodes j t a w are none old = record {
   all = old.all;
@@ -153,16 +152,16 @@ marking_past edges sources nodes j t a w are none old = record {
       elim (old.done k u e h) [
         | inl c ↦ (elim (Contains-push_cases w t u c) [
           | inl i ↦ inl i
-          | inr same ↦ absurd (subst (λ (o : Option (Vec ℕ Global)). HasSource o k) none (subst (λ (n : ℕ). HasSource (get nat_eq sources n) k) (sym same) (are.complete k u e)))
+          | inr same ↦ absurd (subst (λ (o : Option (Vec ℕ Global)). HasEdgeSource o k) none (subst (λ (n : ℕ). HasEdgeSource (get nat_eq sources n) k) (sym same) (are.complete k u e)))
         ])
         | inr p ↦ inr p
       ];
 }
 
-pub sources_below : {S : Type 0} (edges : List FrameEdge) (sources : IndexMap ℕ (Vec ℕ Global) S) (nodes : ℕ) → AreSources edges sources → AreBetween edges nodes → AreBelow sources nodes
+pub sources_below : {S : Type 0} (edges : List FrameEdge) (sources : IndexMap ℕ (Vec ℕ Global) S) (nodes : ℕ) → AreEdgeSources edges sources → AreEdgesBetween edges nodes → AreEdgeSourcesBelow sources nodes
 sources_below edges sources nodes are between k t h = between.node (edge_to k t) (are.sound k t h)
 
-closed_marks : (edges : List FrameEdge) (nodes j : ℕ) (marks : List Bool) → IsMarking edges nodes j marks [] → (k : ℕ) → Leads edges j k → IsMarked marks k
+closed_marks : (edges : List FrameEdge) (nodes j : ℕ) (marks : List Bool) → IsMarking edges nodes j marks [] → (k : ℕ) → LeadsAlongEdges edges j k → IsMarked marks k
 closed_marks edges nodes j marks m _ here = m.goal
 closed_marks edges nodes j marks m _ (along k t c r) = elim (m.done k t c (closed_marks edges nodes j marks m t r)) [ inl i ↦ absurd (omega (arith, i.1)) | inr h ↦ h ]
 
@@ -184,7 +183,7 @@ only_goal nodes j k m =
 pub marking_begins : (edges : List FrameEdge) (nodes j : ℕ) → j < nodes → length (replicate nodes false) ≡ nodes → IsMarking edges nodes j (set (replicate nodes false) j true) (j ∷ [])
 marking_begins edges nodes j lt len = record {
   all = length-set (replicate nodes false) j true ∙ len;
-  sound = λ k m. subst (Leads edges j) (sym (only_goal nodes j k m)) here;
+  sound = λ k m. subst (LeadsAlongEdges edges j) (sym (only_goal nodes j k m)) here;
   goal = marked_same (replicate nodes false) j (omega arith);
   listed = λ k c. subst (IsMarked (set (replicate nodes false) j true)) (one_node j k c) (marked_same (replicate nodes false) j (omega arith));
   done = λ k t e m. inl (subst (λ (n : ℕ). Contains (j ∷ []) n) (sym (only_goal nodes j t m)) (0, omega arith, refl));
@@ -200,22 +199,22 @@ recurring_marks edges nodes node marks r are tells = (
 )
 
 -- ---- the first so far
-pub first_done : (orders : List ℕ) (edges : List FrameEdge) (first : Option ℕ) (n : ℕ) → AreBetween edges (length orders) → length orders ≤ n → IsFirstBefore orders edges n first → IsFirstRecurring orders edges first
+pub first_done : (orders : List ℕ) (edges : List FrameEdge) (first : Option ℕ) (n : ℕ) → AreEdgesBetween edges (length orders) → length orders ≤ n → IsFirstRecurringBefore orders edges n first → IsFirstRecurring orders edges first
 first_done orders edges None n between le h = λ k r. h k (omega (arith, between.node (edge_to k r.next) r.enters)) r
 first_done orders edges (Some k) n between le h = (h.0, h.1, (λ j r. h.2 j (omega (arith, between.node (edge_to j r.next) r.enters)) r))
 
 -- an order that isn't below the first one's is skipped
-pub first_past : (orders : List ℕ) (edges : List FrameEdge) (k n : ℕ) → IsFirstBefore orders edges n (Some k) → slice_index orders k ≤ slice_index orders n → IsFirstBefore orders edges (n + 1) (Some k)
+pub first_past : (orders : List ℕ) (edges : List FrameEdge) (k n : ℕ) → IsFirstRecurringBefore orders edges n (Some k) → slice_index orders k ≤ slice_index orders n → IsFirstRecurringBefore orders edges (n + 1) (Some k)
 first_past orders edges k n h le = (h.0, h.1, below_more _ n h.2 (λ r. le))
 
 -- a node that isn't recursive
-pub first_not : (orders : List ℕ) (edges : List FrameEdge) (first : Option ℕ) (n : ℕ) → IsFirstBefore orders edges n first → (IsRecurring edges n → ⊥) → IsFirstBefore orders edges (n + 1) first
+pub first_not : (orders : List ℕ) (edges : List FrameEdge) (first : Option ℕ) (n : ℕ) → IsFirstRecurringBefore orders edges n first → (IsRecurring edges n → ⊥) → IsFirstRecurringBefore orders edges (n + 1) first
 first_not orders edges None n h apart = below_more _ n h apart
 first_not orders edges (Some k) n h apart = (h.0, h.1, below_more _ n h.2 (λ r. absurd (apart r)))
 
 -- a node that is
-pub first_here : (orders : List ℕ) (edges : List FrameEdge) (first : Option ℕ) (n : ℕ) → n < length orders → IsFirstBefore orders edges n first → ((k : ℕ) → first ≡ Some k → slice_index orders n < slice_index orders k) → IsRecurring edges n
-    → IsFirstBefore orders edges (n + 1) (Some n)
+pub first_here : (orders : List ℕ) (edges : List FrameEdge) (first : Option ℕ) (n : ℕ) → n < length orders → IsFirstRecurringBefore orders edges n first → ((k : ℕ) → first ≡ Some k → slice_index orders n < slice_index orders k) → IsRecurring edges n
+    → IsFirstRecurringBefore orders edges (n + 1) (Some n)
 first_here orders edges None n lt h less r = (lt, r, below_more _ n (λ j b q. absurd (h j b q)) (λ q. omega arith))
 first_here orders edges (Some k) n lt h less r = (lt, r, below_more _ n (λ j b q. let below = less k refl in let f = h.2 j b q in omega (arith, below, f)) (λ q. omega arith))
 
@@ -281,7 +280,7 @@ edge_tells e f h =
     λ i. record { node = node i; into = into i }
 
 -- ---- sources
-pub sources_more : {S T : Type 0} (edges : List FrameEdge) (edge : FrameEdge) (old : IndexMap ℕ (Vec ℕ Global) S) (new : IndexMap ℕ (Vec ℕ Global) T) → AreSources edges old → AddsSource old new edge.node edge.into → AreSources (edges ++ edge ∷ []) new
+pub sources_more : {S T : Type 0} (edges : List FrameEdge) (edge : FrameEdge) (old : IndexMap ℕ (Vec ℕ Global) S) (new : IndexMap ℕ (Vec ℕ Global) T) → AreEdgeSources edges old → AddsEdgeSource old new edge.node edge.into → AreEdgeSources (edges ++ edge ∷ []) new
 sources_more edges edge old new are adds = record {
   sound = λ k t h.
       elim (adds.sound k t h) [
@@ -291,7 +290,7 @@ sources_more edges edge old new are adds = record {
   complete = λ k t c.
       elim (Contains-push_cases edges edge (edge_to k t) c) [
         | inl i ↦ adds.keeps k t (are.complete k t i)
-        | inr e ↦ subst (λ (z : FrameEdge). HasSource (get nat_eq new z.into) z.node) e adds.there
+        | inr e ↦ subst (λ (z : FrameEdge). HasEdgeSource (get nat_eq new z.into) z.node) e adds.there
       ];
 }
 

@@ -10,38 +10,38 @@ use Rattle.std.specs.declared.alloc.Global.{Global}
 use Rattle.frame_places.specs.declared.places.Spot.{Spot}
 use Rattle.frame_places.specs.Spots.{spot_eq}
 use Rattle.frame_places.proofs.SpotLemmas.{spot_tells, spot_refl}
-use Rattle.frame_places.specs.Marks.{Reads, Registered}
+use Rattle.frame_places.specs.Marks.{IsAmongReaders, RegistersReader}
 use Rattle.frame_places.proofs.MarkLemmas.{sides}
 
 -- the readers of z are those before and x; others stay
 pub registered : {S : Type 0} (old new : IndexMap Spot (Vec Spot Global) S) (z x : Spot) (more : Vec Spot Global) → ((q : Spot) → get spot_eq new q ≡ (if spot_eq z q then Some more else get spot_eq old q))
-    → Contains more.items x → ((q : Spot) → Reads (get spot_eq old z) q → Contains more.items q) → ((q : Spot) → Contains more.items q → Reads (get spot_eq old z) q ⊎ (q ≡ x)) → Registered old new z x
+    → Contains more.items x → ((q : Spot) → IsAmongReaders (get spot_eq old z) q → Contains more.items q) → ((q : Spot) → Contains more.items q → IsAmongReaders (get spot_eq old z) q ⊎ (q ≡ x)) → RegistersReader old new z x
 registered old new z x more is has keeps from = record {
   kept = λ p q h.
       elim (sides (spot_eq z p) (Some more) (get spot_eq old p) (get spot_eq new p) (is p)) [
-        | inl l ↦ subst (λ (o : Option (Vec Spot Global)). Reads o q) (sym l.1) (keeps q (subst (λ (k : Spot). Reads (get spot_eq old k) q) (sym (spot_tells z p l.0)) h))
-        | inr r ↦ subst (λ (o : Option (Vec Spot Global)). Reads o q) (sym r.1) h
+        | inl l ↦ subst (λ (o : Option (Vec Spot Global)). IsAmongReaders o q) (sym l.1) (keeps q (subst (λ (k : Spot). IsAmongReaders (get spot_eq old k) q) (sym (spot_tells z p l.0)) h))
+        | inr r ↦ subst (λ (o : Option (Vec Spot Global)). IsAmongReaders o q) (sym r.1) h
       ];
   there =
-      subst (λ (o : Option (Vec Spot Global)). Reads o x) (sym (is z ∙ ap (λ e. if e then Some more else get spot_eq old z) (spot_refl z))) has;
+      subst (λ (o : Option (Vec Spot Global)). IsAmongReaders o x) (sym (is z ∙ ap (λ e. if e then Some more else get spot_eq old z) (spot_refl z))) has;
   alone = λ p q h.
       elim (sides (spot_eq z p) (Some more) (get spot_eq old p) (get spot_eq new p) (is p)) [
-        | inl l ↦ elim (from q (subst (λ (o : Option (Vec Spot Global)). Reads o q) l.1 h)) [
-          | inl before ↦ inl (subst (λ (k : Spot). Reads (get spot_eq old k) q) (spot_tells z p l.0) before)
+        | inl l ↦ elim (from q (subst (λ (o : Option (Vec Spot Global)). IsAmongReaders o q) l.1 h)) [
+          | inl before ↦ inl (subst (λ (k : Spot). IsAmongReaders (get spot_eq old k) q) (spot_tells z p l.0) before)
           | inr e ↦ inr (l.0, e)
         ]
-        | inr r ↦ inl (subst (λ (o : Option (Vec Spot Global)). Reads o q) r.1 h)
+        | inr r ↦ inl (subst (λ (o : Option (Vec Spot Global)). IsAmongReaders o q) r.1 h)
       ];
 }
 
 -- x is added to the readers
 pub registered_by : {S : Type 0} (old new : IndexMap Spot (Vec Spot Global) S) (z x : Spot) (list more : Vec Spot Global) → get spot_eq old z ≡ Some list
-    → ((q : Spot) → Contains more.items q ↔ (Contains list.items q ⊎ (q ≡ x))) → ((q : Spot) → get spot_eq new q ≡ (if spot_eq z q then Some more else get spot_eq old q)) → Registered old new z x
+    → ((q : Spot) → Contains more.items q ↔ (Contains list.items q ⊎ (q ≡ x))) → ((q : Spot) → get spot_eq new q ≡ (if spot_eq z q then Some more else get spot_eq old q)) → RegistersReader old new z x
 registered_by old new z x list more at adds is =
-    registered old new z x more is ((adds x).1 (inr refl)) (λ q h. (adds q).1 (inl (subst (λ (o : Option (Vec Spot Global)). Reads o q) at h)))
+    registered old new z x more is ((adds x).1 (inr refl)) (λ q h. (adds q).1 (inl (subst (λ (o : Option (Vec Spot Global)). IsAmongReaders o q) at h)))
     (λ q h.
     elim ((adds q).0 h) [
-      | inl b ↦ inl (subst (λ (o : Option (Vec Spot Global)). Reads o q) (sym at) b)
+      | inl b ↦ inl (subst (λ (o : Option (Vec Spot Global)). IsAmongReaders o q) (sym at) b)
       | inr e ↦ inr e
     ])
 

@@ -7,7 +7,7 @@ use Rattle.std.proofs.lemmas.Bool.{cases_eq}
 use Rattle.std.proofs.Math.Seq.{take-append_seam}
 use Rattle.std.proofs.lemmas.List.Sums.{sum_by-set, sum_by-le}
 use Rattle.frame_places.specs.declared.needs.row.NeedRow.{NeedRow}
-use Rattle.frame_places.specs.RowNeeds.{MeetsRow, MeetsCapped, PassesRow, PassesRows, IsLow, Meets}
+use Rattle.frame_places.specs.RowNeeds.{MeetsRow, MeetsCapped, PassesRow, PassesRows, AreNeedsLow, MeetsRows}
 
 sum-set : (xs : List ℕ) (i y : ℕ) → i < length xs → sum (set xs i y) + slice_index xs i ≡ sum xs + y
 sum-set xs i y lt = sum_by-set (λ (x : ℕ). x) xs i y 0 lt
@@ -114,9 +114,9 @@ each_low (x ∷ xs) cap h (suc k) = each_low xs cap (λ j lt. h (suc j) (omega a
 pub take_front : (n : ℕ) (s xs : List ℕ) → n ≡ length s → take n (s ++ xs) ≡ s
 take_front n s xs e = subst (λ (k : ℕ). take k (s ++ xs) ≡ s) (sym e) (take-append_seam s xs)
 
-pub answered_none : (nodes cap : ℕ) (rows : List NeedRow) (settled : List ℕ) → length settled ≡ nodes → IsLow settled rows → ((row : NeedRow) → Contains rows row → MeetsCapped cap settled row) → ((k : ℕ) → k < length settled → slice_index settled k ≤ cap)
-    → (length settled ≡ nodes) × Meets (λ k. slice_index settled k) rows × IsLow settled rows × ((k : ℕ) → slice_index settled k ≤ cap)
+pub answered_none : (nodes cap : ℕ) (rows : List NeedRow) (settled : List ℕ) → length settled ≡ nodes → AreNeedsLow settled rows → ((row : NeedRow) → Contains rows row → MeetsCapped cap settled row) → ((k : ℕ) → k < length settled → slice_index settled k ≤ cap)
+    → (length settled ≡ nodes) × MeetsRows (λ k. slice_index settled k) rows × AreNeedsLow settled rows × ((k : ℕ) → slice_index settled k ≤ cap)
 answered_none nodes cap rows settled len low met below = (len, (λ row has. met_uncapped cap settled row (each_low settled cap below) (met row has)), low, each_low settled cap below)
 
-pub answered_some : (nodes cap k : ℕ) (rows : List NeedRow) (settled : List ℕ) → length settled ≡ nodes → IsLow settled rows → k < length settled → cap < slice_index settled k → (other : ℕ → ℕ) → Meets other rows → (k : ℕ) × (k < nodes) × (cap < other k)
+pub answered_some : (nodes cap k : ℕ) (rows : List NeedRow) (settled : List ℕ) → length settled ≡ nodes → AreNeedsLow settled rows → k < length settled → cap < slice_index settled k → (other : ℕ → ℕ) → MeetsRows other rows → (k : ℕ) × (k < nodes) × (cap < other k)
 answered_some nodes cap k rows settled len low lt above other m = (k, omega arith, (let h = low other m k lt in omega (arith, h)))

@@ -5,7 +5,7 @@ use Rattle.std.proofs.lemmas.List.{append_assoc, append-nil}
 use Rattle.std.proofs.lemmas.List.Elements.{Contains-append_cases, Contains-append_left, Contains-append_right, Contains-push, Contains-push_cases}
 use Rattle.std.proofs.lemmas.List.Sorted.{Contains-permutation, IsPermutation-append_comm, IsPermutation-append_left, IsPermutation-refl, IsPermutation-sym, IsPermutation-to_front, IsPermutation-trans, length_permutation}
 use Rattle.std.specs.List.Sorted.{IsPermutation}
-use Rattle.frame_places.specs.Work.{BeginsRound, HasNoNext, Lists, PutsAs, PutsEntry, PutsNew, PutsNext, PutsWaiting, Takes, TakesFirst, TakesLast, TakesRound, Turns, all_work}
+use Rattle.frame_places.specs.Work.{BeginsRound, HasNoNext, WorkLists, PutsAs, PutsEntry, PutsNew, PutsNext, PutsWaiting, Takes, TakesFirst, TakesLast, TakesRound, Turns, all_work}
 
 -- a list has the elements of another, and one number
 abbrev pub Adds : List ℕ → List ℕ → ℕ → Type 0
@@ -39,7 +39,7 @@ at_end : (xs : List ℕ) (number : ℕ) → IsPermutation (number ∷ xs) (xs ++
 at_end xs number = IsPermutation-sym (xs ++ number ∷ []) (number ∷ xs) (IsPermutation-to_front xs number)
 
 -- all of a list, by its parts
-parts : (w : Lists) (first next round waiting : List ℕ) → w.first ≡ first → w.next ≡ next → w.round ≡ round → w.waiting ≡ waiting → all_work w ≡ first ++ (next ++ (round ++ waiting))
+parts : (w : WorkLists) (first next round waiting : List ℕ) → w.first ≡ first → w.next ≡ next → w.round ≡ round → w.waiting ≡ waiting → all_work w ≡ first ++ (next ++ (round ++ waiting))
 parts w first next round waiting a b c d =
     ap (λ (xs : List ℕ). xs ++ (w.next ++ (w.round ++ w.waiting))) a ∙ ap (λ (xs : List ℕ). first ++ (xs ++ (w.round ++ w.waiting))) b
     ∙ ap (λ (xs : List ℕ). first ++ (next ++ (xs ++ w.waiting))) c ∙ ap (λ (xs : List ℕ). first ++ (next ++ (round ++ xs))) d
@@ -52,12 +52,12 @@ more_between xs ys zs number =
     (subst (λ (l : List ℕ). IsPermutation (number ∷ ((xs ++ ys) ++ zs)) (l ++ zs)) (append_assoc xs ys (number ∷ []))
     (IsPermutation-append_left zs (number ∷ (xs ++ ys)) ((xs ++ ys) ++ number ∷ []) (at_end (xs ++ ys) number))))
 
-pub adds_next : (old new : Lists) (number : ℕ) → PutsNext old new number → Adds (all_work old) (all_work new) number
+pub adds_next : (old new : WorkLists) (number : ℕ) → PutsNext old new number → Adds (all_work old) (all_work new) number
 adds_next old new number puts =
     subst (λ (l : List ℕ). Adds (all_work old) l number) (sym (parts new old.first (old.next ++ number ∷ []) old.round old.waiting puts.first puts.next puts.round puts.waiting))
     (more_between old.first old.next (old.round ++ old.waiting) number)
 
-pub adds_waiting : (old new : Lists) (number : ℕ) → PutsWaiting old new number → Adds (all_work old) (all_work new) number
+pub adds_waiting : (old new : WorkLists) (number : ℕ) → PutsWaiting old new number → Adds (all_work old) (all_work new) number
 adds_waiting old new number puts =
     let all = all_work old in
     let behind : IsPermutation (number ∷ all) (old.first ++ (old.next ++ (old.round ++ (old.waiting ++ number ∷ [])))) =
@@ -66,7 +66,7 @@ adds_waiting old new number puts =
     (subst (λ (l : List ℕ). IsPermutation (number ∷ all) l) (append_assoc old.first (old.next ++ (old.round ++ old.waiting)) (number ∷ [])) (at_end all number))) in
     subst (λ (l : List ℕ). Adds all l number) (sym (parts new old.first old.next old.round (old.waiting ++ number ∷ []) puts.first puts.next puts.round puts.waiting)) behind
 
-pub adds_either : (waits : Bool) (old new : Lists) (number : ℕ) → PutsAs waits old new number → Adds (all_work old) (all_work new) number
+pub adds_either : (waits : Bool) (old new : WorkLists) (number : ℕ) → PutsAs waits old new number → Adds (all_work old) (all_work new) number
 adds_either true old new number puts = adds_waiting old new number puts
 adds_either false old new number puts = adds_next old new number puts
 
@@ -77,7 +77,7 @@ between_same front xs ys back h =
     (IsPermutation-trans ((xs ++ back) ++ front) ((ys ++ back) ++ front) (front ++ (ys ++ back))
     (IsPermutation-append_left front (xs ++ back) (ys ++ back) (IsPermutation-append_left back xs ys h)) (IsPermutation-append_comm (ys ++ back) front))
 
-pub adds_entry : (old new : Lists) (number : ℕ) → PutsEntry old new number → Adds (all_work old) (all_work new) number
+pub adds_entry : (old new : WorkLists) (number : ℕ) → PutsEntry old new number → Adds (all_work old) (all_work new) number
 adds_entry old new number puts =
     let front = old.first ++ old.next in
     let more = old.round ++ number ∷ [] in
@@ -89,7 +89,7 @@ adds_entry old new number puts =
     (subst (λ (l : List ℕ). IsPermutation (number ∷ l) (old.first ++ (old.next ++ (new.round ++ old.waiting)))) (append_assoc old.first old.next (old.round ++ old.waiting))
     (subst (λ (l : List ℕ). IsPermutation (number ∷ (front ++ (old.round ++ old.waiting))) l) (append_assoc old.first old.next (new.round ++ old.waiting)) put))
 
-pub adds_new : (entry : Bool) (old new : Lists) (number : ℕ) → PutsNew entry old new number → Adds (all_work old) (all_work new) number
+pub adds_new : (entry : Bool) (old new : WorkLists) (number : ℕ) → PutsNew entry old new number → Adds (all_work old) (all_work new) number
 adds_new true old new number puts = adds_entry old new number puts
 adds_new false old new number puts = adds_next old new number puts
 
@@ -99,25 +99,25 @@ from_end : (xs ys : List ℕ) (number : ℕ) → IsPermutation ((xs ++ number �
 from_end xs ys number = IsPermutation-append_left ys (xs ++ number ∷ []) (number ∷ xs) (IsPermutation-to_front xs number)
 
 -- from the whole list
-taken_of : (old new : Lists) (number : ℕ) (before after : List ℕ) → all_work old ≡ before → all_work new ≡ after → IsPermutation before (number ∷ after) → Takes old new number
+taken_of : (old new : WorkLists) (number : ℕ) (before after : List ℕ) → all_work old ≡ before → all_work new ≡ after → IsPermutation before (number ∷ after) → Takes old new number
 taken_of old new number before after a b h =
     subst (λ (l : List ℕ). IsPermutation l (number ∷ all_work new)) (sym a) (subst (λ (l : List ℕ). IsPermutation before (number ∷ l)) (sym b) h)
 
-same_of : (old new : Lists) (before after : List ℕ) → all_work old ≡ before → all_work new ≡ after → IsPermutation before after → IsPermutation (all_work old) (all_work new)
+same_of : (old new : WorkLists) (before after : List ℕ) → all_work old ≡ before → all_work new ≡ after → IsPermutation before after → IsPermutation (all_work old) (all_work new)
 same_of old new before after a b h = subst (λ (l : List ℕ). IsPermutation l (all_work new)) (sym a) (subst (λ (l : List ℕ). IsPermutation before l) (sym b) h)
 
-takes_same : (old mid new : Lists) (number : ℕ) → IsPermutation (all_work old) (all_work mid) → Takes mid new number → Takes old new number
+takes_same : (old mid new : WorkLists) (number : ℕ) → IsPermutation (all_work old) (all_work mid) → Takes mid new number → Takes old new number
 takes_same old mid new number same takes = IsPermutation-trans (all_work old) (all_work mid) (number ∷ all_work new) same takes
 
 -- the first one
-pub takes_first : (old new : Lists) (number : ℕ) → TakesFirst old new number → Takes old new number
+pub takes_first : (old new : WorkLists) (number : ℕ) → TakesFirst old new number → Takes old new number
 takes_first old new number takes =
     let rest = new.next ++ (new.round ++ new.waiting) in
     taken_of old new number ((new.first ++ number ∷ []) ++ rest) (new.first ++ rest)
     (parts old (new.first ++ number ∷ []) new.next new.round new.waiting takes.first (sym takes.next) (sym takes.round) (sym takes.waiting)) refl (from_end new.first rest number)
 
 -- the last of those that are next
-pub takes_last : (old new : Lists) (number : ℕ) → old.first ≡ [] → TakesLast old new number → Takes old new number
+pub takes_last : (old new : WorkLists) (number : ℕ) → old.first ≡ [] → TakesLast old new number → Takes old new number
 takes_last old new number none takes =
     let rest = new.round ++ new.waiting in
     taken_of old new number ((new.next ++ number ∷ []) ++ rest) (new.next ++ rest)
@@ -125,47 +125,47 @@ takes_last old new number none takes =
     (parts new [] new.next new.round new.waiting (takes.first ∙ none) refl refl refl) (from_end new.next rest number)
 
 -- the places that are next were reversed
-turned_all : (old mid : Lists) → old.first ≡ [] → Turns old mid → IsPermutation (all_work old) (all_work mid)
+turned_all : (old mid : WorkLists) → old.first ≡ [] → Turns old mid → IsPermutation (all_work old) (all_work mid)
 turned_all old mid none turns =
     let rest = old.round ++ old.waiting in
     same_of old mid (old.next ++ rest) (mid.first ++ rest) (parts old [] old.next old.round old.waiting none refl refl refl)
     (parts mid mid.first [] old.round old.waiting refl (turns.next ∙ none) turns.round turns.waiting) (IsPermutation-append_left rest old.next mid.first turns.first)
 
 -- for the result of a call
-pub last_some : (old mid new : Lists) (r : Option ℕ) → mid ≡ old → old.first ≡ [] → IfSome r (TakesLast mid new) → IfSome r (Takes old new)
+pub last_some : (old mid new : WorkLists) (r : Option ℕ) → mid ≡ old → old.first ≡ [] → IfSome r (TakesLast mid new) → IfSome r (Takes old new)
 last_some old mid new None same none takes = takes
 last_some old mid new (Some number) same none takes =
-    subst (λ (w : Lists). Takes w new number) same (takes_last mid new number (ap (λ (w : Lists). w.first) same ∙ none) takes)
+    subst (λ (w : WorkLists). Takes w new number) same (takes_last mid new number (ap (λ (w : WorkLists). w.first) same ∙ none) takes)
 
-pub last_none : (old mid new : Lists) (r : Option ℕ) → mid ≡ old → old.first ≡ [] → IfNone r ((mid.next ≡ []) × (new ≡ mid)) → IfNone r (HasNoNext old new)
+pub last_none : (old mid new : WorkLists) (r : Option ℕ) → mid ≡ old → old.first ≡ [] → IfNone r ((mid.next ≡ []) × (new ≡ mid)) → IfNone r (HasNoNext old new)
 last_none old mid new None same none left =
     let all = left.1 ∙ same in
     record {
-      first = ap (λ (w : Lists). w.first) all ∙ none;
-      next = ap (λ (w : Lists). w.next) left.1 ∙ left.0;
-      same = subst (λ (w : Lists). IsPermutation (all_work old) (all_work w)) (sym all) (IsPermutation-refl (all_work old));
+      first = ap (λ (w : WorkLists). w.first) all ∙ none;
+      next = ap (λ (w : WorkLists). w.next) left.1 ∙ left.0;
+      same = subst (λ (w : WorkLists). IsPermutation (all_work old) (all_work w)) (sym all) (IsPermutation-refl (all_work old));
     }
 last_none old mid new (Some number) same none left = left
 
-pub turned_some : (old mid turned new : Lists) (r : Option ℕ) → mid ≡ old → old.first ≡ [] → Turns mid turned → IfSome r (TakesFirst turned new) → IfSome r (Takes old new)
+pub turned_some : (old mid turned new : WorkLists) (r : Option ℕ) → mid ≡ old → old.first ≡ [] → Turns mid turned → IfSome r (TakesFirst turned new) → IfSome r (Takes old new)
 turned_some old mid turned new None same none turns takes = takes
 turned_some old mid turned new (Some number) same none turns takes =
-    subst (λ (w : Lists). Takes w new number) same
-    (takes_same mid turned new number (turned_all mid turned (ap (λ (w : Lists). w.first) same ∙ none) turns) (takes_first turned new number takes))
+    subst (λ (w : WorkLists). Takes w new number) same
+    (takes_same mid turned new number (turned_all mid turned (ap (λ (w : WorkLists). w.first) same ∙ none) turns) (takes_first turned new number takes))
 
-pub turned_none : (old mid turned new : Lists) (r : Option ℕ) → mid ≡ old → old.first ≡ [] → Turns mid turned → IfNone r ((turned.first ≡ []) × (new ≡ turned)) → IfNone r (HasNoNext old new)
+pub turned_none : (old mid turned new : WorkLists) (r : Option ℕ) → mid ≡ old → old.first ≡ [] → Turns mid turned → IfNone r ((turned.first ≡ []) × (new ≡ turned)) → IfNone r (HasNoNext old new)
 turned_none old mid turned new None same none turns left =
-    let empty = ap (λ (w : Lists). w.first) same ∙ none in
+    let empty = ap (λ (w : WorkLists). w.first) same ∙ none in
     record {
-      first = ap (λ (w : Lists). w.first) left.1 ∙ left.0;
-      next = ap (λ (w : Lists). w.next) left.1 ∙ turns.next ∙ empty;
-      same = subst (λ (w : Lists). IsPermutation (all_work w) (all_work new)) same
-          (subst (λ (w : Lists). IsPermutation (all_work mid) (all_work w)) (sym left.1) (turned_all mid turned empty turns));
+      first = ap (λ (w : WorkLists). w.first) left.1 ∙ left.0;
+      next = ap (λ (w : WorkLists). w.next) left.1 ∙ turns.next ∙ empty;
+      same = subst (λ (w : WorkLists). IsPermutation (all_work w) (all_work new)) same
+          (subst (λ (w : WorkLists). IsPermutation (all_work mid) (all_work w)) (sym left.1) (turned_all mid turned empty turns));
     }
 turned_none old mid turned new (Some number) same none turns left = left
 
 -- one of this round
-pub takes_round : (old mid new : Lists) (number : ℕ) → HasNoNext old mid → TakesRound mid new number → Takes old new number
+pub takes_round : (old mid new : WorkLists) (number : ℕ) → HasNoNext old mid → TakesRound mid new number → Takes old new number
 takes_round old mid new number has takes =
     takes_same old mid new number has.same
     (taken_of mid new number ((new.round ++ number ∷ []) ++ new.waiting) (new.round ++ new.waiting)
@@ -173,7 +173,7 @@ takes_round old mid new number has takes =
     (parts new [] [] new.round new.waiting (takes.first ∙ has.first) (takes.next ∙ has.next) refl refl) (from_end new.round new.waiting number))
 
 -- or of a new round
-begun_all : (old mid begun : Lists) → HasNoNext old mid → mid.round ≡ [] → BeginsRound mid begun → HasNoNext old begun
+begun_all : (old mid begun : WorkLists) → HasNoNext old mid → mid.round ≡ [] → BeginsRound mid begun → HasNoNext old begun
 begun_all old mid begun has over begins = record {
   first = begins.first ∙ has.first;
   next = begins.next ∙ has.next;
@@ -182,7 +182,7 @@ begun_all old mid begun has over begins = record {
       (parts begun [] [] begun.round [] (begins.first ∙ has.first) (begins.next ∙ has.next) refl (begins.waiting ∙ over) ∙ append-nil begun.round) begins.round);
 }
 
-pub begun_some : (old mid begun new : Lists) (r : Option ℕ) → HasNoNext old mid → mid.round ≡ [] → BeginsRound mid begun → IfSome r (TakesRound begun new) → IfSome r (Takes old new)
+pub begun_some : (old mid begun new : WorkLists) (r : Option ℕ) → HasNoNext old mid → mid.round ≡ [] → BeginsRound mid begun → IfSome r (TakesRound begun new) → IfSome r (Takes old new)
 begun_some old mid begun new None has over begins takes = takes
 begun_some old mid begun new (Some number) has over begins takes = takes_round old begun new number (begun_all old mid begun has over begins) takes
 
@@ -191,13 +191,13 @@ empty_list [] e = refl
 empty_list (x ∷ xs) e = absurd (omega arith)
 
 -- none is left
-pub begun_empty : (old mid begun new : Lists) (r : Option ℕ) → HasNoNext old mid → mid.round ≡ [] → BeginsRound mid begun → IfNone r ((begun.round ≡ []) × (new ≡ begun)) → IfNone r (all_work new ≡ [])
+pub begun_empty : (old mid begun new : WorkLists) (r : Option ℕ) → HasNoNext old mid → mid.round ≡ [] → BeginsRound mid begun → IfNone r ((begun.round ≡ []) × (new ≡ begun)) → IfNone r (all_work new ≡ [])
 begun_empty old mid begun new None has over begins left =
     ap all_work left.1 ∙ parts begun [] [] [] [] (begins.first ∙ has.first) (begins.next ∙ has.next) left.0 (begins.waiting ∙ over)
 begun_empty old mid begun new (Some number) has over begins left = left
 
 -- nor was any before
-pub begun_none : (old mid begun new : Lists) (r : Option ℕ) → HasNoNext old mid → mid.round ≡ [] → BeginsRound mid begun → IfNone r ((begun.round ≡ []) × (new ≡ begun)) → IfNone r (all_work old ≡ [])
+pub begun_none : (old mid begun new : WorkLists) (r : Option ℕ) → HasNoNext old mid → mid.round ≡ [] → BeginsRound mid begun → IfNone r ((begun.round ≡ []) × (new ≡ begun)) → IfNone r (all_work old ≡ [])
 begun_none old mid begun new None has over begins left =
     let same = length_permutation (all_work old) (all_work begun) (begun_all old mid begun has over begins).same in
     let gone = ap (λ (xs : List ℕ). length xs) (parts begun [] [] [] [] (begins.first ∙ has.first) (begins.next ∙ has.next) left.0 (begins.waiting ∙ over)) in
@@ -205,13 +205,13 @@ begun_none old mid begun new None has over begins left =
 begun_none old mid begun new (Some number) has over begins left = left
 
 -- the place that was taken was listed
-pub takes_there : (old new : Lists) (number : ℕ) → Takes old new number → Contains (all_work old) number
+pub takes_there : (old new : WorkLists) (number : ℕ) → Takes old new number → Contains (all_work old) number
 takes_there old new number takes = adds_there (all_work new) (all_work old) number (IsPermutation-sym (all_work old) (number ∷ all_work new) takes)
 
 -- all that is left was listed
-pub takes_left : (old new : Lists) (number n : ℕ) → Takes old new number → Contains (all_work new) n → Contains (all_work old) n
+pub takes_left : (old new : WorkLists) (number n : ℕ) → Takes old new number → Contains (all_work new) n → Contains (all_work old) n
 takes_left old new number n takes c = adds_kept (all_work new) (all_work old) number n (IsPermutation-sym (all_work old) (number ∷ all_work new) takes) c
 
 -- and nothing else was
-pub takes_only : (old new : Lists) (number n : ℕ) → Takes old new number → Contains (all_work old) n → Contains (all_work new) n ⊎ (number ≡ n)
+pub takes_only : (old new : WorkLists) (number n : ℕ) → Takes old new number → Contains (all_work old) n → Contains (all_work new) n ⊎ (number ≡ n)
 takes_only old new number n takes c = first_or_not number n (all_work new) (Contains-permutation (all_work old) (number ∷ all_work new) n takes c)

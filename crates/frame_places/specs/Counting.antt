@@ -7,20 +7,21 @@ use Rattle.frame_places.specs.declared.refusals.Refusal.{Refusal}
 use Rattle.frame_places.specs.declared.refusals.Refusal.TheVariants.{Fault, NoMemory}
 use Rattle.frame_places.specs.Spots.{with_point}
 
--- the frames with that of one more place, if it is an entry point
-abbrev pub with_entered : List Key → Spot → List Key
-with_entered ks (Point k p) = if p == k.entry then ks ++ k ∷ [] else ks
-with_entered ks (Exit k) = ks
+-- the counted frames with that of one more place, if it is an entry point
+abbrev pub with_counted_frame : List Key → Spot → List Key
+with_counted_frame ks (Point k p) = if p == k.entry then ks ++ k ∷ [] else ks
+with_counted_frame ks (Exit k) = ks
 
--- a point passes a limit: it would be point 65,537, or the entry of frame 2,049
-abbrev pub IsPassing : List Spot → List Key → Spot → Type 0
-IsPassing ps ks (Point k p) = (length ps ≡ 2 ^ 16) ⊎ ((p ≡ k.entry) × (length ks ≡ 2048))
-IsPassing ps ks (Exit k) = ⊥
+-- counting one more place passes a limit of certificates: it would be point 65,537, or the entry of
+-- frame 2,049
+abbrev pub PassesCountLimit : List Spot → List Key → Spot → Type 0
+PassesCountLimit ps ks (Point k p) = (length ps ≡ 2 ^ 16) ⊎ ((p ≡ k.entry) × (length ks ≡ 2048))
+PassesCountLimit ps ks (Exit k) = ⊥
 
 -- a refusal by rule 15, at a place that isn't known
-abbrev pub Passing : Bool → List Spot → List Key → Spot → Refusal → Type 0
-Passing known ps ks y (Fault rule x) = (rule ≡ 15) × (x ≡ y) × (known ≡ false) × IsPassing ps ks y
-Passing known ps ks y NoMemory = Unit {0}
+abbrev pub IsCountRefusal : Bool → List Spot → List Key → Spot → Refusal → Type 0
+IsCountRefusal known ps ks y (Fault rule x) = (rule ≡ 15) × (x ≡ y) × (known ≡ false) × PassesCountLimit ps ks y
+IsCountRefusal known ps ks y NoMemory = Unit {0}
 
 -- the points after a join at y; a known place is counted already
 abbrev pub points_after : Bool → List Spot → Spot → List Spot
@@ -28,4 +29,4 @@ points_after known ps y = if known then ps else with_point ps y
 
 -- the frames after a join at y
 abbrev pub frames_after : Bool → List Key → Spot → List Key
-frames_after known ks y = if known then ks else with_entered ks y
+frames_after known ks y = if known then ks else with_counted_frame ks y

@@ -12,15 +12,18 @@ use Rattle.frame_places.specs.Spots.{spot_eq}
 use Rattle.frame_places.specs.declared.needs.reach.FrameEdge.{FrameEdge}
 use Rattle.frame_places.specs.contracts.needs.reach.FrameEdgePartialEq.TheImpl as block
 
+-- numbers that compare as equal are the same
 numbers : (a b : ℕ) → nat_eq a b ≡ true → a ≡ b
 numbers a b e = eqb-true a b e
 
-flags : (a b : Bool) → beq a b ≡ true → a ≡ b
-flags true true e = refl
-flags false false e = refl
-flags true false e = cc
-flags false true e = cc
+-- in the keys of hashed places, flags that compare as equal are the same
+key_flags_tell : (a b : Bool) → beq a b ≡ true → a ≡ b
+key_flags_tell true true e = refl
+key_flags_tell false false e = refl
+key_flags_tell true false e = cc
+key_flags_tell false true e = cc
 
+-- keys of frames that compare as equal are the same
 pub keys_tell : (f g : Key) → (nat_eq f.kind g.kind && (nat_eq f.entry g.entry && (nat_eq f.prio g.prio && beq f.is g.is))) ≡ true → f ≡ g
 keys_tell f g e =
     let a = and_parts _ _ e in
@@ -29,9 +32,10 @@ keys_tell f g e =
     let kind = numbers f.kind g.kind a.0 in
     let entry = numbers f.entry g.entry b.0 in
     let prio = numbers f.prio g.prio c.0 in
-    let is = flags f.is g.is c.1 in
+    let is = key_flags_tell f.is g.is c.1 in
     λ i. record { kind = kind i; entry = entry i; prio = prio i; is = is i }
 
+-- for hashing: places that compare as equal are the same
 pub spot_tells : (x y : Spot) → spot_eq x y ≡ true → x ≡ y
 spot_tells (Point f p) (Point g q) e = let h = and_parts _ _ e in let same = keys_tell f g h.0 in let addr = numbers p q h.1 in λ i. Point (same i) (addr i)
 spot_tells (Point f p) (Exit g) e = cc
@@ -39,13 +43,13 @@ spot_tells (Exit f) (Point g q) e = cc
 spot_tells (Exit f) (Exit g) e = ap Exit (keys_tell f g e)
 
 -- the low four bytes of the frame's number, then the address
-abbrev pub word_of : Spot → ℕ
-word_of (Point k p) = number_of_key k % 2 ^ 32 * 2 ^ 32 + p
-word_of (Exit k) = number_of_key k % 2 ^ 32 * 2 ^ 32
+abbrev pub hashed_word : Spot → ℕ
+hashed_word (Point k p) = number_of_key k % 2 ^ 32 * 2 ^ 32 + p
+hashed_word (Exit k) = number_of_key k % 2 ^ 32 * 2 ^ 32
 
 -- equal places have the same hash input
-pub hashed_alike : (x y : Spot) → spot_eq x y ≡ true → fed.u64 (word_of x) ≡ fed.u64 (word_of y)
-hashed_alike x y e = ap (λ (z : Spot). fed.u64 (word_of z)) (spot_tells x y e)
+pub hashed_alike : (x y : Spot) → spot_eq x y ≡ true → fed.u64 (hashed_word x) ≡ fed.u64 (hashed_word y)
+hashed_alike x y e = ap (λ (z : Spot). fed.u64 (hashed_word z)) (spot_tells x y e)
 
 -- edge equality, as sets compare edges
 abbrev pub edge_eq : FrameEdge → FrameEdge → Bool

@@ -1,5 +1,5 @@
 -- Which places have work, and which read which exits.
-use Rattle.std.specs.Prelude.{◌≡◌, ◌⊎◌, ℕ, Option, Some, None, IsSome, List, Contains, Bool, true, false, if◌then◌else◌, slice_index_or}
+use Rattle.std.specs.Prelude.{◌≡◌, ◌⊎◌, ℕ, Option, Some, None, IsSome, List, Contains, Bool, true, false, if◌then◌else◌}
 use Rattle.std.specs.declared.vec.Vec.{Vec}
 use Rattle.std.specs.declared.alloc.Global.{Global}
 use Rattle.std.specs.Option.{option_map}
@@ -8,9 +8,9 @@ use Rattle.frame_places.specs.declared.places.Spot.{Spot}
 use Rattle.frame_places.specs.declared.places.Mark.{Mark}
 use Rattle.frame_places.specs.declared.places.Marked.{Marked}
 use Rattle.frame_places.specs.declared.places.Mark.TheVariants.{Idle, Plain, Queued, Open}
-use Rattle.frame_places.specs.Numbers.{StandsAt, KeepsNumbers}
+use Rattle.frame_places.specs.Numbers.{PlaceHasNumber, KeepsNumbers}
 use Rattle.frame_places.specs.Spots.{spot_eq}
-use Rattle.frame_places.specs.Work.{Lists, all_work}
+use Rattle.frame_places.specs.Work.{WorkLists, all_work}
 
 -- the value of a place
 abbrev pub value_for : {V S : Type 0} → IndexMap Spot (Marked V) S → Spot → Option V
@@ -20,15 +20,15 @@ value_for places q = option_map (λ m. m.value) (get spot_eq places q)
 abbrev pub mark_for : {V S : Type 0} → IndexMap Spot (Marked V) S → Spot → Option Mark
 mark_for places q = option_map (λ m. m.mark) (get spot_eq places q)
 
--- each of these places is known
+-- each of these places is known, so it has a value and a mark
 abbrev pub AreKnown : {V S : Type 0} → IndexMap Spot (Marked V) S → (Spot → Type 0) → Type 0
 AreKnown places these = (q : Spot) → these q → IsSome (value_for places q)
 
 -- each place that is marked as queued is listed, by its number; each number that is listed is a
 -- place's
 pub record AllListed {V S : Type 0} (places : IndexMap Spot (Marked V) S) (work : List ℕ) : Type 0 where
-  pub listed : (q : Spot) → mark_for places q ≡ Some Queued → (number : ℕ) × Contains work number × StandsAt places number q
-  pub known : (number : ℕ) → Contains work number → (q : Spot) × StandsAt places number q
+  pub listed : (q : Spot) → mark_for places q ≡ Some Queued → (number : ℕ) × Contains work number × PlaceHasNumber places number q
+  pub known : (number : ℕ) → Contains work number → (q : Spot) × PlaceHasNumber places number q
 
 -- x gets this mark; no other mark, no value and no number changes
 pub record MarksAs {V S : Type 0} (old new : IndexMap Spot (Marked V) S) (x : Spot) (mark : Mark) : Type 0 where
@@ -37,16 +37,16 @@ pub record MarksAs {V S : Type 0} (old new : IndexMap Spot (Marked V) S) (x : Sp
   pub numbers : KeepsNumbers old new
 
 -- y gets this value and is queued; nothing else changes
-pub record Puts {V S : Type 0} (old new : IndexMap Spot (Marked V) S) (y : Spot) (value : V) : Type 0 where
+pub record PutsPlaceValue {V S : Type 0} (old new : IndexMap Spot (Marked V) S) (y : Spot) (value : V) : Type 0 where
   pub values : (q : Spot) → value_for new q ≡ (if spot_eq y q then Some value else value_for old q)
   pub marks : (q : Spot) → mark_for new q ≡ (if spot_eq y q then Some Queued else mark_for old q)
   pub numbers : KeepsNumbers old new
 
--- y was unknown, and now has this value and is queued; or it has this number already, and nothing
--- changes
-abbrev pub AddsOrFinds : {V S : Type 0} → IndexMap Spot (Marked V) S → IndexMap Spot (Marked V) S → Lists → Lists → Spot → V → Option ℕ → Type 0
-AddsOrFinds old new before after y value None = (value_for old y ≡ None) × Puts old new y value × AllListed new (all_work after)
-AddsOrFinds old new before after y value (Some number) = StandsAt old number y × (new.entries ≡ old.entries) × (after ≡ before)
+-- y was unknown, and now has this value and is marked as queued; or it has this number already, and
+-- nothing changes
+abbrev pub AddsOrFinds : {V S : Type 0} → IndexMap Spot (Marked V) S → IndexMap Spot (Marked V) S → WorkLists → WorkLists → Spot → V → Option ℕ → Type 0
+AddsOrFinds old new before after y value None = (value_for old y ≡ None) × PutsPlaceValue old new y value × AllListed new (all_work after)
+AddsOrFinds old new before after y value (Some number) = PlaceHasNumber old number y × (new.entries ≡ old.entries) × (after ≡ before)
 
 -- these are queued now, and nothing else changes
 pub record Requeues {V S : Type 0} (old new : IndexMap Spot (Marked V) S) (these : Spot → Type 0) : Type 0 where
@@ -78,17 +78,14 @@ idle_mark plain = if plain then Plain else Idle
 abbrev pub settled_mark : Bool → Option Mark → Mark
 settled_mark plain o = if is_queued o then Queued else idle_mark plain
 
--- a place is among the readers
-abbrev pub Reads : Option (Vec Spot Global) → Spot → Type 0
-Reads None x = ⊥
-Reads (Some ps) x = Contains ps.items x
+-- a place is among the readers of an exit, which are marked as queued when the exit rises
+abbrev pub IsAmongReaders : Option (Vec Spot Global) → Spot → Type 0
+IsAmongReaders None x = ⊥
+IsAmongReaders (Some ps) x = Contains ps.items x
 
--- x reads z too; no other place reads more than before
-pub record Registered {R : Type 0} (old new : IndexMap Spot (Vec Spot Global) R) (z x : Spot) : Type 0 where
-  pub kept : (p q : Spot) → Reads (get spot_eq old p) q → Reads (get spot_eq new p) q
-  pub there : Reads (get spot_eq new z) x
-  pub alone : (p q : Spot) → Reads (get spot_eq new p) q → Reads (get spot_eq old p) q ⊎ ((spot_eq z p ≡ true) × (q ≡ x))
-
--- a node is marked
-abbrev pub IsMarked : List Bool → ℕ → Type 0
-IsMarked marks k = slice_index_or marks k false ≡ true
+-- x reads the exit z too, so it is marked as queued when z rises; no other place reads more than
+-- before
+pub record RegistersReader {R : Type 0} (old new : IndexMap Spot (Vec Spot Global) R) (z x : Spot) : Type 0 where
+  pub kept : (p q : Spot) → IsAmongReaders (get spot_eq old p) q → IsAmongReaders (get spot_eq new p) q
+  pub there : IsAmongReaders (get spot_eq new z) x
+  pub alone : (p q : Spot) → IsAmongReaders (get spot_eq new p) q → IsAmongReaders (get spot_eq old p) q ⊎ ((spot_eq z p ≡ true) × (q ≡ x))

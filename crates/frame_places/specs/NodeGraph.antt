@@ -1,21 +1,20 @@
 -- The graph of entries, by the numbers of its nodes: which nodes are reached from which.
-use Rattle.std.specs.Prelude.{◌≡◌, ◌<◌, ◌≤◌, ◌+◌, ◌*◌, ◌⊎◌, nat_eq, ℕ, Bool, true, false, List, ◌∷◌, length, Contains, slice_index, Option, Some, None, []}
+use Rattle.std.specs.Prelude.{◌≡◌, ◌<◌, ◌≤◌, ◌+◌, ◌*◌, ◌⊎◌, nat_eq, ℕ, Bool, true, false, List, ◌∷◌, length, Contains, slice_index, Option, Some, None, slice_index_or, []}
 use Rattle.std.specs.declared.vec.Vec.{Vec}
 use Rattle.std.specs.declared.alloc.Global.{Global}
 use Rattle.indexmap.specs.IndexMap.{IndexMap, get}
 use Rattle.frame_places.specs.declared.needs.reach.FrameEdge.{FrameEdge}
 use Rattle.frame_places.specs.declared.needs.row.NeedRow.{NeedRow}
-use Rattle.frame_places.specs.Marks.{IsMarked}
-use Rattle.frame_places.specs.RowNeeds.{HasEntry}
+use Rattle.frame_places.specs.RowNeeds.{RowHasEntry}
 
 -- the edge from one node to another
 abbrev pub edge_to : ℕ → ℕ → FrameEdge
 edge_to k t = record { node = k; into = t }
 
--- the edges are the entries of the rows
+-- the edges of the graph are the entries of the rows
 pub record AreEdges (rows : List NeedRow) (edges : List FrameEdge) : Type 0 where
-  pub sound : (k t : ℕ) → Contains edges (edge_to k t) → HasEntry rows k t
-  pub complete : (k t : ℕ) → HasEntry rows k t → Contains edges (edge_to k t)
+  pub sound : (k t : ℕ) → Contains edges (edge_to k t) → RowHasEntry rows k t
+  pub complete : (k t : ℕ) → RowHasEntry rows k t → Contains edges (edge_to k t)
 
 -- the edges of one more row are added
 pub record AddsEdges (old new : List FrameEdge) (node : ℕ) (into : List ℕ) : Type 0 where
@@ -24,52 +23,56 @@ pub record AddsEdges (old new : List FrameEdge) (node : ℕ) (into : List ℕ) :
   pub complete : (t : ℕ) → Contains into t → Contains new (edge_to node t)
 
 -- the edges are between `nodes` nodes
-pub record AreBetween (edges : List FrameEdge) (nodes : ℕ) : Type 0 where
+pub record AreEdgesBetween (edges : List FrameEdge) (nodes : ℕ) : Type 0 where
   pub node : (e : FrameEdge) → Contains edges e → e.node < nodes
   pub into : (e : FrameEdge) → Contains edges e → e.into < nodes
 
 -- the node j is reached from k along edges, none or more
-pub data Leads (edges : List FrameEdge) (j : ℕ) : ℕ → Type 0 where
-  here : Leads edges j j
-  along : (k t : ℕ) → Contains edges (edge_to k t) → Leads edges j t → Leads edges j k
+pub data LeadsAlongEdges (edges : List FrameEdge) (j : ℕ) : ℕ → Type 0 where
+  here : LeadsAlongEdges edges j j
+  along : (k t : ℕ) → Contains edges (edge_to k t) → LeadsAlongEdges edges j t → LeadsAlongEdges edges j k
 
 -- the node is reached from one that it enters
 pub record IsRecurring (edges : List FrameEdge) (k : ℕ) : Type 0 where
   pub next : ℕ
   pub enters : Contains edges (edge_to k next)
-  pub back : Leads edges k next
+  pub back : LeadsAlongEdges edges k next
 
 -- ---- marks
 
 -- the number of nodes without a mark
-abbrev pub unmarked : List Bool → ℕ
-unmarked [] = 0
-unmarked (true ∷ ms) = unmarked ms
-unmarked (false ∷ ms) = unmarked ms + 1
+abbrev pub unmarked_nodes : List Bool → ℕ
+unmarked_nodes [] = 0
+unmarked_nodes (true ∷ ms) = unmarked_nodes ms
+unmarked_nodes (false ∷ ms) = unmarked_nodes ms + 1
 
--- from each marked node j is reached
-abbrev pub AllLead : List FrameEdge → ℕ → List Bool → Type 0
-AllLead edges j marks = (k : ℕ) → IsMarked marks k → Leads edges j k
+-- a node of the graph of entries is marked
+abbrev pub IsMarked : List Bool → ℕ → Type 0
+IsMarked marks k = slice_index_or marks k false ≡ true
+
+-- in the graph, from each marked node j is reached along edges
+abbrev pub AllLeadAlongEdges : List FrameEdge → ℕ → List Bool → Type 0
+AllLeadAlongEdges edges j marks = (k : ℕ) → IsMarked marks k → LeadsAlongEdges edges j k
 
 -- a node has this source
-abbrev pub HasSource : Option (Vec ℕ Global) → ℕ → Type 0
-HasSource None k = ⊥
-HasSource (Some ks) k = Contains ks.items k
+abbrev pub HasEdgeSource : Option (Vec ℕ Global) → ℕ → Type 0
+HasEdgeSource None k = ⊥
+HasEdgeSource (Some ks) k = Contains ks.items k
 
 -- the sources of each node, as far as these edges go
-pub record AreSources {S : Type 0} (edges : List FrameEdge) (sources : IndexMap ℕ (Vec ℕ Global) S) : Type 0 where
-  pub sound : (k t : ℕ) → HasSource (get nat_eq sources t) k → Contains edges (edge_to k t)
-  pub complete : (k t : ℕ) → Contains edges (edge_to k t) → HasSource (get nat_eq sources t) k
+pub record AreEdgeSources {S : Type 0} (edges : List FrameEdge) (sources : IndexMap ℕ (Vec ℕ Global) S) : Type 0 where
+  pub sound : (k t : ℕ) → HasEdgeSource (get nat_eq sources t) k → Contains edges (edge_to k t)
+  pub complete : (k t : ℕ) → Contains edges (edge_to k t) → HasEdgeSource (get nat_eq sources t) k
 
 -- the sources are among `nodes` nodes
-abbrev pub AreBelow : {S : Type 0} → IndexMap ℕ (Vec ℕ Global) S → ℕ → Type 0
-AreBelow sources nodes = (k t : ℕ) → HasSource (get nat_eq sources t) k → k < nodes
+abbrev pub AreEdgeSourcesBelow : {S : Type 0} → IndexMap ℕ (Vec ℕ Global) S → ℕ → Type 0
+AreEdgeSourcesBelow sources nodes = (k t : ℕ) → HasEdgeSource (get nat_eq sources t) k → k < nodes
 
 -- a node is a source of one more node
-pub record AddsSource {S T : Type 0} (old : IndexMap ℕ (Vec ℕ Global) S) (new : IndexMap ℕ (Vec ℕ Global) T) (k t : ℕ) : Type 0 where
-  pub keeps : (j u : ℕ) → HasSource (get nat_eq old u) j → HasSource (get nat_eq new u) j
-  pub there : HasSource (get nat_eq new t) k
-  pub sound : (j u : ℕ) → HasSource (get nat_eq new u) j → HasSource (get nat_eq old u) j ⊎ ((j ≡ k) × (u ≡ t))
+pub record AddsEdgeSource {S T : Type 0} (old : IndexMap ℕ (Vec ℕ Global) S) (new : IndexMap ℕ (Vec ℕ Global) T) (k t : ℕ) : Type 0 where
+  pub keeps : (j u : ℕ) → HasEdgeSource (get nat_eq old u) j → HasEdgeSource (get nat_eq new u) j
+  pub there : HasEdgeSource (get nat_eq new t) k
+  pub sound : (j u : ℕ) → HasEdgeSource (get nat_eq new u) j → HasEdgeSource (get nat_eq old u) j ⊎ ((j ≡ k) × (u ≡ t))
 
 -- these nodes are marked, those that weren't are queued, and nothing else changes
 pub record MarksNodes (nodes : List ℕ) (old new : List Bool) (work later : List ℕ) : Type 0 where
@@ -79,14 +82,14 @@ pub record MarksNodes (nodes : List ℕ) (old new : List Bool) (work later : Lis
   pub listed : (k : ℕ) → Contains work k → Contains later k
   pub each : (k : ℕ) → IsMarked new k → IsMarked old k ⊎ Contains later k
   pub from_new : (k : ℕ) → Contains later k → Contains work k ⊎ IsMarked new k
-  pub less : 2 * unmarked new + length later ≤ 2 * unmarked old + length work
+  pub less : 2 * unmarked_nodes new + length later ≤ 2 * unmarked_nodes old + length work
   pub same : length new ≡ length old
 
 -- Marks on the way: each marked node leads to j, each queued node is marked, and each source of a
 -- marked node that isn't queued is marked.
 pub record IsMarking (edges : List FrameEdge) (nodes j : ℕ) (marks : List Bool) (work : List ℕ) : Type 0 where
   pub all : length marks ≡ nodes
-  pub sound : AllLead edges j marks
+  pub sound : AllLeadAlongEdges edges j marks
   pub goal : IsMarked marks j
   pub listed : (k : ℕ) → Contains work k → IsMarked marks k
   pub done : (k t : ℕ) → Contains edges (edge_to k t) → IsMarked marks t → Contains work t ⊎ IsMarked marks k
@@ -94,18 +97,18 @@ pub record IsMarking (edges : List FrameEdge) (nodes j : ℕ) (marks : List Bool
 -- from marks on the way all marks are set
 abbrev pub SettlesMarks : {S : Type 0} → IndexMap ℕ (Vec ℕ Global) S → List Bool → List Bool → List ℕ → Type 0
 SettlesMarks sources old new work =
-    (edges : List FrameEdge) (j : ℕ) → AreSources edges sources → IsMarking edges (length old) j old work
+    (edges : List FrameEdge) (j : ℕ) → AreEdgeSources edges sources → IsMarking edges (length old) j old work
     → IsMarking edges (length old) j new []
 
--- exactly the nodes from which j is reached are marked
+-- exactly the nodes of the graph from which j is reached are marked
 pub record AreReaching (edges : List FrameEdge) (nodes j : ℕ) (marks : List Bool) : Type 0 where
   pub each : length marks ≡ nodes
-  pub sound : AllLead edges j marks
-  pub complete : (k : ℕ) → Leads edges j k → IsMarked marks k
+  pub sound : AllLeadAlongEdges edges j marks
+  pub complete : (k : ℕ) → LeadsAlongEdges edges j k → IsMarked marks k
 
 -- the same, by the sources of each node
 abbrev pub AreReachingBy : {S : Type 0} → IndexMap ℕ (Vec ℕ Global) S → ℕ → ℕ → List Bool → Type 0
-AreReachingBy sources nodes j marks = (edges : List FrameEdge) → AreSources edges sources → AreReaching edges nodes j marks
+AreReachingBy sources nodes j marks = (edges : List FrameEdge) → AreEdgeSources edges sources → AreReaching edges nodes j marks
 
 -- some node that this one enters is marked
 abbrev pub HasMarkedNext : List Bool → List FrameEdge → ℕ → Type 0
@@ -118,8 +121,9 @@ IsFirstRecurring orders edges None = (k : ℕ) → IsRecurring edges k → ⊥
 IsFirstRecurring orders edges (Some k) =
     (k < length orders) × IsRecurring edges k × ((j : ℕ) → IsRecurring edges j → slice_index orders k ≤ slice_index orders j)
 
--- the same among the nodes before n
-abbrev pub IsFirstBefore : List ℕ → List FrameEdge → ℕ → Option ℕ → Type 0
-IsFirstBefore orders edges n None = (k : ℕ) → k < n → IsRecurring edges k → ⊥
-IsFirstBefore orders edges n (Some k) =
+-- the recursive node that is first in an order among the nodes before n, or that none of them is
+-- recursive
+abbrev pub IsFirstRecurringBefore : List ℕ → List FrameEdge → ℕ → Option ℕ → Type 0
+IsFirstRecurringBefore orders edges n None = (k : ℕ) → k < n → IsRecurring edges k → ⊥
+IsFirstRecurringBefore orders edges n (Some k) =
     (k < length orders) × IsRecurring edges k × ((j : ℕ) → j < n → IsRecurring edges j → slice_index orders k ≤ slice_index orders j)

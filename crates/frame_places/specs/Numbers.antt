@@ -8,26 +8,26 @@ use Rattle.frame_places.specs.declared.places.Spot.{Spot}
 use Rattle.frame_places.specs.declared.places.Marked.{Marked}
 use Rattle.frame_places.specs.declared.places.Spot.TheVariants.{Exit}
 
--- key equality, as maps compare keys
-abbrev pub key_eq : Key → Key → Bool
-key_eq = (block.ghosts).eq
+-- key equality, as the map of the numbers of frames compares keys
+abbrev pub frame_key_eq : Key → Key → Bool
+frame_key_eq = (block.ghosts).eq
 
 -- the place of the first frame with this key; the length of the list if there is none
-abbrev pub number_in : List Key → Key → ℕ
-number_in [] k = 0
-number_in (j ∷ js) k = if same_key j k then 0 else number_in js k + 1
+abbrev pub frame_number_in : List Key → Key → ℕ
+frame_number_in [] k = 0
+frame_number_in (j ∷ js) k = if same_key j k then 0 else frame_number_in js k + 1
 
 -- the map has the numbers of these frames
-pub record AreNumbers {S : Type 0} (numbers : IndexMap Key ℕ S) (frames : List Key) (known : List Key) : Type 0 where
-  pub each : (k : Key) → Contains known k → get key_eq numbers k ≡ Some (number_in frames k)
+pub record AreFrameNumbers {S : Type 0} (numbers : IndexMap Key ℕ S) (frames : List Key) (known : List Key) : Type 0 where
+  pub each : (k : Key) → Contains known k → get frame_key_eq numbers k ≡ Some (frame_number_in frames k)
 
 -- x is the place with this number
-abbrev pub StandsAt : {X S : Type 0} → IndexMap Spot X S → ℕ → Spot → Type 0
-StandsAt m number x = slice_get (keys m) number ≡ Some x
+abbrev pub PlaceHasNumber : {X S : Type 0} → IndexMap Spot X S → ℕ → Spot → Type 0
+PlaceHasNumber m number x = slice_get (keys m) number ≡ Some x
 
--- each place keeps its number
+-- each place keeps its number, which is its position in the map
 abbrev pub KeepsNumbers : {V S : Type 0} → IndexMap Spot (Marked V) S → IndexMap Spot (Marked V) S → Type 0
-KeepsNumbers old new = (number : ℕ) (q : Spot) → StandsAt old number q → StandsAt new number q
+KeepsNumbers old new = (number : ℕ) (q : Spot) → PlaceHasNumber old number q → PlaceHasNumber new number q
 
 -- a place for numbers that have none
 abbrev pub nowhere : Spot

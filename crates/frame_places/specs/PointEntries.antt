@@ -9,7 +9,7 @@ use Rattle.frame_places.specs.declared.places.Spot.{Spot}
 use Rattle.frame_places.specs.declared.places.Spot.TheVariants.{Point, Exit}
 use Rattle.frame_places.specs.Numbers.{nowhere}
 
--- the points of a map, in its order
+-- the points among the entries of a map, in its order
 abbrev pub points_in : {X S : Type 0} → IndexMap Spot X S → List Spot
 points_in m = filter is_point (keys m)
 
@@ -27,10 +27,10 @@ pub record AreEntries {X S : Type 0} (m : IndexMap Spot X S) (xs : List PointEnt
   pub order : (x : PointEntry) → Contains xs x → x.order ≡ spot_number (place_at m x)
 
 -- the entry of a place with this number, if it is a point
-abbrev pub entry_of : Option Spot → ℕ → List PointEntry
-entry_of None i = []
-entry_of (Some (Point k p)) i = record { order = spot_number (Point k p); entry = i } ∷ []
-entry_of (Some (Exit k)) i = []
+abbrev pub point_entry_of : Option Spot → ℕ → List PointEntry
+point_entry_of None i = []
+point_entry_of (Some (Point k p)) i = record { order = spot_number (Point k p); entry = i } ∷ []
+point_entry_of (Some (Exit k)) i = []
 
 -- the order of an entry is among those of the points of frame k
 abbrev pub is_in_frame : Key → PointEntry → Bool

@@ -12,18 +12,18 @@ pub record MeetsRow (need : ℕ → ℕ) (row : NeedRow) : Type 0 where
   pub into : (t : ℕ) → Contains row.into.items t → row.held + 1 + need t ≤ need row.node
 
 -- needs that meet each row
-abbrev pub Meets : (ℕ → ℕ) → List NeedRow → Type 0
-Meets need rows = (row : NeedRow) → Contains rows row → MeetsRow need row
+abbrev pub MeetsRows : (ℕ → ℕ) → List NeedRow → Type 0
+MeetsRows need rows = (row : NeedRow) → Contains rows row → MeetsRow need row
 
 -- the rows have `nodes` nodes
-pub record IsWithin (rows : List NeedRow) (nodes : ℕ) : Type 0 where
+pub record AreRowsWithin (rows : List NeedRow) (nodes : ℕ) : Type 0 where
   pub node : (row : NeedRow) → Contains rows row → row.node < nodes
   pub held : (row : NeedRow) → Contains rows row → row.held < 2 ^ 8
   pub into : (row : NeedRow) (t : ℕ) → Contains rows row → Contains row.into.items t → t < nodes
 
 -- these needs are at most any that meet the rows
-abbrev pub IsLow : List ℕ → List NeedRow → Type 0
-IsLow needs rows = (other : ℕ → ℕ) → Meets other rows → (k : ℕ) → k < length needs → slice_index needs k ≤ other k
+abbrev pub AreNeedsLow : List ℕ → List NeedRow → Type 0
+AreNeedsLow needs rows = (other : ℕ → ℕ) → MeetsRows other rows → (k : ℕ) → k < length needs → slice_index needs k ≤ other k
 
 -- the row is met up to the cap
 pub record MeetsCapped (cap : ℕ) (needs : List ℕ) (row : NeedRow) : Type 0 where
@@ -44,7 +44,7 @@ pub record PassesRow (cap : ℕ) (old new : List ℕ) (row : NeedRow) (changed :
 
 -- the steps of these rows, one after another
 pub record PassesRows (cap : ℕ) (old new : List ℕ) (rows : List NeedRow) (changed : Bool) : Type 0 where
-  pub low : (other : ℕ → ℕ) → Meets other rows → AllAtMost old other → AllAtMost new other
+  pub low : (other : ℕ → ℕ) → MeetsRows other rows → AllAtMost old other → AllAtMost new other
   pub capped : (k : ℕ) → slice_index new k ≤ cap + 1
   pub grows : changed ≡ true → sum old < sum new
   pub same : changed ≡ false → new ≡ old
@@ -52,10 +52,10 @@ pub record PassesRows (cap : ℕ) (old new : List ℕ) (rows : List NeedRow) (ch
 
 -- the least needs that meet the rows, none above the cap; or any needs that meet the rows pass it
 abbrev pub LeastNeeds : ℕ → List NeedRow → ℕ → Result (Option (Vec ℕ Global)) AllocError → Type 0
-LeastNeeds nodes rows cap (Ok (Some needs)) = (length needs.items ≡ nodes) × Meets (λ k. slice_index needs.items k) rows × IsLow needs.items rows × ((k : ℕ) → slice_index needs.items k ≤ cap)
-LeastNeeds nodes rows cap (Ok None) = (other : ℕ → ℕ) → Meets other rows → (k : ℕ) × (k < nodes) × (cap < other k)
+LeastNeeds nodes rows cap (Ok (Some needs)) = (length needs.items ≡ nodes) × MeetsRows (λ k. slice_index needs.items k) rows × AreNeedsLow needs.items rows × ((k : ℕ) → slice_index needs.items k ≤ cap)
+LeastNeeds nodes rows cap (Ok None) = (other : ℕ → ℕ) → MeetsRows other rows → (k : ℕ) × (k < nodes) × (cap < other k)
 LeastNeeds nodes rows cap (Err e) = Unit {0}
 
 -- some row of the node k enters the node t
-abbrev pub HasEntry : List NeedRow → ℕ → ℕ → Type 0
-HasEntry rows k t = (row : NeedRow) × Contains rows row × (row.node ≡ k) × Contains row.into.items t
+abbrev pub RowHasEntry : List NeedRow → ℕ → ℕ → Type 0
+RowHasEntry rows k t = (row : NeedRow) × Contains rows row × (row.node ≡ k) × Contains row.into.items t

@@ -6,7 +6,7 @@ use Rattle.frame_places.specs.contracts.places.SpotPartialEq.TheImpl as block
 use Rattle.frame_places.specs.declared.places.Spot.{Spot}
 use Rattle.frame_places.specs.declared.places.Spot.TheVariants.{Point, Exit}
 
--- place equality, as maps compare places
+-- whether two places of frames are the same, as maps compare them
 abbrev pub spot_eq : Spot → Spot → Bool
 spot_eq = (block.ghosts).eq
 
@@ -30,9 +30,9 @@ abbrev pub is_point_of : Key → Spot → Bool
 is_point_of k (Point j p) = same_key j k
 is_point_of k (Exit j) = false
 
--- points that a certificate may have
-abbrev pub AreRanged : List Spot → Type 0
-AreRanged ps = (q : Spot) → Contains ps q → (k : Key) × (p : ℕ) × (q ≡ Point k p) × IsKey k × (p < 2 ^ 32)
+-- these places are points that a certificate may have: in a valid frame, at an address below 2^32
+abbrev pub AreRangedSpots : List Spot → Type 0
+AreRangedSpots ps = (q : Spot) → Contains ps q → (k : Key) × (p : ℕ) × (q ≡ Point k p) × IsKey k × (p < 2 ^ 32)
 
 -- the address of a place in the frame k
 abbrev pub IsAddressIn : Key → Spot → Option ℕ → Type 0

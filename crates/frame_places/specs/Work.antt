@@ -4,88 +4,88 @@ use Rattle.std.specs.List.Sorted.{IsPermutation}
 
 -- the first places, those that are next after them, those of this round, which follow when none is
 -- next, and those that wait for the next round
-pub record Lists : Type 0 where
+pub record WorkLists : Type 0 where
   pub first : List ℕ
   pub next : List ℕ
   pub round : List ℕ
   pub waiting : List ℕ
 
 -- all numbers that are listed: those of places with work, and maybe others, or some twice
-abbrev pub all_work : Lists → List ℕ
+abbrev pub all_work : WorkLists → List ℕ
 all_work work = work.first ++ (work.next ++ (work.round ++ work.waiting))
 
 -- this place is next too
-pub record PutsNext (old new : Lists) (number : ℕ) : Type 0 where
+pub record PutsNext (old new : WorkLists) (number : ℕ) : Type 0 where
   pub first : new.first ≡ old.first
   pub next : new.next ≡ old.next ++ number ∷ []
   pub round : new.round ≡ old.round
   pub waiting : new.waiting ≡ old.waiting
 
 -- this place waits too
-pub record PutsWaiting (old new : Lists) (number : ℕ) : Type 0 where
+pub record PutsWaiting (old new : WorkLists) (number : ℕ) : Type 0 where
   pub first : new.first ≡ old.first
   pub next : new.next ≡ old.next
   pub round : new.round ≡ old.round
   pub waiting : new.waiting ≡ old.waiting ++ number ∷ []
 
 -- this place is in this round too, at any position
-pub record PutsEntry (old new : Lists) (number : ℕ) : Type 0 where
+pub record PutsEntry (old new : WorkLists) (number : ℕ) : Type 0 where
   pub first : new.first ≡ old.first
   pub next : new.next ≡ old.next
   pub round : IsPermutation (number ∷ old.round) new.round
   pub waiting : new.waiting ≡ old.waiting
 
 -- this place is in this round too if it is an entry point; otherwise it is next too
-abbrev pub PutsNew : Bool → Lists → Lists → ℕ → Type 0
+abbrev pub PutsNew : Bool → WorkLists → WorkLists → ℕ → Type 0
 PutsNew true old new number = PutsEntry old new number
 PutsNew false old new number = PutsNext old new number
 
 -- this place waits too, or is next too
-abbrev pub PutsAs : Bool → Lists → Lists → ℕ → Type 0
+abbrev pub PutsAs : Bool → WorkLists → WorkLists → ℕ → Type 0
 PutsAs true old new number = PutsWaiting old new number
 PutsAs false old new number = PutsNext old new number
 
 -- the places that wait become this round, which was empty
-pub record BeginsRound (old new : Lists) : Type 0 where
+pub record BeginsRound (old new : WorkLists) : Type 0 where
   pub first : new.first ≡ old.first
   pub next : new.next ≡ old.next
   pub round : IsPermutation old.waiting new.round
   pub waiting : new.waiting ≡ old.round
 
 -- the places that are next become the first, in some order, and the first ones are next
-pub record Turns (old new : Lists) : Type 0 where
+pub record Turns (old new : WorkLists) : Type 0 where
   pub first : IsPermutation old.next new.first
   pub next : new.next ≡ old.first
   pub round : new.round ≡ old.round
   pub waiting : new.waiting ≡ old.waiting
 
 -- this place is taken off the first ones
-pub record TakesFirst (old new : Lists) (number : ℕ) : Type 0 where
+pub record TakesFirst (old new : WorkLists) (number : ℕ) : Type 0 where
   pub first : old.first ≡ new.first ++ number ∷ []
   pub next : new.next ≡ old.next
   pub round : new.round ≡ old.round
   pub waiting : new.waiting ≡ old.waiting
 
 -- this place, the last of those that are next, is taken
-pub record TakesLast (old new : Lists) (number : ℕ) : Type 0 where
+pub record TakesLast (old new : WorkLists) (number : ℕ) : Type 0 where
   pub first : new.first ≡ old.first
   pub next : old.next ≡ new.next ++ number ∷ []
   pub round : new.round ≡ old.round
   pub waiting : new.waiting ≡ old.waiting
 
 -- this place of the round is taken
-pub record TakesRound (old new : Lists) (number : ℕ) : Type 0 where
+pub record TakesRound (old new : WorkLists) (number : ℕ) : Type 0 where
   pub first : new.first ≡ old.first
   pub next : new.next ≡ old.next
   pub round : old.round ≡ new.round ++ number ∷ []
   pub waiting : new.waiting ≡ old.waiting
 
 -- this place is taken off the list
-abbrev pub Takes : Lists → Lists → ℕ → Type 0
+abbrev pub Takes : WorkLists → WorkLists → ℕ → Type 0
 Takes old new number = IsPermutation (all_work old) (number ∷ all_work new)
 
 -- no place is first or next, and none was taken
-pub record HasNoNext (old new : Lists) : Type 0 where
+pub record HasNoNext (old new : WorkLists) : Type 0 where
   pub first : new.first ≡ []
   pub next : new.next ≡ []
   pub same : IsPermutation (all_work old) (all_work new)

@@ -1,7 +1,7 @@
 // Counts the known points and frames, within the limits of certificates.
 ghost use Rattle.std.specs.Prelude.{◌≡◌, ◌≤◌, ◌^◌, OnOk, IfErr, false, length};
 ghost use Rattle.frame_places.specs.declared.places.Spot.TheVariants.{Point};
-ghost use Rattle.frame_places.specs.Counting.{Passing, frames_after, points_after, with_entered};
+ghost use Rattle.frame_places.specs.Counting.{IsCountRefusal, frames_after, points_after, with_counted_frame};
 ghost use Rattle.frame_places.specs.Spots.{with_point};
 
 use crate::places::Spot;
@@ -25,10 +25,11 @@ fn count_point(
     requires frames { length frames.old.items ≤ 2048 }
     ensures points { OnOk result (points.new.items ≡ with_point points.old.items (Point key addr)) }
     ensures frames { OnOk result
-        (frames.new.items ≡ with_entered frames.old.items (Point key addr)) }
+        (frames.new.items ≡ with_counted_frame frames.old.items (Point key addr)) }
     ensures few_points { OnOk result (length points.new.items ≤ 2 ^ 16) }
     ensures few_frames { OnOk result (length frames.new.items ≤ 2048) }
-    ensures err { IfErr result (Passing false points.old.items frames.old.items (Point key addr)) }
+    ensures err { IfErr result
+        (IsCountRefusal false points.old.items frames.old.items (Point key addr)) }
 {
     if points.len() == MOST_POINTS {
         return Err(Refusal::Fault(LIMITS_RULE, Spot::Point(key, addr)));
@@ -44,7 +45,7 @@ fn count_point(
 }
 
 /// Counts a place, unless it is known.
-pub fn count(
+pub fn count_place(
     known: bool,
     points: &mut Vec<Spot>,
     frames: &mut Vec<Key>,
@@ -56,7 +57,7 @@ pub fn count(
     ensures frames { OnOk result (frames.new.items ≡ frames_after known frames.old.items y) }
     ensures few_points { OnOk result (length points.new.items ≤ 2 ^ 16) }
     ensures few_frames { OnOk result (length frames.new.items ≤ 2048) }
-    ensures err { IfErr result (Passing known points.old.items frames.old.items y) }
+    ensures err { IfErr result (IsCountRefusal known points.old.items frames.old.items y) }
 {
     if known {
         return Ok(());

@@ -13,14 +13,21 @@ mod readers;
 mod refusals;
 mod work_list;
 
-pub use counting::count;
-pub use marks::{begin_visit, end_visit, has_work, is_plain};
+pub use counting::count_place;
+pub use marks::{begin_visit, end_visit, has_queued_mark, is_plain_mark};
 pub use needs::least::{least_needs, soon_needs};
-pub use needs::reach::{FrameEdge, edges_of, first_recurring, has_marked, nodes_reaching};
+pub use needs::reach::{
+    FrameEdge, first_recurring, frame_edges, has_reaching_node, nodes_reaching,
+};
 pub use needs::row::NeedRow;
-pub use numbers::{number_frames, number_near, number_of, numbers_of};
-pub use ordering::{PointEntry, frames_in_order, orders_of, points_in_order, points_of};
-pub use places::{Mark, Marked, Spot, add, add_or_find, address_at, address_in, put};
-pub use readers::{register, requeue_readers_of};
+pub use numbers::{frame_number, frame_number_near, frame_numbers, number_frames};
+pub use ordering::{
+    PointEntry, frame_orders, frames_in_order, ordered_frame_points, points_in_order,
+};
+pub use places::{
+    Mark, Marked, Spot, add_or_find_place, add_queued_place, address_in_frame, place_address,
+    put_place,
+};
+pub use readers::{register_reader, requeue_readers_of};
 pub use refusals::{LIMITS_RULE, LOCALS_RULE, NEEDS_RULE, Refusal};
 pub use work_list::Work;

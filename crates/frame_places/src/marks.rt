@@ -1,40 +1,29 @@
 // The work of places. A place is queued by its number in the order of the map.
-ghost use Rattle.std.specs.Prelude.{◌≡◌, ◌↔◌, IsTrue, None, OnOk, Contains, Some};
+ghost use Rattle.std.specs.Prelude.{◌≡◌, ◌↔◌, IsTrue, None, OnOk, Contains, Some, IsSome};
 ghost use Rattle.frame_places.specs.declared.places.Spot.{Spot};
 ghost use Rattle.frame_places.specs.declared.places.Mark.TheVariants.{Open, Plain, Queued};
-ghost use Rattle.frame_places.specs.Numbers.{StandsAt};
-ghost use Rattle.frame_places.specs.Work.{PutsNew, all_work};
-ghost use Rattle.frame_places.specs.Marks.{AllListed, AreKnown, MarksAs, Requeues, idle_mark, is_queued, mark_for, settled_mark};
+ghost use Rattle.frame_places.specs.Numbers.{PlaceHasNumber};
+ghost use Rattle.frame_places.specs.Work.{all_work};
+ghost use Rattle.frame_places.specs.Marks.{AllListed, AreKnown, MarksAs, Requeues, idle_mark, is_queued, mark_for, settled_mark, value_for};
 
-use crate::places::{Mark, Marked, Spot, requeue};
-use crate::work_list::Work;
+use crate::places::{Mark, Marked, Spot};
+use crate::work_list::{Work, enqueue};
 use indexmap::IndexMap;
 use std::alloc::AllocError;
+use std::hash::{Hash, Hasher};
 
-/// Queues a new place: the entry point of a frame goes before the places found earlier, any other
-/// is next.
+/// Returns whether a place is an entry point that wasn't visited yet. If it is marked as queued, it
+/// moves to the front when its state rises.
 #[inline(always)]
-pub(crate) fn enqueue_new(work: &mut Work, number: usize, entry: bool) -> Result<(), AllocError>
-    ensures { OnOk result (PutsNew entry work.old work.new number) }
-{
-    if entry {
-        work.push_entry(number)
-    } else {
-        work.push(number)
-    }
-}
-
-/// Returns whether a queued place moves to the front when its state rises: an entry point that
-/// wasn't visited yet.
-#[inline(always)]
-pub(crate) fn is_front(entry: bool, visits: u8) -> bool {
+pub(crate) fn is_unvisited_entry(entry: bool, visits: u8) -> bool {
     entry && visits == 0
 }
 
 /// Marks the place with this number.
 #[inline(always)]
-pub(crate) fn mark_at<V>(places: &mut IndexMap<Spot, Marked<V>>, number: usize, mark: Mark)
-    ensures { (x : Spot) → StandsAt places.old number x → MarksAs places.old places.new x mark }
+pub(crate) fn mark_place<V>(places: &mut IndexMap<Spot, Marked<V>>, number: usize, mark: Mark)
+    ensures { (x : Spot) → PlaceHasNumber places.old number x
+        → MarksAs places.old places.new x mark }
 {
     if let Some(place) = places.get_index_mut(number) {
         place.mark = mark;
@@ -45,11 +34,14 @@ pub(crate) fn mark_at<V>(places: &mut IndexMap<Spot, Marked<V>>, number: usize, 
 /// rises.
 const PATIENT: u8 = 2;
 
-/// Returns whether the place with this number waits for the next round: it is told to, or it was
-/// visited often. So a call of many functions waits until all their exits have risen as far as they
-/// do for now.
+/// Returns whether a requeued place waits for the next round: it is told to, or was visited often.
+/// So a call of many functions waits until all their exits have risen as far as they do for now.
 #[inline(always)]
-pub(crate) fn must_wait<V>(places: &IndexMap<Spot, Marked<V>>, number: usize, waits: bool) -> bool {
+pub(crate) fn is_requeued_later<V>(
+    places: &IndexMap<Spot, Marked<V>>,
+    number: usize,
+    waits: bool,
+) -> bool {
     match places.get_index(number) {
         None => waits,
         Some((_, place)) => waits || place.visits >= PATIENT,
@@ -76,8 +68,8 @@ pub(crate) fn requeue_all<V>(
 
 /// Returns whether the place with this number is queued.
 #[inline(always)]
-pub fn has_work<V>(places: &IndexMap<Spot, Marked<V>>, number: usize) -> bool
-    ensures { (x : Spot) → StandsAt places.now number x
+pub fn has_queued_mark<V>(places: &IndexMap<Spot, Marked<V>>, number: usize) -> bool
+    ensures { (x : Spot) → PlaceHasNumber places.now number x
         → result ≡ is_queued (mark_for places.now x) }
 {
     match places.get_index(number) {
@@ -89,7 +81,8 @@ pub fn has_work<V>(places: &IndexMap<Spot, Marked<V>>, number: usize) -> bool
 /// Begins the visit of the place with this number.
 #[inline(always)]
 pub fn begin_visit<V>(places: &mut IndexMap<Spot, Marked<V>>, number: usize)
-    ensures { (x : Spot) → StandsAt places.old number x → MarksAs places.old places.new x Open }
+    ensures { (x : Spot) → PlaceHasNumber places.old number x
+        → MarksAs places.old places.new x Open }
 {
     if let Some(place) = places.get_index_mut(number) {
         place.mark = Mark::Open;
@@ -97,9 +90,10 @@ pub fn begin_visit<V>(places: &mut IndexMap<Spot, Marked<V>>, number: usize)
     }
 }
 
-/// Returns whether a mark is `Plain`.
+/// Returns whether the mark of a place is `Plain`: it has no work, and its instruction enters no
+/// frame by itself.
 #[inline(always)]
-pub fn is_plain(mark: Mark) -> bool
+pub fn is_plain_mark(mark: Mark) -> bool
     ensures { IsTrue result ↔ (mark ≡ Plain) }
 {
     matches!(mark, Mark::Plain)
@@ -128,10 +122,33 @@ fn mark_without_work(plain: bool) -> Mark
 /// visit. `plain` may be set if the instruction there enters no frame by itself.
 #[inline(always)]
 pub fn end_visit<V>(places: &mut IndexMap<Spot, Marked<V>>, number: usize, plain: bool)
-    ensures { (x : Spot) → StandsAt places.old number x
+    ensures { (x : Spot) → PlaceHasNumber places.old number x
         → MarksAs places.old places.new x (settled_mark plain (mark_for places.old x)) }
 {
     if let Some(place) = places.get_index_mut(number) {
         place.mark = mark_after(place.mark, plain);
     }
+}
+
+/// Marks the known place `x` as queued unless it is. It waits for the next round, or is next.
+pub(crate) fn requeue<V>(
+    places: &mut IndexMap<Spot, Marked<V>>,
+    work: &mut Work,
+    x: Spot,
+    waits: bool,
+) -> Result<(), AllocError>
+    requires listed { AllListed places.old (all_work work.old) }
+    requires known { IsSome (value_for places.old x) }
+    ensures marks { OnOk result (MarksAs places.old places.new x Queued) }
+    ensures work { OnOk result (AllListed places.new (all_work work.new)) }
+{
+    let Some(number) = places.get_index_of(&x) else {
+        return Ok(());
+    };
+    if !has_queued_mark(&*places, number) {
+        let later = is_requeued_later(&*places, number, waits);
+        mark_place(places, number, Mark::Queued);
+        enqueue(work, number, later)?;
+    }
+    Ok(())
 }

@@ -3,7 +3,7 @@ ghost use Rattle.std.specs.Prelude.{◌≡◌, List, Contains, IfOk, map};
 ghost use Rattle.std.specs.List.{IsDistinct};
 ghost use Rattle.depth_cert.specs.Keys.{same_key};
 ghost use Rattle.depth_cert.specs.declared.keys.Key as keys;
-ghost use Rattle.frame_places.specs.Numbers.{AreNumbers, number_in};
+ghost use Rattle.frame_places.specs.Numbers.{AreFrameNumbers, frame_number_in};
 
 use depth_cert::Key;
 use indexmap::IndexMap;
@@ -15,7 +15,7 @@ pub fn number_frames(
     frames: &[Key],
 ) -> Result<IndexMap<Key, usize>, AllocFailed<(Key, usize)>>
     requires { IsDistinct same_key frames.now }
-    ensures { IfOk result (λ numbers. AreNumbers numbers frames.now frames.now) }
+    ensures { IfOk result (λ numbers. AreFrameNumbers numbers frames.now frames.now) }
 {
     let mut numbers = IndexMap::new(alloc);
     for (i, key) in frames.iter().enumerate() {
@@ -25,9 +25,10 @@ pub fn number_frames(
 }
 
 /// Returns the number of a frame, or 0 if it has none.
-pub fn number_of(numbers: &IndexMap<Key, usize>, key: Key) -> usize
-    ensures { (frames : List keys.Key) → AreNumbers numbers.now frames frames → Contains frames key
-        → result ≡ number_in frames key }
+pub fn frame_number(numbers: &IndexMap<Key, usize>, key: Key) -> usize
+    ensures { (frames : List keys.Key) → AreFrameNumbers numbers.now frames frames
+        → Contains frames key
+        → result ≡ frame_number_in frames key }
 {
     match numbers.get(&key) {
         Some(number) => *number,
@@ -37,32 +38,33 @@ pub fn number_of(numbers: &IndexMap<Key, usize>, key: Key) -> usize
 
 /// Returns the number of a frame, or 0 if it has none. It is likely to be `near`.
 #[inline(always)]
-pub fn number_near(numbers: &IndexMap<Key, usize>, near: usize, key: &Key) -> usize
-    ensures { (frames : List keys.Key) → AreNumbers numbers.now frames frames
-        → Contains frames key.now → result ≡ number_in frames key.now }
+pub fn frame_number_near(numbers: &IndexMap<Key, usize>, near: usize, key: &Key) -> usize
+    ensures { (frames : List keys.Key) → AreFrameNumbers numbers.now frames frames
+        → Contains frames key.now → result ≡ frame_number_in frames key.now }
 {
     if let Some((other, number)) = numbers.get_index(near) {
         if other == key {
             return *number;
         }
     }
-    number_of(numbers, *key)
+    frame_number(numbers, *key)
 }
 
 /// Returns the numbers of these frames, with room for `more` others.
-pub fn numbers_of(
+pub fn frame_numbers(
     alloc: Global,
     numbers: &IndexMap<Key, usize>,
     entered: &[Key],
     more: usize,
 ) -> Result<Vec<usize>, AllocError>
-    ensures { IfOk result (λ into. (frames : List keys.Key) → AreNumbers numbers.now frames frames
+    ensures { IfOk result (λ into. (frames : List keys.Key)
+        → AreFrameNumbers numbers.now frames frames
         → ((k : keys.Key) → Contains entered.now k → Contains frames k)
-        → into.items ≡ map (number_in frames) entered.now) }
+        → into.items ≡ map (frame_number_in frames) entered.now) }
 {
     let mut into = Vec::with_capacity(alloc, entered.len().saturating_add(more))?;
     for key in entered {
-        into.push(number_of(numbers, *key))?;
+        into.push(frame_number(numbers, *key))?;
     }
     Ok(into)
 }

@@ -1,16 +1,16 @@
 // Places of frames, and their marks for the work list.
-ghost use Rattle.std.specs.Prelude.{◌≡◌, IfOk, IsSome, None, OnOk, Some};
+ghost use Rattle.std.specs.Prelude.{◌≡◌, IfOk, None, OnOk, Some};
 ghost use Rattle.std.specs.Hash as fed;
 ghost use Rattle.frame_places.specs.Spots.{is_entry_point, spot_number, IsAddressIn, spot_address};
-ghost use Rattle.frame_places.specs.Hashed.{word_of};
+ghost use Rattle.frame_places.specs.Hashed.{hashed_word};
 ghost use Rattle.frame_places.specs.declared.places.Spot.{Spot};
 ghost use Rattle.frame_places.specs.declared.places.Mark.TheVariants.{Queued};
-ghost use Rattle.frame_places.specs.Numbers.{StandsAt};
+ghost use Rattle.frame_places.specs.Numbers.{PlaceHasNumber};
 ghost use Rattle.frame_places.specs.Work.{all_work};
-ghost use Rattle.frame_places.specs.Marks.{AddsOrFinds, AllListed, MarksAs, Puts, value_for};
+ghost use Rattle.frame_places.specs.Marks.{AddsOrFinds, AllListed, PutsPlaceValue, value_for};
 
-use crate::marks::{enqueue_new, has_work, is_front, mark_at, must_wait};
-use crate::work_list::{Work, enqueue};
+use crate::marks::is_unvisited_entry;
+use crate::work_list::{Work, enqueue, enqueue_new};
 use depth_cert::{Key, number_of};
 use indexmap::IndexMap;
 use indexmap::map::Entry;
@@ -54,7 +54,7 @@ impl Spot {
     /// Returns the word for hashing: the low four bytes of the frame's number, and the address.
     #[inline(always)]
     fn word(&self) -> u64
-        ensures { result ≡ word_of self.now }
+        ensures { result ≡ hashed_word self.now }
     {
         match self {
             Spot::Point(key, addr) => number_of(key) % 4_294_967_296 * 4_294_967_296
@@ -66,9 +66,9 @@ impl Spot {
 
 /// Hashing is one write of eight bytes.
 impl Hash for Spot {
-    ghost use Rattle.frame_places.specs.Hashed.{hashed_alike, word_of};
+    ghost use Rattle.frame_places.specs.Hashed.{hashed_alike, hashed_word};
 
-    ghost hash_input = { λ x. fed.u64 (word_of x) };
+    ghost hash_input = { λ x. fed.u64 (hashed_word x) };
 
     ghost respects_eq = { λ x y e. hashed_alike x y e };
 
@@ -100,7 +100,7 @@ pub enum Mark {
 }
 
 /// Returns the address of a point, or 0 for an exit.
-pub fn address_at(place: &Spot) -> u32
+pub fn place_address(place: &Spot) -> u32
     ensures { result ≡ spot_address place.now }
 {
     match place {
@@ -110,7 +110,7 @@ pub fn address_at(place: &Spot) -> u32
 }
 
 /// Returns the address of a place if it is a point of the frame.
-pub fn address_in(key: Key, place: Spot) -> Option<u32>
+pub fn address_in_frame(key: Key, place: Spot) -> Option<u32>
     ensures { IsAddressIn key place result }
 {
     let Spot::Point(other, addr) = place else {
@@ -119,9 +119,9 @@ pub fn address_in(key: Key, place: Spot) -> Option<u32>
     if other == key { Some(addr) } else { None }
 }
 
-/// Adds the unknown place `y`, with work.
+/// Adds the unknown place `y` with this value to the map of places, with work.
 #[inline(always)]
-pub fn add<V: Drop>(
+pub fn add_queued_place<V: Drop>(
     places: &mut IndexMap<Spot, Marked<V>>,
     work: &mut Work,
     y: Spot,
@@ -129,7 +129,7 @@ pub fn add<V: Drop>(
 ) -> Result<(), AllocError>
     requires listed { AllListed places.old (all_work work.old) }
     requires new { value_for places.old y ≡ None }
-    ensures puts { OnOk result (Puts places.old places.new y value) }
+    ensures puts { OnOk result (PutsPlaceValue places.old places.new y value) }
     ensures work { OnOk result (AllListed places.new (all_work work.new)) }
 {
     let number = places.len();
@@ -144,9 +144,10 @@ pub fn add<V: Drop>(
     Ok(())
 }
 
-/// Adds `y` with this value and work if it is unknown. Otherwise returns its number.
+/// Adds the place `y` with this value and work to the map of places if it is unknown. Otherwise
+/// returns its number.
 #[inline(always)]
-pub fn add_or_find<V: Drop>(
+pub fn add_or_find_place<V: Drop>(
     places: &mut IndexMap<Spot, Marked<V>>,
     work: &mut Work,
     y: Spot,
@@ -175,7 +176,7 @@ pub fn add_or_find<V: Drop>(
 /// waits for the next round, any other place is next. An entry point that is queued and wasn't
 /// visited yet is queued again, before the places found earlier.
 #[inline(always)]
-pub fn put<V: Drop>(
+pub fn put_place<V: Drop>(
     places: &mut IndexMap<Spot, Marked<V>>,
     work: &mut Work,
     number: usize,
@@ -183,9 +184,9 @@ pub fn put<V: Drop>(
     entry: bool,
 ) -> Result<(), AllocError>
     requires listed { AllListed places.old (all_work work.old) }
-    ensures puts { (y : Spot) → StandsAt places.old number y
-        → OnOk result (Puts places.old places.new y value) }
-    ensures work { (y : Spot) → StandsAt places.old number y
+    ensures puts { (y : Spot) → PlaceHasNumber places.old number y
+        → OnOk result (PutsPlaceValue places.old places.new y value) }
+    ensures work { (y : Spot) → PlaceHasNumber places.old number y
         → OnOk result (AllListed places.new (all_work work.new)) }
 {
     let Some(place) = places.get_index_mut(number) else {
@@ -193,35 +194,12 @@ pub fn put<V: Drop>(
     };
     place.value = value;
     if let Mark::Queued = place.mark {
-        if is_front(entry, place.visits) {
+        if is_unvisited_entry(entry, place.visits) {
             work.push_entry(number)?;
         }
         return Ok(());
     }
     place.mark = Mark::Queued;
     enqueue(work, number, entry)?;
-    Ok(())
-}
-
-/// Queues the known place `x` unless it is queued. It waits for the next round, or is next.
-pub(crate) fn requeue<V>(
-    places: &mut IndexMap<Spot, Marked<V>>,
-    work: &mut Work,
-    x: Spot,
-    waits: bool,
-) -> Result<(), AllocError>
-    requires listed { AllListed places.old (all_work work.old) }
-    requires known { IsSome (value_for places.old x) }
-    ensures marks { OnOk result (MarksAs places.old places.new x Queued) }
-    ensures work { OnOk result (AllListed places.new (all_work work.new)) }
-{
-    let Some(number) = places.get_index_of(&x) else {
-        return Ok(());
-    };
-    if !has_work(&*places, number) {
-        let later = must_wait(&*places, number, waits);
-        mark_at(places, number, Mark::Queued);
-        enqueue(work, number, later)?;
-    }
     Ok(())
 }

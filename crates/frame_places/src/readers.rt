@@ -1,14 +1,14 @@
 // Which points read which exits.
-ghost use Rattle.std.specs.Prelude.{◌↔◌, ◌⊎◌, ◌≡◌, Contains, OnOk, None, Some};
+ghost use Rattle.std.specs.Prelude.{◌↔◌, ◌⊎◌, ◌≡◌, Contains, OnOk, None, Some, IfOk};
 ghost use Rattle.frame_places.specs.declared.places.Spot as spots;
-ghost use Rattle.frame_places.specs.Marks.{Registered, AllListed, AreKnown, Reads, Requeues};
+ghost use Rattle.frame_places.specs.Marks.{RegistersReader, AllListed, AreKnown, IsAmongReaders, Requeues};
 ghost use Rattle.indexmap.specs.IndexMap.{get};
 ghost use Rattle.frame_places.specs.declared.places.Spot.{Spot};
 ghost use Rattle.frame_places.specs.Spots.{spot_eq};
 ghost use Rattle.frame_places.specs.Work.{all_work};
+ghost use Rattle.frame_places.specs.declared.places.Spot as spots;
 
 use crate::marks::requeue_all;
-use crate::ordering::without_doubles;
 use crate::places::{Marked, Spot};
 use crate::work_list::Work;
 use indexmap::IndexMap;
@@ -18,7 +18,7 @@ use std::alloc::{AllocError, Global};
 const MANY: usize = 1024;
 
 /// Appends `x`, unless it is the last one.
-pub(crate) fn push_other(out: &mut Vec<Spot>, x: Spot) -> Result<(), AllocError>
+pub(crate) fn push_other_reader(out: &mut Vec<Spot>, x: Spot) -> Result<(), AllocError>
     ensures { OnOk result ((q : spots.Spot)
         → Contains out.new.items q ↔ (Contains out.old.items q ⊎ (q ≡ x))) }
 {
@@ -61,13 +61,13 @@ fn push_reader(alloc: Global, list: &mut Vec<Spot>, x: Spot) -> Result<(), Alloc
 }
 
 /// Records that `x` reads `z`.
-pub fn register(
+pub fn register_reader(
     alloc: Global,
     readers: &mut IndexMap<Spot, Vec<Spot>>,
     z: Spot,
     x: Spot,
 ) -> Result<(), AllocError>
-    ensures { OnOk result (Registered readers.old readers.new z x) }
+    ensures { OnOk result (RegistersReader readers.old readers.new z x) }
 {
     if let Some(list) = readers.get_mut(&z) {
         push_reader(alloc, list, x)?;
@@ -88,13 +88,25 @@ pub fn requeue_readers_of<V>(
     waits: bool,
 ) -> Result<(), AllocError>
     requires listed { AllListed places.old (all_work work.old) }
-    requires known { AreKnown places.old (Reads (get spot_eq readers.now y)) }
+    requires known { AreKnown places.old (IsAmongReaders (get spot_eq readers.now y)) }
     ensures marks { OnOk result
-        (Requeues places.old places.new (Reads (get spot_eq readers.now y))) }
+        (Requeues places.old places.new (IsAmongReaders (get spot_eq readers.now y))) }
     ensures work { OnOk result (AllListed places.new (all_work work.new)) }
 {
     match readers.get(&y) {
         None => Ok(()),
         Some(readers) => requeue_all(places, work, readers.as_slice(), waits),
     }
+}
+
+/// Returns a list of readers without the places that equal the one before them.
+pub(crate) fn without_doubles(alloc: Global, list: &[Spot]) -> Result<Vec<Spot>, AllocError>
+    ensures { IfOk result (λ out. (q : spots.Spot)
+        → Contains out.items q ↔ Contains list.now q) }
+{
+    let mut out = Vec::new(alloc);
+    for x in list {
+        push_other_reader(&mut out, *x)?;
+    }
+    Ok(out)
 }

@@ -1,6 +1,6 @@
 // The work list.
 ghost use Rattle.std.specs.Prelude.{◌≡◌, ◌<◌, ◌^◌, ◌==◌, IfSome, IfNone, OnOk, [], length};
-ghost use Rattle.frame_places.specs.Work.{BeginsRound, HasNoNext, PutsEntry, PutsNext, PutsWaiting, Takes, TakesFirst, TakesLast, TakesRound, Turns, all_work, PutsAs};
+ghost use Rattle.frame_places.specs.Work.{BeginsRound, HasNoNext, PutsEntry, PutsNext, PutsWaiting, Takes, TakesFirst, TakesLast, TakesRound, Turns, all_work, PutsAs, PutsNew};
 
 use std::alloc::{AllocError, Global};
 use std::marker::Model;
@@ -30,9 +30,9 @@ pub struct Work {
 }
 
 impl Model for Work {
-    ghost use Rattle.frame_places.specs.Work.{Lists};
+    ghost use Rattle.frame_places.specs.Work.{WorkLists};
 
-    ghost Value = { Lists };
+    ghost Value = { WorkLists };
 
     ghost view = { λ w. record { first = w.first.items; next = w.next.items; round = w.round.items; waiting = w.waiting.items } };
 }
@@ -191,6 +191,19 @@ pub(crate) fn enqueue(work: &mut Work, number: usize, waits: bool) -> Result<(),
 {
     if waits {
         work.push_waiting(number)
+    } else {
+        work.push(number)
+    }
+}
+
+/// Queues a new place on the work list: the entry point of a frame goes before the places found
+/// earlier, any other is next.
+#[inline(always)]
+pub(crate) fn enqueue_new(work: &mut Work, number: usize, entry: bool) -> Result<(), AllocError>
+    ensures { OnOk result (PutsNew entry work.old work.new number) }
+{
+    if entry {
+        work.push_entry(number)
     } else {
         work.push(number)
     }

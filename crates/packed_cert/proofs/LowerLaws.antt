@@ -8,8 +8,7 @@ use Rattle.value_domain.proofs.RangeLaws.{below_any}
 use Rattle.value_domain.specs.State.{AreWell, is_lower_slot}
 use Rattle.depth_cert.specs.Exits.{lower_values, with_lower_from}
 use Rattle.depth_cert.proofs.ExitValues.{restored_at, after-at, lower_low, lower_high}
-use Rattle.packed_cert.specs.ValuesAtPlaces.{behind}
-use Rattle.packed_cert.specs.ValuesInBytes.{value_in, values_in, HasValue, HaveValues}
+use Rattle.packed_cert.specs.ValuesInBytes.{place_after_value, value_in, values_in, HasValueInBytes, HaveValuesInBytes}
 use Rattle.packed_cert.proofs.SameBytes.{Small}
 use Rattle.packed_cert.proofs.ValueShapes.{left_first, length-values_in, stands_at, well_of}
 
@@ -34,7 +33,7 @@ other_before i h e = grind (arith)
 -- ---- the state in which they are replaced by those that stand at a place: one value after another
 -- those that are left stand from a place on, where n were looked at
 pub record LeftBehind (version : ℕ) (bytes : List ℕ) (place n from : ℕ) : Type 0 where
-  pub have : HaveValues version bytes from (14 - n)
+  pub have : HaveValuesInBytes version bytes from (14 - n)
   pub left : drop n (values_in version bytes place 14) ≡ values_in version bytes from (14 - n)
 
 -- the value at place i
@@ -42,9 +41,9 @@ abbrev pub restored_in : ℕ → List ℕ → ℕ → ℕ → List Val → Val
 restored_in version bytes from i regs = cond (is_lower_slot i) (value_in version bytes from) (get_or regs i any_val)
 
 pub record LowerStep (version : ℕ) (bytes : List ℕ) (place i from : ℕ) (regs : List Val) : Type 0 where
-  pub has : IsTrue (is_lower_slot i) → HasValue version bytes from
+  pub has : IsTrue (is_lower_slot i) → HasValueInBytes version bytes from
   pub is : get_or (with_lower_from 0 (values_in version bytes place 14) regs) i any_val ≡ restored_in version bytes from i regs
-  pub next : LeftBehind version bytes place (lower_before (i + 1)) (cond (is_lower_slot i) (behind bytes from) from)
+  pub next : LeftBehind version bytes place (lower_before (i + 1)) (cond (is_lower_slot i) (place_after_value bytes from) from)
 
 pub lower_step : (version : ℕ) (bytes : List ℕ) (place i from : ℕ) (regs : List Val) → i < 27 → length regs ≡ 27 → LeftBehind version bytes place (lower_before i) from → LowerStep version bytes place i from regs
 lower_step version bytes place i from regs h len l =
@@ -54,13 +53,13 @@ lower_step version bytes place i from regs h len l =
       | inl t ↦
           let k = slot_before i h t in
           let f = left_first version bytes from 14 (lower_before i) ls k.1 (length-values_in version bytes place 14) l.have l.left in
-          let next : LeftBehind version bytes place (lower_before i + 1) (behind bytes from) = record { have = f.1; left = f.3 } in
+          let next : LeftBehind version bytes place (lower_before i + 1) (place_after_value bytes from) = record { have = f.1; left = f.3 } in
           let value : restored_at i ls (get_or regs i any_val) ≡ value_in version bytes from = rw t (ap (λ (n : ℕ). get_or ls n any_val) k.2 ∙ f.2) in
           let back : value_in version bytes from ≡ restored_in version bytes from i regs = rw t refl in
           record {
             has = λ s. f.0;
             is = at ∙ value ∙ back;
-            next = rw t (subst (λ (n : ℕ). LeftBehind version bytes place n (behind bytes from)) (sym k.0) next);
+            next = rw t (subst (λ (n : ℕ). LeftBehind version bytes place n (place_after_value bytes from)) (sym k.0) next);
           }
       | inr f ↦
           let same : restored_at i ls (get_or regs i any_val) ≡ restored_in version bytes from i regs = rw f refl in
@@ -72,7 +71,7 @@ lower_step version bytes place i from regs h len l =
     ]
 
 -- below a value that holds all words is each of them
-pub any_above : (i : ℕ) (regs : List Val) (version : ℕ) (bytes : List ℕ) (from : ℕ) (high : Val) → Small bytes → i < 27 → length regs ≡ 27 → AreWell regs → (IsTrue (is_lower_slot i) → HasValue version bytes from) → high ≡ any_val
+pub any_above : (i : ℕ) (regs : List Val) (version : ℕ) (bytes : List ℕ) (from : ℕ) (high : Val) → Small bytes → i < 27 → length regs ≡ 27 → AreWell regs → (IsTrue (is_lower_slot i) → HasValueInBytes version bytes from) → high ≡ any_val
     → IsTrue true ↔ IsBelow (restored_in version bytes from i regs) high
 any_above i regs version bytes from high small h len well has any =
     elim (cases_Bool (is_lower_slot i)) [

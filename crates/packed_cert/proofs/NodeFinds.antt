@@ -6,7 +6,7 @@ use Rattle.std.specs.List.{find}
 use Rattle.std.specs.List.Sorted.{IsStrictlyIncreasing, IsPartitionPoint}
 use Rattle.std.proofs.Common.{eq-eqb}
 use Rattle.value_domain.specs.declared.states.State.{State}
-use Rattle.value_domain.specs.State.{Covers, ImpliedBy}
+use Rattle.value_domain.specs.State.{Covers, FlagsImpliedBy}
 use Rattle.std.proofs.lemmas.Bool.{cases_Bool, lt-ltb, le-ltb, ne_eqb}
 use Rattle.std.proofs.lemmas.List.{length-map, get_or-map, get_or_default}
 use Rattle.depth_cert.specs.declared.points.Point.{Point}
@@ -61,7 +61,7 @@ abbrev pub state_of : ℕ → List Point → Option State
 state_of addr ps = option_map (λ p. p.state) (find_point addr ps)
 
 -- a state covers itself
-implied_same : (xs : List Bool) → ImpliedBy xs xs
+implied_same : (xs : List Bool) → FlagsImpliedBy xs xs
 implied_same [] = tt
 implied_same (x ∷ xs) = ((λ t. t), implied_same xs)
 

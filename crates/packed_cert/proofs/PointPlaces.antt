@@ -8,23 +8,24 @@ use Rattle.value_domain.specs.declared.values.Val.{Val}
 use Rattle.value_domain.specs.declared.states.State.{State}
 use Rattle.depth_cert.specs.declared.points.Point.{Point}
 use Rattle.depth_cert.specs.Points.{addresses}
-use Rattle.depth_cert.specs.Grammar.{flag_at, values_at, state_at, last_of, address_after, point_after}
+use Rattle.depth_cert.specs.Grammar.{flag_at, values_at, state_at, last_number_read, address_after, point_after}
 use Rattle.tcd_base.specs.FieldReaders.{u8_at}
 use Rattle.tcd_base.proofs.FieldReads.{bind_ok, u8_at_ok}
 use Rattle.depth_cert.proofs.PointReads.{point_reads}
 use Rattle.packed_cert.specs.declared.places.PackedPoint.{PackedPoint}
-use Rattle.packed_cert.specs.ValuesAtPlaces.{at, Stand}
+use Rattle.packed_cert.specs.ValuesAtPlaces.{ValuesStandBetween}
+use Rattle.packed_cert.specs.ValuesInBytes.{place_in_bytes}
 use Rattle.packed_cert.specs.PointsInBytes.{state_in, HasState, point_in, points_in}
 use Rattle.packed_cert.proofs.SameBytes.{Small, values_stand}
 
 -- the values that were read stand where they were read
 pub read_stand : (version n : ℕ) (bytes : List ℕ) (c : Place) (vs : List Val) (q : Place) (x : ℕ) → Small bytes → c.bytes ≡ bytes → x ≡ c.place → x ≤ length bytes → values_at version n c ≡ Ok (vs, q)
-    → (x ≤ length bytes) × Stand version bytes x vs q.place
+    → (x ≤ length bytes) × ValuesStandBetween version bytes x vs q.place
 unfolding values_at
 read_stand version n bytes c vs q x small b p h e =
-    let there : at bytes x ≡ c = ap (λ (k : ℕ). at bytes k) p ∙ ap (λ (l : List ℕ). at l c.place) (sym b) in
+    let there : place_in_bytes bytes x ≡ c = ap (λ (k : ℕ). place_in_bytes bytes k) p ∙ ap (λ (l : List ℕ). place_in_bytes l c.place) (sym b) in
     let s = values_stand version bytes n x [] vs q small h (ap (values_at version n) there ∙ e) in
-    (h, subst (λ (l : List Val). Stand version bytes x l q.place) (sym s.is) s.stand)
+    (h, subst (λ (l : List Val). ValuesStandBetween version bytes x l q.place) (sym s.is) s.stand)
 
 pub addresses_in : (version : ℕ) (bytes : List ℕ) (ps : List PackedPoint) → addresses (points_in version bytes ps) ≡ map (λ p. p.addr) ps
 addresses_in version bytes [] = refl
@@ -32,10 +33,10 @@ addresses_in version bytes (p ∷ ps) = ap (λ (l : List ℕ). p.addr ∷ l) (ad
 
 -- one point more, whose state is at its place, too
 pub point_more : (version : ℕ) (bytes : List ℕ) (ps : List PackedPoint) (item : PackedPoint) (c q r : Place) (s : State) → state_in version bytes item.place ≡ s
-    → address_after (last_of (map (λ p. p.addr) ps)) c ≡ Ok (item.addr, q) → state_at version q ≡ Ok (s, r)
+    → address_after (last_number_read (map (λ p. p.addr) ps)) c ≡ Ok (item.addr, q) → state_at version q ≡ Ok (s, r)
     → point_after version (points_in version bytes ps) c ≡ Ok (point_in version bytes item, r)
 point_more version bytes ps item c q r s there a e =
-    point_reads version (points_in version bytes ps) c q r item.addr s (ap (λ (l : List ℕ). address_after (last_of l) c) (addresses_in version bytes ps) ∙ a) e
+    point_reads version (points_in version bytes ps) c q r item.addr s (ap (λ (l : List ℕ). address_after (last_number_read l) c) (addresses_in version bytes ps) ∙ a) e
     ∙ ap (λ (t : State). let x : Result (Point × Place) FormErr = Ok (record { addr = item.addr; state = t }, r) in x) (sym there)
 
 pub points_push : (version : ℕ) (bytes : List ℕ) (ps : List PackedPoint) (p : PackedPoint) → points_in version bytes (ps ++ p ∷ []) ≡ points_in version bytes ps ++ point_in version bytes p ∷ []
@@ -45,9 +46,9 @@ points_push version bytes ps p = map-append (point_in version bytes) ps (p ∷ [
 pub state_inside : (version : ℕ) (bytes : List ℕ) (x : ℕ) → HasState version bytes x → x ≤ length bytes
 unfolding state_at flag_at
 state_inside version bytes x h =
-    let f = bind_ok (flag_at (at bytes x)) _ _ h.1 in
-    let b = bind_ok (u8_at (at bytes x)) _ _ f.1 in
-    let k = u8_at_ok (at bytes x) b.0.0 b.0.1 b.1 in
+    let f = bind_ok (flag_at (place_in_bytes bytes x)) _ _ h.1 in
+    let b = bind_ok (u8_at (place_in_bytes bytes x)) _ _ f.1 in
+    let k = u8_at_ok (place_in_bytes bytes x) b.0.0 b.0.1 b.1 in
     omega (arith, k.0.within)
 
 pub took : {A : Type 0} (r : Option A) (P : Type 0) (n len : ℕ) → (IsSome r ↔ (0 + n ≤ len)) → OnSome r P → n ≤ len → P

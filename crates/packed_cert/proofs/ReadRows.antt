@@ -4,14 +4,14 @@ use Rattle.std.proofs.lemmas.List.{length-set, get_or-set_other}
 use Rattle.value_domain.specs.declared.values.Val.{Val}
 use Rattle.value_domain.specs.Values.{any_val}
 use Rattle.packed_cert.specs.declared.places.ValueRow.{ValueRow}
-use Rattle.packed_cert.specs.ChangedRows.{ChangesRow, IsWhole, IsWithRead}
+use Rattle.packed_cert.specs.ChangedRows.{ChangesRow, IsWholeRow, IsWithRead}
 
 -- none
 pub row_of_none : (vs : List Val) → ChangesRow vs vs (record { first = 0; behind = 0; from = 0 })
 row_of_none vs = record { count = refl; order = omega arith; within = omega arith; kept = λ k h s. refl }
 
 -- all
-pub row_of_all : (before after : List Val) (row : ValueRow) → length after ≡ length before → IsWhole (length before) row → ChangesRow before after row
+pub row_of_all : (before after : List Val) (row : ValueRow) → length after ≡ length before → IsWholeRow (length before) row → ChangesRow before after row
 row_of_all before after row count e = record {
   count = count;
   order = omega (arith, e.0, e.1);

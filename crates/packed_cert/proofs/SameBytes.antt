@@ -7,27 +7,28 @@ use Rattle.std.specs.List.{flat_map}
 use Rattle.tcd_base.specs.declared.errors.FormErr.{FormErr}
 use Rattle.tcd_base.specs.Bytes.{bytes_of_word}
 use Rattle.tcd_base.specs.Place.{Place, place_between}
-use Rattle.tcd_base.specs.FieldReaders.{◌>>=◌, many_at}
+use Rattle.tcd_base.specs.FieldReaders.{◌>>=◌, many_fields_at}
 use Rattle.tcd_base.proofs.FieldReads.{bind_ok}
 use Rattle.value_domain.specs.declared.values.Val.{Val}
 use Rattle.value_domain.specs.declared.values.Val.TheVariants.{Set, Span}
-use Rattle.value_domain.specs.Values.{any_val, is_any}
-use Rattle.depth_cert.specs.Points.{IsWellOf}
+use Rattle.value_domain.specs.Values.{any_val, is_any_span}
+use Rattle.depth_cert.specs.Points.{IsWellCertValue}
 use Rattle.depth_cert.specs.Grammar.{value_at}
 use Rattle.depth_cert.specs.Spelling.{bytes_of_value}
 use Rattle.tcd_base.proofs.PassedLaws.{AreBytes, bytes_from, Passed, ok_pair}
 use Rattle.depth_cert.proofs.GrammarLaws.{value_passed}
 use Rattle.depth_cert.proofs.WrittenLaws.{IsRead, value_cases}
-use Rattle.packed_cert.specs.ValuesAtPlaces.{at, length_by, behind, Stand, StandAlike}
+use Rattle.packed_cert.specs.ValuesAtPlaces.{ValuesStandBetween, SameBytesAtPlaces}
+use Rattle.packed_cert.specs.ValuesInBytes.{value_length_by_tag, place_after_value, place_in_bytes}
 
 -- all bytes are below 256
 abbrev pub Small : List ℕ → Type 0
 Small bytes = (k : ℕ) → get_or bytes k 0 < 2 ^ 8
 
-pub split : (bytes : List ℕ) (x : ℕ) → x ≤ length bytes → at bytes x ≡ place_between (take x bytes) (drop x bytes)
+pub split : (bytes : List ℕ) (x : ℕ) → x ≤ length bytes → place_in_bytes bytes x ≡ place_between (take x bytes) (drop x bytes)
 split bytes x h =
     let len : x ≡ length (take x bytes) = omega (arith, length-take x bytes) in
-    ap (λ (l : List ℕ). at l x) (sym (take-append-drop x bytes)) ∙ ap (λ (n : ℕ). at (take x bytes ++ drop x bytes) n) len
+    ap (λ (l : List ℕ). place_in_bytes l x) (sym (take-append-drop x bytes)) ∙ ap (λ (n : ℕ). place_in_bytes (take x bytes ++ drop x bytes) n) len
 
 small_rest : (bytes : List ℕ) (x : ℕ) → Small bytes → AreBytes (drop x bytes)
 small_rest bytes x h = bytes_from (drop x bytes) (λ k. rw (get_or-drop x bytes k 0) (h (x + k)))
@@ -35,7 +36,7 @@ small_rest bytes x h = bytes_from (drop x bytes) (λ k. rw (get_or-drop x bytes 
 -- what was passed over at one place is read at another where the same bytes stand
 pub moved : {A : Type 0} (read : Place → Result (A × Place) FormErr) (part : List ℕ) (v : A) (bytes : List ℕ) (x y : ℕ) (q : Place)
     → IsRead read part v → Passed part (take x bytes) (drop x bytes) q → y + length part ≤ length bytes
-    → take (length part) (drop x bytes) ≡ take (length part) (drop y bytes) → read (at bytes y) ≡ Ok (v, at bytes (y + length part))
+    → take (length part) (drop x bytes) ≡ take (length part) (drop y bytes) → read (place_in_bytes bytes y) ≡ Ok (v, place_in_bytes bytes (y + length part))
 moved {A} read part v bytes x y q good h room same =
     let there : take (length part) (drop y bytes) ≡ part = sym same ∙ ap (take (length part)) h.is ∙ take-append_seam part h.after in
     let rest : List ℕ = drop (length part) (drop y bytes) in
@@ -45,24 +46,24 @@ moved {A} read part v bytes x y q good h room same =
     let len : length (front ++ part) ≡ y + length part = omega (arith, length-append front part, length-take y bytes) in
     ap read (split bytes y (omega arith) ∙ ap (λ (l : List ℕ). place_between front l) (sym is))
     ∙ good.at front rest
-    ∙ ap (λ (l : List ℕ). let r : Result (A × Place) FormErr = Ok (v, at l (length (front ++ part))) in r) whole
-    ∙ ap (λ (n : ℕ). let r : Result (A × Place) FormErr = Ok (v, at bytes n) in r) len
+    ∙ ap (λ (l : List ℕ). let r : Result (A × Place) FormErr = Ok (v, place_in_bytes l (length (front ++ part))) in r) whole
+    ∙ ap (λ (n : ℕ). let r : Result (A × Place) FormErr = Ok (v, place_in_bytes bytes n) in r) len
 
 -- ---- how long a value is
 length_words : (ws : List ℕ) → length (flat_map bytes_of_word ws) ≡ 4 * length ws
 length_words [] = refl
 length_words (w ∷ ws) = let e = length_words ws in omega arith
 
-value_length : (version : ℕ) (v : Val) → IsWellOf version v → length (bytes_of_value v) ≡ length_by (get_or (bytes_of_value v) 0 0)
+value_length : (version : ℕ) (v : Val) → IsWellCertValue version v → length (bytes_of_value v) ≡ value_length_by_tag (get_or (bytes_of_value v) 0 0)
 unfolding bytes_of_value
 value_length version (Set ws) h =
     let not_zero : eqb (length ws) 0 ≡ false = ne_eqb _ _ (λ same. let s : length ws ≡ 0 = same in omega (arith, h.0.some)) in
     let few : leb (length ws) 128 ≡ true = le-leb _ _ h.0.few in
     let e = length_words ws in
     rw (not_zero, few) (omega arith)
-value_length version (Span lo last step) h = by_any (is_any lo last step) step
+value_length version (Span lo last step) h = by_any (is_any_span lo last step) step
   where
-    by_any : (b : _) (step : ℕ) → length (cond b (0 ∷ []) ((240 + step) ∷ bytes_of_word lo ++ bytes_of_word last)) ≡ length_by (get_or (cond b (0 ∷ []) ((240 + step) ∷ bytes_of_word lo ++ bytes_of_word last)) 0 0)
+    by_any : (b : _) (step : ℕ) → length (cond b (0 ∷ []) ((240 + step) ∷ bytes_of_word lo ++ bytes_of_word last)) ≡ value_length_by_tag (get_or (cond b (0 ∷ []) ((240 + step) ∷ bytes_of_word lo ++ bytes_of_word last)) 0 0)
     by_any true step = refl
     by_any false step =
         let not_zero : eqb (240 + step) 0 ≡ false = ne_eqb _ _ (λ same. let s : 240 + step ≡ 0 = same in omega arith) in
@@ -71,32 +72,32 @@ value_length version (Span lo last step) h = by_any (is_any lo last step) step
 
 -- a value that stands at a place: how far it goes, and that it is read wherever its bytes stand
 pub record IsValueAt (version : ℕ) (bytes : List ℕ) (x : ℕ) (v : Val) (q : Place) : Type 0 where
-  pub end : q ≡ at bytes (behind bytes x)
-  pub within : behind bytes x ≤ length bytes
+  pub end : q ≡ place_in_bytes bytes (place_after_value bytes x)
+  pub within : place_after_value bytes x ≤ length bytes
   pub inside : x < length bytes
-  pub well : IsWellOf version v
-  pub same : (y : ℕ) → y + length_by (get_or bytes x 0) ≤ length bytes → take (length_by (get_or bytes x 0)) (drop x bytes) ≡ take (length_by (get_or bytes x 0)) (drop y bytes)
-      → value_at version (at bytes y) ≡ Ok (v, at bytes (y + length_by (get_or bytes x 0)))
+  pub well : IsWellCertValue version v
+  pub same : (y : ℕ) → y + value_length_by_tag (get_or bytes x 0) ≤ length bytes → take (value_length_by_tag (get_or bytes x 0)) (drop x bytes) ≡ take (value_length_by_tag (get_or bytes x 0)) (drop y bytes)
+      → value_at version (place_in_bytes bytes y) ≡ Ok (v, place_in_bytes bytes (y + value_length_by_tag (get_or bytes x 0)))
 
-length_by_some : (tag : ℕ) → 1 ≤ length_by tag
+length_by_some : (tag : ℕ) → 1 ≤ value_length_by_tag tag
 length_by_some tag = grind (arith)
 
-pub value_stands : (version : ℕ) (bytes : List ℕ) (x : ℕ) (v : Val) (q : Place) → Small bytes → x ≤ length bytes → value_at version (at bytes x) ≡ Ok (v, q) → IsValueAt version bytes x v q
+pub value_stands : (version : ℕ) (bytes : List ℕ) (x : ℕ) (v : Val) (q : Place) → Small bytes → x ≤ length bytes → value_at version (place_in_bytes bytes x) ≡ Ok (v, q) → IsValueAt version bytes x v q
 value_stands version bytes x v q small h e =
     let front : List ℕ = take x bytes in
     let p = value_passed version front (drop x bytes) v q (small_rest bytes x small) (ap (value_at version) (sym (split bytes x h)) ∙ e) in
     let part : List ℕ = bytes_of_value v in
-    let some : 1 ≤ length_by (get_or part 0 0) = length_by_some (get_or part 0 0) in
+    let some : 1 ≤ value_length_by_tag (get_or part 0 0) = length_by_some (get_or part 0 0) in
     let long = value_length version v p.1 in
     let head : get_or bytes x 0 ≡ get_or part 0 0 =
     let i : x + 0 ≡ x = omega arith in
     ap (λ (n : ℕ). get_or bytes n 0) (sym i) ∙ sym (get_or-drop x bytes 0 0) ∙ ap (λ (l : List ℕ). get_or l 0 0) p.0.is ∙ first part p.0.after (omega arith)
     in
-    let len : length part ≡ length_by (get_or bytes x 0) = long ∙ ap length_by (sym head) in
+    let len : length part ≡ value_length_by_tag (get_or bytes x 0) = long ∙ ap value_length_by_tag (sym head) in
     let whole : (front ++ part) ++ p.0.after ≡ bytes = append_assoc front part p.0.after ∙ ap (λ (l : List ℕ). front ++ l) (sym p.0.is) ∙ take-append-drop x bytes in
-    let place : length (front ++ part) ≡ behind bytes x = omega (arith, length-append front part, length-take x bytes) in
+    let place : length (front ++ part) ≡ place_after_value bytes x = omega (arith, length-append front part, length-take x bytes) in
     record {
-      end = p.0.at ∙ ap (λ (l : List ℕ). at l (length (front ++ part))) whole ∙ ap (λ (n : ℕ). at bytes n) place;
+      end = p.0.at ∙ ap (λ (l : List ℕ). place_in_bytes l (length (front ++ part))) whole ∙ ap (λ (n : ℕ). place_in_bytes bytes n) place;
       within = omega (arith, ap length whole, length-append (front ++ part) p.0.after);
       inside = omega (arith, ap length whole, length-append (front ++ part) p.0.after);
       well = p.1;
@@ -112,19 +113,19 @@ pub record AreValuesAt (version : ℕ) (bytes : List ℕ) (x n : ℕ) (before vs
   pub values : List Val
   pub is : vs ≡ before ++ values
   pub count : length values ≡ n
-  pub stand : Stand version bytes x values end
+  pub stand : ValuesStandBetween version bytes x values end
 
 pub values_stand : (version : ℕ) (bytes : List ℕ) (n x : ℕ) (before vs : List Val) (q : Place) → Small bytes → x ≤ length bytes
-    → many_at (λ before. value_at version) n before (at bytes x) ≡ Ok (vs, q) → AreValuesAt version bytes x n before vs q.place
-unfolding many_at
+    → many_fields_at (λ before. value_at version) n before (place_in_bytes bytes x) ≡ Ok (vs, q) → AreValuesAt version bytes x n before vs q.place
+unfolding many_fields_at
 values_stand version bytes zero x before vs q small h e =
-    let same = ok_pair before vs (at bytes x) q e in
+    let same = ok_pair before vs (place_in_bytes bytes x) q e in
     record { values = []; is = sym same.0 ∙ sym (append-nil before); count = refl; stand = ap (λ (p : Place). p.place) same.1 }
 values_stand version bytes (suc n) x before vs q small h e =
-    let b = bind_ok (value_at version (at bytes x)) _ _ e in
+    let b = bind_ok (value_at version (place_in_bytes bytes x)) _ _ e in
     let one = value_stands version bytes x b.0.0 b.0.1 small h b.1 in
-    let rest : many_at (λ before. value_at version) n (before ++ b.0.0 ∷ []) (at bytes (behind bytes x)) ≡ Ok (vs, q) = ap (many_at (λ before. value_at version) n (before ++ b.0.0 ∷ [])) (sym one.end) ∙ b.2 in
-    let more = values_stand version bytes n (behind bytes x) (before ++ b.0.0 ∷ []) vs q small one.within rest in
+    let rest : many_fields_at (λ before. value_at version) n (before ++ b.0.0 ∷ []) (place_in_bytes bytes (place_after_value bytes x)) ≡ Ok (vs, q) = ap (many_fields_at (λ before. value_at version) n (before ++ b.0.0 ∷ [])) (sym one.end) ∙ b.2 in
+    let more = values_stand version bytes n (place_after_value bytes x) (before ++ b.0.0 ∷ []) vs q small one.within rest in
     record {
       values = b.0.0 ∷ more.values;
       is = more.is ∙ append_assoc before (b.0.0 ∷ []) more.values;
@@ -132,22 +133,22 @@ values_stand version bytes (suc n) x before vs q small h e =
       stand = (b.1 ∙ ap (λ (p : Place). let r : Result (Val × Place) FormErr = Ok (b.0.0, p) in r) one.end, more.stand);
     }
 
-pub stand_next : (version : ℕ) (bytes : List ℕ) (b i e : ℕ) (out : List Val) → i < length out → Stand version bytes b (drop i out) e
-    → (value_at version (at bytes b) ≡ Ok (get_or out i any_val, at bytes (behind bytes b))) × Stand version bytes (behind bytes b) (drop (i + 1) out) e
-stand_next version bytes b i e out h s = subst (λ (vs : List Val). Stand version bytes b vs e) (drop_more out i any_val h) s
+pub stand_next : (version : ℕ) (bytes : List ℕ) (b i e : ℕ) (out : List Val) → i < length out → ValuesStandBetween version bytes b (drop i out) e
+    → (value_at version (place_in_bytes bytes b) ≡ Ok (get_or out i any_val, place_in_bytes bytes (place_after_value bytes b))) × ValuesStandBetween version bytes (place_after_value bytes b) (drop (i + 1) out) e
+stand_next version bytes b i e out h s = subst (λ (vs : List Val). ValuesStandBetween version bytes b vs e) (drop_more out i any_val h) s
 
-pub stand_order : (version : ℕ) (bytes : List ℕ) (x e : ℕ) (vs : List Val) → Stand version bytes x vs e → x ≤ e
+pub stand_order : (version : ℕ) (bytes : List ℕ) (x e : ℕ) (vs : List Val) → ValuesStandBetween version bytes x vs e → x ≤ e
 stand_order version bytes x e [] s = let same : x ≡ e = s in omega arith
-stand_order version bytes x e (v ∷ vs) s = let more : behind bytes x ≤ e = stand_order version bytes (behind bytes x) e vs s.1 in omega arith
+stand_order version bytes x e (v ∷ vs) s = let more : place_after_value bytes x ≤ e = stand_order version bytes (place_after_value bytes x) e vs s.1 in omega arith
 
 -- ---- fewer of the bytes that stand alike, and those behind them
-pub alike_fewer : (bytes : List ℕ) (x y n k : ℕ) → n ≤ k → StandAlike bytes x y k → StandAlike bytes x y n
+pub alike_fewer : (bytes : List ℕ) (x y n k : ℕ) → n ≤ k → SameBytesAtPlaces bytes x y k → SameBytesAtPlaces bytes x y n
 alike_fewer bytes x y n k h e = sym (take-take n k (drop x bytes) h) ∙ ap (take n) e ∙ take-take n k (drop y bytes) h
 
-pub alike_behind : (bytes : List ℕ) (x y n k : ℕ) → n ≤ k → StandAlike bytes x y k → StandAlike bytes (x + n) (y + n) (k - n)
+pub alike_behind : (bytes : List ℕ) (x y n k : ℕ) → n ≤ k → SameBytesAtPlaces bytes x y k → SameBytesAtPlaces bytes (x + n) (y + n) (k - n)
 alike_behind bytes x y n k h e =
     let all : k ≡ n + (k - n) = omega arith in
-    let whole : StandAlike bytes x y (n + (k - n)) = subst (λ (m : ℕ). StandAlike bytes x y m) all e in
+    let whole : SameBytesAtPlaces bytes x y (n + (k - n)) = subst (λ (m : ℕ). SameBytesAtPlaces bytes x y m) all e in
     ap (take (k - n)) (sym (drop-drop n x bytes))
     ∙ sym (drop-take n (k - n) (drop x bytes))
     ∙ ap (drop n) whole
@@ -155,8 +156,8 @@ alike_behind bytes x y n k h e =
     ∙ ap (take (k - n)) (drop-drop n y bytes)
 
 -- a value whose bytes are among those that stand alike is read there, too
-pub alike_read : (version : ℕ) (bytes : List ℕ) (x y n k : ℕ) (v : Val) (q : Place) → Small bytes → x ≤ length bytes → value_at version (at bytes x) ≡ Ok (v, q) → n ≡ length_by (get_or bytes x 0)
-    → n ≤ k → y + k ≤ length bytes → StandAlike bytes x y k → value_at version (at bytes y) ≡ Ok (v, at bytes (y + n))
+pub alike_read : (version : ℕ) (bytes : List ℕ) (x y n k : ℕ) (v : Val) (q : Place) → Small bytes → x ≤ length bytes → value_at version (place_in_bytes bytes x) ≡ Ok (v, q) → n ≡ value_length_by_tag (get_or bytes x 0)
+    → n ≤ k → y + k ≤ length bytes → SameBytesAtPlaces bytes x y k → value_at version (place_in_bytes bytes y) ≡ Ok (v, place_in_bytes bytes (y + n))
 alike_read version bytes x y n k v q small h e len few room same =
     let s = value_stands version bytes x v q small h e in
     let part = alike_fewer bytes x y n k few same in
@@ -164,37 +165,37 @@ alike_read version bytes x y n k v q small h e len few room same =
     rw len (s.same y (rw (← len) within) (rw (← len) part))
 
 -- where all bytes of values stand alike, all of them are read there
-pub rest_read : (version : ℕ) (bytes : List ℕ) (x y e : ℕ) (before vs : List Val) → Small bytes → x ≤ length bytes → Stand version bytes x vs e → y + (e - x) ≤ length bytes → StandAlike bytes x y (e - x)
-    → many_at (λ before. value_at version) (length vs) before (at bytes y) ≡ Ok (before ++ vs, at bytes (y + (e - x)))
-unfolding many_at
+pub rest_read : (version : ℕ) (bytes : List ℕ) (x y e : ℕ) (before vs : List Val) → Small bytes → x ≤ length bytes → ValuesStandBetween version bytes x vs e → y + (e - x) ≤ length bytes → SameBytesAtPlaces bytes x y (e - x)
+    → many_fields_at (λ before. value_at version) (length vs) before (place_in_bytes bytes y) ≡ Ok (before ++ vs, place_in_bytes bytes (y + (e - x)))
+unfolding many_fields_at
 rest_read version bytes x y e before [] small h s room same =
     let end : y ≡ y + (e - x) = let is : x ≡ e = s in omega arith in
-    ap (λ (l : List Val). let r : Result (List Val × Place) FormErr = Ok (l, at bytes y) in r) (sym (append-nil before))
-    ∙ ap (λ (k : ℕ). let r : Result (List Val × Place) FormErr = Ok (before ++ [], at bytes k) in r) end
+    ap (λ (l : List Val). let r : Result (List Val × Place) FormErr = Ok (l, place_in_bytes bytes y) in r) (sym (append-nil before))
+    ∙ ap (λ (k : ℕ). let r : Result (List Val × Place) FormErr = Ok (before ++ [], place_in_bytes bytes k) in r) end
 rest_read version bytes x y e before (v ∷ vs) small h s room same =
-    let n : ℕ = length_by (get_or bytes x 0) in
+    let n : ℕ = value_length_by_tag (get_or bytes x 0) in
     let one = value_stands version bytes x v _ small h s.0 in
-    let order : x + n ≤ e = stand_order version bytes (behind bytes x) e vs s.1 in
+    let order : x + n ≤ e = stand_order version bytes (place_after_value bytes x) e vs s.1 in
     let few : n ≤ e - x = omega arith in
     let read = alike_read version bytes x y n (e - x) v _ small h s.0 refl few room same in
     let left : e - x - n ≡ e - (x + n) = omega arith in
-    let rest : StandAlike bytes (x + n) (y + n) (e - (x + n)) = subst (λ (k : ℕ). StandAlike bytes (x + n) (y + n) k) left (alike_behind bytes x y n (e - x) few same) in
+    let rest : SameBytesAtPlaces bytes (x + n) (y + n) (e - (x + n)) = subst (λ (k : ℕ). SameBytesAtPlaces bytes (x + n) (y + n) k) left (alike_behind bytes x y n (e - x) few same) in
     let more = rest_read version bytes (x + n) (y + n) e (before ++ v ∷ []) vs small one.within s.1 (omega arith) rest in
     let end : y + n + (e - (x + n)) ≡ y + (e - x) = omega arith in
-    ap (λ (r : Result (Val × Place) FormErr). r >>= λ x. many_at (λ before. value_at version) (length vs) (before ++ x.0 ∷ []) x.1) read
+    ap (λ (r : Result (Val × Place) FormErr). r >>= λ x. many_fields_at (λ before. value_at version) (length vs) (before ++ x.0 ∷ []) x.1) read
     ∙ more
-    ∙ ap (λ (l : List Val). let r : Result (List Val × Place) FormErr = Ok (l, at bytes (y + n + (e - (x + n)))) in r) (append_assoc before (v ∷ []) vs)
-    ∙ ap (λ (k : ℕ). let r : Result (List Val × Place) FormErr = Ok (before ++ v ∷ vs, at bytes k) in r) end
+    ∙ ap (λ (l : List Val). let r : Result (List Val × Place) FormErr = Ok (l, place_in_bytes bytes (y + n + (e - (x + n)))) in r) (append_assoc before (v ∷ []) vs)
+    ∙ ap (λ (k : ℕ). let r : Result (List Val × Place) FormErr = Ok (before ++ v ∷ vs, place_in_bytes bytes k) in r) end
 
 -- so where all bytes behind the first values stand alike, all values are read
-pub all_read : (version n i x y stop e : ℕ) (bytes : List ℕ) (out : List Val) (c : Place) → Small bytes → stop ≡ e → x ≤ stop → stop ≤ length bytes → length out ≡ n → Stand version bytes x (drop i out) e
-    → y + (stop - x) ≤ length bytes → StandAlike bytes x y (stop - x) → many_at (λ before. value_at version) n [] c ≡ many_at (λ before. value_at version) (n - i) (take i out) (at bytes y)
-    → many_at (λ before. value_at version) n [] c ≡ Ok (out, at bytes (y + (stop - x)))
+pub all_read : (version n i x y stop e : ℕ) (bytes : List ℕ) (out : List Val) (c : Place) → Small bytes → stop ≡ e → x ≤ stop → stop ≤ length bytes → length out ≡ n → ValuesStandBetween version bytes x (drop i out) e
+    → y + (stop - x) ≤ length bytes → SameBytesAtPlaces bytes x y (stop - x) → many_fields_at (λ before. value_at version) n [] c ≡ many_fields_at (λ before. value_at version) (n - i) (take i out) (place_in_bytes bytes y)
+    → many_fields_at (λ before. value_at version) n [] c ≡ Ok (out, place_in_bytes bytes (y + (stop - x)))
 all_read version n i x y stop e bytes out c small is order within count stand room same read =
-    let there : Stand version bytes x (drop i out) stop = subst (λ (k : ℕ). Stand version bytes x (drop i out) k) (sym is) stand in
+    let there : ValuesStandBetween version bytes x (drop i out) stop = subst (λ (k : ℕ). ValuesStandBetween version bytes x (drop i out) k) (sym is) stand in
     let rest = rest_read version bytes x y stop (take i out) (drop i out) small (omega arith) there room same in
     let left : n - i ≡ length (drop i out) = omega (arith, length-drop i out) in
     read
-    ∙ ap (λ (k : ℕ). many_at (λ before. value_at version) k (take i out) (at bytes y)) left
+    ∙ ap (λ (k : ℕ). many_fields_at (λ before. value_at version) k (take i out) (place_in_bytes bytes y)) left
     ∙ rest
-    ∙ ap (λ (l : List Val). let r : Result (List Val × Place) FormErr = Ok (l, at bytes (y + (stop - x))) in r) (take-append-drop i out)
+    ∙ ap (λ (l : List Val). let r : Result (List Val × Place) FormErr = Ok (l, place_in_bytes bytes (y + (stop - x))) in r) (take-append-drop i out)

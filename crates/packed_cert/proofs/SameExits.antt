@@ -6,7 +6,7 @@ use Rattle.tcd_base.specs.declared.errors.FormErr.{FormErr}
 use Rattle.tcd_base.specs.Place.{Place, place_between}
 use Rattle.tcd_base.specs.FieldReaders.{u8_at}
 use Rattle.depth_cert.specs.declared.points.Exit.{Exit}
-use Rattle.depth_cert.specs.Keys.{byte_of}
+use Rattle.depth_cert.specs.Keys.{cert_flag_byte}
 use Rattle.depth_cert.specs.Exits.{IsExit}
 use Rattle.depth_cert.specs.Grammar.{flag_at, values_at, exit_at}
 use Rattle.depth_cert.specs.Spelling.{bytes_of_value}
@@ -15,14 +15,14 @@ use Rattle.tcd_base.proofs.PassedLaws.{AreBytes, bytes_from, Passed, passed_byte
 use Rattle.depth_cert.proofs.GrammarLaws.{next, flag_passed, values_passed}
 use Rattle.depth_cert.proofs.WrittenLaws.{IsRead, done, seq, byte, flag, values_read}
 use Rattle.packed_cert.specs.declared.places.ExitPlaces.{ExitPlaces}
-use Rattle.packed_cert.specs.ValuesAtPlaces.{at}
-use Rattle.packed_cert.specs.Moves.{MovedOver}
+use Rattle.packed_cert.specs.ValuesInBytes.{place_in_bytes}
+use Rattle.packed_cert.specs.Moves.{MovesOverRepeated}
 use Rattle.packed_cert.specs.NodesInBytes.{ReadsExit, ExitStands}
 use Rattle.packed_cert.proofs.SameBytes.{Small, split, moved}
 
 -- the bytes that spell an exit
 abbrev spelled : Exit → List ℕ
-spelled x = byte_of x.ie ∷ x.ccpn ∷ flat_map bytes_of_value x.lower
+spelled x = cert_flag_byte x.ie ∷ x.ccpn ∷ flat_map bytes_of_value x.lower
 
 exit_passed : (version : ℕ) (front rest : List ℕ) (x : Exit) (q : Place) → AreBytes rest → exit_at version (place_between front rest) ≡ Ok (x, q) → Passed (spelled x) front rest q × IsExit version x
 unfolding exit_at
@@ -46,8 +46,8 @@ exit_read : (version : ℕ) (x : Exit) → IsExit version x → IsRead (exit_at 
 unfolding exit_at
 exit_read version x good =
     let values : List ℕ = flat_map bytes_of_value x.lower in
-    subst (λ (l : List ℕ). IsRead (exit_at version) (byte_of x.ie ∷ x.ccpn ∷ l) x) (append-nil values)
-    (seq flag_at _ (byte_of x.ie ∷ []) _ x.ie x (flag x.ie)
+    subst (λ (l : List ℕ). IsRead (exit_at version) (cert_flag_byte x.ie ∷ x.ccpn ∷ l) x) (append-nil values)
+    (seq flag_at _ (cert_flag_byte x.ie ∷ []) _ x.ie x (flag x.ie)
     (λ p0. seq u8_at _ (x.ccpn ∷ []) _ x.ccpn x (byte x.ccpn)
     (λ p1. seq (values_at version 14) _ values [] x.lower x (values_read version 14 x.lower good.values good.lower) (λ p2. done x))))
 
@@ -55,14 +55,14 @@ exit_read version x good =
 record IsExitFrom (version : ℕ) (bytes : List ℕ) (x e : ℕ) (s : Exit) : Type 0 where
   pub order : x ≤ e
   pub within : e ≤ length bytes
-  pub same : (y n : ℕ) → x + n ≡ e → y + n ≤ length bytes → take n (drop x bytes) ≡ take n (drop y bytes) → exit_at version (at bytes y) ≡ Ok (s, at bytes (y + n))
+  pub same : (y n : ℕ) → x + n ≡ e → y + n ≤ length bytes → take n (drop x bytes) ≡ take n (drop y bytes) → exit_at version (place_in_bytes bytes y) ≡ Ok (s, place_in_bytes bytes (y + n))
 
-exit_from : (version : ℕ) (bytes : List ℕ) (x e : ℕ) (s : Exit) → Small bytes → x ≤ length bytes → exit_at version (at bytes x) ≡ Ok (s, at bytes e) → IsExitFrom version bytes x e s
+exit_from : (version : ℕ) (bytes : List ℕ) (x e : ℕ) (s : Exit) → Small bytes → x ≤ length bytes → exit_at version (place_in_bytes bytes x) ≡ Ok (s, place_in_bytes bytes e) → IsExitFrom version bytes x e s
 exit_from version bytes x e s small h read =
     let front : List ℕ = take x bytes in
     let part : List ℕ = spelled s in
     let rest = bytes_from (drop x bytes) (λ k. rw (get_or-drop x bytes k 0) (small (x + k))) in
-    let p = exit_passed version front (drop x bytes) s (at bytes e) rest (ap (exit_at version) (sym (split bytes x h)) ∙ read) in
+    let p = exit_passed version front (drop x bytes) s (place_in_bytes bytes e) rest (ap (exit_at version) (sym (split bytes x h)) ∙ read) in
     let whole : (front ++ part) ++ p.0.after ≡ bytes = append_assoc front part p.0.after ∙ ap (λ (l : List ℕ). front ++ l) (sym p.0.is) ∙ take-append-drop x bytes in
     let place : e ≡ length (front ++ part) = ap (λ (q : Place). q.place) p.0.at in
     record {
@@ -70,16 +70,16 @@ exit_from version bytes x e s small h read =
       within = omega (arith, place, ap length whole, length-append (front ++ part) p.0.after);
       same = λ y n len room same.
           let long : length part ≡ n = omega (arith, place, length-append front part, length-take x bytes) in
-          rw (← long) (moved (exit_at version) part s bytes x y (at bytes e) (exit_read version s p.1) p.0 (omega arith) (rw long same));
+          rw (← long) (moved (exit_at version) part s bytes x y (place_in_bytes bytes e) (exit_read version s p.1) p.0 (omega arith) (rw long same));
     }
 
 -- where the same bytes come again, the same exit is read
-pub exit_again : (version n : ℕ) (bytes : List ℕ) (p : ExitPlaces) (c d : Place) → Small bytes → ExitStands version bytes p → c.bytes ≡ bytes → p.start + n ≡ p.end → MovedOver bytes p.start n c d → ReadsExit version c d
+pub exit_again : (version n : ℕ) (bytes : List ℕ) (p : ExitPlaces) (c d : Place) → Small bytes → ExitStands version bytes p → c.bytes ≡ bytes → p.start + n ≡ p.end → MovesOverRepeated bytes p.start n c d → ReadsExit version c d
 exit_again version n bytes p c d small h b len m =
     let s : Exit = h.read.0 in
     let from = exit_from version bytes p.start p.end s small (omega (arith, h.order, h.within)) h.read.1 in
-    let there : c ≡ at bytes c.place = ap (λ (l : List ℕ). at l c.place) b in
-    let after : at bytes (c.place + n) ≡ d = ap (λ (l : List ℕ). at l (c.place + n)) (sym b) ∙ sym m.0 in (
+    let there : c ≡ place_in_bytes bytes c.place = ap (λ (l : List ℕ). place_in_bytes l c.place) b in
+    let after : place_in_bytes bytes (c.place + n) ≡ d = ap (λ (l : List ℕ). place_in_bytes l (c.place + n)) (sym b) ∙ sym m.0 in (
       s,
       ap (exit_at version) there
           ∙ from.same c.place n len m.1 m.2
@@ -90,8 +90,8 @@ exit_again version n bytes p c d small h b len m =
 pub exit_where : (version : ℕ) (bytes : List ℕ) (c d : Place) (p : ExitPlaces) → Small bytes → c.bytes ≡ bytes → d.bytes ≡ bytes → p.start ≡ c.place → p.end ≡ d.place → p.start ≤ length bytes → ReadsExit version c d → ExitStands version bytes p
 exit_where version bytes c d p small b f x e h r =
     let s : Exit = r.0 in
-    let here : at bytes p.start ≡ c = ap (λ (k : ℕ). at bytes k) x ∙ ap (λ (l : List ℕ). at l c.place) (sym b) in
-    let there : d ≡ at bytes p.end = ap (λ (l : List ℕ). at l d.place) f ∙ ap (λ (k : ℕ). at bytes k) (sym e) in
-    let whole : exit_at version (at bytes p.start) ≡ Ok (s, at bytes p.end) = ap (exit_at version) here ∙ r.1 ∙ ap (λ (q : Place). let r : Result (Exit × Place) FormErr = Ok (s, q) in r) there in
+    let here : place_in_bytes bytes p.start ≡ c = ap (λ (k : ℕ). place_in_bytes bytes k) x ∙ ap (λ (l : List ℕ). place_in_bytes l c.place) (sym b) in
+    let there : d ≡ place_in_bytes bytes p.end = ap (λ (l : List ℕ). place_in_bytes l d.place) f ∙ ap (λ (k : ℕ). place_in_bytes bytes k) (sym e) in
+    let whole : exit_at version (place_in_bytes bytes p.start) ≡ Ok (s, place_in_bytes bytes p.end) = ap (exit_at version) here ∙ r.1 ∙ ap (λ (q : Place). let r : Result (Exit × Place) FormErr = Ok (s, q) in r) there in
     let from = exit_from version bytes p.start p.end s small h whole in
     record { order = from.order; within = from.within; read = (s, whole) }

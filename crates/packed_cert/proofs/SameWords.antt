@@ -1,8 +1,9 @@
 -- The same bytes at two places, word by word.
 use Rattle.std.proofs.Common.{◌≡◌, ℕ, ◌+◌, ◌*◌, ◌<◌, ◌≤◌, ◌^◌, List, length, get_or, take, drop, refl, sym, ap, ◌∙◌, subst, arith, length-append}
 use Rattle.std.proofs.lemmas.List.{take_more_same, take-append-drop, length-take, get_or-drop}
-use Rattle.tcd_base.specs.Bytes.{word_at}
-use Rattle.packed_cert.specs.ValuesAtPlaces.{eight_at, StandAlike}
+use Rattle.tcd_base.specs.Bytes.{word_in_bytes}
+use Rattle.packed_cert.specs.ValuesAtPlaces.{SameBytesAtPlaces}
+use Rattle.packed_cert.specs.ValuesInBytes.{eight_bytes_at_place}
 use Rattle.packed_cert.proofs.SameBytes.{Small}
 
 drop_length : (bytes : List ℕ) (x i : ℕ) → x + i < length bytes → i < length (drop x bytes)
@@ -29,7 +30,7 @@ same_parts a b c d e f g h al bl cl el fl gl same =
     (first, second, third, omega arith)
 
 -- one word more
-pub word_more : (bytes : List ℕ) (x y i : ℕ) → Small bytes → x + i + 4 ≤ length bytes → y + i + 4 ≤ length bytes → take i (drop x bytes) ≡ take i (drop y bytes) → word_at bytes (x + i) ≡ word_at bytes (y + i)
+pub word_more : (bytes : List ℕ) (x y i : ℕ) → Small bytes → x + i + 4 ≤ length bytes → y + i + 4 ≤ length bytes → take i (drop x bytes) ≡ take i (drop y bytes) → word_in_bytes bytes (x + i) ≡ word_in_bytes bytes (y + i)
     → take (i + 4) (drop x bytes) ≡ take (i + 4) (drop y bytes)
 word_more bytes x y i small h k same e =
     let p = x + i in
@@ -41,7 +42,7 @@ word_more bytes x y i small h k same e =
     let three = byte_more bytes x y (i + 2) (i + 3) (p + 2) (q + 2) (omega arith) (omega arith) (omega arith) (omega arith) (omega arith) two parts.2 in
     byte_more bytes x y (i + 3) (i + 4) (p + 3) (q + 3) (omega arith) (omega arith) (omega arith) (omega arith) (omega arith) three parts.3
 
-word_below : (bytes : List ℕ) (p : ℕ) → Small bytes → word_at bytes p < 4294967296
+word_below : (bytes : List ℕ) (p : ℕ) → Small bytes → word_in_bytes bytes p < 4294967296
 word_below bytes p small = omega (arith, small p, small (p + 1), small (p + 2), small (p + 3))
 
 same_halves : (a b c d : ℕ) → a < 4294967296 → c < 4294967296 → a + b * 4294967296 ≡ c + d * 4294967296 → (a ≡ c) × (b ≡ d)
@@ -50,15 +51,15 @@ same_halves a b c d h k e =
     (low, omega arith)
 
 -- eight bytes more
-pub eight_more : (bytes : List ℕ) (x y i : ℕ) → Small bytes → x + i + 8 ≤ length bytes → y + i + 8 ≤ length bytes → StandAlike bytes x y i → eight_at bytes (x + i) ≡ eight_at bytes (y + i)
-    → StandAlike bytes x y (i + 8)
+pub eight_more : (bytes : List ℕ) (x y i : ℕ) → Small bytes → x + i + 8 ≤ length bytes → y + i + 8 ≤ length bytes → SameBytesAtPlaces bytes x y i → eight_bytes_at_place bytes (x + i) ≡ eight_bytes_at_place bytes (y + i)
+    → SameBytesAtPlaces bytes x y (i + 8)
 eight_more bytes x y i small h k same e =
     let p = x + i in
     let q = y + i in
-    let parts = same_halves (word_at bytes p) (word_at bytes (p + 4)) (word_at bytes q) (word_at bytes (q + 4)) (word_below bytes p small) (word_below bytes q small) e in
-    let one : StandAlike bytes x y (i + 4) = word_more bytes x y i small (omega arith) (omega arith) same parts.0 in
+    let parts = same_halves (word_in_bytes bytes p) (word_in_bytes bytes (p + 4)) (word_in_bytes bytes q) (word_in_bytes bytes (q + 4)) (word_below bytes p small) (word_below bytes q small) e in
+    let one : SameBytesAtPlaces bytes x y (i + 4) = word_more bytes x y i small (omega arith) (omega arith) same parts.0 in
     let first : x + (i + 4) ≡ p + 4 = omega arith in
     let second : q + 4 ≡ y + (i + 4) = omega arith in
-    let next = ap (λ (n : ℕ). word_at bytes n) first ∙ parts.1 ∙ ap (λ (n : ℕ). word_at bytes n) second in
+    let next = ap (λ (n : ℕ). word_in_bytes bytes n) first ∙ parts.1 ∙ ap (λ (n : ℕ). word_in_bytes bytes n) second in
     let all : i + 4 + 4 ≡ i + 8 = omega arith in
-    subst (λ (n : ℕ). StandAlike bytes x y n) all (word_more bytes x y (i + 4) small (omega arith) (omega arith) one next)
+    subst (λ (n : ℕ). SameBytesAtPlaces bytes x y n) all (word_more bytes x y (i + 4) small (omega arith) (omega arith) one next)

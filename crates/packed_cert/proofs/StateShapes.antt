@@ -3,20 +3,19 @@ use Rattle.std.proofs.Common.{◌≡◌, ℕ, zero, suc, ◌+◌, ◌≤◌, Lis
 use Rattle.std.proofs.lemmas.Bool.{leb-true}
 use Rattle.std.proofs.lemmas.List.{append-nil}
 use Rattle.tcd_base.specs.Place.{Place}
-use Rattle.tcd_base.specs.FieldReaders.{u8_at, many_at}
-use Rattle.tcd_base.specs.Refusing.{fault_at}
+use Rattle.tcd_base.specs.FieldReaders.{u8_at, many_fields_at, field_fault_at}
 use Rattle.tcd_base.proofs.FieldReads.{bind_ok, u8_at_ok}
 use Rattle.value_domain.specs.declared.values.Val.{Val}
 use Rattle.value_domain.specs.declared.states.State.{State}
 use Rattle.value_domain.specs.Values.{any_val}
 use Rattle.value_domain.specs.VersionLimits.{most_locals_of}
 use Rattle.depth_cert.specs.declared.points.Exit.{Exit}
-use Rattle.depth_cert.specs.Grammar.{checked, flag_at, values_at, value_at, locals_at, state_at, exit_at}
+use Rattle.depth_cert.specs.Grammar.{checked_cert_field, flag_at, values_at, value_at, locals_at, state_at, exit_at}
 use Rattle.tcd_base.proofs.PassedLaws.{ok_pair}
 use Rattle.depth_cert.proofs.GrammarLaws.{checked_passed, most_le}
-use Rattle.packed_cert.specs.ValuesAtPlaces.{at, behind, Stand}
-use Rattle.packed_cert.specs.ValuesInBytes.{flags_in, value_in, values_in, HaveValues}
-use Rattle.packed_cert.specs.PointsInBytes.{read_or}
+use Rattle.packed_cert.specs.ValuesAtPlaces.{ValuesStandBetween}
+use Rattle.packed_cert.specs.ValuesInBytes.{place_after_value, place_in_bytes, value_in, values_in, HaveValuesInBytes, read_from_bytes_or}
+use Rattle.packed_cert.specs.PointsInBytes.{flags_in}
 use Rattle.packed_cert.proofs.SameBytes.{Small, value_stands, values_stand}
 
 -- a flag takes one byte
@@ -39,7 +38,7 @@ flag_took p q b e =
       is = sym f.0 ∙ ap (λ (n : ℕ). eqb n 1) k.1;
     }
   where
-    same : (t c b : Bool) (at q : Place) → cond t (fault_at {A = Bool × Place} 4 p) (Ok (c, at)) ≡ Ok (b, q) → (c ≡ b) × (at ≡ q)
+    same : (t c b : Bool) (at q : Place) → cond t (field_fault_at {A = Bool × Place} 4 p) (Ok (c, at)) ≡ Ok (b, q) → (c ≡ b) × (at ≡ q)
     same false c b at q h = ok_pair c b at q h
     same true c b at q h = cc
 
@@ -50,8 +49,8 @@ record FlagsTook (n : ℕ) (before : List Bool) (p : Place) (ls : List Bool) (q 
   within : q.place ≤ length p.bytes
   is : ls ≡ before ++ flags_in p.bytes p.place n
 
-flags_took : (n : ℕ) (before ls : List Bool) (p q : Place) → p.place ≤ length p.bytes → many_at (λ before. flag_at) n before p ≡ Ok (ls, q) → FlagsTook n before p ls q
-unfolding many_at
+flags_took : (n : ℕ) (before ls : List Bool) (p q : Place) → p.place ≤ length p.bytes → many_fields_at (λ before. flag_at) n before p ≡ Ok (ls, q) → FlagsTook n before p ls q
+unfolding many_fields_at
 flags_took zero before ls p q h e =
     let f = ok_pair before ls p q e in
     let place : p.place ≡ q.place = ap (λ (x : Place). x.place) f.1 in
@@ -74,13 +73,13 @@ flags_took (suc n) before ls p q h e =
     }
 
 -- values that stand are those that are computed
-stand_in : (version : ℕ) (bytes : List ℕ) (vs : List Val) (x e : ℕ) → Small bytes → x ≤ length bytes → Stand version bytes x vs e → (vs ≡ values_in version bytes x (length vs)) × HaveValues version bytes x (length vs)
+stand_in : (version : ℕ) (bytes : List ℕ) (vs : List Val) (x e : ℕ) → Small bytes → x ≤ length bytes → ValuesStandBetween version bytes x vs e → (vs ≡ values_in version bytes x (length vs)) × HaveValuesInBytes version bytes x (length vs)
 stand_in version bytes [] x e small h s = (refl, tt)
 stand_in version bytes (v ∷ vs) x e small h s =
     let one = value_stands version bytes x v _ small h s.0 in
-    let rest = stand_in version bytes vs (behind bytes x) e small one.within s.1 in
-    let first : value_in version bytes x ≡ v = ap (read_or any_val) s.0 in
-    (ap (λ (u : Val). u ∷ vs) (sym first) ∙ ap (λ (l : List Val). value_in version bytes x ∷ l) rest.0, (((v, at bytes (behind bytes x)), s.0, h), rest.1))
+    let rest = stand_in version bytes vs (place_after_value bytes x) e small one.within s.1 in
+    let first : value_in version bytes x ≡ v = ap (read_from_bytes_or any_val) s.0 in
+    (ap (λ (u : Val). u ∷ vs) (sym first) ∙ ap (λ (l : List Val). value_in version bytes x ∷ l) rest.0, (((v, place_in_bytes bytes (place_after_value bytes x)), s.0, h), rest.1))
 
 -- how the context of a state stands at a place
 pub record HasContext (version : ℕ) (bytes : List ℕ) (x : ℕ) (s : State) : Type 0 where
@@ -100,7 +99,7 @@ pub record HasContext (version : ℕ) (bytes : List ℕ) (x : ℕ) (s : State) :
 -- where its values stand
 pub record HasValues (version : ℕ) (bytes : List ℕ) (x : ℕ) (s : State) : Type 0 where
   pub regs : s.regs ≡ values_in version bytes (x + 4 + get_or bytes (x + 3) 0) 27
-  pub have : HaveValues version bytes (x + 4 + get_or bytes (x + 3) 0) 27
+  pub have : HaveValuesInBytes version bytes (x + 4 + get_or bytes (x + 3) 0) 27
 
 end_inside : (p e m n : ℕ) → p ≡ e → p ≤ m → m ≡ n → e ≤ n
 end_inside p e m n a b c = omega arith
@@ -131,13 +130,13 @@ two_inside x p m n e h f = omega arith
 
 -- values that were read are those that are computed
 values_here : (version n : ℕ) (bytes : List ℕ) (c : Place) (x : ℕ) (vs : List Val) (q : Place) → Small bytes → c.bytes ≡ bytes → c.place ≡ x → x ≤ length bytes → values_at version n c ≡ Ok (vs, q)
-    → (vs ≡ values_in version bytes x n) × HaveValues version bytes x n
+    → (vs ≡ values_in version bytes x n) × HaveValuesInBytes version bytes x n
 unfolding values_at
 values_here version n bytes c x vs q small b p h e =
-    let there : at bytes x ≡ c = ap (λ (k : ℕ). at bytes k) (sym p) ∙ ap (λ (l : List ℕ). at l c.place) (sym b) in
-    let v = values_stand version bytes n x [] vs q small h (ap (many_at (λ before. value_at version) n []) there ∙ e) in
+    let there : place_in_bytes bytes x ≡ c = ap (λ (k : ℕ). place_in_bytes bytes k) (sym p) ∙ ap (λ (l : List ℕ). place_in_bytes l c.place) (sym b) in
+    let v = values_stand version bytes n x [] vs q small h (ap (many_fields_at (λ before. value_at version) n []) there ∙ e) in
     let i = stand_in version bytes v.values x _ small h v.stand in
-    (v.is ∙ i.0 ∙ ap (values_in version bytes x) v.count, subst (HaveValues version bytes x) v.count i.1)
+    (v.is ∙ i.0 ∙ ap (values_in version bytes x) v.count, subst (HaveValuesInBytes version bytes x) v.count i.1)
 
 -- the byte that was taken, by where it stands
 byte_here : (bytes l : List ℕ) (x p : ℕ) → l ≡ bytes → p ≡ x → get_or l p 0 ≡ get_or bytes x 0
@@ -157,9 +156,9 @@ unfolding locals_at
 locals_took version bytes x p ls q b3 p3 e =
     let n = bind_ok (u8_at p) _ _ e in
     let k4 = u8_at_ok p n.0.0 n.0.1 n.1 in
-    let t = bind_ok (checked 5 (leb n.0.0 (most_locals_of version)) p n.0) _ _ n.2 in
+    let t = bind_ok (checked_cert_field 5 (leb n.0.0 (most_locals_of version)) p n.0) _ _ n.2 in
     let c = checked_passed 5 (leb n.0.0 (most_locals_of version)) p n.0 t.0 t.1 in
-    let flags : many_at (λ before. flag_at) n.0.0 [] n.0.1 ≡ Ok (ls, q) = rw c.1 t.2 in
+    let flags : many_fields_at (λ before. flag_at) n.0.0 [] n.0.1 ≡ Ok (ls, q) = rw c.1 t.2 in
     let b4 : n.0.1.bytes ≡ bytes = k4.0.bytes ∙ b3 in
     let k5 = flags_took n.0.0 [] ls n.0.1 q (next_inside p.place n.0.1.place (length p.bytes) (length n.0.1.bytes) k4.0.place k4.0.within (ap length k4.0.bytes)) flags in
     let count : n.0.0 ≡ get_or bytes (x + 3) 0 = k4.1 ∙ byte_here bytes p.bytes (x + 3) p.place b3 p3 in
@@ -177,11 +176,11 @@ locals_took version bytes x p ls q b3 p3 e =
       within = end_inside q.place (x + 4 + get_or bytes (x + 3) 0) (length n.0.1.bytes) (length bytes) place k5.within (ap length b4);
     }
 
-pub state_context : (version : ℕ) (bytes : List ℕ) (x : ℕ) (s : State) (q : Place) → state_at version (at bytes x) ≡ Ok (s, q) → HasContext version bytes x s
+pub state_context : (version : ℕ) (bytes : List ℕ) (x : ℕ) (s : State) (q : Place) → state_at version (place_in_bytes bytes x) ≡ Ok (s, q) → HasContext version bytes x s
 unfolding state_at
 state_context version bytes x s q e =
-    let ie = bind_ok (flag_at (at bytes x)) _ _ e in
-    let k1 = flag_took (at bytes x) ie.0.1 ie.0.0 ie.1 in
+    let ie = bind_ok (flag_at (place_in_bytes bytes x)) _ _ e in
+    let k1 = flag_took (place_in_bytes bytes x) ie.0.1 ie.0.0 ie.1 in
     let ccpn = bind_ok (u8_at ie.0.1) _ _ ie.2 in
     let k2 = u8_at_ok ie.0.1 ccpn.0.0 ccpn.0.1 ccpn.1 in
     let lower = bind_ok (flag_at ccpn.0.1) _ _ ccpn.2 in
@@ -205,7 +204,7 @@ state_context version bytes x s q e =
       regs = regs.1;
     })
 
-pub state_values : (version : ℕ) (bytes : List ℕ) (x : ℕ) (s : State) (q : Place) → Small bytes → state_at version (at bytes x) ≡ Ok (s, q) → HasValues version bytes x s
+pub state_values : (version : ℕ) (bytes : List ℕ) (x : ℕ) (s : State) (q : Place) → Small bytes → state_at version (place_in_bytes bytes x) ≡ Ok (s, q) → HasValues version bytes x s
 state_values version bytes x s q small e =
     let k = state_context version bytes x s q e in
     let v = values_here version 27 bytes k.end (x + 4 + get_or bytes (x + 3) 0) s.regs k.last small k.end_bytes k.end_place k.within k.regs in
@@ -225,13 +224,13 @@ pub record HasExitContext (version : ℕ) (bytes : List ℕ) (x : ℕ) (e : Exit
 -- where its values stand
 pub record HasExitValues (version : ℕ) (bytes : List ℕ) (x : ℕ) (e : Exit) : Type 0 where
   pub lower : e.lower ≡ values_in version bytes (x + 2) 14
-  pub have : HaveValues version bytes (x + 2) 14
+  pub have : HaveValuesInBytes version bytes (x + 2) 14
 
-pub exit_context : (version : ℕ) (bytes : List ℕ) (x : ℕ) (e : Exit) (q : Place) → exit_at version (at bytes x) ≡ Ok (e, q) → HasExitContext version bytes x e
+pub exit_context : (version : ℕ) (bytes : List ℕ) (x : ℕ) (e : Exit) (q : Place) → exit_at version (place_in_bytes bytes x) ≡ Ok (e, q) → HasExitContext version bytes x e
 unfolding exit_at
 exit_context version bytes x e q h =
-    let ie = bind_ok (flag_at (at bytes x)) _ _ h in
-    let k1 = flag_took (at bytes x) ie.0.1 ie.0.0 ie.1 in
+    let ie = bind_ok (flag_at (place_in_bytes bytes x)) _ _ h in
+    let k1 = flag_took (place_in_bytes bytes x) ie.0.1 ie.0.0 ie.1 in
     let ccpn = bind_ok (u8_at ie.0.1) _ _ ie.2 in
     let k2 = u8_at_ok ie.0.1 ccpn.0.0 ccpn.0.1 ccpn.1 in
     let lower = bind_ok (values_at version 14 ccpn.0.1) _ _ ccpn.2 in
@@ -246,7 +245,7 @@ exit_context version bytes x e q h =
       lower = lower.1;
     })
 
-pub exit_values : (version : ℕ) (bytes : List ℕ) (x : ℕ) (e : Exit) (q : Place) → Small bytes → exit_at version (at bytes x) ≡ Ok (e, q) → HasExitValues version bytes x e
+pub exit_values : (version : ℕ) (bytes : List ℕ) (x : ℕ) (e : Exit) (q : Place) → Small bytes → exit_at version (place_in_bytes bytes x) ≡ Ok (e, q) → HasExitValues version bytes x e
 exit_values version bytes x e q small h =
     let k = exit_context version bytes x e q h in
     let v = values_here version 14 bytes k.end (x + 2) e.lower k.last small k.end_bytes k.end_place k.inside k.lower in

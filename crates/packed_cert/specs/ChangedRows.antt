@@ -3,8 +3,7 @@ use Rattle.std.specs.Prelude.{◌≡◌, ◌≤◌, ◌<◌, ◌⊎◌, slice_in
 use Rattle.value_domain.specs.declared.values.Val.{Val}
 use Rattle.value_domain.specs.Values.{any_val}
 use Rattle.packed_cert.specs.declared.places.ValueRow.{ValueRow}
-use Rattle.packed_cert.specs.ValuesAtPlaces.{behind}
-use Rattle.packed_cert.specs.ValuesInBytes.{place_after}
+use Rattle.packed_cert.specs.ValuesInBytes.{place_after_value, place_after_values}
 
 -- a number is before a row or after it
 abbrev pub IsOutside : ValueRow → ℕ → Type 0
@@ -17,13 +16,14 @@ pub record ChangesRow (before after : List Val) (row : ValueRow) : Type 0 where
   pub within : row.behind ≤ length before
   pub kept : (k : ℕ) → k < length before → IsOutside row k → slice_index_or after k any_val ≡ slice_index_or before k any_val
 
--- the first value of the row, if it has one, is where it says, in values from x on
-abbrev pub IsFrom : List ℕ → ℕ → ValueRow → Type 0
-IsFrom bytes x row = 0 < row.behind → row.from ≡ place_after bytes x row.first
+-- a row of changed values, if it isn't empty, says where its first value is among the values from x
+-- on
+abbrev pub RowBeginsAtPlace : List ℕ → ℕ → ValueRow → Type 0
+RowBeginsAtPlace bytes x row = 0 < row.behind → row.from ≡ place_after_values bytes x row.first
 
--- the row has all n values
-abbrev pub IsWhole : ℕ → ValueRow → Type 0
-IsWhole n row = (row.first ≡ 0) × (row.behind ≡ n)
+-- a row of changed values is the whole state: it has all n values
+abbrev pub IsWholeRow : ℕ → ValueRow → Type 0
+IsWholeRow n row = (row.first ≡ 0) × (row.behind ≡ n)
 
 -- the row with one more value, which is after it
 pub record IsWithRead (row : ValueRow) (place : ℕ) (more : ValueRow) : Type 0 where

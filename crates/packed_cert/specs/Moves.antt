@@ -4,7 +4,7 @@ use Rattle.value_domain.specs.declared.states.State.{State}
 use Rattle.packed_cert.specs.declared.places.PackedPoint.{PackedPoint}
 use Rattle.packed_cert.specs.ChangedRows.{ChangesRow}
 use Rattle.packed_cert.specs.PointsInBytes.{state_in}
-use Rattle.packed_cert.specs.ValuesInBytes.{values_in, HaveValues}
+use Rattle.packed_cert.specs.ValuesInBytes.{values_in, HaveValuesInBytes}
 use Rattle.tcd_base.specs.Place.{Place}
 
 -- The state of a point beside the one before it: outside its row the values are the same, the row's
@@ -13,7 +13,7 @@ use Rattle.tcd_base.specs.Place.{Place}
 pub record IsMoved (version : ℕ) (bytes : List ℕ) (before : State) (p : PackedPoint) : Type 0 where
   pub row : ChangesRow before.regs (state_in version bytes p.place).regs p.row
   pub few : (p.row).behind ≤ 27
-  pub have : 0 < (p.row).behind → HaveValues version bytes (p.row).from (27 - (p.row).first)
+  pub have : 0 < (p.row).behind → HaveValuesInBytes version bytes (p.row).from (27 - (p.row).first)
   pub stand : 0 < (p.row).behind → drop (p.row).first (state_in version bytes p.place).regs ≡ values_in version bytes (p.row).from (27 - (p.row).first)
   pub same : IsTrue p.same → state_in version bytes p.place ≡ before
 
@@ -27,6 +27,6 @@ abbrev pub AreMoves : ℕ → List ℕ → List PackedPoint → Type 0
 AreMoves version bytes ps = (k : ℕ) (d : PackedPoint) (s : State) → k < length ps → StandsBefore version bytes ps k s → IsMoved version bytes s (slice_index_or ps k d)
 
 -- a cursor moved over n bytes, and the same are from x on
-abbrev pub MovedOver : List ℕ → ℕ → ℕ → Place → Place → Type 0
-MovedOver bytes x n before after =
+abbrev pub MovesOverRepeated : List ℕ → ℕ → ℕ → Place → Place → Type 0
+MovesOverRepeated bytes x n before after =
     (after ≡ record before { place = before.place + n }) × (before.place + n ≤ length bytes) × (take n (drop x bytes) ≡ take n (drop before.place bytes))

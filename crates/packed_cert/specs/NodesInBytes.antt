@@ -10,24 +10,24 @@ use Rattle.depth_cert.specs.declared.points.Exit.{Exit}
 use Rattle.depth_cert.specs.Nodes.{NodeData}
 use Rattle.depth_cert.specs.Certs.{CertData, IsCert}
 use Rattle.depth_cert.specs.Grammar.{exit_at, certificate_of}
-use Rattle.depth_cert.specs.Spelling.{bytes_of}
+use Rattle.depth_cert.specs.Spelling.{bytes_of_cert}
 use Rattle.packed_cert.specs.declared.places.ExitPlaces.{ExitPlaces}
 use Rattle.packed_cert.specs.declared.places.NodePlaces.{NodePlaces}
 use Rattle.packed_cert.specs.declared.places.PackedPoint.{PackedPoint}
-use Rattle.packed_cert.specs.ValuesAtPlaces.{at}
-use Rattle.packed_cert.specs.PointsInBytes.{read_or, points_in, HasState}
+use Rattle.packed_cert.specs.ValuesInBytes.{place_in_bytes, read_from_bytes_or}
+use Rattle.packed_cert.specs.PointsInBytes.{points_in, HasState}
 use Rattle.packed_cert.specs.Moves.{AreMoves}
 use Rattle.depth_cert.specs.Exits.{no_exit}
 
 -- the exit at a place
 abbrev pub exit_in : ℕ → List ℕ → ℕ → Exit
-exit_in version bytes place = read_or no_exit (exit_at version (at bytes place))
+exit_in version bytes place = read_from_bytes_or no_exit (exit_at version (place_in_bytes bytes place))
 
 -- there is an exit at a place
 abbrev pub HasExit : ℕ → List ℕ → ℕ → Type 0
-HasExit version bytes place = (x : Exit × Place) × (exit_at version (at bytes place) ≡ Ok x)
+HasExit version bytes place = (x : Exit × Place) × (exit_at version (place_in_bytes bytes place) ≡ Ok x)
 
--- an exit is read from one place to another
+-- a node's exit is read from one place in the bytes to another
 abbrev pub ReadsExit : ℕ → Place → Place → Type 0
 ReadsExit version c d = (x : Exit) × (exit_at version c ≡ Ok (x, d))
 
@@ -35,7 +35,7 @@ ReadsExit version c d = (x : Exit) × (exit_at version c ≡ Ok (x, d))
 pub record ExitStands (version : ℕ) (bytes : List ℕ) (p : ExitPlaces) : Type 0 where
   pub order : p.start ≤ p.end
   pub within : p.end ≤ length bytes
-  pub read : ReadsExit version (at bytes p.start) (at bytes p.end)
+  pub read : ReadsExit version (place_in_bytes bytes p.start) (place_in_bytes bytes p.end)
 
 -- what always holds of an exit in the bytes
 pub record IsExitAt (version : ℕ) (bytes : List ℕ) (place : ℕ) : Type 0 where
@@ -77,6 +77,6 @@ cert_of version bytes ns = record { version = version; nodes = nodes_of version 
 pub record IsPackedCert (version : ℕ) (bytes : List ℕ) (ns : List NodePlaces) : Type 0 where
   pub short : length bytes ≤ 2 ^ 30
   pub spells : certificate_of bytes ≡ Ok (cert_of version bytes ns)
-  pub one : bytes_of (cert_of version bytes ns) ≡ bytes
+  pub one : bytes_of_cert (cert_of version bytes ns) ≡ bytes
   pub limits : IsCert (cert_of version bytes ns)
   pub nodes : All (HasPlaces version bytes) ns

@@ -1,6 +1,5 @@
 -- Points by their addresses and the places of their states in the bytes.
-use Rattle.std.specs.Prelude.{◌≡◌, ◌+◌, ℕ, List, map, Result, Ok, Err, ◌≤◌, length}
-use Rattle.tcd_base.specs.declared.errors.FormErr.{FormErr}
+use Rattle.std.specs.Prelude.{◌≡◌, ◌+◌, ℕ, List, map, Ok, ◌≤◌, length, ◌^◌, zero, suc, ◌∷◌, ◌==◌, Bool, slice_index, []}
 use Rattle.tcd_base.specs.Place.{Place}
 use Rattle.value_domain.specs.declared.states.State.{State}
 use Rattle.value_domain.specs.declared.values.Val.{Val}
@@ -9,21 +8,17 @@ use Rattle.depth_cert.specs.Grammar.{state_at}
 use Rattle.packed_cert.specs.declared.places.PackedPoint.{PackedPoint}
 use Rattle.packed_cert.specs.declared.places.StatePlaces.{StatePlaces}
 use Rattle.packed_cert.specs.declared.places.RepeatedState.{RepeatedState}
-use Rattle.packed_cert.specs.ValuesAtPlaces.{at, StandFrom, StandAlike}
+use Rattle.packed_cert.specs.ValuesAtPlaces.{ValuesStandFrom, SameBytesAtPlaces}
+use Rattle.packed_cert.specs.ValuesInBytes.{place_in_bytes, read_from_bytes_or}
 use Rattle.value_domain.specs.State.{no_state}
-
--- what was read, or something else if nothing was
-abbrev pub read_or : {A : Type 0} → A → Result (A × Place) FormErr → A
-read_or d (Ok x) = x.0
-read_or d (Err e) = d
 
 -- the state at a place
 abbrev pub state_in : ℕ → List ℕ → ℕ → State
-state_in version bytes place = read_or no_state (state_at version (at bytes place))
+state_in version bytes place = read_from_bytes_or no_state (state_at version (place_in_bytes bytes place))
 
 -- there is a state at a place
 abbrev pub HasState : ℕ → List ℕ → ℕ → Type 0
-HasState version bytes place = (x : State × Place) × (state_at version (at bytes place) ≡ Ok x)
+HasState version bytes place = (x : State × Place) × (state_at version (place_in_bytes bytes place) ≡ Ok x)
 
 -- a point, with the state at its place
 abbrev pub point_in : ℕ → List ℕ → PackedPoint → Point
@@ -34,19 +29,31 @@ abbrev pub points_in : ℕ → List ℕ → List PackedPoint → List Point
 points_in version bytes ps = map (point_in version bytes) ps
 
 -- there is a state at these places
-pub record StandsAt (version : ℕ) (bytes : List ℕ) (s : State) (p : StatePlaces) : Type 0 where
+pub record StateStandsAtPlaces (version : ℕ) (bytes : List ℕ) (s : State) (p : StatePlaces) : Type 0 where
   pub order : p.start ≤ p.end
   pub within : p.end ≤ length bytes
-  pub read : state_at version (at bytes p.start) ≡ Ok (s, at bytes p.end)
-  pub values : StandFrom version bytes s.regs p.values p.end
+  pub read : state_at version (place_in_bytes bytes p.start) ≡ Ok (s, place_in_bytes bytes p.end)
+  pub values : ValuesStandFrom version bytes s.regs p.values p.end
 
--- so many bytes of a state come again at a place
+-- so many bytes of a point's state come again at a place
 pub record IsRepeated (bytes : List ℕ) (place : ℕ) (p : RepeatedState) : Type 0 where
   pub first : (p.at).start + p.same ≤ length bytes
   pub second : place + p.same ≤ length bytes
-  pub alike : StandAlike bytes (p.at).start place p.same
+  pub alike : SameBytesAtPlaces bytes (p.at).start place p.same
 
--- these are the values of a state, and so many of its bytes come again at a place
-pub record ComesAgain (version : ℕ) (bytes : List ℕ) (vs : List Val) (place : ℕ) (p : RepeatedState) : Type 0 where
-  pub values : StandFrom version bytes vs (p.at).values (p.at).end
+-- these are the values of a point's state, and so many of its bytes come again at a place
+pub record StateComesAgain (version : ℕ) (bytes : List ℕ) (vs : List Val) (place : ℕ) (p : RepeatedState) : Type 0 where
+  pub values : ValuesStandFrom version bytes vs (p.at).values (p.at).end
   pub repeated : IsRepeated bytes place p
+
+-- what always holds of a state in the bytes
+pub record IsStateAt (version : ℕ) (bytes : List ℕ) (place : ℕ) : Type 0 where
+  pub short : length bytes ≤ 2 ^ 30
+  pub inside : place ≤ length bytes
+  pub state : HasState version bytes place
+
+-- n truth values that the bytes have from a place on, a byte each, as a point's state has its
+-- locals
+abbrev pub flags_in : List ℕ → ℕ → ℕ → List Bool
+flags_in bytes place zero = []
+flags_in bytes place (suc n) = (slice_index bytes place == 1) ∷ flags_in bytes (place + 1) n

@@ -1,48 +1,57 @@
 -- Words and values in the bytes.
-use Rattle.std.specs.Prelude.{◌≡◌, ◌≤◌, ◌+◌, ℕ, zero, suc, List, ◌∷◌, length, Ok, ◌==◌, Bool, slice_index, ◌^◌, []}
-use Rattle.tcd_base.specs.Bytes.{word_at}
+use Rattle.std.specs.Prelude.{◌≡◌, ◌≤◌, ◌+◌, ℕ, zero, suc, List, ◌∷◌, length, Ok, ◌==◌, slice_index, Result, Err, ◌*◌, nat_le, if◌then◌else◌, []}
+use Rattle.tcd_base.specs.Bytes.{word_in_bytes}
 use Rattle.tcd_base.specs.Place.{Place}
 use Rattle.value_domain.specs.declared.values.Val.{Val}
 use Rattle.value_domain.specs.Values.{any_val}
 use Rattle.depth_cert.specs.Grammar.{value_at}
-use Rattle.packed_cert.specs.ValuesAtPlaces.{at, behind}
-use Rattle.packed_cert.specs.PointsInBytes.{read_or, HasState}
+use Rattle.tcd_base.specs.declared.errors.FormErr.{FormErr}
 
 -- n words from a place on
 unfoldable pub words_at : List ℕ → ℕ → ℕ → List ℕ
 words_at bytes place zero = []
-words_at bytes place (suc n) = word_at bytes place ∷ words_at bytes (place + 4) n
+words_at bytes place (suc n) = word_in_bytes bytes place ∷ words_at bytes (place + 4) n
+
+-- what was read from the bytes, or d if nothing was
+abbrev pub read_from_bytes_or : {A : Type 0} → A → Result (A × Place) FormErr → A
+read_from_bytes_or d (Ok x) = x.0
+read_from_bytes_or d (Err e) = d
+
+-- the place of this number in the bytes of a packed certificate
+abbrev pub place_in_bytes : List ℕ → ℕ → Place
+place_in_bytes bytes place = record { bytes = bytes; place = place }
 
 -- the value at a place
 abbrev pub value_in : ℕ → List ℕ → ℕ → Val
-value_in version bytes place = read_or any_val (value_at version (at bytes place))
+value_in version bytes place = read_from_bytes_or any_val (value_at version (place_in_bytes bytes place))
 
 -- there is a value at a place
-abbrev pub HasValue : ℕ → List ℕ → ℕ → Type 0
-HasValue version bytes place = (x : Val × Place) × (value_at version (at bytes place) ≡ Ok x) × (place ≤ length bytes)
+abbrev pub HasValueInBytes : ℕ → List ℕ → ℕ → Type 0
+HasValueInBytes version bytes place = (x : Val × Place) × (value_at version (place_in_bytes bytes place) ≡ Ok x) × (place ≤ length bytes)
 
--- n values from a place on
+-- the number of bytes that a value has, by the first of them
+abbrev pub value_length_by_tag : ℕ → ℕ
+value_length_by_tag tag = if tag == 0 then 1 else if nat_le tag 128 then 1 + 4 * tag else 9
+
+-- the place after a value in the bytes
+abbrev pub place_after_value : List ℕ → ℕ → ℕ
+place_after_value bytes place = place + value_length_by_tag (slice_index bytes place)
+
+-- the n values that the bytes have from a place on
 abbrev pub values_in : ℕ → List ℕ → ℕ → ℕ → List Val
 values_in version bytes place zero = []
-values_in version bytes place (suc n) = value_in version bytes place ∷ values_in version bytes (behind bytes place) n
+values_in version bytes place (suc n) = value_in version bytes place ∷ values_in version bytes (place_after_value bytes place) n
 
 -- there are n values from a place on
-abbrev pub HaveValues : ℕ → List ℕ → ℕ → ℕ → Type 0
-HaveValues version bytes place zero = Unit {0}
-HaveValues version bytes place (suc n) = HasValue version bytes place × HaveValues version bytes (behind bytes place) n
-
--- n truth values from a place on, a byte each
-abbrev pub flags_in : List ℕ → ℕ → ℕ → List Bool
-flags_in bytes place zero = []
-flags_in bytes place (suc n) = (slice_index bytes place == 1) ∷ flags_in bytes (place + 1) n
-
--- what always holds of a state in the bytes
-pub record IsStateAt (version : ℕ) (bytes : List ℕ) (place : ℕ) : Type 0 where
-  pub short : length bytes ≤ 2 ^ 30
-  pub inside : place ≤ length bytes
-  pub state : HasState version bytes place
+abbrev pub HaveValuesInBytes : ℕ → List ℕ → ℕ → ℕ → Type 0
+HaveValuesInBytes version bytes place zero = Unit {0}
+HaveValuesInBytes version bytes place (suc n) = HasValueInBytes version bytes place × HaveValuesInBytes version bytes (place_after_value bytes place) n
 
 -- the place after n values that are one after another from a place on
-abbrev pub place_after : List ℕ → ℕ → ℕ → ℕ
-place_after bytes place zero = place
-place_after bytes place (suc n) = place_after bytes (behind bytes place) n
+abbrev pub place_after_values : List ℕ → ℕ → ℕ → ℕ
+place_after_values bytes place zero = place
+place_after_values bytes place (suc n) = place_after_values bytes (place_after_value bytes place) n
+
+-- two words in the bytes: the eight bytes from a place on, as a number
+abbrev pub eight_bytes_at_place : List ℕ → ℕ → ℕ
+eight_bytes_at_place bytes place = word_in_bytes bytes place + word_in_bytes bytes (place + 4) * 4294967296

@@ -41,7 +41,7 @@ RepeatsAt w addr = w.left ≡ record { addr = addr; state = w.current } ∷ drop
 abbrev pub CoversNext : WalkData → ℕ → State → Type 0
 CoversNext w addr s = (t : State) × (w.left ≡ record { addr = addr; state = t } ∷ drop 1 w.left) × Covers t s
 
--- a point has this address, and its state covers the one at hand
+-- of a walk over points: one of them has this address, and its state covers the one at hand
 abbrev pub CoversAt : WalkData → ℕ → Type 0
 CoversAt w addr = IsSomeAnd (find_point addr w.points) (λ p. Covers p.state w.current)
 

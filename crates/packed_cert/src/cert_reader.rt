@@ -2,21 +2,24 @@
 ghost use Rattle.std.specs.Prelude.{◌≡◌, ◌≤◌, ◌^◌, [], length, Ok, IfOk, IfErr};
 ghost use Rattle.std.specs.List.{All};
 ghost use Rattle.depth_cert.specs.Answers.{IsFaultOf};
-ghost use Rattle.tcd_base.specs.FieldReaders.{many_at};
+ghost use Rattle.tcd_base.specs.FieldReaders.{many_fields_at};
 ghost use Rattle.depth_cert.specs.Grammar.{node_after, certificate_of};
 ghost use Rattle.packed_cert.specs.NodesInBytes.{nodes_of, cert_of, HasPlaces};
 
 use crate::node_reader::read_node;
 use crate::places::NodePlaces;
-use crate::point_reader::{ExitRoom, ReadingRoom, blank};
+use crate::point_reader::{ExitRoom, ReadingRoom, blank_state_for_reading};
 use depth_cert::{CertErr, no_exit, read_magic, read_node_count, read_version};
 use std::alloc::Global;
-use tcd_base::{Cursor, TRAILING, fault};
+use tcd_base::{Cursor, TRAILING, form_err_at};
 
 /// Reads the version and the places of the nodes of the certificate that the bytes spell, or
 /// returns their first fault.
 #[tactic(auto, unfolding(depth_cert::specs::Grammar::certificate_of, depth_cert::specs::Grammar::cert_at))]
-pub(crate) fn read_parts(alloc: Global, bytes: &[u8]) -> Result<(u8, Vec<NodePlaces>), CertErr>
+pub(crate) fn read_packed_cert_parts(
+    alloc: Global,
+    bytes: &[u8],
+) -> Result<(u8, Vec<NodePlaces>), CertErr>
     requires { length bytes.now ≤ 2 ^ 30 }
     ensures ok { IfOk result
         (λ r. certificate_of bytes.now ≡ Ok (cert_of r.0 bytes.now r.1.items)) }
@@ -27,15 +30,16 @@ pub(crate) fn read_parts(alloc: Global, bytes: &[u8]) -> Result<(u8, Vec<NodePla
     let _magic = read_magic(&mut c)?;
     let version = read_version(&mut c)?;
     let count = read_node_count(&mut c)?;
-    let nodes = read_nodes(alloc, &mut c, bytes, version, count)?;
+    let nodes = read_packed_cert_nodes(alloc, &mut c, bytes, version, count)?;
     let end = c.place();
     if end != bytes.len() {
-        return Err(CertErr::Bad(fault(TRAILING, end)));
+        return Err(CertErr::Bad(form_err_at(TRAILING, end)));
     }
     Ok((version, nodes))
 }
 
-fn read_nodes(
+/// Reads the places of all nodes of a packed certificate, as many as its head says.
+fn read_packed_cert_nodes(
     alloc: Global,
     c: &mut Cursor<'_>,
     bytes: &[u8],
@@ -45,9 +49,9 @@ fn read_nodes(
     requires short { length c.old.bytes ≤ 2 ^ 30 }
     requires same { c.old.bytes ≡ bytes.now }
     ensures ok { IfOk result (λ ns.
-        many_at (node_after version) count [] c.old
+        many_fields_at (node_after version) count [] c.old
         ≡ Ok (nodes_of version bytes.now ns.items, c.new)) }
-    ensures err { IfErr result (IsFaultOf (many_at (node_after version) count [] c.old)) }
+    ensures err { IfErr result (IsFaultOf (many_fields_at (node_after version) count [] c.old)) }
     ensures places { IfOk result (λ ns. All (HasPlaces version bytes.now) ns.items) }
     ensures bytes { c.new.bytes ≡ c.old.bytes }
 {
@@ -57,7 +61,7 @@ fn read_nodes(
             exit: no_exit(),
             last: None,
         },
-        state: blank(),
+        state: blank_state_for_reading(),
         last: None,
         used: 0,
     };

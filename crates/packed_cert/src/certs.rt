@@ -4,7 +4,7 @@ ghost use Rattle.std.specs.List.{All, slice_get};
 ghost use Rattle.std.specs.List.Sorted.{IsStrictlyIncreasing, IsPartitionPoint};
 ghost use Rattle.depth_cert.specs.Answers.{IsFaultOf};
 
-use crate::cert_reader::read_parts;
+use crate::cert_reader::read_packed_cert_parts;
 use crate::nodes::PackedNode;
 use crate::places::NodePlaces;
 use depth_cert::{Cert, CertErr, Key, number_of};
@@ -36,19 +36,19 @@ impl PackedCert {
     ghost use Rattle.depth_cert.specs.Certs.{IsCert, find_node};
     ghost use Rattle.depth_cert.specs.Nodes.{count_points};
     ghost use Rattle.depth_cert.specs.Grammar.{certificate_of};
-    ghost use Rattle.depth_cert.specs.Spelling.{bytes_of};
+    ghost use Rattle.depth_cert.specs.Spelling.{bytes_of_cert};
 
-    /// Reads the certificate that the bytes spell, or returns their first fault.
+    /// Makes a `PackedCert` of the bytes that spell a certificate, or returns their first fault.
     pub fn read(alloc: Global, bytes: Vec<u8>) -> Result<PackedCert, CertErr>
         requires { length bytes.items ≤ 2 ^ 30 }
         ensures ok { IfOk result (λ c. certificate_of bytes.items ≡ Ok c) }
         ensures err { IfErr result (IsFaultOf (certificate_of bytes.items)) }
 
         // No other bytes spell it.
-        ensures one { IfOk result (λ c. bytes_of c ≡ bytes.items) }
+        ensures one { IfOk result (λ c. bytes_of_cert c ≡ bytes.items) }
     {
-        let (version, nodes) = read_parts(alloc, &bytes)?;
-        are_bytes(&bytes);
+        let (version, nodes) = read_packed_cert_parts(alloc, &bytes)?;
+        packed_bytes_below_256(&bytes);
         Ok(PackedCert {
             bytes,
             version,
@@ -58,7 +58,7 @@ impl PackedCert {
 
     /// Gives up the certificate for the bytes that spell it.
     pub fn into_bytes(self) -> Vec<u8>
-        ensures { result.items ≡ bytes_of self }
+        ensures { result.items ≡ bytes_of_cert self }
     {
         self.bytes
     }
@@ -97,7 +97,7 @@ impl PackedCert {
     pub fn count_points(&self) -> usize
         ensures { result ≡ count_points self.now.nodes }
     {
-        count_places(&self.nodes)
+        count_packed_points(&self.nodes)
     }
 
     /// Returns the node at an index, or `None` if the index is past the last.
@@ -116,7 +116,7 @@ impl PackedCert {
     {
         let nodes = self.nodes.as_slice();
         let number = number_of(key);
-        let at = node_place(nodes, number);
+        let at = cert_node_place(nodes, number);
         if at < nodes.len() && nodes[at].number == number {
             return Some(PackedNode::at(self.bytes.as_slice(), self.version, &nodes[at]));
         }
@@ -124,13 +124,13 @@ impl PackedCert {
     }
 }
 
-/// Bytes are below 256, as their type says.
-pub(crate) fn are_bytes(bytes: &[u8])
+/// A fact for proofs: the bytes of a packed certificate are below 256, as their type says.
+pub(crate) fn packed_bytes_below_256(bytes: &[u8])
     ensures { (k : ℕ) → slice_index bytes.now k < 2 ^ 8 }
 {}
 
-/// Returns the number of points that these nodes have together.
-fn count_places(nodes: &[NodePlaces]) -> usize
+/// Returns the number of points that the nodes of a `PackedCert` have together.
+fn count_packed_points(nodes: &[NodePlaces]) -> usize
     requires { sum_by (λ n. length n.points.items) nodes.now ≤ 2 ^ 16 }
     ensures { result ≡ sum_by (λ n. length n.points.items) nodes.now }
 {
@@ -141,17 +141,18 @@ fn count_places(nodes: &[NodePlaces]) -> usize
     total
 }
 
-fn is_below(node: &NodePlaces, number: u64) -> bool
+/// Returns true if the key of a packed certificate's node is below the key of this number.
+fn is_cert_node_below(node: &NodePlaces, number: u64) -> bool
     ensures { result ≡ nat_lt node.now.number number }
 {
     node.number < number
 }
 
 /// Returns the number of nodes whose keys are below `number`.
-fn node_place(nodes: &[NodePlaces], number: u64) -> usize
+fn cert_node_place(nodes: &[NodePlaces], number: u64) -> usize
     requires { IsStrictlyIncreasing (map (λ n. n.number) nodes.now) }
     ensures { IsPartitionPoint (λ n. nat_lt n.number number ≡ true)
         (λ n. nat_lt n.number number ≡ false) nodes.now result }
 {
-    nodes.partition_point(|n| is_below(n, number))
+    nodes.partition_point(|n| is_cert_node_below(n, number))
 }

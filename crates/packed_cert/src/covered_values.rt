@@ -3,16 +3,15 @@ ghost use Rattle.std.specs.Prelude.{◌≡◌, ◌≤◌, ◌<◌, ◌^◌, ◌�
 ghost use Rattle.value_domain.specs.Values.{any_val, IsBelow, IsWell};
 ghost use Rattle.value_domain.specs.State.{AreBelow, AreWell};
 ghost use Rattle.packed_cert.specs.ToCover.{values_to_cover};
-ghost use Rattle.packed_cert.specs.ValuesInBytes.{values_in, HaveValues, value_in, HasValue, words_at};
-ghost use Rattle.tcd_base.specs.Bytes.{word_at};
+ghost use Rattle.packed_cert.specs.ValuesInBytes.{values_in, HaveValuesInBytes, value_in, HasValueInBytes, words_at, place_in_bytes};
+ghost use Rattle.tcd_base.specs.Bytes.{word_in_bytes};
 ghost use Rattle.value_domain.specs.declared.values.Val.{Val};
 ghost use Rattle.value_domain.specs.Sets.{Rising, Within};
-ghost use Rattle.packed_cert.specs.ValuesAtPlaces.{at};
 
-use crate::certs::are_bytes;
+use crate::certs::packed_bytes_below_256;
 use crate::restored_values::ValuesAt;
-use crate::value_reader::{length_by, word};
-use crate::values_at_places::{is_below_at, value};
+use crate::value_reader::{read_value_word, value_length_by_tag};
+use crate::values_at_places::{is_below_at, value_at_place};
 use depth_cert::{SPAN, lower_value};
 use value_domain::{State, Val, extent_of, leq};
 use vd_transfer::{Change, changed_value};
@@ -41,7 +40,7 @@ pub(crate) fn are_covered_at(
     requires count { length (values_to_cover values.now) ≡ n }
     requires short { length bytes.now ≤ 2 ^ 30 }
     requires well { AreWell (values_to_cover values.now) }
-    requires stand { HaveValues version bytes.now place n }
+    requires stand { HaveValuesInBytes version bytes.now place n }
     ensures { IsTrue result
         ↔ AreBelow (values_to_cover values.now) (values_in version bytes.now place n) }
 {
@@ -53,7 +52,7 @@ pub(crate) fn are_covered_at(
         if tag != 0 && !is_below_at(value_to_cover(&*values, &any, i), bytes, version, at) {
             return false;
         }
-        at += length_by(tag);
+        at += value_length_by_tag(tag);
     }
     true
 }
@@ -82,6 +81,7 @@ fn value_to_cover<'a>(values: &'a ToCover, any: &'a Val, i: usize) -> &'a Val
     }
 }
 
+/// Returns the state's own value number `i`, which is to be covered.
 #[inline(always)]
 fn own_value<'a>(s: &'a State, i: usize) -> &'a Val
     requires place { i < 27 }
@@ -93,17 +93,17 @@ fn own_value<'a>(s: &'a State, i: usize) -> &'a Val
 
 /// Returns true if the value at a place is below the value at another. The first is read.
 #[inline(never)]
-pub(crate) fn is_read_below(low: ValuesAt<'_>, high: ValuesAt<'_>) -> bool
+pub(crate) fn is_read_value_covered(low: ValuesAt<'_>, high: ValuesAt<'_>) -> bool
     requires low_short { length low.bytes.now ≤ 2 ^ 30 }
     requires high_short { length high.bytes.now ≤ 2 ^ 30 }
-    requires low { HasValue low.version low.bytes.now low.place }
-    requires high { HasValue high.version high.bytes.now high.place }
+    requires low { HasValueInBytes low.version low.bytes.now low.place }
+    requires high { HasValueInBytes high.version high.bytes.now high.place }
     ensures { IsTrue result
         ↔ IsBelow (value_in low.entry.version low.entry.bytes.now low.entry.place)
         (value_in high.entry.version high.entry.bytes.now high.entry.place) }
 {
-    are_bytes(low.bytes);
-    let v = value(low.bytes, low.version, low.place);
+    packed_bytes_below_256(low.bytes);
+    let v = value_at_place(low.bytes, low.version, low.place);
     is_below_at(&v, high.bytes, high.version, high.place)
 }
 
@@ -111,12 +111,12 @@ pub(crate) fn is_read_below(low: ValuesAt<'_>, high: ValuesAt<'_>) -> bool
 pub(crate) fn is_below_span_at(v: &Val, bytes: &[u8], version: u8, place: usize) -> bool
     requires short { length bytes.now ≤ 2 ^ 30 }
     requires well { IsWell v.now }
-    requires stands { HasValue version bytes.now place }
+    requires stands { HasValueInBytes version bytes.now place }
     requires span { 128 < slice_index bytes.now place }
     ensures { IsTrue result ↔ IsBelow v.now (value_in version bytes.now place) }
 {
-    let lo = word(bytes, place + 1);
-    let last = word(bytes, place + 5);
+    let lo = read_value_word(bytes, place + 1);
+    let last = read_value_word(bytes, place + 5);
     let step = bytes[place] - SPAN;
     let e = extent_of(v);
     if e.least < lo || last < e.greatest {
@@ -127,7 +127,7 @@ pub(crate) fn is_below_span_at(v: &Val, bytes: &[u8], version: u8, place: usize)
 
 /// Returns true if each of the ascending words is one of the `n` ascending ones at a place. Both
 /// are walked once.
-pub(crate) fn are_among(own: &[u32], bytes: &[u8], place: usize, n: usize) -> bool
+pub(crate) fn are_words_covered_at(own: &[u32], bytes: &[u8], place: usize, n: usize) -> bool
     requires within { place + 4 * n ≤ length bytes.now }
     requires own { Rising own.now }
     requires words { Rising (words_at bytes.now place n) }
@@ -135,8 +135,8 @@ pub(crate) fn are_among(own: &[u32], bytes: &[u8], place: usize, n: usize) -> bo
 {
     let mut k = 0;
     for x in own {
-        k = first_from(bytes, place, n, k, *x);
-        if k == n || word(bytes, place + 4 * k) != *x {
+        k = first_covering_word(bytes, place, n, k, *x);
+        if k == n || read_value_word(bytes, place + 4 * k) != *x {
             return false;
         }
         k += 1;
@@ -145,19 +145,19 @@ pub(crate) fn are_among(own: &[u32], bytes: &[u8], place: usize, n: usize) -> bo
 }
 
 /// Returns the number of the first word from number `k` on that isn't below `x`, or `n` if all are.
-fn first_from(bytes: &[u8], place: usize, n: usize, k: usize, x: u32) -> usize
+fn first_covering_word(bytes: &[u8], place: usize, n: usize, k: usize, x: u32) -> usize
     requires within { place + 4 * n ≤ length bytes.now }
     requires start { k ≤ n }
     ensures start { k ≤ result }
     ensures end { result ≤ n }
-    ensures below { (j : ℕ) → k ≤ j → j < result → word_at bytes.now (place + 4 * j) < x }
-    ensures reached { result < n → x ≤ word_at bytes.now (place + 4 * result) }
+    ensures below { (j : ℕ) → k ≤ j → j < result → word_in_bytes bytes.now (place + 4 * j) < x }
+    ensures reached { result < n → x ≤ word_in_bytes bytes.now (place + 4 * result) }
 {
-    if k < n && word(bytes, place + 4 * k) == x {
+    if k < n && read_value_word(bytes, place + 4 * k) == x {
         return k;
     }
     let mut at = k;
-    while at < n && word(bytes, place + 4 * at) < x {
+    while at < n && read_value_word(bytes, place + 4 * at) < x {
         at += 1;
     }
     at
@@ -166,11 +166,11 @@ fn first_from(bytes: &[u8], place: usize, n: usize, k: usize, x: u32) -> usize
 /// Returns true if a value is below the one at a place, which is read.
 // A function of its own, so that the others have no room of a value to fill.
 #[inline(never)]
-pub(crate) fn is_below_read(v: &Val, bytes: &[u8], version: u8, place: usize) -> bool
+pub(crate) fn is_covered_by_read(v: &Val, bytes: &[u8], version: u8, place: usize) -> bool
     requires short { length bytes.now ≤ 2 ^ 30 }
     requires well { IsWell v.now }
-    requires stands { HasValue version bytes.now place }
+    requires stands { HasValueInBytes version bytes.now place }
     ensures { IsTrue result ↔ IsBelow v.now (value_in version bytes.now place) }
 {
-    leq(v, &value(bytes, version, place))
+    leq(v, &value_at_place(bytes, version, place))
 }

@@ -1,15 +1,15 @@
 // The type `ExitAt`: an exit that stays in the bytes of its certificate.
 ghost use Rattle.std.specs.Prelude.{◌≡◌, ◌≤◌, ◌^◌, ◌↔◌, IsTrue, length, Ok, Err, OnOk, IfOk, IfErr, IfSome};
-ghost use Rattle.packed_cert.specs.NodesInBytes.{exit_in, HasExit, ExitStands};
+ghost use Rattle.packed_cert.specs.NodesInBytes.{exit_in, HasExit, ExitStands, ReadsExit};
 ghost use Rattle.std.specs.Option.{option_map};
-ghost use Rattle.tcd_base.specs.FieldReaders.{Reads};
-ghost use Rattle.depth_cert.specs.Grammar.{exits_at};
+ghost use Rattle.tcd_base.specs.FieldReaders.{ReadsField};
+ghost use Rattle.depth_cert.specs.Grammar.{optional_exit_at, exit_at};
 
-use crate::certs::are_bytes;
+use crate::certs::packed_bytes_below_256;
 use crate::covered_values::{ToCover, are_covered_at};
-use crate::node_reader::read_exit_like;
-use crate::places::LOWER_VALUES;
+use crate::places::{ExitPlaces, LOWER_VALUES};
 use crate::point_reader::ExitRoom;
+use crate::repeated_bytes::has_passed_repeated_bytes;
 use crate::restored_values::ValuesAt;
 use crate::values_at_places::are_values_at;
 use depth_cert::{Exit, no_exit, read_exit, read_has_exit};
@@ -39,7 +39,7 @@ impl<'a> Model for ExitAt<'a> {
 impl<'a> ExitAt<'a> {
     ghost use Rattle.value_domain.specs.State.{AreValues, AreWell};
     ghost use Rattle.depth_cert.specs.Exits.{exit_of, ExitCovers};
-    ghost use Rattle.packed_cert.specs.ValuesInBytes.{values_in, HaveValues};
+    ghost use Rattle.packed_cert.specs.ValuesInBytes.{values_in, HaveValuesInBytes};
 
     /// Returns the exit at a place.
     pub(crate) fn at(bytes: &'a [u8], version: u8, place: usize) -> ExitAt<'a>
@@ -71,11 +71,11 @@ impl<'a> ExitAt<'a> {
     /// Returns the place of the values of its lower registers.
     pub(crate) fn lower(&self) -> ValuesAt<'a>
         ensures short { length result.bytes.now ≤ 2 ^ 30 }
-        ensures have { HaveValues result.version result.bytes.now result.place 14 }
+        ensures have { HaveValuesInBytes result.version result.bytes.now result.place 14 }
         ensures values { self.now.lower
             ≡ values_in result.version result.bytes.now result.place 14 }
     {
-        are_bytes(self.bytes);
+        packed_bytes_below_256(self.bytes);
         ValuesAt {
             bytes: self.bytes,
             version: self.version,
@@ -126,8 +126,8 @@ impl<'a> ExitAt<'a> {
 }
 
 /// Reads a node's exit into its room and returns its place, or `None` if the node has no exit.
-#[tactic(auto, unfolding(depth_cert::specs::Grammar::exits_at))]
-pub(crate) fn read_exits(
+#[tactic(auto, unfolding(depth_cert::specs::Grammar::optional_exit_at))]
+pub(crate) fn read_exit_place(
     c: &mut Cursor<'_>,
     bytes: &[u8],
     version: u8,
@@ -138,8 +138,9 @@ pub(crate) fn read_exits(
     requires same { c.old.bytes ≡ bytes.now }
     requires last { IfSome room.old.last (ExitStands version bytes.now) }
     ensures ok { IfOk result (λ e.
-        exits_at version kind c.old ≡ Ok (option_map (exit_in version bytes.now) e, c.new)) }
-    ensures err { IfErr result (λ e. exits_at version kind c.old ≡ Err e) }
+        optional_exit_at version kind c.old
+        ≡ Ok (option_map (exit_in version bytes.now) e, c.new)) }
+    ensures err { IfErr result (λ e. optional_exit_at version kind c.old ≡ Err e) }
     ensures exit { IfOk result (λ e. IfSome e (HasExit version bytes.now)) }
     ensures last { OnOk result (IfSome room.new.last (ExitStands version bytes.now)) }
     ensures bytes { c.new.bytes ≡ c.old.bytes }
@@ -150,4 +151,31 @@ pub(crate) fn read_exits(
     let place = c.place() as u32;
     read_exit_like(c, bytes, version, room)?;
     Ok(Some(place))
+}
+
+/// Reads an exit into its room. If the bytes of the last one come again, they are passed over.
+pub(crate) fn read_exit_like(
+    c: &mut Cursor<'_>,
+    bytes: &[u8],
+    version: u8,
+    room: &mut ExitRoom,
+) -> Result<(), FormErr>
+    requires short { length c.old.bytes ≤ 2 ^ 30 }
+    requires same { c.old.bytes ≡ bytes.now }
+    requires last { IfSome room.old.last (ExitStands version bytes.now) }
+    ensures ok { OnOk result (ReadsExit version c.old c.new) }
+    ensures err { IfErr result (λ e. exit_at version c.old ≡ Err e) }
+    ensures last { OnOk result (IfSome room.new.last (ExitStands version bytes.now)) }
+    ensures bytes { c.new.bytes ≡ c.old.bytes }
+{
+    if let Some(at) = room.last {
+        if has_passed_repeated_bytes(c, bytes, at.start, at.end - at.start) {
+            return Ok(());
+        }
+    }
+    let start = c.place();
+    read_exit(c, version, &mut room.exit)?;
+    let end = c.place();
+    room.last = Some(ExitPlaces { start, end });
+    Ok(())
 }

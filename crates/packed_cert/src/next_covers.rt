@@ -6,26 +6,27 @@ ghost use Rattle.value_domain.specs.Values.{IsBelow, any_val};
 ghost use Rattle.value_domain.specs.State.{AreBelow, AreWell, Covers};
 ghost use Rattle.vd_transfer.specs.Changes.{state_after};
 ghost use Rattle.vd_transfer.specs.declared.change.Base.TheVariants.{Same};
-ghost use Rattle.packed_cert.specs.ValuesInBytes.{values_in, HaveValues};
+ghost use Rattle.packed_cert.specs.ValuesInBytes.{values_in, HaveValuesInBytes};
 ghost use Rattle.packed_cert.specs.PointsInBytes.{state_in, HasState};
 ghost use Rattle.packed_cert.specs.Moves.{IsMoved};
-ghost use Rattle.packed_cert.specs.ToCover.{IsBelowOwn};
+ghost use Rattle.packed_cert.specs.ToCover.{IsCoveredByOwn};
 ghost use Rattle.packed_cert.specs.ChangedRows.{IsOutside};
 
 use crate::places::{PackedPoint, VALUES, ValueRow};
 use crate::states::StateAt;
-use crate::value_reader::length_by;
+use crate::value_reader::value_length_by_tag;
 use crate::values_at_places::is_below_at;
 use std::marker::Model;
-use value_domain::{State, Val, are_implied, leq};
+use value_domain::{State, Val, are_flags_implied, leq};
 use vd_transfer::{Change, changed_value};
 
-/// Returns true if each value that is put outside a row is below the state's own there.
+/// Returns true if each value that is put outside the next point's row is below the state's own
+/// there.
 pub(crate) fn are_puts_below(s: &State, c: &Change, row: ValueRow) -> bool
     requires base { c.now.base ≡ Same }
     requires hand { AreWell s.now.regs }
     requires well { AreWell (state_after s.now c.now).regs }
-    ensures { IsTrue result → (i : ℕ) → i < 27 → IsOutside row i → IsBelowOwn s.now c.now i }
+    ensures { IsTrue result → (i : ℕ) → i < 27 → IsOutside row i → IsCoveredByOwn s.now c.now i }
 {
     let _regs = &s.regs[..];
     if !is_put_below(s, c, row, c.first.at) {
@@ -43,7 +44,7 @@ fn is_put_below(s: &State, c: &Change, row: ValueRow, place: Option<usize>) -> b
     requires hand { AreWell s.now.regs }
     requires well { AreWell (state_after s.now c.now).regs }
     ensures { IsTrue result → (i : ℕ) → place ≡ Some i → i < 27 → IsOutside row i
-        → IsBelowOwn s.now c.now i }
+        → IsCoveredByOwn s.now c.now i }
 {
     let Some(i) = place else {
         return true;
@@ -90,14 +91,14 @@ pub(crate) fn is_row_below(
         if tag != 0 && !is_below_at(changed_value(s, c, &any, i), bytes, version, at) {
             return false;
         }
-        at += length_by(tag);
+        at += value_length_by_tag(tag);
     }
     true
 }
 
 /// Returns true if the state of a point covers the one before it, changed by what is put alone.
 /// Only the values that are put and those of the point's row are compared.
-pub(crate) fn covers_moved(
+pub(crate) fn does_next_point_cover(
     s: &State,
     c: &Change,
     bytes: &[u8],
@@ -118,7 +119,7 @@ pub(crate) fn covers_moved(
     if !upper.covers_context(c.ie, c.ccpn, c.lower) {
         return false;
     }
-    if !are_implied(upper.locals().as_slice(), c.locals.as_slice()) {
+    if !are_flags_implied(upper.locals().as_slice(), c.locals.as_slice()) {
         return false;
     }
     are_puts_below(s, c, point.row) && is_row_below(s, c, bytes, version, point)

@@ -83,7 +83,7 @@ impl<'a> PackedNode<'a> {
         ensures { result ≡ option_map (λ p. p.state) (find_point addr self.now.points) }
     {
         let points = self.points;
-        let at = place_of(points, addr, near);
+        let at = node_point_place(points, addr, near);
         if at < points.len() && points[at].addr == addr {
             let place = points[at].place as usize;
             return Some(StateAt::at(self.bytes, self.version, place));
@@ -92,7 +92,8 @@ impl<'a> PackedNode<'a> {
     }
 }
 
-fn is_below(point: &PackedPoint, addr: u32) -> bool
+/// Returns true if the address of a packed node's point is below `addr`.
+fn is_node_point_below(point: &PackedPoint, addr: u32) -> bool
     ensures { result ≡ nat_lt point.now.addr addr }
 {
     point.addr < addr
@@ -100,7 +101,7 @@ fn is_below(point: &PackedPoint, addr: u32) -> bool
 
 /// Returns the number that the point at `addr` has if all instructions between it and point number
 /// `near` have four bytes. A guess that saves the search.
-fn place_by_words(points: &[PackedPoint], addr: u32, near: usize) -> usize {
+fn node_point_guess(points: &[PackedPoint], addr: u32, near: usize) -> usize {
     if near >= points.len() {
         return near;
     }
@@ -115,7 +116,7 @@ fn place_by_words(points: &[PackedPoint], addr: u32, near: usize) -> usize {
 /// Returns the number of points whose addresses are below `addr`. The points number `near` and
 /// `near + 1` are tried first, since most instructions go on to the next one, and then a guess for
 /// jumps over instructions of four bytes.
-pub(crate) fn place_of(points: &[PackedPoint], addr: u32, near: usize) -> usize
+pub(crate) fn node_point_place(points: &[PackedPoint], addr: u32, near: usize) -> usize
     requires { IsStrictlyIncreasing (map (λ p. p.addr) points.now) }
     ensures { IsPartitionPoint (λ p. nat_lt p.addr addr ≡ true) (λ p. nat_lt p.addr addr ≡ false)
         points.now result }
@@ -127,9 +128,9 @@ pub(crate) fn place_of(points: &[PackedPoint], addr: u32, near: usize) -> usize
     if after < points.len() && points[after].addr == addr {
         return after;
     }
-    let far = place_by_words(points, addr, near);
+    let far = node_point_guess(points, addr, near);
     if far < points.len() && points[far].addr == addr {
         return far;
     }
-    points.partition_point(|p| is_below(p, addr))
+    points.partition_point(|p| is_node_point_below(p, addr))
 }

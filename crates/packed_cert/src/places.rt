@@ -1,4 +1,6 @@
 // Places in the bytes of a certificate: of nodes, points, states, rows of values and exits.
+ghost use Rattle.std.specs.Prelude.{◌≡◌, ◌-◌};
+
 use depth_cert::Key;
 
 /// How many values a state has.
@@ -71,4 +73,15 @@ pub(crate) struct ReadState {
 pub(crate) struct ExitPlaces {
     pub(crate) start: usize,
     pub(crate) end: usize,
+}
+
+/// Returns the row that has no values of a state.
+pub(crate) fn no_row() -> ValueRow
+    ensures { result ≡ record { first = 0; behind = 0; from = 0 } }
+{
+    ValueRow {
+        first: 0,
+        behind: 0,
+        from: 0,
+    }
 }

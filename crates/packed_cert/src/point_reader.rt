@@ -8,20 +8,20 @@ ghost use Rattle.std.specs.List.{All};
 ghost use Rattle.depth_cert.specs.Grammar.{state_at, points_at};
 ghost use Rattle.depth_cert.specs.Answers.{IsFaultOf};
 ghost use Rattle.std.specs.List.Sorted.{IsStrictlyIncreasing};
-ghost use Rattle.packed_cert.specs.ValuesAtPlaces.{StandFrom, StandAlike};
-ghost use Rattle.packed_cert.specs.ChangedRows.{ChangesRow, IsFrom, IsWhole};
-ghost use Rattle.packed_cert.specs.PointsInBytes.{HasState, StandsAt, IsRepeated, ComesAgain, points_in};
+ghost use Rattle.packed_cert.specs.ValuesAtPlaces.{ValuesStandFrom};
+ghost use Rattle.packed_cert.specs.ChangedRows.{ChangesRow, RowBeginsAtPlace, IsWholeRow};
+ghost use Rattle.packed_cert.specs.PointsInBytes.{HasState, StateStandsAtPlaces, StateComesAgain, points_in};
 ghost use Rattle.packed_cert.specs.Moves.{AreMoves};
 
 use crate::places::{
-    ExitPlaces, PackedPoint, ReadState, RepeatedState, StatePlaces, VALUES, ValueRow,
+    ExitPlaces, PackedPoint, ReadState, RepeatedState, StatePlaces, VALUES, ValueRow, no_row,
 };
-use crate::repeated_bytes::count_same_before;
-use crate::states::read_state_after;
-use crate::value_reader::{move_to, no_row, read_values_like};
+use crate::repeated_bytes::count_repeated_before;
+use crate::value_reader::{pass_unread_values_to, read_values_like};
 use arrayvec::ArrayVec;
 use depth_cert::{CertErr, Exit, read_address, read_flag, read_locals, read_point_count};
 use std::alloc::Global;
+use std::marker::Model;
 use tcd_base::{Cursor, FormErr, read_u8};
 use value_domain::{State, Val};
 
@@ -43,8 +43,8 @@ pub(crate) struct ExitRoom {
     pub(crate) last: Option<ExitPlaces>,
 }
 
-/// Returns a state that knows nothing.
-pub(crate) fn blank() -> State {
+/// Returns a state that knows nothing, as room for the first state of a point that is read.
+pub(crate) fn blank_state_for_reading() -> State {
     State {
         regs: std::array::from_fn(|_| Val::any()),
         ie: false,
@@ -66,7 +66,7 @@ pub(crate) fn read_points(
     requires short { length c.old.bytes ≤ 2 ^ 30 }
     requires same { c.old.bytes ≡ bytes.now }
     requires used { room.old.used ≤ 2 ^ 16 }
-    requires state { IfSome room.old.last (StandsAt version bytes.now room.old.state) }
+    requires state { IfSome room.old.last (StateStandsAtPlaces version bytes.now room.old.state) }
     ensures ok { IfOk result (λ ps.
         points_at version room.old.used c.old ≡ Ok (points_in version bytes.now ps.items, c.new)) }
     ensures err { IfErr result (IsFaultOf (points_at version room.old.used c.old)) }
@@ -77,7 +77,7 @@ pub(crate) fn read_points(
     ensures few { OnOk result (room.new.used ≤ 2 ^ 16) }
     ensures exit { room.new.exit ≡ room.old.exit }
     ensures state { OnOk result
-        (IfSome room.new.last (StandsAt version bytes.now room.new.state)) }
+        (IfSome room.new.last (StateStandsAtPlaces version bytes.now room.new.state)) }
     ensures bytes { c.new.bytes ≡ c.old.bytes }
 {
     let count = read_point_count(c, room.used)?;
@@ -104,10 +104,10 @@ pub(crate) fn read_points(
 /// all values, as any state may be at hand before it.
 fn for_point(read: ReadState, first: bool) -> ReadState
     requires { read.at.values < 2 ^ 32 }
-    ensures first { IsTrue first → IsWhole 27 result.row × (result.same ≡ false) }
+    ensures first { IsTrue first → IsWholeRow 27 result.row × (result.same ≡ false) }
     ensures later { IsFalse first → result ≡ read }
-    ensures from { (bytes : List ℕ) → IsFrom bytes read.at.values read.row
-        → IsFrom bytes read.at.values result.row }
+    ensures from { (bytes : List ℕ) → RowBeginsAtPlace bytes read.at.values read.row
+        → RowBeginsAtPlace bytes read.at.values result.row }
 {
     if !first {
         return read;
@@ -123,8 +123,8 @@ fn for_point(read: ReadState, first: bool) -> ReadState
     }
 }
 
-/// Reads a state over the one whose places are `before`. If its bytes come again, they are passed
-/// over at once, and the places stay those of the first state with these bytes.
+/// Reads a point's state over the one whose places are `before`. If its bytes come again, they are
+/// passed over at once, and the places stay those of the first state with these bytes.
 #[inline(always)]
 pub(crate) fn read_state_like(
     c: &mut Cursor<'_>,
@@ -135,12 +135,12 @@ pub(crate) fn read_state_like(
 ) -> Result<ReadState, FormErr>
     requires short { length c.old.bytes ≤ 2 ^ 30 }
     requires same { c.old.bytes ≡ bytes.now }
-    requires before { IfSome before (StandsAt version bytes.now out.old) }
+    requires before { IfSome before (StateStandsAtPlaces version bytes.now out.old) }
     ensures ok { OnOk result (state_at version c.old ≡ Ok (out.new, c.new)) }
     ensures err { IfErr result (λ e. state_at version c.old ≡ Err e) }
-    ensures held { IfOk result (λ r. StandsAt version bytes.now out.new r.at) }
+    ensures held { IfOk result (λ r. StateStandsAtPlaces version bytes.now out.new r.at) }
     ensures row { IfOk result (λ r. ChangesRow out.old.regs out.new.regs r.row) }
-    ensures from { IfOk result (λ r. IsFrom bytes.now r.at.values r.row) }
+    ensures from { IfOk result (λ r. RowBeginsAtPlace bytes.now r.at.values r.row) }
     ensures again { IfOk result (λ r. IsTrue r.same → out.new ≡ out.old) }
     ensures bytes { c.new.bytes ≡ c.old.bytes }
 {
@@ -148,9 +148,9 @@ pub(crate) fn read_state_like(
         return read_state_after(c, bytes, version, None, out);
     };
     let place = c.place();
-    let same = count_same_before(bytes, at.start, place, at.end);
+    let same = count_repeated_before(bytes, at.start, place, at.end);
     if same == at.end - at.start {
-        move_to(c, place + same);
+        pass_unread_values_to(c, place + same);
         return Ok(ReadState {
             at,
             row: no_row(),
@@ -173,13 +173,13 @@ pub(crate) fn read_state_fields(
 ) -> Result<(usize, ValueRow), FormErr>
     requires short { length c.old.bytes ≤ 2 ^ 30 }
     requires same { c.old.bytes ≡ bytes.now }
-    requires held { IfSome before (ComesAgain version bytes.now out.old.regs c.old.place) }
+    requires held { IfSome before (StateComesAgain version bytes.now out.old.regs c.old.place) }
     ensures ok { OnOk result (state_at version c.old ≡ Ok (out.new, c.new)) }
     ensures err { IfErr result (λ e. state_at version c.old ≡ Err e) }
     ensures held { IfOk result
-        (λ r. StandFrom version bytes.now out.new.regs r.0 c.new.place) }
+        (λ r. ValuesStandFrom version bytes.now out.new.regs r.0 c.new.place) }
     ensures row { IfOk result (λ r. ChangesRow out.old.regs out.new.regs r.1) }
-    ensures from { IfOk result (λ r. IsFrom bytes.now r.0 r.1) }
+    ensures from { IfOk result (λ r. RowBeginsAtPlace bytes.now r.0 r.1) }
     ensures bytes { c.new.bytes ≡ c.old.bytes }
 {
     let start = c.place();
@@ -192,22 +192,37 @@ pub(crate) fn read_state_fields(
     Ok((at, row))
 }
 
-/// Returns the place up to which the bytes of a state's values come again at `at`, where its own
-/// bytes come again at `start`. They are compared again only if the bytes before the values differ,
-/// or are more or fewer.
-pub(crate) fn end_of_same(bytes: &[u8], state: RepeatedState, start: usize, at: usize) -> usize
-    requires short { length bytes.now ≤ 2 ^ 30 }
-    requires inside { at ≤ length bytes.now }
-    requires values { state.at.values ≤ length bytes.now }
-    requires again { IsRepeated bytes.now start state }
-    ensures from { state.at.values ≤ result }
-    ensures first { result ≤ length bytes.now }
-    ensures second { at + (result - state.at.values) ≤ length bytes.now }
-    ensures same { StandAlike bytes.now state.at.values at (result - state.at.values) }
+/// Reads a state over the one before, whose bytes don't all come again.
+#[inline(never)]
+pub(crate) fn read_state_after(
+    c: &mut Cursor<'_>,
+    bytes: &[u8],
+    version: u8,
+    before: Option<RepeatedState>,
+    out: &mut State,
+) -> Result<ReadState, FormErr>
+    requires short { length c.old.bytes ≤ 2 ^ 30 }
+    requires same { c.old.bytes ≡ bytes.now }
+    requires held { IfSome before (StateComesAgain version bytes.now out.old.regs c.old.place) }
+    ensures ok { OnOk result (state_at version c.old ≡ Ok (out.new, c.new)) }
+    ensures err { IfErr result (λ e. state_at version c.old ≡ Err e) }
+    ensures held { IfOk result (λ r. StateStandsAtPlaces version bytes.now out.new r.at) }
+    ensures row { IfOk result (λ r. ChangesRow out.old.regs out.new.regs r.row) }
+    ensures from { IfOk result (λ r. RowBeginsAtPlace bytes.now r.at.values r.row) }
+    ensures other { IfOk result (λ r. r.same ≡ false) }
+    ensures bytes { c.new.bytes ≡ c.old.bytes }
 {
-    let front = at.saturating_sub(start);
-    if start + front == at && state.at.start + front == state.at.values && front < state.same {
-        return state.at.start + state.same;
-    }
-    state.at.values + count_same_before(bytes, state.at.values, at, state.at.end)
+    let start = c.place();
+    let fields = read_state_fields(c, bytes, version, before, out)?;
+    let end = c.place();
+    let at = StatePlaces {
+        start,
+        values: fields.0,
+        end,
+    };
+    Ok(ReadState {
+        at,
+        row: fields.1,
+        same: false,
+    })
 }

@@ -1,43 +1,46 @@
 // Fast path: how many bytes are equal at two places?
 // From 1,024 bytes on they are compared as slices first. Where those differ, and below, they are
 // compared eight at a time: 64 in a turn, then 16. A turn of 64 takes some 28 instructions.
-ghost use Rattle.std.specs.Prelude.{◌≡◌, ◌≤◌, ◌<◌, ◌+◌, ◌*◌, IsTrue, length, slice_index, take, drop, ◌-◌, IsFalse};
-ghost use Rattle.tcd_base.specs.Bytes.{word_at};
-ghost use Rattle.packed_cert.specs.ValuesAtPlaces.{eight_at, StandAlike};
-ghost use Rattle.packed_cert.specs.Moves.{MovedOver};
+ghost use Rattle.std.specs.Prelude.{◌≡◌, ◌≤◌, ◌<◌, ◌+◌, ◌*◌, IsTrue, length, slice_index, take, drop, ◌-◌, IsFalse, ◌^◌};
+ghost use Rattle.tcd_base.specs.Bytes.{word_in_bytes};
+ghost use Rattle.packed_cert.specs.ValuesAtPlaces.{SameBytesAtPlaces};
+ghost use Rattle.packed_cert.specs.ValuesInBytes.{eight_bytes_at_place};
+ghost use Rattle.packed_cert.specs.Moves.{MovesOverRepeated};
+ghost use Rattle.packed_cert.specs.PointsInBytes.{IsRepeated};
 
+use crate::places::RepeatedState;
 use crate::value_reader::FEW_BYTES;
 use tcd_base::Cursor;
 
 /// Counts the bytes that are equal at two places, up to `end` at the first.
-pub(crate) fn count_same_before(bytes: &[u8], x: usize, y: usize, end: usize) -> usize
+pub(crate) fn count_repeated_before(bytes: &[u8], x: usize, y: usize, end: usize) -> usize
     requires first { x ≤ length bytes.now }
     requires second { y ≤ length bytes.now }
     ensures first { x + result ≤ length bytes.now }
     ensures second { y + result ≤ length bytes.now }
-    ensures same { StandAlike bytes.now x y result }
+    ensures same { SameBytesAtPlaces bytes.now x y result }
 {
     let n = end.min(bytes.len()).saturating_sub(x).min(bytes.len() - y);
-    count_same(bytes, x, y, n)
+    count_repeated_bytes(bytes, x, y, n)
 }
 
 /// Counts equal bytes at two places: many as slices, else eight at a time, then byte by byte. The
 /// contract says that the counted bytes are equal, not that the next ones differ.
-pub(crate) fn count_same(bytes: &[u8], x: usize, y: usize, n: usize) -> usize
+pub(crate) fn count_repeated_bytes(bytes: &[u8], x: usize, y: usize, n: usize) -> usize
     requires first { x + n ≤ length bytes.now }
     requires second { y + n ≤ length bytes.now }
     ensures within { result ≤ n }
-    ensures same { StandAlike bytes.now x y result }
+    ensures same { SameBytesAtPlaces bytes.now x y result }
 {
-    if n >= MANY_BYTES && are_same(bytes, x, y, n) {
+    if n >= MANY_BYTES && are_bytes_repeated(bytes, x, y, n) {
         return n;
     }
-    let blocks = same_blocks(bytes, x, y, n);
-    let from = same_eights(bytes, x, y, blocks, n);
-    if ends_alike(bytes, x, y, from, n) {
+    let blocks = count_repeated_blocks(bytes, x, y, n);
+    let from = count_repeated_eights(bytes, x, y, blocks, n);
+    if are_last_eight_repeated(bytes, x, y, from, n) {
         return n;
     }
-    same_from(bytes, x, y, from, n)
+    count_repeated_from(bytes, x, y, from, n)
 }
 
 /// At least this number of bytes is compared as slices first. That takes 17 instructions for 64
@@ -45,10 +48,10 @@ pub(crate) fn count_same(bytes: &[u8], x: usize, y: usize, n: usize) -> usize
 const MANY_BYTES: usize = 1024;
 
 /// Returns true only if these bytes are equal at two places.
-fn are_same(bytes: &[u8], x: usize, y: usize, n: usize) -> bool
+fn are_bytes_repeated(bytes: &[u8], x: usize, y: usize, n: usize) -> bool
     requires first { x + n ≤ length bytes.now }
     requires second { y + n ≤ length bytes.now }
-    ensures { IsTrue result → StandAlike bytes.now x y n }
+    ensures { IsTrue result → SameBytesAtPlaces bytes.now x y n }
 {
     let first = &bytes[x..x + n];
     let second = &bytes[y..y + n];
@@ -60,15 +63,15 @@ const BLOCK: usize = 64;
 
 /// Counts the bytes that are equal at two places, as far as whole blocks are.
 #[inline(always)]
-fn same_blocks(bytes: &[u8], x: usize, y: usize, n: usize) -> usize
+fn count_repeated_blocks(bytes: &[u8], x: usize, y: usize, n: usize) -> usize
     requires first { x + n ≤ length bytes.now }
     requires second { y + n ≤ length bytes.now }
     ensures within { result ≤ n }
-    ensures same { StandAlike bytes.now x y result }
+    ensures same { SameBytesAtPlaces bytes.now x y result }
 {
     let mut i = 0;
     while i + BLOCK <= n {
-        if !is_same_block(bytes, x, y, i) {
+        if !is_block_repeated(bytes, x, y, i) {
             return i;
         }
         i += BLOCK;
@@ -78,60 +81,62 @@ fn same_blocks(bytes: &[u8], x: usize, y: usize, n: usize) -> usize
 
 /// Returns true if the block after the first `i` bytes is equal at two places, where these are.
 #[inline(always)]
-fn is_same_block(bytes: &[u8], x: usize, y: usize, i: usize) -> bool
+fn is_block_repeated(bytes: &[u8], x: usize, y: usize, i: usize) -> bool
     requires first { x + i + 64 ≤ length bytes.now }
     requires second { y + i + 64 ≤ length bytes.now }
-    requires same { StandAlike bytes.now x y i }
-    ensures { IsTrue result → StandAlike bytes.now x y (i + 64) }
+    requires same { SameBytesAtPlaces bytes.now x y i }
+    ensures { IsTrue result → SameBytesAtPlaces bytes.now x y (i + 64) }
 {
-    if !is_same_half(bytes, x, y, i) {
+    if !is_half_block_repeated(bytes, x, y, i) {
         return false;
     }
-    is_same_half(bytes, x, y, i + 32)
+    is_half_block_repeated(bytes, x, y, i + 32)
 }
 
+/// Returns true if the bytes at two places, of which the first `i` are equal, are equal in the next
+/// 32 too.
 #[inline(always)]
-fn is_same_half(bytes: &[u8], x: usize, y: usize, i: usize) -> bool
+fn is_half_block_repeated(bytes: &[u8], x: usize, y: usize, i: usize) -> bool
     requires first { x + i + 32 ≤ length bytes.now }
     requires second { y + i + 32 ≤ length bytes.now }
-    requires same { StandAlike bytes.now x y i }
-    ensures { IsTrue result → StandAlike bytes.now x y (i + 32) }
+    requires same { SameBytesAtPlaces bytes.now x y i }
+    ensures { IsTrue result → SameBytesAtPlaces bytes.now x y (i + 32) }
 {
-    if !is_same_eight(bytes, x + i, y + i) {
+    if !are_eight_bytes_repeated(bytes, x + i, y + i) {
         return false;
     }
-    if !is_same_eight(bytes, x + (i + 8), y + (i + 8)) {
+    if !are_eight_bytes_repeated(bytes, x + (i + 8), y + (i + 8)) {
         return false;
     }
-    if !is_same_eight(bytes, x + (i + 16), y + (i + 16)) {
+    if !are_eight_bytes_repeated(bytes, x + (i + 16), y + (i + 16)) {
         return false;
     }
-    is_same_eight(bytes, x + (i + 24), y + (i + 24))
+    are_eight_bytes_repeated(bytes, x + (i + 24), y + (i + 24))
 }
 
 /// Counts the bytes that are equal at two places, as far as eight at a time are. The first `from`
 /// are.
 #[inline(always)]
-fn same_eights(bytes: &[u8], x: usize, y: usize, from: usize, n: usize) -> usize
+fn count_repeated_eights(bytes: &[u8], x: usize, y: usize, from: usize, n: usize) -> usize
     requires first { x + n ≤ length bytes.now }
     requires second { y + n ≤ length bytes.now }
     requires from { from ≤ n }
-    requires same { StandAlike bytes.now x y from }
+    requires same { SameBytesAtPlaces bytes.now x y from }
     ensures within { result ≤ n }
-    ensures same { StandAlike bytes.now x y result }
+    ensures same { SameBytesAtPlaces bytes.now x y result }
 {
     let mut i = from;
     while i + 16 <= n {
-        if !is_same_eight(bytes, x + i, y + i) {
+        if !are_eight_bytes_repeated(bytes, x + i, y + i) {
             return i;
         }
         let k = i + 8;
-        if !is_same_eight(bytes, x + k, y + k) {
+        if !are_eight_bytes_repeated(bytes, x + k, y + k) {
             return k;
         }
         i = k + 8;
     }
-    if i + 8 <= n && is_same_eight(bytes, x + i, y + i) {
+    if i + 8 <= n && are_eight_bytes_repeated(bytes, x + i, y + i) {
         return i + 8;
     }
     i
@@ -139,27 +144,27 @@ fn same_eights(bytes: &[u8], x: usize, y: usize, from: usize, n: usize) -> usize
 
 /// Returns true if the last eight of these bytes are equal, and the first `from` reach up to them.
 #[inline(always)]
-fn ends_alike(bytes: &[u8], x: usize, y: usize, from: usize, n: usize) -> bool
+fn are_last_eight_repeated(bytes: &[u8], x: usize, y: usize, from: usize, n: usize) -> bool
     requires first { x + n ≤ length bytes.now }
     requires second { y + n ≤ length bytes.now }
-    requires same { StandAlike bytes.now x y from }
-    ensures { IsTrue result → StandAlike bytes.now x y n }
+    requires same { SameBytesAtPlaces bytes.now x y from }
+    ensures { IsTrue result → SameBytesAtPlaces bytes.now x y n }
 {
     if n < 8 || n - 8 > from {
         return false;
     }
-    is_same_eight(bytes, x + (n - 8), y + (n - 8))
+    are_eight_bytes_repeated(bytes, x + (n - 8), y + (n - 8))
 }
 
 /// Counts the bytes that are equal at two places, if the first `from` are.
 #[inline(always)]
-fn same_from(bytes: &[u8], x: usize, y: usize, from: usize, n: usize) -> usize
+fn count_repeated_from(bytes: &[u8], x: usize, y: usize, from: usize, n: usize) -> usize
     requires first { x + n ≤ length bytes.now }
     requires second { y + n ≤ length bytes.now }
     requires from { from ≤ n }
-    requires same { StandAlike bytes.now x y from }
+    requires same { SameBytesAtPlaces bytes.now x y from }
     ensures within { result ≤ n }
-    ensures same { StandAlike bytes.now x y result }
+    ensures same { SameBytesAtPlaces bytes.now x y result }
 {
     let mut i = from;
     while i < n {
@@ -171,19 +176,20 @@ fn same_from(bytes: &[u8], x: usize, y: usize, from: usize, n: usize) -> usize
     i
 }
 
-fn is_same_eight(bytes: &[u8], x: usize, y: usize) -> bool
+/// Returns true if the eight bytes from one place on are repeated at another.
+fn are_eight_bytes_repeated(bytes: &[u8], x: usize, y: usize) -> bool
     requires first { x + 8 ≤ length bytes.now }
     requires second { y + 8 ≤ length bytes.now }
-    ensures { IsTrue result → eight_at bytes.now x ≡ eight_at bytes.now y }
+    ensures { IsTrue result → eight_bytes_at_place bytes.now x ≡ eight_bytes_at_place bytes.now y }
 {
-    eight(bytes, x) == eight(bytes, y)
+    eight_bytes_to_compare(bytes, x) == eight_bytes_to_compare(bytes, y)
 }
 
 /// Returns the eight bytes from a place on as a number.
 #[inline(always)]
-fn eight(bytes: &[u8], place: usize) -> u64
+fn eight_bytes_to_compare(bytes: &[u8], place: usize) -> u64
     requires { place + 8 ≤ length bytes.now }
-    ensures { result ≡ eight_at bytes.now place }
+    ensures { result ≡ eight_bytes_at_place bytes.now place }
 {
     u64::from_le_bytes([
         bytes[place],
@@ -199,10 +205,15 @@ fn eight(bytes: &[u8], place: usize) -> u64
 
 /// Returns true if the bytes from `x` on come again at the cursor, which then moves past them.
 #[inline(always)]
-pub(crate) fn passes(c: &mut Cursor<'_>, bytes: &[u8], x: usize, n: usize) -> bool
+pub(crate) fn has_passed_repeated_bytes(
+    c: &mut Cursor<'_>,
+    bytes: &[u8],
+    x: usize,
+    n: usize,
+) -> bool
     requires same { c.old.bytes ≡ bytes.now }
     requires within { x + n ≤ length bytes.now }
-    ensures moved { IsTrue result → MovedOver bytes.now x n c.old c.new }
+    ensures moved { IsTrue result → MovesOverRepeated bytes.now x n c.old c.new }
     ensures kept { IsFalse result → c.new ≡ c.old }
 {
     let y = c.place();
@@ -210,9 +221,29 @@ pub(crate) fn passes(c: &mut Cursor<'_>, bytes: &[u8], x: usize, n: usize) -> bo
         return false;
     }
     if n < FEW_BYTES {
-        return count_same(bytes, x, y, n) == n && c.take(n).is_some();
+        return count_repeated_bytes(bytes, x, y, n) == n && c.take(n).is_some();
     }
     let before = &bytes[x..x + n];
     let here = &bytes[y..y + n];
     before == here && c.take(n).is_some()
+}
+
+/// Returns the place up to which the bytes of a state's values come again at `at`, where its own
+/// bytes come again at `start`. They are compared again only if the bytes before the values differ,
+/// or are more or fewer.
+pub(crate) fn end_of_same(bytes: &[u8], state: RepeatedState, start: usize, at: usize) -> usize
+    requires short { length bytes.now ≤ 2 ^ 30 }
+    requires inside { at ≤ length bytes.now }
+    requires values { state.at.values ≤ length bytes.now }
+    requires again { IsRepeated bytes.now start state }
+    ensures from { state.at.values ≤ result }
+    ensures first { result ≤ length bytes.now }
+    ensures second { at + (result - state.at.values) ≤ length bytes.now }
+    ensures same { SameBytesAtPlaces bytes.now state.at.values at (result - state.at.values) }
+{
+    let front = at.saturating_sub(start);
+    if start + front == at && state.at.start + front == state.at.values && front < state.same {
+        return state.at.start + state.same;
+    }
+    state.at.values + count_repeated_before(bytes, state.at.values, at, state.at.end)
 }

@@ -5,14 +5,13 @@ ghost use Rattle.value_domain.specs.Values.{any_val, IsBelow};
 ghost use Rattle.value_domain.specs.State.{AreWell, AreBelow};
 ghost use Rattle.value_domain.specs.State as states;
 ghost use Rattle.depth_cert.specs.Exits.{with_lower_from};
-ghost use Rattle.packed_cert.specs.ValuesAtPlaces.{behind};
-ghost use Rattle.packed_cert.specs.ValuesInBytes.{value_in, HasValue, values_in, HaveValues};
+ghost use Rattle.packed_cert.specs.ValuesInBytes.{place_after_value, value_in, HasValueInBytes, values_in, HaveValuesInBytes};
 
-use crate::certs::are_bytes;
-use crate::covered_values::is_read_below;
+use crate::certs::packed_bytes_below_256;
+use crate::covered_values::is_read_value_covered;
 use crate::places::VALUES;
-use crate::value_reader::length_by;
-use crate::values_at_places::{is_below_at, value};
+use crate::value_reader::value_length_by_tag;
+use crate::values_at_places::{is_below_at, value_at_place};
 use value_domain::Val;
 use vd_transfer::is_lower_slot;
 
@@ -30,15 +29,15 @@ pub(crate) fn are_restored_below(regs: &[Val; 27], lower: ValuesAt<'_>, high: Va
     requires well { AreWell regs.now }
     requires low_short { length lower.bytes.now ≤ 2 ^ 30 }
     requires high_short { length high.bytes.now ≤ 2 ^ 30 }
-    requires low { HaveValues lower.version lower.bytes.now lower.place 14 }
-    requires high { HaveValues high.version high.bytes.now high.place 27 }
+    requires low { HaveValuesInBytes lower.version lower.bytes.now lower.place 14 }
+    requires high { HaveValuesInBytes high.version high.bytes.now high.place 27 }
     ensures { IsTrue result
         ↔ AreBelow
         (with_lower_from 0
         (values_in lower.entry.version lower.entry.bytes.now lower.entry.place 14) regs.now)
         (values_in high.entry.version high.entry.bytes.now high.entry.place 27) }
 {
-    are_bytes(high.bytes);
+    packed_bytes_below_256(high.bytes);
     let mut from = lower.place;
     let mut at = high.place;
     for i in 0..VALUES {
@@ -56,7 +55,7 @@ pub(crate) fn are_restored_below(regs: &[Val; 27], lower: ValuesAt<'_>, high: Va
             return false;
         }
         from = next_lower(i, low);
-        at += length_by(high.bytes[at]);
+        at += value_length_by_tag(high.bytes[at]);
     }
     true
 }
@@ -68,8 +67,9 @@ fn is_restored_below(regs: &[Val; 27], i: usize, low: ValuesAt<'_>, high: Values
     requires well { AreWell regs.now }
     requires low_short { length low.bytes.now ≤ 2 ^ 30 }
     requires high_short { length high.bytes.now ≤ 2 ^ 30 }
-    requires low { IsTrue (states.is_lower_slot i) → HasValue low.version low.bytes.now low.place }
-    requires high { HasValue high.version high.bytes.now high.place }
+    requires low { IsTrue (states.is_lower_slot i)
+        → HasValueInBytes low.version low.bytes.now low.place }
+    requires high { HasValueInBytes high.version high.bytes.now high.place }
     ensures { IsTrue result
         ↔ IsBelow
         (if states.is_lower_slot i
@@ -77,14 +77,14 @@ fn is_restored_below(regs: &[Val; 27], i: usize, low: ValuesAt<'_>, high: Values
         else slice_index_or regs.now i any_val)
         (value_in high.entry.version high.entry.bytes.now high.entry.place) }
 {
-    are_bytes(low.bytes);
-    are_bytes(high.bytes);
+    packed_bytes_below_256(low.bytes);
+    packed_bytes_below_256(high.bytes);
     // All words: each value is below it.
     if high.bytes[high.place] == 0 {
         return true;
     }
     if is_lower_slot(i) {
-        return is_read_below(low, high);
+        return is_read_value_covered(low, high);
     }
     is_below_at(&regs[i], high.bytes, high.version, high.place)
 }
@@ -93,14 +93,15 @@ fn is_restored_below(regs: &[Val; 27], i: usize, low: ValuesAt<'_>, high: Values
 /// is a lower register's, and else `low`.
 fn next_lower(i: usize, low: ValuesAt<'_>) -> usize
     requires short { length low.bytes.now ≤ 2 ^ 30 }
-    requires low { IsTrue (states.is_lower_slot i) → HasValue low.version low.bytes.now low.place }
+    requires low { IsTrue (states.is_lower_slot i)
+        → HasValueInBytes low.version low.bytes.now low.place }
     ensures { result
-        ≡ (if states.is_lower_slot i then behind low.entry.bytes.now low.entry.place
+        ≡ (if states.is_lower_slot i then place_after_value low.entry.bytes.now low.entry.place
         else low.entry.place) }
 {
-    are_bytes(low.bytes);
+    packed_bytes_below_256(low.bytes);
     if is_lower_slot(i) {
-        return low.place + length_by(low.bytes[low.place]);
+        return low.place + value_length_by_tag(low.bytes[low.place]);
     }
     low.place
 }

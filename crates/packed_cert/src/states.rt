@@ -1,23 +1,18 @@
 // The type `StateAt`: a state that stays in the bytes of its certificate.
-ghost use Rattle.std.specs.Prelude.{◌≡◌, ◌≤◌, ◌+◌, ◌^◌, ◌↔◌, ◌==◌, if◌then◌else◌, IsTrue, length, ◌<◌, ◌-◌, false, Ok, Err, OnOk, IfOk, IfErr, IfSome};
+ghost use Rattle.std.specs.Prelude.{◌≡◌, ◌≤◌, ◌+◌, ◌^◌, ◌↔◌, ◌==◌, if◌then◌else◌, IsTrue, length, ◌<◌, ◌-◌, false};
 ghost use Rattle.value_domain.specs.State.{AreWell, Covers};
 ghost use Rattle.vd_transfer.specs.Changes.{state_after};
-ghost use Rattle.packed_cert.specs.ValuesInBytes.{flags_in, values_in, HaveValues};
-ghost use Rattle.packed_cert.specs.PointsInBytes.{state_in, HasState, StandsAt, ComesAgain};
-ghost use Rattle.tcd_base.specs.FieldReaders.{Reads};
-ghost use Rattle.depth_cert.specs.Grammar.{state_at};
-ghost use Rattle.packed_cert.specs.ChangedRows.{ChangesRow, IsFrom};
+ghost use Rattle.packed_cert.specs.ValuesInBytes.{values_in, HaveValuesInBytes};
+ghost use Rattle.packed_cert.specs.PointsInBytes.{flags_in, state_in, HasState};
 
 use crate::covered_values::{ToCover, are_covered_at};
 use crate::exits::ExitAt;
-use crate::places::{ReadState, RepeatedState, StatePlaces, VALUES};
-use crate::point_reader::read_state_fields;
+use crate::places::VALUES;
 use crate::restored_values::{ValuesAt, are_restored_below};
 use arrayvec::ArrayVec;
 use depth_cert::CALL;
 use std::marker::Model;
-use tcd_base::{Cursor, FormErr};
-use value_domain::{State, are_implied};
+use value_domain::{State, are_flags_implied};
 use vd_transfer::Change;
 
 /// A state that stays in the bytes of its certificate.
@@ -30,8 +25,7 @@ pub struct StateAt<'a> {
 
 impl<'a> Model for StateAt<'a> {
     ghost use Rattle.value_domain.specs.declared.states.State.{State};
-    ghost use Rattle.packed_cert.specs.PointsInBytes.{state_in};
-    ghost use Rattle.packed_cert.specs.ValuesInBytes.{IsStateAt};
+    ghost use Rattle.packed_cert.specs.PointsInBytes.{state_in, IsStateAt};
 
     ghost Value = { State };
 
@@ -82,13 +76,13 @@ impl<'a> StateAt<'a> {
         ensures { result.items ≡ self.now.locals.items }
     {
         let count = self.bytes[self.place + 3];
-        flags_at(self.bytes, self.place + 4, count)
+        state_locals_at(self.bytes, self.place + 4, count)
     }
 }
 
 impl<'a> StateAt<'a> {
     ghost use Rattle.value_domain.specs.State.{AreWell, AreBelow, Covers};
-    ghost use Rattle.depth_cert.specs.Exits.{after_of};
+    ghost use Rattle.depth_cert.specs.Exits.{state_after_exit};
     ghost use Rattle.vd_transfer.specs.Changes.{state_after};
 
     /// Returns true if this context covers another.
@@ -109,7 +103,7 @@ impl<'a> StateAt<'a> {
         if !self.covers_context(s.ie, s.ccpn, s.lower) {
             return false;
         }
-        if !are_implied(self.locals().as_slice(), s.locals.as_slice()) {
+        if !are_flags_implied(self.locals().as_slice(), s.locals.as_slice()) {
             return false;
         }
         let place = place_of_values(self.bytes, self.version, self.place);
@@ -125,7 +119,7 @@ impl<'a> StateAt<'a> {
         if !self.covers_context(c.ie, c.ccpn, c.lower) {
             return false;
         }
-        if !are_implied(self.locals().as_slice(), c.locals.as_slice()) {
+        if !are_flags_implied(self.locals().as_slice(), c.locals.as_slice()) {
             return false;
         }
         let place = place_of_values(self.bytes, self.version, self.place);
@@ -142,13 +136,13 @@ impl<'a> StateAt<'a> {
     /// exit. Neither is read.
     pub fn covers_after(&self, s: &State, exit: &ExitAt<'_>, kind: u8) -> bool
         requires { AreWell s.now.regs }
-        ensures { IsTrue result ↔ Covers self.now (after_of s.now exit.now kind) }
+        ensures { IsTrue result ↔ Covers self.now (state_after_exit s.now exit.now kind) }
     {
         let (ie, ccpn) = status_after(s, exit, kind);
         if !self.covers_context(ie, ccpn, false) {
             return false;
         }
-        if !are_implied(self.locals().as_slice(), s.locals.as_slice()) {
+        if !are_flags_implied(self.locals().as_slice(), s.locals.as_slice()) {
             return false;
         }
         let high = ValuesAt {
@@ -172,8 +166,8 @@ fn status_after(s: &State, exit: &ExitAt<'_>, kind: u8) -> (bool, u8)
     (s.ie, s.ccpn)
 }
 
-/// Returns the truth values from a place on.
-fn flags_at(bytes: &[u8], place: usize, count: u8) -> ArrayVec<bool, 8>
+/// Returns the flags of a state's local areas, which the bytes have from a place on, a byte each.
+fn state_locals_at(bytes: &[u8], place: usize, count: u8) -> ArrayVec<bool, 8>
     requires short { length bytes.now ≤ 2 ^ 30 }
     requires within { place + count ≤ length bytes.now }
     requires few { count ≤ 8 }
@@ -191,44 +185,9 @@ fn place_of_values(bytes: &[u8], version: u8, place: usize) -> usize
     requires short { length bytes.now ≤ 2 ^ 30 }
     requires inside { place ≤ length bytes.now }
     requires state { HasState version bytes.now place }
-    ensures have { HaveValues version bytes.now result 27 }
+    ensures have { HaveValuesInBytes version bytes.now result 27 }
     ensures values { (state_in version bytes.now place).regs
         ≡ values_in version bytes.now result 27 }
 {
     place + 4 + bytes[place + 3] as usize
-}
-
-/// Reads a state over the one before, whose bytes don't all come again.
-#[inline(never)]
-pub(crate) fn read_state_after(
-    c: &mut Cursor<'_>,
-    bytes: &[u8],
-    version: u8,
-    before: Option<RepeatedState>,
-    out: &mut State,
-) -> Result<ReadState, FormErr>
-    requires short { length c.old.bytes ≤ 2 ^ 30 }
-    requires same { c.old.bytes ≡ bytes.now }
-    requires held { IfSome before (ComesAgain version bytes.now out.old.regs c.old.place) }
-    ensures ok { OnOk result (state_at version c.old ≡ Ok (out.new, c.new)) }
-    ensures err { IfErr result (λ e. state_at version c.old ≡ Err e) }
-    ensures held { IfOk result (λ r. StandsAt version bytes.now out.new r.at) }
-    ensures row { IfOk result (λ r. ChangesRow out.old.regs out.new.regs r.row) }
-    ensures from { IfOk result (λ r. IsFrom bytes.now r.at.values r.row) }
-    ensures other { IfOk result (λ r. r.same ≡ false) }
-    ensures bytes { c.new.bytes ≡ c.old.bytes }
-{
-    let start = c.place();
-    let fields = read_state_fields(c, bytes, version, before, out)?;
-    let end = c.place();
-    let at = StatePlaces {
-        start,
-        values: fields.0,
-        end,
-    };
-    Ok(ReadState {
-        at,
-        row: fields.1,
-        same: false,
-    })
 }

@@ -1,18 +1,16 @@
 // Reads values over those of the state before.
 // Fast path: a value whose bytes come again isn't read. Bytes are compared for many values at once.
 ghost use Rattle.std.specs.Prelude.{◌≡◌, ◌≤◌, ◌<◌, ◌+◌, ◌-◌, ◌^◌, ℕ, List, length, Ok, Err, OnOk, IfOk, IfErr, IfSome};
-ghost use Rattle.packed_cert.specs.ValuesAtPlaces.{StandFrom, StandAlike, at};
-ghost use Rattle.packed_cert.specs.ChangedRows.{ChangesRow, IsFrom, IsWithRead};
-ghost use Rattle.packed_cert.specs.ValuesInBytes.{place_after};
-ghost use Rattle.packed_cert.specs.ValuesAtPlaces as standing;
+ghost use Rattle.packed_cert.specs.ValuesAtPlaces.{ValuesStandFrom, SameBytesAtPlaces};
+ghost use Rattle.packed_cert.specs.ValuesInBytes.{place_after_values};
+ghost use Rattle.packed_cert.specs.ChangedRows.{ChangesRow, RowBeginsAtPlace, IsWithRead};
+ghost use Rattle.packed_cert.specs.ValuesInBytes as standing;
 ghost use Rattle.depth_cert.specs.Grammar.{values_at};
-ghost use Rattle.tcd_base.specs.FieldReaders.{Reads};
-ghost use Rattle.packed_cert.specs.PointsInBytes.{ComesAgain};
-ghost use Rattle.tcd_base.specs.Bytes.{word_at};
+ghost use Rattle.packed_cert.specs.PointsInBytes.{StateComesAgain};
+ghost use Rattle.tcd_base.specs.Bytes.{word_in_bytes};
 
-use crate::places::{RepeatedState, StatePlaces, ValueRow};
-use crate::point_reader::end_of_same;
-use crate::repeated_bytes::count_same_before;
+use crate::places::{RepeatedState, StatePlaces, ValueRow, no_row};
+use crate::repeated_bytes::{count_repeated_before, end_of_same};
 use depth_cert::{read_value, read_values};
 use tcd_base::{Cursor, FormErr};
 use value_domain::Val;
@@ -38,15 +36,15 @@ pub(crate) fn read_values_after(
     requires short { length c.old.bytes ≤ 2 ^ 30 }
     requires same { c.old.bytes ≡ bytes.now }
     requires few { length out.old ≤ 27 }
-    requires held { StandFrom version bytes.now out.old before.values before.end }
+    requires held { ValuesStandFrom version bytes.now out.old before.values before.end }
     requires start { before.values ≤ stop }
     requires first { stop ≤ length bytes.now }
     requires second { c.old.place + (stop - before.values) ≤ length bytes.now }
-    requires again { StandAlike bytes.now before.values c.old.place (stop - before.values) }
+    requires again { SameBytesAtPlaces bytes.now before.values c.old.place (stop - before.values) }
     ensures ok { OnOk result (values_at version (length out.old) c.old ≡ Ok (out.new, c.new)) }
     ensures err { IfErr result (λ e. values_at version (length out.old) c.old ≡ Err e) }
     ensures row { IfOk result (ChangesRow out.old out.new) }
-    ensures from { IfOk result (IsFrom bytes.now c.old.place) }
+    ensures from { IfOk result (RowBeginsAtPlace bytes.now c.old.place) }
     ensures bytes { c.new.bytes ≡ c.old.bytes }
 {
     let mut row = no_row();
@@ -55,46 +53,35 @@ pub(crate) fn read_values_after(
     let mut stop = stop;
     for i in 0..out.len() {
         if stop == before.end {
-            move_to(c, place + (stop - from));
+            pass_unread_values_to(c, place + (stop - from));
             return Ok(row);
         }
-        let n = length_by(bytes[from]);
+        let n = value_length_by_tag(bytes[from]);
         let next = from + n;
         if next <= stop {
             place += n;
         } else {
-            move_to(c, place);
+            pass_unread_values_to(c, place);
             read_value(c, version, &mut out[i])?;
             row = with_read(row, i as u8, place as u32);
             place = c.place();
-            stop = next + count_same_before(bytes, next, place, before.end);
+            stop = next + count_repeated_before(bytes, next, place, before.end);
         }
         from = next;
     }
-    move_to(c, place);
+    pass_unread_values_to(c, place);
     Ok(row)
 }
 
 /// Returns the number of bytes of a value that begins with this one.
 #[inline(always)]
-pub(crate) fn length_by(tag: u8) -> usize
-    ensures { result ≡ standing.length_by tag }
+pub(crate) fn value_length_by_tag(tag: u8) -> usize
+    ensures { result ≡ standing.value_length_by_tag tag }
 {
     if tag <= MOST_WORDS {
         1 + 4 * tag as usize
     } else {
         9
-    }
-}
-
-/// Returns the row of no value.
-pub(crate) fn no_row() -> ValueRow
-    ensures { result ≡ record { first = 0; behind = 0; from = 0 } }
-{
-    ValueRow {
-        first: 0,
-        behind: 0,
-        from: 0,
     }
 }
 
@@ -104,8 +91,8 @@ fn with_read(row: ValueRow, i: u8, place: u32) -> ValueRow
     requires behind { row.behind ≤ i }
     requires number { i < 27 }
     ensures read { IsWithRead row i result }
-    ensures from { (bytes : List ℕ) (x : ℕ) → IsFrom bytes x row
-        → place ≡ place_after bytes x i → IsFrom bytes x result }
+    ensures from { (bytes : List ℕ) (x : ℕ) → RowBeginsAtPlace bytes x row
+        → place ≡ place_after_values bytes x i → RowBeginsAtPlace bytes x result }
 {
     if row.behind == 0 {
         return ValueRow {
@@ -121,9 +108,9 @@ fn with_read(row: ValueRow, i: u8, place: u32) -> ValueRow
     }
 }
 
-/// Moves a cursor on to a place.
+/// Moves a cursor on to a place, past values that come again and so aren't read.
 #[inline(always)]
-pub(crate) fn move_to(c: &mut Cursor<'_>, place: usize)
+pub(crate) fn pass_unread_values_to(c: &mut Cursor<'_>, place: usize)
     requires order { c.old.place ≤ place }
     requires within { place ≤ length c.old.bytes }
     ensures { c.new ≡ record c.old { place = place } }
@@ -145,11 +132,11 @@ pub(crate) fn read_values_like(
     requires short { length c.old.bytes ≤ 2 ^ 30 }
     requires same { c.old.bytes ≡ bytes.now }
     requires few { length out.old ≤ 27 }
-    requires held { IfSome before (ComesAgain version bytes.now out.old start) }
+    requires held { IfSome before (StateComesAgain version bytes.now out.old start) }
     ensures ok { OnOk result (values_at version (length out.old) c.old ≡ Ok (out.new, c.new)) }
     ensures err { IfErr result (λ e. values_at version (length out.old) c.old ≡ Err e) }
     ensures row { IfOk result (ChangesRow out.old out.new) }
-    ensures from { IfOk result (IsFrom bytes.now c.old.place) }
+    ensures from { IfOk result (RowBeginsAtPlace bytes.now c.old.place) }
     ensures bytes { c.new.bytes ≡ c.old.bytes }
 {
     if let Some(state) = before {
@@ -168,10 +155,10 @@ pub(crate) fn read_values_like(
     }
 }
 
-/// Returns the word at a place.
-pub(crate) fn word(bytes: &[u8], place: usize) -> u32
+/// Reads a word of a value at a place in the bytes of a packed certificate.
+pub(crate) fn read_value_word(bytes: &[u8], place: usize) -> u32
     requires { place + 4 ≤ length bytes.now }
-    ensures { result ≡ word_at bytes.now place }
+    ensures { result ≡ word_in_bytes bytes.now place }
 {
     u32::from_le_bytes([
         bytes[place],

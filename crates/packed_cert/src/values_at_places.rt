@@ -4,20 +4,19 @@ ghost use Rattle.value_domain.specs.declared.values.Val.{Val};
 ghost use Rattle.value_domain.specs.declared.values.Val.TheVariants.{Set};
 ghost use Rattle.value_domain.specs.Sets.{AreWords};
 ghost use Rattle.value_domain.specs.Values.{IsWell, IsBelow, IsValue};
-ghost use Rattle.packed_cert.specs.ValuesInBytes.{words_at, value_in, HasValue, values_in, HaveValues};
+ghost use Rattle.packed_cert.specs.ValuesInBytes.{words_at, value_in, HasValueInBytes, values_in, HaveValuesInBytes, place_in_bytes};
 ghost use Rattle.value_domain.specs.State.{AreValues};
-ghost use Rattle.packed_cert.specs.ValuesAtPlaces.{at};
 
-use crate::covered_values::{are_among, is_below_read, is_below_span_at};
-use crate::value_reader::{MOST_WORDS, length_by, word};
+use crate::covered_values::{are_words_covered_at, is_below_span_at, is_covered_by_read};
+use crate::value_reader::{MOST_WORDS, read_value_word, value_length_by_tag};
 use depth_cert::SPAN;
 use value_domain::{Bounds, Val, is_value, set_span, set_words, write_any};
 
-/// Returns true if a value is below the one at a place.
+/// Tests a value at a place in the bytes: returns true if another value is below it.
 pub(crate) fn is_below_at(v: &Val, bytes: &[u8], version: u8, place: usize) -> bool
     requires short { length bytes.now ≤ 2 ^ 30 }
     requires well { IsWell v.now }
-    requires stands { HasValue version bytes.now place }
+    requires stands { HasValueInBytes version bytes.now place }
     ensures { IsTrue result ↔ IsBelow v.now (value_in version bytes.now place) }
 {
     let tag = bytes[place];
@@ -31,12 +30,13 @@ pub(crate) fn is_below_at(v: &Val, bytes: &[u8], version: u8, place: usize) -> b
         return true;
     }
     match v {
-        Val::Set(words) => are_among(words.as_slice(), bytes, place + 1, tag as usize),
-        Val::Span { .. } => is_below_read(v, bytes, version, place),
+        Val::Set(words) => are_words_covered_at(words.as_slice(), bytes, place + 1, tag as usize),
+        Val::Span { .. } => is_covered_by_read(v, bytes, version, place),
     }
 }
 
-/// Returns true if a value has just the `n` words at a place.
+/// Tests the `n` words at a place in the bytes: returns true if a value is the Set of just these
+/// words.
 fn has_words_at(v: &Val, bytes: &[u8], place: usize, n: usize) -> bool
     requires within { place + 4 * n ≤ length bytes.now }
     ensures { IsTrue result → v.now ≡ Set (words_at bytes.now place n) }
@@ -49,7 +49,7 @@ fn has_words_at(v: &Val, bytes: &[u8], place: usize, n: usize) -> bool
         return false;
     }
     for i in 0..n {
-        if own[i] != word(bytes, place + 4 * i) {
+        if own[i] != read_value_word(bytes, place + 4 * i) {
             return false;
         }
     }
@@ -59,7 +59,7 @@ fn has_words_at(v: &Val, bytes: &[u8], place: usize, n: usize) -> bool
 /// Returns true if each of the `n` values from a place on is one of the plan and the version.
 pub(crate) fn are_values_at(b: &Bounds, bytes: &[u8], version: u8, place: usize, n: usize) -> bool
     requires short { length bytes.now ≤ 2 ^ 30 }
-    requires stand { HaveValues version bytes.now place n }
+    requires stand { HaveValuesInBytes version bytes.now place n }
     ensures { IsTrue result ↔ AreValues b.now (values_in version bytes.now place n) }
 {
     let _most_words = b.most_words();
@@ -70,7 +70,7 @@ pub(crate) fn are_values_at(b: &Bounds, bytes: &[u8], version: u8, place: usize,
         if tag != 0 && !is_value_at(b, bytes, version, at) {
             return false;
         }
-        at += length_by(tag);
+        at += value_length_by_tag(tag);
     }
     true
 }
@@ -79,28 +79,28 @@ pub(crate) fn are_values_at(b: &Bounds, bytes: &[u8], version: u8, place: usize,
 #[inline(never)]
 fn is_value_at(b: &Bounds, bytes: &[u8], version: u8, place: usize) -> bool
     requires short { length bytes.now ≤ 2 ^ 30 }
-    requires stands { HasValue version bytes.now place }
+    requires stands { HasValueInBytes version bytes.now place }
     ensures { IsTrue result ↔ IsValue b.now (value_in version bytes.now place) }
 {
-    is_value(b, &value(bytes, version, place))
+    is_value(b, &value_at_place(bytes, version, place))
 }
 
 /// Reads the value at a place.
 #[inline(never)]
-pub(crate) fn value(bytes: &[u8], version: u8, place: usize) -> Val
+pub(crate) fn value_at_place(bytes: &[u8], version: u8, place: usize) -> Val
     requires short { length bytes.now ≤ 2 ^ 30 }
-    requires stands { HasValue version bytes.now place }
+    requires stands { HasValueInBytes version bytes.now place }
     ensures { result ≡ value_in version bytes.now place }
 {
     let mut out = Val::any();
-    read_at(bytes, version, place, &mut out);
+    read_value_at_place(bytes, version, place, &mut out);
     out
 }
 
 /// Reads the value at a place over another one. A set that is there already isn't written.
-pub(crate) fn read_at(bytes: &[u8], version: u8, place: usize, out: &mut Val)
+pub(crate) fn read_value_at_place(bytes: &[u8], version: u8, place: usize, out: &mut Val)
     requires short { length bytes.now ≤ 2 ^ 30 }
-    requires stands { HasValue version bytes.now place }
+    requires stands { HasValueInBytes version bytes.now place }
     ensures { out.new ≡ value_in version bytes.now place }
 {
     let tag = bytes[place];
@@ -109,12 +109,12 @@ pub(crate) fn read_at(bytes: &[u8], version: u8, place: usize, out: &mut Val)
         return;
     }
     if tag == 1 {
-        set_words(out, &[word(bytes, place + 1)]);
+        set_words(out, &[read_value_word(bytes, place + 1)]);
         return;
     }
     if tag > MOST_WORDS {
-        let lo = word(bytes, place + 1);
-        let last = word(bytes, place + 5);
+        let lo = read_value_word(bytes, place + 1);
+        let last = read_value_word(bytes, place + 5);
         set_span(out, lo, last, tag - SPAN);
         return;
     }
@@ -122,14 +122,14 @@ pub(crate) fn read_at(bytes: &[u8], version: u8, place: usize, out: &mut Val)
         return;
     }
     if tag <= 8 {
-        set_at::<8>(out, bytes, place + 1, tag as usize);
+        make_set_at_place::<8>(out, bytes, place + 1, tag as usize);
     } else {
-        set_at::<128>(out, bytes, place + 1, tag as usize);
+        make_set_at_place::<128>(out, bytes, place + 1, tag as usize);
     }
 }
 
 /// Makes a value the Set of the words at a place, at most `N`.
-fn set_at<const N: usize>(out: &mut Val, bytes: &[u8], place: usize, n: usize)
+fn make_set_at_place<const N: usize>(out: &mut Val, bytes: &[u8], place: usize, n: usize)
     requires within { place + 4 * n ≤ length bytes.now }
     requires few { n ≤ N }
     requires small { N ≤ 128 }
@@ -138,7 +138,7 @@ fn set_at<const N: usize>(out: &mut Val, bytes: &[u8], place: usize, n: usize)
 {
     let mut words = [0u32; N];
     for i in 0..n {
-        words[i] = word(bytes, place + 4 * i);
+        words[i] = read_value_word(bytes, place + 4 * i);
     }
     set_words(out, &words[..n]);
 }

@@ -3,16 +3,16 @@ ghost use Rattle.std.specs.Prelude.{◌≡◌, ◌≤◌, ◌<◌, ◌-◌, ◌^
 ghost use Rattle.std.specs.List.Sorted.{IsStrictlyIncreasing};
 ghost use Rattle.packed_cert.specs.PointsInBytes.{state_in, HasState};
 ghost use Rattle.packed_cert.specs.ChangedRows.{ChangesRow};
-ghost use Rattle.packed_cert.specs.ValuesInBytes.{values_in, HaveValues};
+ghost use Rattle.packed_cert.specs.ValuesInBytes.{values_in, HaveValuesInBytes};
 ghost use Rattle.packed_cert.specs.Moves.{IsMoved};
 
-use crate::next_covers::covers_moved;
-use crate::nodes::place_of;
-use crate::places::{PackedPoint, ValueRow};
-use crate::point_reader::blank;
+use crate::next_covers::does_next_point_cover;
+use crate::nodes::node_point_place;
+use crate::places::{PackedPoint, ValueRow, no_row};
+use crate::point_reader::blank_state_for_reading;
 use crate::states::StateAt;
-use crate::value_reader::{length_by, no_row};
-use crate::values_at_places::read_at;
+use crate::value_reader::value_length_by_tag;
+use crate::values_at_places::read_value_at_place;
 use std::marker::Model;
 use value_domain::{State, Val};
 use vd_transfer::{Base, Change};
@@ -65,7 +65,7 @@ impl<'a> PointWalk<'a> {
             points: &[],
             next: 0,
             row: no_row(),
-            state: blank(),
+            state: blank_state_for_reading(),
         }
     }
 
@@ -94,7 +94,7 @@ impl<'a> PointWalk<'a> {
             return None;
         }
         let point = self.points[self.next];
-        self.row = move_on(self.bytes, self.version, point, &mut self.state);
+        self.row = walk_to_point(self.bytes, self.version, point, &mut self.state);
         self.next += 1;
         Some(point.addr)
     }
@@ -126,7 +126,7 @@ impl<'a> PointWalk<'a> {
             return false;
         }
         match c.base {
-            Base::Same => covers_moved(&self.state, c, self.bytes, self.version, point),
+            Base::Same => does_next_point_cover(&self.state, c, self.bytes, self.version, point),
             _ => false,
         }
     }
@@ -138,7 +138,7 @@ impl<'a> PointWalk<'a> {
         ensures { IsTrue result ↔ CoversAt self.now addr }
     {
         let points = self.points;
-        let at = place_of(points, addr, self.next);
+        let at = node_point_place(points, addr, self.next);
         if at < points.len() && points[at].addr == addr {
             let place = points[at].place;
             if self.next > 0 && points[self.next - 1].place == place {
@@ -168,7 +168,7 @@ impl<'a> PointWalk<'a> {
 
 /// Makes the state before a point that of the point: only the values of its row are read. Returns
 /// the row.
-fn move_on(bytes: &[u8], version: u8, point: PackedPoint, room: &mut State) -> ValueRow
+fn walk_to_point(bytes: &[u8], version: u8, point: PackedPoint, room: &mut State) -> ValueRow
     requires short { length bytes.now ≤ 2 ^ 30 }
     requires state { HasState version bytes.now point.place }
     requires moved { IsMoved version bytes.now room.old point }
@@ -194,7 +194,7 @@ fn read_row(bytes: &[u8], version: u8, point: PackedPoint, out: &mut [Val; 27])
     requires row { ChangesRow out.old (state_in version bytes.now point.place).regs point.row }
     requires few { point.row.behind ≤ 27 }
     requires have { 0 < point.row.behind
-        → HaveValues version bytes.now point.row.from (27 - point.row.first) }
+        → HaveValuesInBytes version bytes.now point.row.from (27 - point.row.first) }
     requires stand { 0 < point.row.behind
         → drop point.row.first (state_in version bytes.now point.place).regs
         ≡ values_in version bytes.now point.row.from (27 - point.row.first) }
@@ -203,7 +203,7 @@ fn read_row(bytes: &[u8], version: u8, point: PackedPoint, out: &mut [Val; 27])
     let _regs = &out[..];
     let mut at = point.row.from as usize;
     for i in point.row.first as usize..point.row.behind as usize {
-        read_at(bytes, version, at, &mut out[i]);
-        at += length_by(bytes[at]);
+        read_value_at_place(bytes, version, at, &mut out[i]);
+        at += value_length_by_tag(bytes[at]);
     }
 }

@@ -6,15 +6,15 @@ use Rattle.std.specs.Option.{option_map}
 use Rattle.value_domain.specs.declared.values.Val.{Val}
 use Rattle.value_domain.specs.declared.states.State.{State}
 use Rattle.value_domain.specs.Limits.{Limits}
-use Rattle.value_domain.specs.Values.{IsBelow, IsValue, IsWell, members}
-use Rattle.value_domain.specs.State.{AreBelow, AreValues, AreWell, Covers, ImpliedBy, join_of, joined_locals, joined_regs, joined_states}
+use Rattle.value_domain.specs.Values.{IsBelow, IsValue, IsWell, members, join_of}
+use Rattle.value_domain.specs.State.{AreBelow, AreValues, AreWell, Covers, FlagsImpliedBy, joined_locals, joined_regs, joined_states}
 use Rattle.value_domain.proofs.CoverLaws.{among_member, cover-same, has_step, member_among}
 use Rattle.value_domain.proofs.ExtentLaws.{among_append, append_right}
 use Rattle.value_domain.proofs.RegLaws.{implied_length}
 use Rattle.depth_cert.specs.declared.points.Exit.{Exit}
 use Rattle.depth_cert.specs.Exits.{ExitCovers, joined_exit}
 use Rattle.depth_cert.specs.Known.{CoversKnown, Known, joined_known, leaving, state}
-use Rattle.depth_cert.specs.Proper.{IsProper, IsProperExit, IsProperKnown}
+use Rattle.depth_cert.specs.Proper.{IsProperState, IsProperExit, IsProperKnown}
 use Rattle.small_states.proofs.IncomingLemmas.{values_well}
 
 -- ---- values
@@ -46,14 +46,14 @@ or_above false y h = refl
 or_above true true h = refl
 or_above true false h = absurd (let e : false ≡ true = h refl in cc)
 
-locals_above : (xs ys : List Bool) → ImpliedBy ys xs → joined_locals xs ys ≡ ys
+locals_above : (xs ys : List Bool) → FlagsImpliedBy ys xs → joined_locals xs ys ≡ ys
 locals_above [] [] h = refl
 locals_above [] (y ∷ ys) h = absurd h
 locals_above (x ∷ xs) [] h = refl
 locals_above (x ∷ xs) (y ∷ ys) h = ap (λ (z : Bool). z ∷ joined_locals xs ys) (and_above x y h.0) ∙ ap (λ (l : List Bool). y ∷ l) (locals_above xs ys h.1)
 
 -- ---- states, exits
-state_above : (b : Limits) (s t : State) → IsProper b s → IsProper b t → Covers t s → joined_states b s t ≡ Some t
+state_above : (b : Limits) (s t : State) → IsProperState b s → IsProperState b t → Covers t s → joined_states b s t ≡ Some t
 state_above b s t ps pt covers =
     let least : min s.ccpn t.ccpn ≡ t.ccpn = (let h = covers.context.1 in omega (arith, h)) in
     rw (

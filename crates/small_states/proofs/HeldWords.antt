@@ -6,8 +6,7 @@ use Rattle.value_domain.specs.declared.values.Val.{Val}
 use Rattle.value_domain.specs.declared.values.Val.TheVariants.{Set, Span}
 use Rattle.value_domain.specs.Limits.{Limits}
 use Rattle.value_domain.specs.Sets.{Among, Rising, Within}
-use Rattle.value_domain.specs.Values.{IsMember, IsValue, cover, members, words_of}
-use Rattle.value_domain.specs.State.{join_of}
+use Rattle.value_domain.specs.Values.{IsMember, IsValue, cover, members, words_of, join_of}
 use Rattle.value_domain.proofs.CoverLaws.{cover-same}
 use Rattle.value_domain.proofs.ExtentLaws.{among_append, append_left, append_right}
 use Rattle.value_domain.proofs.Loops.{among_get}

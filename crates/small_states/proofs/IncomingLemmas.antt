@@ -9,7 +9,7 @@ use Rattle.value_domain.specs.Limits.{Limits}
 use Rattle.value_domain.specs.State.{AreWell, AreValues}
 use Rattle.value_domain.specs.Values.{any_val}
 use Rattle.depth_cert.specs.Exits.{lower_values, with_lower_from}
-use Rattle.small_states.specs.Incoming.{exit_with, incoming_known, is_exit, known_by, state_with, incoming_values}
+use Rattle.small_states.specs.Incoming.{incoming_exit_with, incoming_known, is_incoming_exit, known_by, incoming_state_with, incoming_values}
 use Rattle.depth_cert.proofs.ExitValues.{after-at, lower_high, lower_low, with_lower_length}
 use Rattle.depth_cert.specs.Known.{Known, state, leaving}
 use Rattle.small_states.specs.CompactForms.{values_from}
@@ -36,14 +36,14 @@ pub values_well : (b : Limits) (vs : List Val) → AreValues b vs → AreWell vs
 values_well b vs values r lt = (values r lt).well
 
 -- ---- the incoming facts
-module _ (incoming : Incoming) (k : Context) (t : Bool) (is : t ≡ is_exit incoming) (by : incoming_known incoming ≡ known_by incoming k) where
+module _ (incoming : Incoming) (k : Context) (t : Bool) (is : t ≡ is_incoming_exit incoming) (by : incoming_known incoming ≡ known_by incoming k) where
   abbrev known_if : Bool → Known
-  known_if b = if b then leaving (exit_with (incoming_values incoming) k) else state (state_with (incoming_values incoming) k)
+  known_if b = if b then leaving (incoming_exit_with (incoming_values incoming) k) else state (incoming_state_with (incoming_values incoming) k)
 
-  pub incoming_exit : t ≡ true → incoming_known incoming ≡ leaving (exit_with (incoming_values incoming) k)
+  pub incoming_exit : t ≡ true → incoming_known incoming ≡ leaving (incoming_exit_with (incoming_values incoming) k)
   incoming_exit e = by ∙ ap known_if (sym is ∙ e)
 
-  pub incoming_state : t ≡ false → incoming_known incoming ≡ state (state_with (incoming_values incoming) k)
+  pub incoming_state : t ≡ false → incoming_known incoming ≡ state (incoming_state_with (incoming_values incoming) k)
   incoming_state e = by ∙ ap known_if (sym is ∙ e)
 
 -- ---- a place that a test compares

@@ -4,8 +4,7 @@ use Rattle.value_domain.specs.declared.values.Val.{Val}
 use Rattle.value_domain.specs.Limits.{Limits}
 use Rattle.value_domain.specs.declared.values.Val.TheVariants.{Set, Span}
 use Rattle.value_domain.specs.Sets.{Among}
-use Rattle.value_domain.specs.Values.{IsBelow, IsMember, IsValue, IsWell, any_val, members}
-use Rattle.value_domain.specs.State.{join_of}
+use Rattle.value_domain.specs.Values.{IsBelow, IsMember, IsValue, IsWell, any_val, members, join_of}
 use Rattle.value_domain.proofs.RangeLaws.{members_below}
 use Rattle.value_domain.proofs.CoverLaws.{among_member, cover-same, has_step, member_among}
 use Rattle.value_domain.proofs.ExtentLaws.{among_append, append_left}

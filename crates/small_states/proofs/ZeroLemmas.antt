@@ -6,7 +6,7 @@ use Rattle.std.proofs.lemmas.List.{append-nil, append_assoc, length-append, leng
 use Rattle.std.proofs.Math.Seq.{take-append_seam}
 use Rattle.tcd_base.specs.Bytes.{bytes_of_word}
 use Rattle.value_domain.specs.declared.values.Val.TheVariants.{Set, Span}
-use Rattle.value_domain.specs.Values.{is_any}
+use Rattle.value_domain.specs.Values.{is_any_span}
 use Rattle.depth_cert.specs.Spelling.{bytes_of_value}
 use Rattle.small_states.specs.Zeros.{AreZerosBehind}
 
@@ -179,10 +179,10 @@ words_further words i k =
     ∙ take-append-drop i (take (i + k) words))
 
 -- ---- a range's value
-pub all_bytes : (lo last step : ℕ) → is_any lo last step ≡ true → bytes_of_value (Span lo last step) ≡ 0 ∷ []
+pub all_bytes : (lo last step : ℕ) → is_any_span lo last step ≡ true → bytes_of_value (Span lo last step) ≡ 0 ∷ []
 unfolding bytes_of_value
 all_bytes lo last step e = rw e refl
 
-pub range_bytes : (lo last step : ℕ) → is_any lo last step ≡ false → bytes_of_value (Span lo last step) ≡ (240 + step) ∷ bytes_of_word lo ++ (bytes_of_word last ++ [])
+pub range_bytes : (lo last step : ℕ) → is_any_span lo last step ≡ false → bytes_of_value (Span lo last step) ≡ (240 + step) ∷ bytes_of_word lo ++ (bytes_of_word last ++ [])
 unfolding bytes_of_value
 range_bytes lo last step e = rw e (ap (λ (l : List ℕ). (240 + step) ∷ bytes_of_word lo ++ l) (sym (append-nil (bytes_of_word last))))

@@ -21,14 +21,15 @@ abbrev pub spaced_values : SpacedValue → List Val
 spaced_values s = replicate s.anys any_val ++ s.value ∷ []
 
 -- the values up to the last known one
-abbrev pub front : List SpacedValue → List Val
-front known = flat_map spaced_values known
+abbrev pub compact_front : List SpacedValue → List Val
+compact_front known = flat_map spaced_values known
 
--- all values in their order
+-- all values that a compact list stands for, known and unknown ones, in their order
 abbrev pub all_values : Values → List Val
-all_values v = front v.known.items ++ replicate v.rest any_val
+all_values v = compact_front v.known.items ++ replicate v.rest any_val
 
--- `count` values from a place on; any_val past the end
+-- of the values that a compact list stands for, `count` values from a place on; any_val past the
+-- end
 unfoldable pub values_from : List Val → ℕ → ℕ → List Val
 values_from vs from zero = []
 values_from vs from (suc count) = slice_index_or vs from any_val ∷ values_from vs (from + 1) count
@@ -46,7 +47,7 @@ abbrev pub known_of : KnownForm → Known
 known_of (Point s) = state (state_in s)
 known_of (Leaves x) = leaving (exit_in x)
 
--- a value, whole or compact
+-- the value that a given one stands for, be it whole or in compact form
 abbrev pub given_of : Given → Val
 given_of (Whole v) = v.now
 given_of (Packed v) = v.now
@@ -59,5 +60,5 @@ IsOutline (leaving x) o = ⊥
 -- the place i is after n known values and `others` unknown ones, before the next known value
 pub record IsFoundIn (v : Values) (i n others : ℕ) : Type 0 where
   pub within : n ≤ length v.known.items
-  pub at : i ≡ length (front (take n v.known.items)) + others
+  pub at : i ≡ length (compact_front (take n v.known.items)) + others
   pub before : n < length v.known.items → (d : SpacedValue) → others ≤ (slice_index_or v.known.items n d).anys

@@ -3,7 +3,7 @@ use Rattle.std.specs.Prelude.{◌≡◌, ◌<◌, ◌^◌, ◌++◌, ℕ, Bool, 
 use Rattle.value_domain.specs.declared.values.Val.{Val}
 use Rattle.value_domain.specs.declared.states.State.{State}
 use Rattle.vd_transfer.specs.Changes.{state_after}
-use Rattle.depth_cert.specs.Exits.{after_of, exit_of, lower_values}
+use Rattle.depth_cert.specs.Exits.{state_after_exit, exit_of, lower_values}
 use Rattle.depth_cert.specs.Spelling.{bytes_of_state}
 use Rattle.depth_cert.specs.Known.{Known, state, leaving}
 use Rattle.small_states.specs.CompactForms.{exit_in}
@@ -15,7 +15,7 @@ use Rattle.depth_cert.specs.declared.points.Exit.{Exit}
 -- what flows in
 abbrev pub incoming_known : Incoming → Known
 incoming_known (Changed s c) = state (state_after s.now c.now)
-incoming_known (After s x kind) = state (after_of s.now (exit_in x.now) kind)
+incoming_known (After s x kind) = state (state_after_exit s.now (exit_in x.now) kind)
 incoming_known (Leaving s) = leaving (exit_of s.now)
 
 -- the state of the point that it comes from
@@ -27,28 +27,29 @@ sender_state (Leaving s) = s.now
 -- the incoming values: 27 of a state, or 14 of an exit
 abbrev pub incoming_values : Incoming → List Val
 incoming_values (Changed s c) = (state_after s.now c.now).regs
-incoming_values (After s x kind) = (after_of s.now (exit_in x.now) kind).regs
+incoming_values (After s x kind) = (state_after_exit s.now (exit_in x.now) kind).regs
 incoming_values (Leaving s) = lower_values (s.now).regs
 
 -- an exit flows in
-abbrev pub is_exit : Incoming → Bool
-is_exit (Changed s c) = false
-is_exit (After s x kind) = false
-is_exit (Leaving s) = true
+abbrev pub is_incoming_exit : Incoming → Bool
+is_incoming_exit (Changed s c) = false
+is_incoming_exit (After s x kind) = false
+is_incoming_exit (Leaving s) = true
 
 -- the state with these values and this context
-abbrev pub state_with : List Val → Context → State
-state_with values k = record { regs = values; ie = k.ie; ccpn = k.ccpn; lower = k.lower; locals = k.locals.now }
+abbrev pub incoming_state_with : List Val → Context → State
+incoming_state_with values k = record { regs = values; ie = k.ie; ccpn = k.ccpn; lower = k.lower; locals = k.locals.now }
 
 -- the exit with these values; of the context it keeps IE and CCPN
-abbrev pub exit_with : List Val → Context → Exit
-exit_with values k = record { ie = k.ie; ccpn = k.ccpn; lower = values }
+abbrev pub incoming_exit_with : List Val → Context → Exit
+incoming_exit_with values k = record { ie = k.ie; ccpn = k.ccpn; lower = values }
 
 -- what flows in, by its values and its context
 abbrev pub known_by : Incoming → Context → Known
-known_by incoming k = if is_exit incoming then leaving (exit_with (incoming_values incoming) k) else state (state_with (incoming_values incoming) k)
+known_by incoming k = if is_incoming_exit incoming then leaving (incoming_exit_with (incoming_values incoming) k) else state (incoming_state_with (incoming_values incoming) k)
 
--- The bytes of the known state are appended, and its CCPN is a byte. Nothing is said of an exit.
-abbrev pub AddsState : Known → List ℕ → List ℕ → Type 0
-AddsState (state s) old new = (new ≡ old ++ bytes_of_state s) × (s.ccpn < 2 ^ 8)
-AddsState (leaving x) old new = Unit {0}
+-- the bytes of the state that is known at a place are appended, and its CCPN is a byte; nothing is
+-- said of an exit
+abbrev pub AddsKnownState : Known → List ℕ → List ℕ → Type 0
+AddsKnownState (state s) old new = (new ≡ old ++ bytes_of_state s) × (s.ccpn < 2 ^ 8)
+AddsKnownState (leaving x) old new = Unit {0}

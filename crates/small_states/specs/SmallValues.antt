@@ -6,9 +6,9 @@ use Rattle.value_domain.specs.declared.values.Val.TheVariants.{Set, Span}
 use Rattle.small_states.specs.declared.small_value.Form.{Form}
 use Rattle.small_states.specs.declared.small_value.Form.TheVariants.{Any, One, Many, Range}
 
--- the value of this form
-abbrev pub val_of : Form → Val
-val_of Any = any_val
-val_of (One x) = Set (x ∷ [])
-val_of (Many own) = own.value
-val_of (Range lo last step) = Span lo last step
+-- the value that one small value stands for, by its form
+abbrev pub small_value_of : Form → Val
+small_value_of Any = any_val
+small_value_of (One x) = Set (x ∷ [])
+small_value_of (Many own) = own.value
+small_value_of (Range lo last step) = Span lo last step

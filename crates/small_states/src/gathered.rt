@@ -3,7 +3,7 @@ ghost use Rattle.std.specs.Prelude.{◌≡◌, ◌≤◌, ◌<◌, ◌+◌, ◌*
 ghost use Rattle.std.specs.List.{flat_map};
 ghost use Rattle.value_domain.specs.declared.values.Val.TheVariants.{Set, Span};
 ghost use Rattle.tcd_base.specs.Bytes.{bytes_of_word};
-ghost use Rattle.value_domain.specs.Values.{is_any};
+ghost use Rattle.value_domain.specs.Values.{is_any_span};
 ghost use Rattle.depth_cert.specs.Spelling.{bytes_of_value};
 
 use crate::values::SpacedValue;
@@ -32,8 +32,8 @@ impl Model for Gathered {
 
 /// Returns whether a range is all words.
 #[inline(always)]
-fn is_all(lo: u32, last: u32, step: u8) -> bool
-    ensures { result ≡ is_any lo last step }
+fn is_all_words_range(lo: u32, last: u32, step: u8) -> bool
+    ensures { result ≡ is_any_span lo last step }
 {
     lo == 0 && last == u32::MAX && step == 0
 }
@@ -142,7 +142,7 @@ impl Gathered {
         ensures { OnOk result (out.new.items ++ self.new
             ≡ (out.old.items ++ self.old) ++ bytes_of_value (Span lo last step)) }
     {
-        if is_all(lo, last, step) {
+        if is_all_words_range(lo, last, step) {
             return self.put_anys(out, 1);
         }
         self.make_room(out, 9)?;

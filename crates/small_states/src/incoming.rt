@@ -1,12 +1,13 @@
 // What flows into a place from the duty of a point.
 ghost use Rattle.std.specs.Prelude.{◌≡◌, ◌≤◌, ◌<◌, ◌-◌, ◌==◌, length, ◌↔◌, IsTrue, IfOk, Some};
-ghost use Rattle.small_states.specs.Incoming.{incoming_known, is_exit, known_by, incoming_values, state_with};
-ghost use Rattle.depth_cert.specs.Known.{priority_of, state};
+ghost use Rattle.small_states.specs.Incoming.{incoming_known, is_incoming_exit, known_by, incoming_values, incoming_state_with, incoming_exit_with};
+ghost use Rattle.depth_cert.specs.Known.{known_priority, state, leaving};
 ghost use Rattle.std.specs.Option.{option_map};
 ghost use Rattle.value_domain.specs.State.{AreValues, AreWell, Covers, joined_states};
-ghost use Rattle.small_states.specs.CompactForms.{all_values, state_in, known_of};
+ghost use Rattle.small_states.specs.CompactForms.{all_values, state_in, known_of, exit_in};
+ghost use Rattle.depth_cert.specs.Exits.{ExitCovers, joined_exit};
 
-use crate::incoming_values::{are_covered, join_values};
+use crate::incoming_values::{are_incoming_covered, join_values};
 use crate::known::{KnownForm, SmallKnown};
 use crate::small_value::Form;
 use crate::{Small, SmallExit, SmallState, Values};
@@ -15,7 +16,7 @@ use depth_cert::CALL;
 use std::alloc::{AllocError, Global};
 use std::marker::Model;
 use std::rc::Rc;
-use value_domain::{Bounds, State, Val, are_implied, copy_locals, join_locals};
+use value_domain::{Bounds, State, Val, are_flags_implied, copy_locals, join_locals};
 use vd_transfer::Change;
 
 /// What flows into a place, described by the state of the point that it comes from. No state is
@@ -52,8 +53,8 @@ pub(crate) struct Context<'a> {
 
 /// Returns the incoming priority.
 #[inline(always)]
-pub fn priority(incoming: &Incoming) -> u8
-    ensures { result ≡ priority_of (incoming_known incoming.now) }
+pub fn incoming_priority(incoming: &Incoming) -> u8
+    ensures { result ≡ known_priority (incoming_known incoming.now) }
 {
     match incoming {
         Incoming::Changed(_, change) => change.ccpn,
@@ -65,7 +66,7 @@ pub fn priority(incoming: &Incoming) -> u8
 /// Returns whether an exit flows in.
 #[inline(always)]
 pub(crate) fn is_leaving(incoming: &Incoming) -> bool
-    ensures { result ≡ is_exit incoming.now }
+    ensures { result ≡ is_incoming_exit incoming.now }
 {
     match incoming {
         Incoming::Changed(_, _) => false,
@@ -75,10 +76,10 @@ pub(crate) fn is_leaving(incoming: &Incoming) -> bool
 }
 
 /// Returns the incoming facts beside the values.
-pub(crate) fn context_of<'a>(incoming: &Incoming<'a>) -> Context<'a>
+pub(crate) fn incoming_context<'a>(incoming: &Incoming<'a>) -> Context<'a>
     ensures { incoming_known incoming.now ≡ known_by incoming.now result }
 {
-    let ccpn = priority(incoming);
+    let ccpn = incoming_priority(incoming);
     match incoming {
         Incoming::Changed(_, c) => Context {
             ie: c.ie,
@@ -124,11 +125,11 @@ pub(crate) fn count_incoming(incoming: &Incoming) -> usize
 }
 
 /// Returns the incoming state or exit with these values.
-pub(crate) fn form_with(values: Rc<Values>, incoming: &Incoming) -> KnownForm
+pub(crate) fn incoming_form(values: Rc<Values>, incoming: &Incoming) -> KnownForm
     requires { all_values values.value ≡ incoming_values incoming.now }
     ensures { known_of result ≡ incoming_known incoming.now }
 {
-    let k = context_of(incoming);
+    let k = incoming_context(incoming);
     if is_leaving(incoming) {
         return KnownForm::Leaves(SmallExit {
             ie: k.ie,
@@ -146,25 +147,29 @@ pub(crate) fn form_with(values: Rc<Values>, incoming: &Incoming) -> KnownForm
 }
 
 /// Returns whether a state covers the incoming one.
-pub(crate) fn covers_state(upper: &SmallState, incoming: &Incoming, k: &Context) -> bool
+pub(crate) fn is_incoming_state_covered(
+    upper: &SmallState,
+    incoming: &Incoming,
+    k: &Context,
+) -> bool
     requires upper { AreWell (all_values upper.now.regs.value) }
     requires incoming { AreWell (incoming_values incoming.now) }
     requires long { length (all_values upper.now.regs.value)
         ≡ length (incoming_values incoming.now) }
     ensures { IsTrue result
-        ↔ Covers (state_in upper.now) (state_with (incoming_values incoming.now) k.now) }
+        ↔ Covers (state_in upper.now) (incoming_state_with (incoming_values incoming.now) k.now) }
 {
     if !upper.covers_context(k.ie, k.ccpn, k.lower) {
         return false;
     }
-    if !are_implied(upper.locals.as_slice(), k.locals.as_slice()) {
+    if !are_flags_implied(upper.locals.as_slice(), k.locals.as_slice()) {
         return false;
     }
-    are_covered(upper.regs.as_ref(), incoming)
+    are_incoming_covered(upper.regs.as_ref(), incoming)
 }
 
 /// Returns the least state that covers both, or `None` if their numbers of locals differ.
-pub(crate) fn join_state(
+pub(crate) fn join_incoming_state(
     alloc: Global,
     b: &Bounds,
     left: &SmallState,
@@ -178,7 +183,7 @@ pub(crate) fn join_state(
     ensures { IfOk result
         (λ r. r ≡ option_map state
         (joined_states b.now (state_in left.now)
-        (state_with (incoming_values incoming.now) k.now))) }
+        (incoming_state_with (incoming_values incoming.now) k.now))) }
 {
     if left.locals.len() != k.locals.len() {
         return Ok(None);
@@ -190,6 +195,47 @@ pub(crate) fn join_state(
         ccpn: left.ccpn.min(k.ccpn),
         lower: left.lower && k.lower,
         locals: join_locals(left.locals.as_slice(), k.locals.as_slice()),
+    });
+    Ok(Some(SmallKnown { form }))
+}
+
+/// Returns whether an exit covers the incoming one.
+pub(crate) fn is_incoming_exit_covered(upper: &SmallExit, incoming: &Incoming, k: &Context) -> bool
+    requires upper { AreWell (all_values upper.now.lower.value) }
+    requires incoming { AreWell (incoming_values incoming.now) }
+    requires long { length (all_values upper.now.lower.value)
+        ≡ length (incoming_values incoming.now) }
+    ensures { IsTrue result
+        ↔ ExitCovers (exit_in upper.now) (incoming_exit_with (incoming_values incoming.now) k.now) }
+{
+    if !upper.covers_context(k.ie, k.ccpn) {
+        return false;
+    }
+    are_incoming_covered(upper.lower.as_ref(), incoming)
+}
+
+/// Returns the least exit that covers both.
+pub(crate) fn join_incoming_exit(
+    alloc: Global,
+    b: &Bounds,
+    exit: &SmallExit,
+    incoming: &Incoming,
+    k: &Context,
+) -> Result<Option<SmallKnown>, AllocError>
+    requires exit { AreValues b.now (all_values exit.now.lower.value) }
+    requires incoming { AreValues b.now (incoming_values incoming.now) }
+    requires long { length (all_values exit.now.lower.value)
+        ≡ length (incoming_values incoming.now) }
+    ensures { IfOk result
+        (λ r. r ≡ Some
+        (leaving (joined_exit b.now (exit_in exit.now)
+        (incoming_exit_with (incoming_values incoming.now) k.now)))) }
+{
+    let lower = Rc::new(alloc, join_values(alloc, b, exit.lower.as_ref(), incoming)?)?;
+    let form = KnownForm::Leaves(SmallExit {
+        ie: exit.ie || k.ie,
+        ccpn: exit.ccpn.min(k.ccpn),
+        lower,
     });
     Ok(Some(SmallKnown { form }))
 }

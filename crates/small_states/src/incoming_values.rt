@@ -168,7 +168,7 @@ pub(crate) fn pack_for(
 
 /// Returns whether each incoming value is below the one at its place. Places of unknown values are
 /// skipped.
-pub(crate) fn are_covered(upper: &Values, incoming: &Incoming) -> bool
+pub(crate) fn are_incoming_covered(upper: &Values, incoming: &Incoming) -> bool
     requires upper { AreWell (all_values upper.now) }
     requires incoming { AreWell (incoming_values incoming.now) }
     requires long { length (all_values upper.now) ≡ length (incoming_values incoming.now) }
@@ -188,32 +188,6 @@ pub(crate) fn are_covered(upper: &Values, incoming: &Incoming) -> bool
             return false;
         }
         at = place + 1;
-    }
-    true
-}
-
-/// Returns true only if both lists have the same gaps and each value is below the other list's
-/// value at its place.
-pub(crate) fn are_all_below(low: &Values, high: &Values) -> bool
-    requires low { AreWell (all_values low.now) }
-    requires high { AreWell (all_values high.now) }
-    requires long { length (all_values low.now) ≡ length (all_values high.now) }
-    ensures { IsTrue result → AreBelow (all_values low.now) (all_values high.now) }
-{
-    let lows = low.known.as_slice();
-    let highs = high.known.as_slice();
-    if lows.len() != highs.len() {
-        return false;
-    }
-    for n in 0..lows.len() {
-        let here = &lows[n];
-        let above = &highs[n];
-        if here.anys != above.anys {
-            return false;
-        }
-        if !above.value.covers_small(&here.value) {
-            return false;
-        }
     }
     true
 }
@@ -298,7 +272,12 @@ fn changed_given<'a>(s: &'a State, c: &'a Change, any: &'a Small, i: usize) -> G
 /// Returns the value at a place after a frame returned: the exit's for a lower register, else the
 /// caller's, `v`.
 #[inline(always)]
-fn restored_value<'a>(i: usize, exit: &'a SmallExit, any: &'a Small, v: &'a Val) -> Given<'a>
+fn restored_incoming_value<'a>(
+    i: usize,
+    exit: &'a SmallExit,
+    any: &'a Small,
+    v: &'a Val,
+) -> Given<'a>
     requires { any.now ≡ any_val }
     ensures { given_of result
         ≡ (if states.is_lower_slot i
@@ -317,7 +296,12 @@ fn restored_value<'a>(i: usize, exit: &'a SmallExit, any: &'a Small, v: &'a Val)
 
 /// Returns the value at a place after a frame returned with an exit.
 #[inline(always)]
-fn value_after<'a>(s: &'a State, exit: &'a SmallExit, any: &'a Small, i: usize) -> Given<'a>
+fn incoming_value_after<'a>(
+    s: &'a State,
+    exit: &'a SmallExit,
+    any: &'a Small,
+    i: usize,
+) -> Given<'a>
     requires place { i < 27 }
     requires any { any.now ≡ any_val }
     ensures { given_of result
@@ -325,7 +309,7 @@ fn value_after<'a>(s: &'a State, exit: &'a SmallExit, any: &'a Small, i: usize) 
         any_val }
 {
     let _regs = &s.regs[..];
-    restored_value(i, exit, any, &s.regs[i])
+    restored_incoming_value(i, exit, any, &s.regs[i])
 }
 
 /// Returns the incoming value at a place. `any` is returned for an unknown value.
@@ -342,7 +326,7 @@ pub(crate) fn incoming_value<'a>(incoming: &'a Incoming, any: &'a Small, i: usiz
         }
         Incoming::After(s, exit, _) => {
             let _regs = &s.regs[..];
-            value_after(s, exit, any, i)
+            incoming_value_after(s, exit, any, i)
         }
         Incoming::Leaving(s) => {
             let _regs = &s.regs[..];

@@ -1,23 +1,23 @@
 // What is known at a place.
-ghost use Rattle.std.specs.Prelude.{◌≡◌, ◌↔◌, IsTrue, IfNone, IfOk, IfSome, OnOk, Some, length};
-ghost use Rattle.value_domain.specs.State.{AreValues, AreWell};
-ghost use Rattle.small_states.specs.CompactForms.{all_values, exit_in, known_of, IsOutline};
-ghost use Rattle.depth_cert.specs.Exits.{ExitCovers, joined_exit};
-ghost use Rattle.small_states.specs.Incoming.{exit_with, AddsState, incoming_known, sender_state, incoming_values};
-ghost use Rattle.depth_cert.specs.Known.{CoversKnown, joined_known, state, leaving, IsNoExit, IsStateAt};
+ghost use Rattle.std.specs.Prelude.{◌≡◌, ◌↔◌, IsTrue, IfNone, IfOk, IfSome, OnOk, Some};
+ghost use Rattle.small_states.specs.CompactForms.{exit_in, known_of, IsOutline};
+ghost use Rattle.small_states.specs.Incoming.{AddsKnownState, incoming_known, sender_state};
+ghost use Rattle.depth_cert.specs.Known.{CoversKnown, joined_known, state, leaving, IsNoExit, IsKnownState};
 ghost use Rattle.depth_cert.specs.Proper.{IsProperKnown};
 
 use crate::incoming::{
-    Context, Given, Incoming, context_of, covers_state, form_with, is_leaving, join_state,
+    Given, Incoming, incoming_context, incoming_form, is_incoming_exit_covered,
+    is_incoming_state_covered, is_leaving, join_incoming_exit, join_incoming_state,
 };
-use crate::incoming_values::{are_all_below, are_covered, join_values, pack_for, pack_values};
+use crate::incoming_values::{pack_for, pack_values};
 use crate::small_value::{Form, Small};
+use crate::values::are_all_below;
 use crate::{ScratchState, SmallExit, SmallState};
 use std::alloc::{AllocError, Global};
 use std::marker::Model;
 use std::rc::Rc;
 use tcd_base::NoMemory;
-use value_domain::{Bounds, are_implied, copy_locals};
+use value_domain::{Bounds, are_flags_implied, copy_locals};
 use vd_transfer::{Base, Put};
 
 /// A state at a point, or the exit of a frame.
@@ -53,50 +53,9 @@ impl Model for SmallKnown {
     ghost view = { λ c. known_of c.form };
 }
 
-/// Returns whether an exit covers the incoming one.
-fn covers_exit(upper: &SmallExit, incoming: &Incoming, k: &Context) -> bool
-    requires upper { AreWell (all_values upper.now.lower.value) }
-    requires incoming { AreWell (incoming_values incoming.now) }
-    requires long { length (all_values upper.now.lower.value)
-        ≡ length (incoming_values incoming.now) }
-    ensures { IsTrue result
-        ↔ ExitCovers (exit_in upper.now) (exit_with (incoming_values incoming.now) k.now) }
-{
-    if !upper.covers_context(k.ie, k.ccpn) {
-        return false;
-    }
-    are_covered(upper.lower.as_ref(), incoming)
-}
-
-/// Returns the least exit that covers both.
-fn join_exit(
-    alloc: Global,
-    b: &Bounds,
-    exit: &SmallExit,
-    incoming: &Incoming,
-    k: &Context,
-) -> Result<Option<SmallKnown>, AllocError>
-    requires exit { AreValues b.now (all_values exit.now.lower.value) }
-    requires incoming { AreValues b.now (incoming_values incoming.now) }
-    requires long { length (all_values exit.now.lower.value)
-        ≡ length (incoming_values incoming.now) }
-    ensures { IfOk result
-        (λ r. r ≡ Some
-        (leaving (joined_exit b.now (exit_in exit.now)
-        (exit_with (incoming_values incoming.now) k.now)))) }
-{
-    let lower = Rc::new(alloc, join_values(alloc, b, exit.lower.as_ref(), incoming)?)?;
-    let form = KnownForm::Leaves(SmallExit {
-        ie: exit.ie || k.ie,
-        ccpn: exit.ccpn.min(k.ccpn),
-        lower,
-    });
-    Ok(Some(SmallKnown { form }))
-}
-
-/// Returns whether the value that is put is the one that is known at its place, or has more words.
-/// The answer is only a hint.
-fn has_grown(known: &SmallState, put: &Put) -> bool {
+/// Returns whether the value that is put is the one that is known at its place in compact form, or
+/// has more words. If none is put, it returns true. The answer is only a hint.
+fn has_known_grown(known: &SmallState, put: &Put) -> bool {
     let Some(at) = put.at else {
         return true;
     };
@@ -110,7 +69,7 @@ fn has_grown(known: &SmallState, put: &Put) -> bool {
 /// Returns whether the incoming state seems to cover the known one. The answer is only a hint,
 /// which saves most comparisons.
 #[inline(always)]
-fn seems_above(known: &KnownForm, incoming: &Incoming) -> bool {
+fn may_be_above_known(known: &KnownForm, incoming: &Incoming) -> bool {
     let KnownForm::Point(known) = known else {
         return false;
     };
@@ -118,9 +77,9 @@ fn seems_above(known: &KnownForm, incoming: &Incoming) -> bool {
         return false;
     };
     matches!(c.base, Base::Same)
-        && has_grown(known, &c.first)
-        && has_grown(known, &c.second)
-        && has_grown(known, &c.third)
+        && has_known_grown(known, &c.first)
+        && has_known_grown(known, &c.second)
+        && has_known_grown(known, &c.third)
 }
 
 impl SmallKnown {
@@ -130,7 +89,7 @@ impl SmallKnown {
         ensures { IfOk result (λ c. c ≡ incoming_known incoming.now) }
     {
         let values = Rc::new(alloc, pack_values(alloc, incoming)?)?;
-        let form = form_with(values, incoming);
+        let form = incoming_form(values, incoming);
         Ok(SmallKnown { form })
     }
 
@@ -144,7 +103,7 @@ impl SmallKnown {
             KnownForm::Point(own) => pack_for(alloc, &own.regs, incoming)?,
             KnownForm::Leaves(_) => Rc::new(alloc, pack_values(alloc, incoming)?)?,
         };
-        let form = form_with(values, incoming);
+        let form = incoming_form(values, incoming);
         Ok(SmallKnown { form })
     }
 
@@ -171,19 +130,19 @@ impl SmallKnown {
         requires incoming { IsProperKnown _b.now (incoming_known incoming.now) }
         ensures { IsTrue result ↔ CoversKnown self.now (incoming_known incoming.now) }
     {
-        let k = context_of(incoming);
+        let k = incoming_context(incoming);
         match &self.form {
             KnownForm::Point(upper) => {
                 if is_leaving(incoming) {
                     return false;
                 }
-                covers_state(upper, incoming, &k)
+                is_incoming_state_covered(upper, incoming, &k)
             }
             KnownForm::Leaves(upper) => {
                 if !is_leaving(incoming) {
                     return false;
                 }
-                covers_exit(upper, incoming, &k)
+                is_incoming_exit_covered(upper, incoming, &k)
             }
         }
     }
@@ -199,19 +158,19 @@ impl SmallKnown {
         requires incoming { IsProperKnown b.now (incoming_known incoming.now) }
         ensures { IfOk result (λ r. r ≡ joined_known b.now self.now (incoming_known incoming.now)) }
     {
-        let k = context_of(incoming);
+        let k = incoming_context(incoming);
         match &self.form {
             KnownForm::Point(left) => {
                 if is_leaving(incoming) {
                     return Ok(None);
                 }
-                join_state(alloc, b, left, incoming, &k)
+                join_incoming_state(alloc, b, left, incoming, &k)
             }
             KnownForm::Leaves(left) => {
                 if !is_leaving(incoming) {
                     return Ok(None);
                 }
-                join_exit(alloc, b, left, incoming, &k)
+                join_incoming_exit(alloc, b, left, incoming, &k)
             }
         }
     }
@@ -231,7 +190,7 @@ impl SmallKnown {
         if !upper.covers_context(s.ie, s.ccpn, s.lower) {
             return false;
         }
-        if !are_implied(upper.locals.as_slice(), s.locals.as_slice()) {
+        if !are_flags_implied(upper.locals.as_slice(), s.locals.as_slice()) {
             return false;
         }
         are_all_below(s.regs.as_ref(), upper.regs.as_ref())
@@ -252,7 +211,7 @@ impl SmallKnown {
         requires own { own.now ≡ state (sender_state incoming.now) }
         ensures { IfOk result (λ r. r ≡ joined_known b.now self.now (incoming_known incoming.now)) }
     {
-        if seems_above(&self.form, incoming) {
+        if may_be_above_known(&self.form, incoming) {
             let above = own.apply(alloc, incoming)?;
             if above.is_above(self, b) {
                 return Ok(Some(above));
@@ -278,17 +237,17 @@ impl SmallKnown {
     /// Writes the state over another.
     pub fn read_state(&self, _b: &Bounds, into: &mut ScratchState)
         requires { IsProperKnown _b.now self.now }
-        ensures { IsStateAt self.now into.new }
+        ensures { IsKnownState self.now into.new }
     {
         if let KnownForm::Point(s) = &self.form {
             into.write(s);
         }
     }
 
-    /// Appends the bytes that spell the state.
+    /// Appends the bytes that spell what is known at a place, if it is a state.
     pub fn spell_state(&self, _b: &Bounds, out: &mut Vec<u8>) -> Result<(), NoMemory>
         requires { IsProperKnown _b.now self.now }
-        ensures { OnOk result (AddsState self.now out.old.items out.new.items) }
+        ensures { OnOk result (AddsKnownState self.now out.old.items out.new.items) }
     {
         match &self.form {
             KnownForm::Point(s) => {

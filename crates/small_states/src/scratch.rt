@@ -31,7 +31,7 @@ impl Model for ScratchState {
 /// Writes values over the last ones. If both have the same gaps, only the values that differ are
 /// written. Returns true only if none was written.
 #[inline(always)]
-fn write_over(values: &Values, last: &Values, regs: &mut [Val; 27]) -> bool
+fn overwrite_scratch(values: &Values, last: &Values, regs: &mut [Val; 27]) -> bool
     requires long { length (all_values values.now) ≡ 27 }
     requires last { regs.old ≡ all_values last.now }
     ensures regs { regs.new ≡ all_values values.now }
@@ -64,7 +64,7 @@ fn write_over(values: &Values, last: &Values, regs: &mut [Val; 27]) -> bool
 
 /// Writes values over the last ones, and remembers them.
 #[inline(always)]
-fn write_values(values: &Rc<Values>, last: &mut Option<Rc<Values>>, regs: &mut [Val; 27])
+fn write_scratch_values(values: &Rc<Values>, last: &mut Option<Rc<Values>>, regs: &mut [Val; 27])
     requires long { length (all_values values.now.value) ≡ 27 }
     requires last { IfSome last.old (λ v. regs.old ≡ all_values v.value) }
     ensures regs { regs.new ≡ all_values values.now.value }
@@ -72,7 +72,7 @@ fn write_values(values: &Rc<Values>, last: &mut Option<Rc<Values>>, regs: &mut [
 {
     match &*last {
         Some(own) => {
-            if write_over(values.as_ref(), own.as_ref(), regs) {
+            if overwrite_scratch(values.as_ref(), own.as_ref(), regs) {
                 return;
             }
         }
@@ -105,7 +105,7 @@ impl ScratchState {
         requires { length (all_values s.now.regs.value) ≡ 27 }
         ensures { self.new ≡ state_in s.now }
     {
-        write_values(&s.regs, &mut self.last, &mut self.state.regs);
+        write_scratch_values(&s.regs, &mut self.last, &mut self.state.regs);
         self.state.ie = s.ie;
         self.state.ccpn = s.ccpn;
         self.state.lower = s.lower;

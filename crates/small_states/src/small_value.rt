@@ -3,9 +3,8 @@ ghost use Rattle.std.specs.Prelude.{◌≡◌, ◌↔◌, ◌≤◌, ◌<◌, �
 ghost use Rattle.depth_cert.specs.Spelling.{bytes_of_value};
 ghost use Rattle.value_domain.specs.declared.values.Val.TheVariants.{Set, Span};
 ghost use Rattle.value_domain.specs.Sets.{Among, Rising};
-ghost use Rattle.value_domain.specs.Values.{IsWell, IsValue, IsBelow, IsMember, any_val, cover, members};
-ghost use Rattle.value_domain.specs.State.{join_of};
-ghost use Rattle.small_states.specs.SmallValues.{val_of};
+ghost use Rattle.value_domain.specs.Values.{IsWell, IsValue, IsBelow, IsMember, any_val, cover, members, join_of};
+ghost use Rattle.small_states.specs.SmallValues.{small_value_of};
 ghost use Rattle.small_states.specs.CompactForms.{given_of};
 
 use crate::incoming::Given;
@@ -15,10 +14,10 @@ use std::marker::Model;
 use std::rc::Rc;
 use tcd_base::NoMemory;
 use value_domain::{
-    Bounds, Extent, Val, Words, add_value, add_words, alignment_log2, extent_of, is_set,
+    Bounds, Val, Words, add_value, add_words, alignment_log2, extent_of, is_extent_inside, is_set,
     is_the_span, leq, set_span, set_words, write_any,
 };
-use vd_transfer::only_word;
+use vd_transfer::only_register_word;
 
 /// All words, a single word, a whole value that copies share (a set of several words), or another
 /// range.
@@ -38,15 +37,16 @@ pub struct Small {
 
 impl Model for Small {
     ghost use Rattle.value_domain.specs.declared.values.Val.{Val};
-    ghost use Rattle.small_states.specs.SmallValues.{val_of};
+    ghost use Rattle.small_states.specs.SmallValues.{small_value_of};
 
     ghost Value = { Val };
 
-    ghost view = { λ s. val_of s.form };
+    ghost view = { λ s. small_value_of s.form };
 }
 
+/// Returns true only if the words of a set are this one alone.
 #[inline(always)]
-fn is_one(words: &Words, x: u32) -> bool
+fn is_single_word(words: &Words, x: u32) -> bool
     ensures { IsTrue result → words.now ≡ x ∷ [] }
 {
     let all = words.as_slice();
@@ -56,10 +56,10 @@ fn is_one(words: &Words, x: u32) -> bool
     all[0] == x
 }
 
-/// Returns true only if a list begins with the words of another. It compares all of them, since
-/// that takes several at once.
+/// Returns true only if a small value's words begin with the words of another. It compares all of
+/// them, since that takes several at once.
 #[inline(always)]
-fn begins_with(own: &[u32], words: &[u32]) -> bool
+fn is_value_prefix(own: &[u32], words: &[u32]) -> bool
     ensures { IsTrue result → (rest : List ℕ) × (own.now ≡ words.now ++ rest) }
 {
     if own.len() < words.len() {
@@ -74,7 +74,8 @@ fn begins_with(own: &[u32], words: &[u32]) -> bool
     same
 }
 
-/// Returns true only if both values are sets of the same words.
+/// Returns true only if both values are sets of the same words, one of them the set that a small
+/// value shares.
 #[inline(never)]
 fn have_same_words(v: &Val, w: &Val) -> bool
     ensures { IsTrue result → v.now ≡ w.now }
@@ -85,12 +86,12 @@ fn have_same_words(v: &Val, w: &Val) -> bool
     let Some(words) = w.words() else {
         return false;
     };
-    own.len() == words.len() && begins_with(own, words)
+    own.len() == words.len() && is_value_prefix(own, words)
 }
 
-/// Returns the number of words that are among others, up to the first that isn't. Both ascend, and
-/// are walked once.
-fn held_before(own: &[u32], words: &[u32]) -> usize
+/// Returns the number of words that are among those of a small value, up to the first that isn't.
+/// Both ascend, and are walked once.
+fn count_held_words(own: &[u32], words: &[u32]) -> usize
     requires own { Rising own.now }
     requires words { Rising words.now }
     ensures within { result ≤ length words.now }
@@ -113,7 +114,7 @@ fn held_before(own: &[u32], words: &[u32]) -> usize
 
 /// Returns whether each member of a value is one of another. Of two sets it compares the greatest
 /// words first. A set that grew mostly begins with the words that it had.
-fn are_below(v: &Val, own: &Val) -> bool
+fn is_below_small_value(v: &Val, own: &Val) -> bool
     requires value { IsWell v.now }
     requires own { IsWell own.now }
     ensures { IsTrue result ↔ IsBelow v.now own.now }
@@ -129,35 +130,27 @@ fn are_below(v: &Val, own: &Val) -> bool
         return false;
     }
     if end < held.len() && held[end] == words[end] {
-        if begins_with(held, words) {
+        if is_value_prefix(held, words) {
             return true;
         }
     }
-    held_before(held, words) == words.len()
+    count_held_words(held, words) == words.len()
 }
 
-/// Returns whether a range reaches from the least to the greatest of an extent, in steps that it
-/// has.
-fn is_inside(e: &Extent, lo: u32, last: u32, step: u8) -> bool
-    ensures { IsTrue result
-        ↔ ((lo ≤ e.now.least) × (e.now.greatest ≤ last) × (step ≤ e.now.step)) }
-{
-    lo <= e.least && e.greatest <= last && step <= e.step
-}
-
-/// Returns whether each member of a value is a word of a range.
+/// Returns whether each member of a value is a word of a range that a small value holds, which may
+/// be a single word.
 fn is_below_range(v: &Val, lo: u32, last: u32, step: u8) -> bool
     requires value { IsWell v.now }
     requires step { step ≤ 2 }
     ensures { IsTrue result ↔ IsBelow v.now (Span lo last step) }
 {
     let e = extent_of(v);
-    is_inside(&e, lo, last, step)
+    is_extent_inside(&e, lo, last, step)
 }
 
-/// Returns whether a word is one of a range.
+/// Returns whether a word, such as that of a small value, is one of a range.
 #[inline(always)]
-fn is_in_range(x: u32, lo: u32, last: u32, step: u8) -> bool
+fn is_word_in_range(x: u32, lo: u32, last: u32, step: u8) -> bool
     ensures { IsTrue result ↔ IsMember x (Span lo last step) }
 {
     lo <= x && x <= last && step <= alignment_log2(x)
@@ -166,8 +159,8 @@ fn is_in_range(x: u32, lo: u32, last: u32, step: u8) -> bool
 /// Returns a range that isn't all words. Since this is a call, the test before it stays a jump, and
 /// most tested values are all words.
 #[inline(never)]
-fn range_of(lo: u32, last: u32, step: u8) -> Form
-    ensures { val_of result ≡ Span lo last step }
+fn small_range_form(lo: u32, last: u32, step: u8) -> Form
+    ensures { small_value_of result ≡ Span lo last step }
 {
     Form::Range { lo, last, step }
 }
@@ -189,7 +182,7 @@ impl Small {
     fn of_own(alloc: Global, v: Val) -> Result<Small, AllocError>
         ensures { IfOk result (λ s. s ≡ v) }
     {
-        if only_word(&v).is_none() && is_set(&v) {
+        if only_register_word(&v).is_none() && is_set(&v) {
             let form = Form::Many(Rc::new(alloc, v)?);
             return Ok(Small { form });
         }
@@ -204,7 +197,7 @@ impl Small {
         match v {
             Val::Set(words) => {
                 let first = words.as_slice()[0];
-                if is_one(words, first) {
+                if is_single_word(words, first) {
                     let form = Form::One(first);
                     return Ok(Small { form });
                 }
@@ -215,7 +208,7 @@ impl Small {
                 if *lo == 0 && *last == u32::MAX && *step == 0 {
                     return Ok(Small { form: Form::Any });
                 }
-                let form = range_of(*lo, *last, *step);
+                let form = small_range_form(*lo, *last, *step);
                 Ok(Small { form })
             }
         }
@@ -262,7 +255,7 @@ impl Small {
         match &self.form {
             Form::Any => is_the_span(v, 0, u32::MAX, 0),
             Form::One(x) => match v {
-                Val::Set(words) => is_one(words, *x),
+                Val::Set(words) => is_single_word(words, *x),
                 Val::Span { .. } => false,
             },
             Form::Many(own) => have_same_words(v, own.as_ref()),
@@ -377,7 +370,7 @@ impl Small {
         }
     }
 
-    /// Appends the only bytes that spell the value. It makes the whole value first.
+    /// Appends the only bytes that spell the small value. It makes the whole value first.
     #[inline(never)]
     pub(crate) fn spell(&self, out: &mut Vec<u8>) -> Result<(), NoMemory>
         requires { IsWell self.now }
@@ -396,9 +389,9 @@ impl Small {
             Form::One(own) => x == *own,
             Form::Many(own) => match own.as_ref() {
                 Val::Set(words) => words.as_slice().contains(&x),
-                Val::Span { lo, last, step } => is_in_range(x, *lo, *last, *step),
+                Val::Span { lo, last, step } => is_word_in_range(x, *lo, *last, *step),
             },
-            Form::Range { lo, last, step } => is_in_range(x, *lo, *last, *step),
+            Form::Range { lo, last, step } => is_word_in_range(x, *lo, *last, *step),
         }
     }
 
@@ -409,13 +402,13 @@ impl Small {
         requires value { IsWell v.now }
         ensures { IsTrue result ↔ IsBelow v.now self.now }
     {
-        if let Some(x) = only_word(v) {
+        if let Some(x) = only_register_word(v) {
             return self.has(x);
         }
         match &self.form {
-            Form::Many(own) => are_below(v, own.as_ref()),
+            Form::Many(own) => is_below_small_value(v, own.as_ref()),
             Form::One(x) => match v.words() {
-                Some(words) => held_before(&[*x], words) == words.len(),
+                Some(words) => count_held_words(&[*x], words) == words.len(),
                 None => is_below_range(v, *x, *x, 0),
             },
             Form::Range { lo, last, step } => {
@@ -488,7 +481,7 @@ impl Small {
         self.covers_packed(v)
     }
 
-    /// Returns whether it has all members of an incoming value.
+    /// Returns whether the small value has all members of an incoming one.
     #[inline(always)]
     pub(crate) fn covers_given(&self, v: &Given) -> bool
         requires own { IsWell self.now }
@@ -507,7 +500,7 @@ impl Small {
         ensures { IsTrue result → IsBelow self.now (Span lo last step) }
     {
         match &self.form {
-            Form::One(x) => is_in_range(*x, lo, last, step),
+            Form::One(x) => is_word_in_range(*x, lo, last, step),
             Form::Range {
                 lo: own_lo,
                 last: own_last,
@@ -606,7 +599,7 @@ impl Small {
         let Some(held) = own.as_ref().words() else {
             return self.with_words(alloc, b, words);
         };
-        let n = held_before(held, words);
+        let n = count_held_words(held, words);
         if n == words.len() {
             return self.copy_any();
         }
@@ -649,7 +642,7 @@ impl Small {
         if self.is_same(v) {
             return self.copy();
         }
-        if let Some(x) = only_word(v) {
+        if let Some(x) = only_register_word(v) {
             if self.has(x) {
                 return self.copy();
             }

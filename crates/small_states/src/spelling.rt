@@ -12,16 +12,17 @@ use crate::states::{SmallExit, SmallState};
 use crate::values::Values;
 use tcd_base::NoMemory;
 
+/// Returns the byte that spells a flag of a compact state or exit: 1 or 0.
 #[inline(always)]
-fn byte_of(x: bool) -> u8
-    ensures { result ≡ keys.byte_of x }
+fn spelled_flag_byte(x: bool) -> u8
+    ensures { result ≡ keys.cert_flag_byte x }
 {
     if x { 1 } else { 0 }
 }
 
 /// Appends unknown values and then a known one. The caller has tried a single word before.
 #[inline(never)]
-fn put_spaced(
+fn spell_spaced_value(
     out: &mut Vec<u8>,
     gathered: &mut Gathered,
     anys: u32,
@@ -46,7 +47,7 @@ fn put_spaced(
 
 /// Appends the bytes of all values of a list.
 #[inline(always)]
-fn put_values(out: &mut Vec<u8>, gathered: &mut Gathered, values: &Values) -> Result<(), NoMemory>
+fn spell_values(out: &mut Vec<u8>, gathered: &mut Gathered, values: &Values) -> Result<(), NoMemory>
     requires { All IsWell (all_values values.now) }
     ensures { OnOk result (out.new.items ++ gathered.new
         ≡ (out.old.items ++ gathered.old) ++ flat_map bytes_of_value (all_values values.now)) }
@@ -55,7 +56,7 @@ fn put_values(out: &mut Vec<u8>, gathered: &mut Gathered, values: &Values) -> Re
     for n in 0..known.len() {
         let here = &known[n];
         if !gathered.put_one(here) {
-            put_spaced(out, gathered, here.anys, &here.value)?;
+            spell_spaced_value(out, gathered, here.anys, &here.value)?;
         }
     }
     gathered.put_anys(out, values.rest)
@@ -71,14 +72,14 @@ impl SmallState {
     {
         let locals = self.locals.as_slice();
         let mut gathered = Gathered::new();
-        gathered.push(byte_of(self.ie));
+        gathered.push(spelled_flag_byte(self.ie));
         gathered.push(self.ccpn);
-        gathered.push(byte_of(self.lower));
+        gathered.push(spelled_flag_byte(self.lower));
         gathered.push(locals.len() as u8);
         for flag in locals {
-            gathered.push(byte_of(*flag));
+            gathered.push(spelled_flag_byte(*flag));
         }
-        put_values(out, &mut gathered, self.regs.as_ref())?;
+        spell_values(out, &mut gathered, self.regs.as_ref())?;
         gathered.add_to(out)
     }
 }
@@ -93,9 +94,9 @@ impl SmallExit {
     {
         let mut gathered = Gathered::new();
         gathered.push(1);
-        gathered.push(byte_of(self.ie));
+        gathered.push(spelled_flag_byte(self.ie));
         gathered.push(self.ccpn);
-        put_values(out, &mut gathered, self.lower.as_ref())?;
+        spell_values(out, &mut gathered, self.lower.as_ref())?;
         gathered.add_to(out)
     }
 }

@@ -45,7 +45,7 @@ impl SmallState {
 }
 
 impl SmallExit {
-    /// Returns a copy.
+    /// Returns a copy of the compact exit, which shares its values.
     pub fn copy(&self) -> Result<SmallExit, AllocError>
         ensures { IfOk result (λ x. exit_in x ≡ exit_in self.now) }
     {

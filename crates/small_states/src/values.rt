@@ -1,8 +1,9 @@
 // Sparse lists of values: only known values take room. A value is unknown if it holds all words.
-ghost use Rattle.std.specs.Prelude.{◌≡◌, ◌+◌, ◌-◌, ◌^◌, ◌<◌, ◌≤◌, ◌++◌, ◌∷◌, [], IfOk, OnOk, length, replicate, take, slice_index_or, slice_set};
+ghost use Rattle.std.specs.Prelude.{◌≡◌, ◌+◌, ◌-◌, ◌^◌, ◌<◌, ◌≤◌, ◌++◌, ◌∷◌, [], IfOk, OnOk, length, replicate, take, slice_index_or, slice_set, IsTrue};
 ghost use Rattle.value_domain.specs.Values.{any_val};
-ghost use Rattle.small_states.specs.CompactForms.{given_of, all_values, front, values_from, IsFoundIn};
+ghost use Rattle.small_states.specs.CompactForms.{given_of, all_values, compact_front, values_from, IsFoundIn};
 ghost use Rattle.small_states.specs.declared.values.SpacedValue as spaced;
+ghost use Rattle.value_domain.specs.State.{AreBelow, AreWell};
 
 use crate::incoming::Given;
 use crate::small_value::{Form, Small};
@@ -25,7 +26,7 @@ pub struct Values {
     pub(crate) rest: u32,
 }
 
-/// Writes unknown values to the places from `from` to before `to`.
+/// Writes the unknown values of a sparse list to the places from `from` to before `to`.
 #[inline(always)]
 fn write_anys(out: &mut [Val; 27], from: usize, to: usize)
     requires ordered { from ≤ to }
@@ -113,7 +114,8 @@ impl Values {
     fn put_behind(&mut self, anys: usize, value: Small) -> Result<(), AllocError>
         ensures { OnOk result
             (all_values self.new
-            ≡ slice_set (all_values self.old) (length (front self.old.known.items) + anys) value) }
+            ≡ slice_set (all_values self.old)
+            (length (compact_front self.old.known.items) + anys) value) }
     {
         let rest = self.rest as usize;
         if rest <= anys || value.is_any() {
@@ -136,7 +138,7 @@ impl Values {
         ensures { OnOk result
             (all_values self.new
             ≡ slice_set (all_values self.old)
-            (length (front (take n self.old.known.items)) + anys) value) }
+            (length (compact_front (take n self.old.known.items)) + anys) value) }
     {
         let past = self.known[n].anys as usize - anys;
         if past == 0 {
@@ -252,4 +254,30 @@ impl Values {
         self.add_anys((to - done) as u32);
         Ok(())
     }
+}
+
+/// Returns true only if both sparse lists of values have the same gaps and each value is below the
+/// other list's value at its place.
+pub(crate) fn are_all_below(low: &Values, high: &Values) -> bool
+    requires low { AreWell (all_values low.now) }
+    requires high { AreWell (all_values high.now) }
+    requires long { length (all_values low.now) ≡ length (all_values high.now) }
+    ensures { IsTrue result → AreBelow (all_values low.now) (all_values high.now) }
+{
+    let lows = low.known.as_slice();
+    let highs = high.known.as_slice();
+    if lows.len() != highs.len() {
+        return false;
+    }
+    for n in 0..lows.len() {
+        let here = &lows[n];
+        let above = &highs[n];
+        if here.anys != above.anys {
+            return false;
+        }
+        if !above.value.covers_small(&here.value) {
+            return false;
+        }
+    }
+    true
 }

@@ -3,19 +3,19 @@ use Rattle.std.proofs.Common.{◌≡◌, ℕ, ◌-◌, ◌*◌, ◌/◌, ◌^◌
 use Rattle.std.proofs.lemmas.Bool.{lt-ltb}
 use Rattle.std.proofs.lemmas.Bool.Decides.{nat_tests}
 use Rattle.tcd_base.specs.BitFields.{sext_of}
-use Rattle.csa_chain.specs.MemoryBytes.{extend}
-use Rattle.value_domain.specs.Sets.{Among, Within, distinct, alignment_log2}
+use Rattle.csa_chain.specs.MemoryBytes.{extend_loaded_bytes}
+use Rattle.value_domain.specs.Sets.{Among, Within, sorted_set_of, alignment_log2, IsExtent}
 use Rattle.value_domain.specs.Limits.{Limits, AreLimits}
 use Rattle.value_domain.specs.declared.values.Val.{Val}
 use Rattle.value_domain.specs.declared.values.Val.TheVariants.{Span}
 use Rattle.value_domain.specs.Floors.{floor, above}
-use Rattle.value_domain.specs.Values.{IsExtent, IsValue, cover, range, any_val, count_in, first_in}
+use Rattle.value_domain.specs.Values.{IsValue, cover, range, any_val, count_in, first_in_span}
 use Rattle.value_domain.proofs.SetLaws.{length-put_new, distinct-rising, length-distinct}
 use Rattle.value_domain.proofs.CoverLaws.{among_range, range_among, length-multiples, rising_multiples, unit_some}
 use Rattle.value_domain.proofs.ExtentLaws.{cover_span, extent_range}
 use Rattle.value_domain.proofs.RangeLaws.{any_cover, many_range, range_value}
 use Rattle.value_domain.proofs.LimitLaws.{floor_le, above_lt, above_le}
-use Rattle.store_ranges.specs.Accesses.{IsSize}
+use Rattle.store_ranges.specs.Accesses.{IsAccessSize}
 use Rattle.store_ranges.specs.Loads.{all_extended}
 
 -- ---- mapped lists
@@ -36,19 +36,19 @@ map-same f (x ∷ xs) each = let a : f x ≡ x = each x in let r : map f xs ≡ 
 in_all : (size x : ℕ) → x < 2 ^ (8 * size) → Among x (range 0 (2 ^ (8 * size) - 1) 0)
 in_all size x below = among_range x 0 (2 ^ (8 * size) - 1) 0 (omega arith) (omega arith, omega arith, omega arith)
 
-pub anything_has : (size : ℕ) (signed : Bool) (x : ℕ) → x < 2 ^ (8 * size) → Among (extend signed size x) (all_extended size signed)
-anything_has size signed x below = map_has (extend signed size) x (range 0 (2 ^ (8 * size) - 1) 0) (in_all size x below)
+pub anything_has : (size : ℕ) (signed : Bool) (x : ℕ) → x < 2 ^ (8 * size) → Among (extend_loaded_bytes signed size x) (all_extended size signed)
+anything_has size signed x below = map_has (extend_loaded_bytes signed size) x (range 0 (2 ^ (8 * size) - 1) 0) (in_all size x below)
 
 pub anything-unsigned : (b : Limits) (size : ℕ) → cover b (range 0 (2 ^ (8 * size) - 1) 0) ≡ cover b (all_extended size false)
-anything-unsigned b size = ap (cover b) (sym (map-same (extend false size) (range 0 (2 ^ (8 * size) - 1) 0) (λ x. refl)))
+anything-unsigned b size = ap (cover b) (sym (map-same (extend_loaded_bytes false size) (range 0 (2 ^ (8 * size) - 1) 0) (λ x. refl)))
 
 -- small numbers stay, and the greatest becomes the greatest word
-small_stays : (size x : ℕ) → IsSize size → x < 128 → (extend true size x ≡ x) × (x < 2 ^ (8 * size))
+small_stays : (size x : ℕ) → IsAccessSize size → x < 128 → (extend_loaded_bytes true size x ≡ x) × (x < 2 ^ (8 * size))
 small_stays size x (inl e) below = rw e (rw (lt-ltb x 128 below) refl, omega arith)
 small_stays size x (inr (inl e)) below = rw e (rw (lt-ltb x (2 ^ 15) (omega arith)) refl, omega arith)
 small_stays size x (inr (inr e)) below = rw e (rw (lt-ltb x (2 ^ 31) (omega arith)) refl, omega arith)
 
-greatest_extended : (size : ℕ) → IsSize size → (extend true size (2 ^ (8 * size) - 1) ≡ 2 ^ 32 - 1) × (2 ^ (8 * size) - 1 < 2 ^ (8 * size))
+greatest_extended : (size : ℕ) → IsAccessSize size → (extend_loaded_bytes true size (2 ^ (8 * size) - 1) ≡ 2 ^ 32 - 1) × (2 ^ (8 * size) - 1 < 2 ^ (8 * size))
 greatest_extended size (inl e) = rw e (refl, omega arith)
 greatest_extended size (inr (inl e)) = rw e (refl, omega arith)
 greatest_extended size (inr (inr e)) = rw e (refl, omega arith)
@@ -62,12 +62,12 @@ below_16 x le = grind (arith, nat_tests)
 below_32 : (x : ℕ) → x ≤ 2 ^ 32 - 1 → sext_of x 32 ≤ 2 ^ 32 - 1
 below_32 x le = grind (arith, nat_tests)
 
-extended_le : (size x : ℕ) → IsSize size → x ≤ 2 ^ (8 * size) - 1 → extend true size x ≤ 2 ^ 32 - 1
+extended_le : (size x : ℕ) → IsAccessSize size → x ≤ 2 ^ (8 * size) - 1 → extend_loaded_bytes true size x ≤ 2 ^ 32 - 1
 extended_le size x (inl e) le = let l : x ≤ 2 ^ 8 - 1 = rw e at le in rw e (below_8 x l)
 extended_le size x (inr (inl e)) le = let l : x ≤ 2 ^ 16 - 1 = rw e at le in rw e (below_16 x l)
 extended_le size x (inr (inr e)) le = let l : x ≤ 2 ^ 32 - 1 = rw e at le in rw e (below_32 x l)
 
-module _ (size : ℕ) (is : IsSize size) where
+module _ (size : ℕ) (is : IsAccessSize size) where
   -- 129 of the signed words
   some_signed : Within ((2 ^ 32 - 1) ∷ range 0 127 0) (all_extended size true)
   some_signed z i =
@@ -81,19 +81,19 @@ module _ (size : ℕ) (is : IsSize size) where
             subst (λ (y : ℕ). Among y (all_extended size true)) s.0 (anything_has size true z s.1)
       ]
 
-  many_signed : 128 < length (distinct (all_extended size true))
-  unfolding distinct
+  many_signed : 128 < length (sorted_set_of (all_extended size true))
+  unfolding sorted_set_of
   many_signed =
-      let r = distinct-rising (range 0 127 0) (rising_multiples (count_in 0 127 0) (first_in 0 0) (2 ^ 0) (unit_some 0)) in
+      let r = distinct-rising (range 0 127 0) (rising_multiples (count_in 0 127 0) (first_in_span 0 0) (2 ^ 0) (unit_some 0)) in
       let n = length-put_new (2 ^ 32 - 1) (range 0 127 0) (λ j. let m = range_among (2 ^ 32 - 1) 0 127 0 (omega arith) j in absurd (let h : 2 ^ 32 - 1 ≤ 127 = m.1 in omega arith)) in
-      let c = length-multiples (count_in 0 127 0) (first_in 0 0) (2 ^ 0) in
+      let c = length-multiples (count_in 0 127 0) (first_in_span 0 0) (2 ^ 0) in
       let more = length-distinct ((2 ^ 32 - 1) ∷ range 0 127 0) (all_extended size true) some_signed in
       let more2 = rw r at more in
       omega arith
 
   signed_below : (z : ℕ) → Among z (all_extended size true) → z ≤ 2 ^ 32 - 1
   signed_below z i =
-      let x = among_map (extend true size) z (range 0 (2 ^ (8 * size) - 1) 0) i in
+      let x = among_map (extend_loaded_bytes true size) z (range 0 (2 ^ (8 * size) - 1) 0) i in
       let m = range_among x.0 0 (2 ^ (8 * size) - 1) 0 (omega arith) x.1 in
       subst (λ (y : ℕ). y ≤ 2 ^ 32 - 1) (sym x.2) (extended_le size x.0 is m.1)
 
@@ -129,20 +129,20 @@ cover_to b greatest limits many =
     ∙ ap (λ n. Span n (above b.thresholds greatest - 1) 0) low)
 
 -- numbers of a size
-many_numbers : (size : ℕ) → IsSize size → 128 ≤ 2 ^ (8 * size) - 1
+many_numbers : (size : ℕ) → IsAccessSize size → 128 ≤ 2 ^ (8 * size) - 1
 many_numbers size (inl e) = rw e (omega arith)
 many_numbers size (inr (inl e)) = rw e (omega arith)
 many_numbers size (inr (inr e)) = rw e (omega arith)
 
-pub numbers-cover : (b : Limits) (size : ℕ) → AreLimits b → IsSize size → Span 0 (above b.thresholds (2 ^ (8 * size) - 1) - 1) 0 ≡ cover b (all_extended size false)
+pub numbers-cover : (b : Limits) (size : ℕ) → AreLimits b → IsAccessSize size → Span 0 (above b.thresholds (2 ^ (8 * size) - 1) - 1) 0 ≡ cover b (all_extended size false)
 numbers-cover b size limits is = cover_to b (2 ^ (8 * size) - 1) limits (many_numbers size is) ∙ anything-unsigned b size
 
-words_below : (size : ℕ) → IsSize size → 2 ^ (8 * size) - 1 < 2 ^ 32
+words_below : (size : ℕ) → IsAccessSize size → 2 ^ (8 * size) - 1 < 2 ^ 32
 words_below size (inl e) = rw e (omega arith)
 words_below size (inr (inl e)) = rw e (omega arith)
 words_below size (inr (inr e)) = rw e (omega arith)
 
-pub numbers_value : (b : Limits) (size : ℕ) → AreLimits b → IsSize size → IsValue b (Span 0 (above b.thresholds (2 ^ (8 * size) - 1) - 1) 0)
+pub numbers_value : (b : Limits) (size : ℕ) → AreLimits b → IsAccessSize size → IsValue b (Span 0 (above b.thresholds (2 ^ (8 * size) - 1) - 1) 0)
 numbers_value b size limits is =
     subst (λ (v : Val). IsValue b v) (sym (cover_to b (2 ^ (8 * size) - 1) limits (many_numbers size is)))
     (range_value b 0 (2 ^ (8 * size) - 1) 0 limits (omega arith) (omega arith) (words_below size is))

@@ -7,8 +7,8 @@ use Rattle.elf_image.specs.Images.{ImageData, image_byte}
 use Rattle.elf_image.proofs.ReadBytes.{byte_lt}
 use Rattle.tcd_base.specs.declared.range.Range.{Range}
 use Rattle.tcd_plan.specs.declared.plans.Device.{Device}
-use Rattle.tcd_plan.specs.PlanData.{PlanData, IsPlan, all_apart, areas_range, is_device}
-use Rattle.tcd_base.specs.Ranges.{IsWithin, IsInOne, is_within}
+use Rattle.tcd_plan.specs.PlanData.{PlanData, IsPlan, are_all_ranges_apart, areas_range, is_device}
+use Rattle.tcd_base.specs.Ranges.{IsWithinRange, IsInOneRange, is_within_range}
 use Rattle.tcd_plan.specs.Regions.{IsInDevice}
 use Rattle.value_domain.specs.declared.values.Val.{Val}
 use Rattle.value_domain.specs.declared.values.Val.TheVariants.{Set, Span}
@@ -21,7 +21,7 @@ use Rattle.value_domain.proofs.ExtentLaws.{among_append, many_span}
 use Rattle.value_domain.proofs.RangeLaws.{set_value, some_members}
 use Rattle.value_domain.proofs.Loops.{among_get}
 use Rattle.tcd_base.proofs.RangeLaws.{in_one, IsInOne-front, within_true}
-use Rattle.store_ranges.specs.Loads.{all_extended, answers, device_of, words_at, held_number, loaded_of, number_or, rom_number}
+use Rattle.store_ranges.specs.Loads.{all_extended, loaded_answers, device_of_loads, loaded_words_at, held_number, loaded_of, loaded_number_or, rom_number}
 use Rattle.store_ranges.specs.Laws.{LoadsGrow}
 use Rattle.store_ranges.proofs.Covers.{anything_has}
 use Rattle.store_ranges.proofs.Finds.{found_true, found_all, found_device}
@@ -57,13 +57,13 @@ held_lt image bytes x (suc n) w e =
 
 rom_lt : (image : ImageData) (plan : PlanData) → HasImageBytes image → (x n w : ℕ) → rom_number image plan x n ≡ Some w → w < 2 ^ (8 * n)
 rom_lt image plan bytes x n w e =
-    elim (cases_Bool (list_any (is_within x n) plan.rom)) [
+    elim (cases_Bool (list_any (is_within_range x n) plan.rom)) [
       | inl t ↦ held_lt image bytes x n w (rw t at e)
       | inr f ↦ absurd (let g : None ≡ Some w = rw f at e in cc)
     ]
 
 module _ (plan : PlanData) (ok : IsPlan plan) where
-  only_words : (size : ℕ) (xs : List ℕ) (d : Device) → device_of plan size xs ≡ Some d → (size ≡ 4) × (find (λ d. list_all (λ x. is_within x 4 d.range) xs) plan.devices ≡ Some d)
+  only_words : (size : ℕ) (xs : List ℕ) (d : Device) → device_of_loads plan size xs ≡ Some d → (size ≡ 4) × (find (λ d. list_all (λ x. is_within_range x 4 d.range) xs) plan.devices ≡ Some d)
   only_words size xs d e =
       elim (cases_Bool (eqb size 4)) [
         | inl four ↦ (eqb-true size 4 four, rw four at e)
@@ -71,7 +71,7 @@ module _ (plan : PlanData) (ok : IsPlan plan) where
       ]
 
   -- what a device may answer is a word
-  answers_within : (size : ℕ) (signed : Bool) (xs : List ℕ) (o : Option Device) → device_of plan size xs ≡ o → Within (answers size signed o) (all_extended size signed)
+  answers_within : (size : ℕ) (signed : Bool) (xs : List ℕ) (o : Option Device) → device_of_loads plan size xs ≡ o → Within (loaded_answers size signed o) (all_extended size signed)
   answers_within size signed xs None e z i = i
   answers_within size signed xs (Some d) e z i =
       let found = only_words size xs d e in
@@ -82,29 +82,29 @@ module _ (plan : PlanData) (ok : IsPlan plan) where
       subst (λ n. Among z (all_extended n signed)) (sym found.0) (subst (λ (y : ℕ). Among y (all_extended 4 signed)) (extended-word signed z small) (anything_has 4 signed z small))
 
   given_within : (image : ImageData) → HasImageBytes image → (size : ℕ) (signed : Bool) (x : ℕ) (o : Option ℕ) → rom_number image plan x size ≡ o
-      → Within (number_or size signed (device_of plan size (x ∷ [])) o) (all_extended size signed)
-  given_within image bytes size signed x None e z i = answers_within size signed (x ∷ []) (device_of plan size (x ∷ [])) refl z i
+      → Within (loaded_number_or size signed (device_of_loads plan size (x ∷ [])) o) (all_extended size signed)
+  given_within image bytes size signed x None e z i = answers_within size signed (x ∷ []) (device_of_loads plan size (x ∷ [])) refl z i
   given_within image bytes size signed x (Some w) e z i =
       elim i [
         | inl is ↦ subst (λ (y : ℕ). Among y (all_extended size signed)) (sym is) (anything_has size signed w (rom_lt image plan bytes x size w e))
         | inr none ↦ absurd none
       ]
 
-  answers_more : (size : ℕ) (signed : Bool) (xs : List ℕ) → 1 ≤ length (answers size signed (device_of plan size xs))
-  answers_more size signed xs = more (device_of plan size xs) refl
+  answers_more : (size : ℕ) (signed : Bool) (xs : List ℕ) → 1 ≤ length (loaded_answers size signed (device_of_loads plan size xs))
+  answers_more size signed xs = more (device_of_loads plan size xs) refl
     where
-      more : (o : Option Device) → device_of plan size xs ≡ o → 1 ≤ length (answers size signed o)
+      more : (o : Option Device) → device_of_loads plan size xs ≡ o → 1 ≤ length (loaded_answers size signed o)
       more None e = answers_some size signed None tt
       more (Some d) e = answers_some size signed (Some d) (device_bounds plan _ (Some d) ok (sym (only_words size xs d e).1))
 
-  given_more : (image : ImageData) (size : ℕ) (signed : Bool) (x : ℕ) (o : Option ℕ) → 1 ≤ length (number_or size signed (device_of plan size (x ∷ [])) o)
+  given_more : (image : ImageData) (size : ℕ) (signed : Bool) (x : ℕ) (o : Option ℕ) → 1 ≤ length (loaded_number_or size signed (device_of_loads plan size (x ∷ [])) o)
   given_more image size signed x None = answers_more size signed (x ∷ [])
   given_more image size signed x (Some w) = omega arith
 
 -- ---- one device
 -- a device that is found with more accesses is found with fewer
-found_fewer : (p q : Device → Bool) (x : ℕ) (rest : List Range) (ds : List Device) (d : Device) → all_apart (map (λ d. d.range) ds ++ rest) ≡ true
-    → ((c : Device) → q c ≡ true → p c ≡ true) → ((c : Device) → p c ≡ true → IsWithin x 1 c.range) → find q ds ≡ Some d → find p ds ≡ Some d
+found_fewer : (p q : Device → Bool) (x : ℕ) (rest : List Range) (ds : List Device) (d : Device) → are_all_ranges_apart (map (λ d. d.range) ds ++ rest) ≡ true
+    → ((c : Device) → q c ≡ true → p c ≡ true) → ((c : Device) → p c ≡ true → IsWithinRange x 1 c.range) → find q ds ≡ Some d → find p ds ≡ Some d
 found_fewer p q x rest [] d apart narrow at e = absurd (let f : None ≡ Some d = e in cc)
 found_fewer p q x rest (c ∷ ds) d apart narrow at e =
     elim (cases_Bool (q c)) [
@@ -125,64 +125,64 @@ found_fewer p q x rest (c ∷ ds) d apart narrow at e =
     ]
 
 module _ (plan : PlanData) (ok : IsPlan plan) where
-  device_fewer : (size : ℕ) (xs ys : List ℕ) (d : Device) (x : ℕ) → Among x xs → Within xs ys → device_of plan size ys ≡ Some d → device_of plan size xs ≡ Some d
+  device_fewer : (size : ℕ) (xs ys : List ℕ) (d : Device) (x : ℕ) → Among x xs → Within xs ys → device_of_loads plan size ys ≡ Some d → device_of_loads plan size xs ≡ Some d
   device_fewer size xs ys d x i there e =
       let found = only_words plan ok size ys d e in
       let devices = map (λ d. d.range) plan.devices in
-      let apart : all_apart (devices ++ areas_range plan ∷ []) ≡ true =
-      all_apart-behind (plan.rom ++ plan.ram) (devices ++ areas_range plan ∷ []) (sym (ap all_apart (append_assoc (plan.rom ++ plan.ram) devices (areas_range plan ∷ []))) ∙ ok.apart)
+      let apart : are_all_ranges_apart (devices ++ areas_range plan ∷ []) ≡ true =
+      all_apart-behind (plan.rom ++ plan.ram) (devices ++ areas_range plan ∷ []) (sym (ap are_all_ranges_apart (append_assoc (plan.rom ++ plan.ram) devices (areas_range plan ∷ []))) ∙ ok.apart)
       in
-      let fewer : find (λ d. list_all (λ x. is_within x 4 d.range) xs) plan.devices ≡ Some d =
-      found_fewer (λ d. list_all (λ x. is_within x 4 d.range) xs) (λ d. list_all (λ x. is_within x 4 d.range) ys) x (areas_range plan ∷ []) plan.devices d apart
+      let fewer : find (λ d. list_all (λ x. is_within_range x 4 d.range) xs) plan.devices ≡ Some d =
+      found_fewer (λ d. list_all (λ x. is_within_range x 4 d.range) xs) (λ d. list_all (λ x. is_within_range x 4 d.range) ys) x (areas_range plan ∷ []) plan.devices d apart
       (λ c t. all_from 4 c.range xs (λ z j. all_at 4 c.range ys z t (there z j)))
       (λ c t. let w = within_true x 4 c.range (all_at 4 c.range xs x t i) in (w.0, omega (arith, w.1)))
       found.1
       in
-      ap (λ n. cond (eqb n 4) (find (λ d. list_all (λ x. is_within x 4 d.range) xs) plan.devices) None) found.0 ∙ fewer
+      ap (λ n. cond (eqb n 4) (find (λ d. list_all (λ x. is_within_range x 4 d.range) xs) plan.devices) None) found.0 ∙ fewer
 
   -- rom has no access of a device
-  no_rom : (image : ImageData) (size : ℕ) (x : ℕ) (ys : List ℕ) (d : Device) → Among x ys → device_of plan size ys ≡ Some d → rom_number image plan x size ≡ None
+  no_rom : (image : ImageData) (size : ℕ) (x : ℕ) (ys : List ℕ) (d : Device) → Among x ys → device_of_loads plan size ys ≡ Some d → rom_number image plan x size ≡ None
   no_rom image size x ys d i e =
       let found = only_words plan ok size ys d e in
-      elim (cases_Bool (list_any (is_within x size) plan.rom)) [
+      elim (cases_Bool (list_any (is_within_range x size) plan.rom)) [
         | inl t ↦
             let w = within_true x 4 d.range (all_at 4 d.range ys x (found_true _ plan.devices d found.1) i) in
             let device : IsInDevice x 1 plan.devices = found_device _ plan.devices d x 1 found.1 (w.0, omega (arith, w.1)) in
-            let first : IsInOne (x + 0) 1 plan.rom = in_one x size 0 plan.rom (omega (arith, found.0)) (any_one x size plan.rom t) in
+            let first : IsInOneRange (x + 0) 1 plan.rom = in_one x size 0 plan.rom (omega (arith, found.0)) (any_one x size plan.rom t) in
             let same : x + 0 ≡ x = omega arith in
-            absurd (device_apart plan x ok device (inl (subst (λ (y : ℕ). IsInOne y 1 plan.rom) same first)))
+            absurd (device_apart plan x ok device (inl (subst (λ (y : ℕ). IsInOneRange y 1 plan.rom) same first)))
         | inr f ↦ rw f refl
       ]
 
   module _ (image : ImageData) (bytes : HasImageBytes image) (size : ℕ) (signed : Bool) where
     -- what an address gives is among what a Span that has it gives
-    given_answers : (x : ℕ) (ys : List ℕ) (o : Option Device) → Among x ys → device_of plan size ys ≡ o → Within (words_at image plan size signed x) (answers size signed o)
+    given_answers : (x : ℕ) (ys : List ℕ) (o : Option Device) → Among x ys → device_of_loads plan size ys ≡ o → Within (loaded_words_at image plan size signed x) (loaded_answers size signed o)
     given_answers x ys None i e z j = given_within plan ok image bytes size signed x (rom_number image plan x size) refl z j
     given_answers x ys (Some d) i e z j =
         let rom = no_rom image size x ys d i e in
         let device = device_fewer size (x ∷ []) ys d x (inl refl) (λ y k. elim k [ inl is ↦ subst (λ (u : ℕ). Among u ys) (sym is) i | inr none ↦ absurd none ]) e in
-        let at_rom : Among z (number_or size signed (device_of plan size (x ∷ [])) None) = subst (λ (n : Option ℕ). Among z (number_or size signed (device_of plan size (x ∷ [])) n)) rom j in
-        subst (λ (n : Option Device). Among z (answers size signed n)) device at_rom
+        let at_rom : Among z (loaded_number_or size signed (device_of_loads plan size (x ∷ [])) None) = subst (λ (n : Option ℕ). Among z (loaded_number_or size signed (device_of_loads plan size (x ∷ [])) n)) rom j in
+        subst (λ (n : Option Device). Among z (loaded_answers size signed n)) device at_rom
 
-    answers_answers : (xs ys : List ℕ) (x : ℕ) (o : Option Device) → Among x xs → Within xs ys → device_of plan size ys ≡ o → Within (answers size signed (device_of plan size xs)) (answers size signed o)
-    answers_answers xs ys x None i there e z j = answers_within plan ok size signed xs (device_of plan size xs) refl z j
-    answers_answers xs ys x (Some d) i there e z j = subst (λ (n : Option Device). Among z (answers size signed n)) (device_fewer size xs ys d x i there e) j
+    answers_answers : (xs ys : List ℕ) (x : ℕ) (o : Option Device) → Among x xs → Within xs ys → device_of_loads plan size ys ≡ o → Within (loaded_answers size signed (device_of_loads plan size xs)) (loaded_answers size signed o)
+    answers_answers xs ys x None i there e z j = answers_within plan ok size signed xs (device_of_loads plan size xs) refl z j
+    answers_answers xs ys x (Some d) i there e z j = subst (λ (n : Option Device). Among z (loaded_answers size signed n)) (device_fewer size xs ys d x i there e) j
 
-    flat_some : (ws : List ℕ) → 1 ≤ length ws → 1 ≤ length (flat_map (words_at image plan size signed) ws)
+    flat_some : (ws : List ℕ) → 1 ≤ length ws → 1 ≤ length (flat_map (loaded_words_at image plan size signed) ws)
     flat_some [] some = absurd (omega arith)
     flat_some (w ∷ ws) some =
-        let f = words_at image plan size signed in
+        let f = loaded_words_at image plan size signed in
         omega (arith, length-append (f w) (flat_map f ws), given_more plan ok image size signed w (rom_number image plan w size))
 
     grow : (b : Limits) (v w : Val) → IsValue b v → IsValue b w → IsBelow v w → IsBelow (loaded_of b image plan v size signed) (loaded_of b image plan w size signed)
     grow b (Set vs) (Set ws) vv vw below =
-        cover_mono b (flat_map (words_at image plan size signed) vs) (flat_map (words_at image plan size signed) ws) (flat_some vs vv.well.some)
-        (λ z i. let x = flat_among (words_at image plan size signed) z vs i in among_flat (words_at image plan size signed) x.0 z ws (below x.0 x.1) x.2)
+        cover_mono b (flat_map (loaded_words_at image plan size signed) vs) (flat_map (loaded_words_at image plan size signed) ws) (flat_some vs vv.well.some)
+        (λ z i. let x = flat_among (loaded_words_at image plan size signed) z vs i in among_flat (loaded_words_at image plan size signed) x.0 z ws (below x.0 x.1) x.2)
     grow b (Set vs) (Span lo last step) vv vw below =
-        cover_mono b (flat_map (words_at image plan size signed) vs) (answers size signed (device_of plan size (range lo last step))) (flat_some vs vv.well.some)
+        cover_mono b (flat_map (loaded_words_at image plan size signed) vs) (loaded_answers size signed (device_of_loads plan size (range lo last step))) (flat_some vs vv.well.some)
         (λ z i.
-        let x = flat_among (words_at image plan size signed) z vs i in
-        given_answers x.0 (range lo last step) (device_of plan size (range lo last step)) (among_member (Span lo last step) x.0 vw.well.0 (below x.0 x.1)) refl z x.2)
+        let x = flat_among (loaded_words_at image plan size signed) z vs i in
+        given_answers x.0 (range lo last step) (device_of_loads plan size (range lo last step)) (among_member (Span lo last step) x.0 vw.well.0 (below x.0 x.1)) refl z x.2)
     grow b (Span lo last step) (Set ws) vv vw below =
         absurd (let long = many_span b lo last step vv in
         let short = (set_value b ws vw.well).1 vw in
@@ -192,8 +192,8 @@ module _ (plan : PlanData) (ok : IsPlan plan) where
     grow b (Span lo last step) (Span lo2 last2 step2) vv vw below =
         let xs = range lo last step in
         let ys = range lo2 last2 step2 in
-        cover_mono b (answers size signed (device_of plan size xs)) (answers size signed (device_of plan size ys)) (answers_more plan ok size signed xs)
-        (answers_answers xs ys _ (device_of plan size ys) (among_get xs 0 (some_members (Span lo last step) vv.well))
+        cover_mono b (loaded_answers size signed (device_of_loads plan size xs)) (loaded_answers size signed (device_of_loads plan size ys)) (answers_more plan ok size signed xs)
+        (answers_answers xs ys _ (device_of_loads plan size ys) (among_get xs 0 (some_members (Span lo last step) vv.well))
         (λ z i. among_member (Span lo2 last2 step2) z vw.well.0 (below z (member_among (Span lo last step) z vv.well.0 i))) refl)
 
 pub loads_grow : LoadsGrow

@@ -7,39 +7,39 @@ use Rattle.std.proofs.lemmas.List.{flat_map_more, take_more, take_all, length-ma
 use Rattle.tcd_base.specs.declared.range.Range.{Range}
 use Rattle.tcd_plan.specs.declared.plans.Device.{Device}
 use Rattle.tcd_plan.specs.PlanData.{PlanData, IsPlan, is_device, is_range}
-use Rattle.value_domain.specs.Sets.{Among}
+use Rattle.value_domain.specs.Sets.{Among, IsExtent}
 use Rattle.value_domain.specs.Limits.{Limits}
 use Rattle.value_domain.specs.declared.values.Val.{Val}
-use Rattle.value_domain.specs.Values.{IsExtent, IsWell, cover, members, count_in, first_in}
+use Rattle.value_domain.specs.Values.{IsWell, cover, members, count_in, first_in_span}
 use Rattle.value_domain.proofs.CoverLaws.{length-multiples}
 use Rattle.value_domain.proofs.ExtentLaws.{append_left, append_right, cover-part}
 use Rattle.value_domain.proofs.RangeLaws.{some_members}
-use Rattle.tcd_base.specs.Ranges.{is_within}
-use Rattle.store_ranges.specs.Loads.{answers, device_of}
+use Rattle.tcd_base.specs.Ranges.{is_within_range}
+use Rattle.store_ranges.specs.Loads.{loaded_answers, device_of_loads}
 use Rattle.value_domain.proofs.MeetLaws.{cover-parts}
 use Rattle.store_ranges.proofs.Finds.{found_all}
 use Rattle.tcd_base.proofs.RangeLaws.{within_true, true_within}
 
 -- ---- the device of several accesses
-pub all_at : (n : ℕ) (r : Range) (xs : List ℕ) (z : ℕ) → list_all (λ x. is_within x n r) xs ≡ true → Among z xs → is_within z n r ≡ true
+pub all_at : (n : ℕ) (r : Range) (xs : List ℕ) (z : ℕ) → list_all (λ x. is_within_range x n r) xs ≡ true → Among z xs → is_within_range z n r ≡ true
 all_at n r [] z t i = absurd i
 all_at n r (x ∷ xs) z t i =
-    let both = and_parts (is_within x n r) (list_all (λ x. is_within x n r) xs) t in
-    elim i [ inl e ↦ subst (λ (y : ℕ). is_within y n r ≡ true) (sym e) both.0 | inr j ↦ all_at n r xs z both.1 j ]
+    let both = and_parts (is_within_range x n r) (list_all (λ x. is_within_range x n r) xs) t in
+    elim i [ inl e ↦ subst (λ (y : ℕ). is_within_range y n r ≡ true) (sym e) both.0 | inr j ↦ all_at n r xs z both.1 j ]
 
-pub all_from : (n : ℕ) (r : Range) (xs : List ℕ) → ((z : ℕ) → Among z xs → is_within z n r ≡ true) → list_all (λ x. is_within x n r) xs ≡ true
+pub all_from : (n : ℕ) (r : Range) (xs : List ℕ) → ((z : ℕ) → Among z xs → is_within_range z n r ≡ true) → list_all (λ x. is_within_range x n r) xs ≡ true
 all_from n r [] each = refl
 all_from n r (x ∷ xs) each = and_from _ _ (each x (inl refl)) (all_from n r xs (λ z i. each z (inr i)))
 
 -- a range that has the first and the last access has all
-ends_all : {low high s : ℕ} (xs : List ℕ) (n : ℕ) (r : Range) → IsExtent xs low high s → (is_within low n r && is_within high n r) ≡ list_all (λ x. is_within x n r) xs
+ends_all : {low high s : ℕ} (xs : List ℕ) (n : ℕ) (r : Range) → IsExtent xs low high s → (is_within_range low n r && is_within_range high n r) ≡ list_all (λ x. is_within_range x n r) xs
 ends_all {low} {high} xs n r e =
-    elim (cases_Bool (list_all (λ x. is_within x n r) xs)) [
+    elim (cases_Bool (list_all (λ x. is_within_range x n r) xs)) [
       | inl all ↦ and_from _ _ (all_at n r xs low all e.low_in) (all_at n r xs high all e.high_in) ∙ sym all
       | inr some ↦
-          elim (cases_Bool (is_within low n r && is_within high n r)) [
+          elim (cases_Bool (is_within_range low n r && is_within_range high n r)) [
             | inl t ↦
-                let both = and_parts (is_within low n r) (is_within high n r) t in
+                let both = and_parts (is_within_range low n r) (is_within_range high n r) t in
                 let first = within_true low n r both.0 in
                 let last = within_true high n r both.1 in
                 absurd (false≢true (sym some ∙ all_from n r xs (λ z i. true_within z n r (omega (arith, first.0, e.low z i), omega (arith, last.1, e.high z i)))))
@@ -52,7 +52,7 @@ find-same p q [] same = refl
 find-same p q (x ∷ xs) same = ap (λ b. cond b (Some x) (find p xs)) (same x) ∙ ap (cond (q x) (Some x)) (find-same p q xs same)
 
 pub device-ends : {low high s : ℕ} (plan : PlanData) (size : ℕ) (xs : List ℕ) → IsExtent xs low high s
-    → cond (eqb size 4) (find (λ d. is_within low 4 d.range && is_within high 4 d.range) plan.devices) None ≡ device_of plan size xs
+    → cond (eqb size 4) (find (λ d. is_within_range low 4 d.range && is_within_range high 4 d.range) plan.devices) None ≡ device_of_loads plan size xs
 device-ends plan size xs e = ap (λ o. cond (eqb size 4) o None) (find-same _ _ plan.devices (λ d. ends_all xs 4 d.range e))
 
 -- its bounds are in order
@@ -63,9 +63,9 @@ device_bounds plan p (Some d) ok e =
     leb-true d.lo d.hi (and_parts (is_range d.range) (nat_le d.lo d.hi) (and_parts (is_range d.range && nat_le d.lo d.hi) (nat_lt d.hi (2 ^ 32)) is).0).1
 
 -- ---- answers
-pub answers_some : (size : ℕ) (signed : Bool) (device : Option Device) → IfSome device (λ d. d.lo ≤ d.hi) → 1 ≤ length (answers size signed device)
-answers_some size signed None ordered = simp length-map (omega (arith, length-multiples (count_in 0 (2 ^ (8 * size) - 1) 0) (first_in 0 0) (2 ^ 0)))
-answers_some size signed (Some d) ordered = omega (arith, length-multiples (count_in d.lo d.hi 0) (first_in d.lo 0) (2 ^ 0))
+pub answers_some : (size : ℕ) (signed : Bool) (device : Option Device) → IfSome device (λ d. d.lo ≤ d.hi) → 1 ≤ length (loaded_answers size signed device)
+answers_some size signed None ordered = simp length-map (omega (arith, length-multiples (count_in 0 (2 ^ (8 * size) - 1) 0) (first_in_span 0 0) (2 ^ 0)))
+answers_some size signed (Some d) ordered = omega (arith, length-multiples (count_in d.lo d.hi 0) (first_in_span d.lo 0) (2 ^ 0))
 
 -- ---- the words of a Set
 pub among_flat : (f : ℕ → List ℕ) (x z : ℕ) (ws : List ℕ) → Among x ws → Among z (f x) → Among z (flat_map f ws)

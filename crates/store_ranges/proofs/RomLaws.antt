@@ -6,27 +6,27 @@ use Rattle.std.specs.List.{list_any}
 use Rattle.std.proofs.lemmas.Bool.{or_cases, or_left, or_right}
 use Rattle.tcd_base.specs.declared.range.Range.{Range}
 use Rattle.tcd_plan.specs.PlanData.{PlanData, IsPlan}
-use Rattle.tcd_base.specs.Ranges.{IsInOne, is_within}
+use Rattle.tcd_base.specs.Ranges.{IsInOneRange, is_within_range}
 use Rattle.tcd_plan.proofs.ApartLaws.{rom_fits}
 use Rattle.elf_image.specs.Images.{ImageData, image_byte}
 use Rattle.tcd_base.proofs.RangeLaws.{within_true, true_within}
 use Rattle.store_ranges.specs.Loads.{held_number}
 
 -- ---- in one range
-pub any_one : (x n : ℕ) (rs : List Range) → list_any (is_within x n) rs ≡ true → IsInOne x n rs
+pub any_one : (x n : ℕ) (rs : List Range) → list_any (is_within_range x n) rs ≡ true → IsInOneRange x n rs
 any_one x n [] t = absurd (let f : false ≡ true = t in cc)
 any_one x n (r ∷ rs) t =
-    elim (or_cases (is_within x n r) (list_any (is_within x n) rs) t) [
+    elim (or_cases (is_within_range x n r) (list_any (is_within_range x n) rs) t) [
       | inl h ↦ inl (within_true x n r h)
       | inr h ↦ inr (any_one x n rs h)
     ]
 
-pub one_any : (x n : ℕ) (rs : List Range) → IsInOne x n rs → list_any (is_within x n) rs ≡ true
+pub one_any : (x n : ℕ) (rs : List Range) → IsInOneRange x n rs → list_any (is_within_range x n) rs ≡ true
 one_any x n [] i = absurd i
-one_any x n (r ∷ rs) (inl w) = or_left (is_within x n r) (list_any (is_within x n) rs) (true_within x n r w)
-one_any x n (r ∷ rs) (inr i) = or_right (is_within x n r) (list_any (is_within x n) rs) (one_any x n rs i)
+one_any x n (r ∷ rs) (inl w) = or_left (is_within_range x n r) (list_any (is_within_range x n) rs) (true_within x n r w)
+one_any x n (r ∷ rs) (inr i) = or_right (is_within_range x n r) (list_any (is_within_range x n) rs) (one_any x n rs i)
 
-pub any_fits : (plan : PlanData) (x n : ℕ) → IsPlan plan → list_any (is_within x n) plan.rom ≡ true → x + n ≤ 2 ^ 32
+pub any_fits : (plan : PlanData) (x n : ℕ) → IsPlan plan → list_any (is_within_range x n) plan.rom ≡ true → x + n ≤ 2 ^ 32
 any_fits plan x n ok t = rom_fits ok x n (any_one x n plan.rom t)
 
 -- ---- numbers, from the last byte on

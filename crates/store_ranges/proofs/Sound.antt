@@ -6,11 +6,11 @@ use Rattle.std.specs.List.{find, list_all, list_any, flat_map}
 use Rattle.std.specs.FinMap as map
 use Rattle.std.proofs.lemmas.Bool.{cases_Bool, eqb-true, lt-ltb, le-ltb, cases_lt}
 use Rattle.std.proofs.lemmas.Nat.{pow-add}
-use Rattle.csa_chain.specs.MemoryBytes.{Memory, load_number, extend, HasBytes}
+use Rattle.csa_chain.specs.MemoryBytes.{Memory, load_number, extend_loaded_bytes, HasBytes}
 use Rattle.elf_image.specs.Images.{ImageData, image_byte}
 use Rattle.tcd_plan.specs.declared.plans.Device.{Device}
-use Rattle.tcd_plan.specs.PlanData.{PlanData, IsPlan, all_apart, areas_range, is_device}
-use Rattle.tcd_base.specs.Ranges.{IsWithin, IsInOne, is_within}
+use Rattle.tcd_plan.specs.PlanData.{PlanData, IsPlan, are_all_ranges_apart, areas_range, is_device}
+use Rattle.tcd_base.specs.Ranges.{IsWithinRange, IsInOneRange, is_within_range}
 use Rattle.tcd_plan.specs.Regions.{IsInDevice, IsMappedBy, AnswersAt}
 use Rattle.tc_mem.specs.PlanMemory.{IsPlanMemory, HoldsRom}
 use Rattle.value_domain.specs.declared.values.Val.{Val}
@@ -20,7 +20,7 @@ use Rattle.value_domain.specs.Limits.{Limits}
 use Rattle.value_domain.specs.Values.{IsWell, cover, members, range}
 use Rattle.value_domain.proofs.CoverLaws.{cover_holds, among_range, among_member, has_step}
 use Rattle.tcd_base.proofs.RangeLaws.{in_one, IsInOne-front, IsInOne-behind, within_true}
-use Rattle.store_ranges.specs.Loads.{HoldsLoads, answers, device_of, words_at, held_number, number_or, rom_number}
+use Rattle.store_ranges.specs.Loads.{HoldsLoads, loaded_answers, device_of_loads, loaded_words_at, held_number, loaded_number_or, rom_number}
 use Rattle.store_ranges.proofs.Covers.{anything_has}
 use Rattle.store_ranges.proofs.Finds.{found_all, found_true, found_device}
 use Rattle.store_ranges.proofs.LoadLaws.{all_at, among_flat}
@@ -77,7 +77,7 @@ loaded-held image mem input x (suc n) w fits there e =
 
 -- ---- devices
 -- no byte of a device's range is mapped
-pub in_ranges : (x n : ℕ) (ds : List Device) → IsInDevice x n ds → IsInOne x n (map (λ d. d.range) ds)
+pub in_ranges : (x n : ℕ) (ds : List Device) → IsInDevice x n ds → IsInOneRange x n (map (λ d. d.range) ds)
 in_ranges x n [] i = i
 in_ranges x n (d ∷ ds) (inl w) = inl w
 in_ranges x n (d ∷ ds) (inr i) = inr (in_ranges x n ds i)
@@ -86,14 +86,14 @@ pub device_apart : (plan : PlanData) (y : ℕ) → IsPlan plan → IsInDevice y 
 device_apart plan y ok i mapped =
     let devices = map (λ d. d.range) plan.devices in
     let device = in_ranges y 1 plan.devices i in
-    let apart : all_apart ((plan.rom ++ plan.ram) ++ (devices ++ areas_range plan ∷ [])) ≡ true =
-    sym (ap all_apart (append_assoc (plan.rom ++ plan.ram) devices (areas_range plan ∷ []))) ∙ ok.apart
+    let apart : are_all_ranges_apart ((plan.rom ++ plan.ram) ++ (devices ++ areas_range plan ∷ [])) ≡ true =
+    sym (ap are_all_ranges_apart (append_assoc (plan.rom ++ plan.ram) devices (areas_range plan ∷ []))) ∙ ok.apart
     in
     elim mapped [
       | inl rom ↦ all_apart-before y (plan.rom ++ plan.ram) (devices ++ areas_range plan ∷ []) apart (IsInOne-front y 1 plan.rom plan.ram rom) (IsInOne-front y 1 devices (areas_range plan ∷ []) device)
       | inr (inl ram) ↦ all_apart-before y (plan.rom ++ plan.ram) (devices ++ areas_range plan ∷ []) apart (IsInOne-behind y 1 plan.rom plan.ram ram) (IsInOne-front y 1 devices (areas_range plan ∷ []) device)
       | inr (inr areas) ↦
-          let within : IsWithin y 1 (areas_range plan) = (areas.0, (let lt = areas.1 in omega arith)) in
+          let within : IsWithinRange y 1 (areas_range plan) = (areas.0, (let lt = areas.1 in omega arith)) in
           all_apart-before y (plan.rom ++ plan.ram ++ devices) (areas_range plan ∷ []) ok.apart (IsInOne-behind y 1 (plan.rom ++ plan.ram) devices device) (inl within)
     ]
 
@@ -119,7 +119,7 @@ loaded-input mem input x small fits none =
     (ap (map.get mem) p2 ∙ none (x + 2) (omega arith) (omega arith)) (ap (map.get mem) p3 ∙ none (x + 3) (omega arith) (omega arith))
 
 -- a word is its own extension
-pub extended-word : (signed : Bool) (w : ℕ) → w < 2 ^ 32 → extend signed 4 w ≡ w
+pub extended-word : (signed : Bool) (w : ℕ) → w < 2 ^ 32 → extend_loaded_bytes signed 4 w ≡ w
 extended-word false w below = refl
 extended-word true w below = elim (cases_lt w (2 ^ 31)) [
   | inl low ↦ rw (lt-ltb w (2 ^ 31) low) refl
@@ -138,55 +138,55 @@ found_each P p (c ∷ ds) d all e =
 -- ---- what the machine loads
 module _ (image : ImageData) (plan : PlanData) (ok : IsPlan plan) (mem : Memory) (bytes : HasBytes mem) (memory : IsPlanMemory plan mem) (rom : HoldsRom image plan mem) where
   -- from a device
-  device_has : (input x : ℕ) (signed : Bool) (p : Device → Bool) (d : Device) → input < 2 ^ 32 → AnswersAt x input plan.devices → find p plan.devices ≡ Some d → IsWithin x 4 d.range
-      → Among (extend signed 4 (load_number mem input x 4)) (range d.lo d.hi 0)
+  device_has : (input x : ℕ) (signed : Bool) (p : Device → Bool) (d : Device) → input < 2 ^ 32 → AnswersAt x input plan.devices → find p plan.devices ≡ Some d → IsWithinRange x 4 d.range
+      → Among (extend_loaded_bytes signed 4 (load_number mem input x 4)) (range d.lo d.hi 0)
   device_has input x signed p d small answer found w =
       let fits = device_fits d (found_all p is_device plan.devices d ok.ranges.devices found) in
       let none : (y : ℕ) → x ≤ y → y < x + 4 → map.get mem y ≡ None =
       λ y low high. unmapped plan mem y ok memory (found_device p plan.devices d y 1 found (omega (arith, w.0), omega (arith, w.1)))
       in
-      let is : extend signed 4 (load_number mem input x 4) ≡ input =
-      ap (extend signed 4) (loaded-input mem input x small (omega (arith, w.1)) none) ∙ extended-word signed input small
+      let is : extend_loaded_bytes signed 4 (load_number mem input x 4) ≡ input =
+      ap (extend_loaded_bytes signed 4) (loaded-input mem input x small (omega (arith, w.1)) none) ∙ extended-word signed input small
       in
-      let bounds = found_each (λ (e : Device). IsWithin x 4 e.range → (e.lo ≤ input) × (input ≤ e.hi)) p plan.devices d answer found w in
+      let bounds = found_each (λ (e : Device). IsWithinRange x 4 e.range → (e.lo ≤ input) × (input ≤ e.hi)) p plan.devices d answer found w in
       subst (λ (z : ℕ). Among z (range d.lo d.hi 0)) (sym is) (among_range input d.lo d.hi 0 (omega arith) (bounds.0, bounds.1, omega arith))
 
-  answers_has : (input x size : ℕ) (signed : Bool) (xs : List ℕ) (o : Option Device) → input < 2 ^ 32 → (size ≡ 4 → AnswersAt x input plan.devices) → Among x xs → device_of plan size xs ≡ o
-      → Among (extend signed size (load_number mem input x size)) (answers size signed o)
+  answers_has : (input x size : ℕ) (signed : Bool) (xs : List ℕ) (o : Option Device) → input < 2 ^ 32 → (size ≡ 4 → AnswersAt x input plan.devices) → Among x xs → device_of_loads plan size xs ≡ o
+      → Among (extend_loaded_bytes signed size (load_number mem input x size)) (loaded_answers size signed o)
   answers_has input x size signed xs None small answer i e = anything_has size signed (load_number mem input x size) (loaded_lt mem bytes input x size)
   answers_has input x size signed xs (Some d) small answer i e =
       elim (cases_Bool (eqb size 4)) [
         | inl four ↦
             let is : size ≡ 4 = eqb-true size 4 four in
-            let found : find (λ d. list_all (λ x. is_within x 4 d.range) xs) plan.devices ≡ Some d = rw four at e in
+            let found : find (λ d. list_all (λ x. is_within_range x 4 d.range) xs) plan.devices ≡ Some d = rw four at e in
             let w = within_true x 4 d.range (all_at 4 d.range xs x (found_true _ plan.devices d found) i) in
-            subst (λ n. Among (extend signed n (load_number mem input x n)) (range d.lo d.hi 0)) (sym is) (device_has input x signed _ d small (answer is) found w)
+            subst (λ n. Among (extend_loaded_bytes signed n (load_number mem input x n)) (range d.lo d.hi 0)) (sym is) (device_has input x signed _ d small (answer is) found w)
         | inr other ↦ absurd (let f : None ≡ Some d = rw other at e in cc)
       ]
 
   -- from an address
   given_has : (input x size : ℕ) (signed : Bool) (o : Option ℕ) → input < 2 ^ 32 → (size ≡ 4 → AnswersAt x input plan.devices) → rom_number image plan x size ≡ o
-      → Among (extend signed size (load_number mem input x size)) (number_or size signed (device_of plan size (x ∷ [])) o)
-  given_has input x size signed None small answer e = answers_has input x size signed (x ∷ []) (device_of plan size (x ∷ [])) small answer (inl refl) refl
+      → Among (extend_loaded_bytes signed size (load_number mem input x size)) (loaded_number_or size signed (device_of_loads plan size (x ∷ [])) o)
+  given_has input x size signed None small answer e = answers_has input x size signed (x ∷ []) (device_of_loads plan size (x ∷ [])) small answer (inl refl) refl
   given_has input x size signed (Some w) small answer e =
-      elim (cases_Bool (list_any (is_within x size) plan.rom)) [
+      elim (cases_Bool (list_any (is_within_range x size) plan.rom)) [
         | inl t ↦
             let held : held_number image x size ≡ Some w = rw t at e in
             let there : (y b : ℕ) → x ≤ y → y < x + size → image_byte image y ≡ Some b → map.get mem y ≡ Some b =
             λ y b low high is.
             let at : x + (y - x) ≡ y = omega arith in
-            rom y b (subst (λ (z : ℕ). IsInOne z 1 plan.rom) at (in_one x size (y - x) plan.rom (omega arith) (any_one x size plan.rom t))) is
+            rom y b (subst (λ (z : ℕ). IsInOneRange z 1 plan.rom) at (in_one x size (y - x) plan.rom (omega arith) (any_one x size plan.rom t))) is
             in
-            inl (ap (extend signed size) (loaded-held image mem input x size w (any_fits plan x size ok t) there held))
+            inl (ap (extend_loaded_bytes signed size) (loaded-held image mem input x size w (any_fits plan x size ok t) there held))
         | inr f ↦ absurd (let g : None ≡ Some w = rw f at e in cc)
       ]
 
-pub set_sound : (b : Limits) (image : ImageData) (plan : PlanData) (ws : List ℕ) (size : ℕ) (signed : Bool) → IsPlan plan → HoldsLoads image plan (Set ws) size signed (cover b (flat_map (words_at image plan size signed) ws))
+pub set_sound : (b : Limits) (image : ImageData) (plan : PlanData) (ws : List ℕ) (size : ℕ) (signed : Bool) → IsPlan plan → HoldsLoads image plan (Set ws) size signed (cover b (flat_map (loaded_words_at image plan size signed) ws))
 set_sound b image plan ws size signed ok mem x input bytes memory rom small answer i =
-    cover_holds b (flat_map (words_at image plan size signed) ws) _
-    (among_flat (words_at image plan size signed) x _ ws i (given_has image plan ok mem bytes memory rom input x size signed (rom_number image plan x size) small answer refl))
+    cover_holds b (flat_map (loaded_words_at image plan size signed) ws) _
+    (among_flat (loaded_words_at image plan size signed) x _ ws i (given_has image plan ok mem bytes memory rom input x size signed (rom_number image plan x size) small answer refl))
 
-pub span_sound : (b : Limits) (image : ImageData) (plan : PlanData) (v : Val) (size : ℕ) (signed : Bool) → IsPlan plan → IsWell v → HoldsLoads image plan v size signed (cover b (answers size signed (device_of plan size (members v))))
+pub span_sound : (b : Limits) (image : ImageData) (plan : PlanData) (v : Val) (size : ℕ) (signed : Bool) → IsPlan plan → IsWell v → HoldsLoads image plan v size signed (cover b (loaded_answers size signed (device_of_loads plan size (members v))))
 span_sound b image plan v size signed ok well mem x input bytes memory rom small answer m =
-    cover_holds b (answers size signed (device_of plan size (members v))) _
-    (answers_has image plan ok mem bytes memory rom input x size signed (members v) (device_of plan size (members v)) small answer (among_member v x (has_step v well) m) refl)
+    cover_holds b (loaded_answers size signed (device_of_loads plan size (members v))) _
+    (answers_has image plan ok mem bytes memory rom input x size signed (members v) (device_of_loads plan size (members v)) small answer (among_member v x (has_step v well) m) refl)

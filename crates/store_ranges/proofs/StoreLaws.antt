@@ -10,14 +10,14 @@ use Rattle.tcd_plan.specs.PlanData.{PlanData, IsPlan, is_range, is_device}
 use Rattle.tcd_plan.specs.Regions.{IsStoreInRange}
 use Rattle.value_domain.specs.declared.values.Val.{Val}
 use Rattle.value_domain.specs.declared.values.Val.TheVariants.{Set, Span}
-use Rattle.value_domain.specs.Sets.{Among, alignment_log2}
-use Rattle.value_domain.specs.Values.{IsExtent, IsMember, IsWell, members, range}
+use Rattle.value_domain.specs.Sets.{Among, alignment_log2, IsExtent}
+use Rattle.value_domain.specs.Values.{IsMember, IsWell, members, range}
 use Rattle.value_domain.proofs.CoverLaws.{step_cases, in_units, from_units, among_range, range_among, among_member, member_among, has_step}
 use Rattle.value_domain.proofs.SetLaws.{twos_le}
 use Rattle.value_domain.proofs.Loops.{among_get}
-use Rattle.store_ranges.specs.Accesses.{IsSize, AreAligned, AreStoresInRange, IsNextMultiple, StaysInRange}
+use Rattle.store_ranges.specs.Accesses.{IsAccessSize, AreAligned, AreStoresInRange, IsNextAccessAddress, StaysInRange}
 use Rattle.store_ranges.proofs.Finds.{found_true, found_all, found_one, found_device, unfound_one, unfound_device}
-use Rattle.tcd_base.specs.Ranges.{is_within}
+use Rattle.tcd_base.specs.Ranges.{is_within_range}
 use Rattle.tcd_base.proofs.RangeLaws.{within_true, true_within}
 
 pub range_fits : (r : Range) → is_range r ≡ true → r.at + r.len ≤ 2 ^ 32
@@ -26,17 +26,17 @@ range_fits r t = leb-true (r.at + r.len) (2 ^ 32) (and_parts _ _ t).1
 pub device_fits : (d : Device) → is_device d ≡ true → d.range.at + d.range.len ≤ 2 ^ 32
 device_fits d t = range_fits d.range (and_parts _ _ (and_parts _ _ t).0).0
 
-pub ram_stays : (plan : PlanData) (x size : ℕ) (r : Range) → IsPlan plan → find (is_within x size) plan.ram ≡ Some r → StaysInRange plan size x (r.at + r.len)
+pub ram_stays : (plan : PlanData) (x size : ℕ) (r : Range) → IsPlan plan → find (is_within_range x size) plan.ram ≡ Some r → StaysInRange plan size x (r.at + r.len)
 ram_stays plan x size r ok e =
-    let fits = range_fits r (found_all (is_within x size) is_range plan.ram r ok.ranges.ram e) in
-    let here = within_true x size r (found_true (is_within x size) plan.ram r e) in
+    let fits = range_fits r (found_all (is_within_range x size) is_range plan.ram r ok.ranges.ram e) in
+    let here = within_true x size r (found_true (is_within_range x size) plan.ram r e) in
     record {
       here = here.1;
       within = fits;
-      each = λ y low high. (omega arith, inl (found_one (is_within x size) plan.ram r y size e (omega arith, high)));
+      each = λ y low high. (omega arith, inl (found_one (is_within_range x size) plan.ram r y size e (omega arith, high)));
     }
 
-pub device_stays : (plan : PlanData) (x size : ℕ) (d : Device) → IsPlan plan → find (λ d. is_within x size d.range && is_within x size d.range) plan.devices ≡ Some d
+pub device_stays : (plan : PlanData) (x size : ℕ) (d : Device) → IsPlan plan → find (λ d. is_within_range x size d.range && is_within_range x size d.range) plan.devices ≡ Some d
     → StaysInRange plan size x (d.range.at + d.range.len)
 device_stays plan x size d ok e =
     let fits = device_fits d (found_all _ is_device plan.devices d ok.ranges.devices e) in
@@ -47,7 +47,7 @@ device_stays plan x size d ok e =
       each = λ y low high. (omega arith, inr (found_device _ plan.devices d y size e (omega arith, high)));
     }
 
-pub none_stays : (plan : PlanData) (x size : ℕ) → find (is_within x size) plan.ram ≡ None → find (λ d. is_within x size d.range && is_within x size d.range) plan.devices ≡ None
+pub none_stays : (plan : PlanData) (x size : ℕ) → find (is_within_range x size) plan.ram ≡ None → find (λ d. is_within_range x size d.range && is_within_range x size d.range) plan.devices ≡ None
     → IsStoreInRange plan (x, size) → ⊥
 none_stays plan x size no_ram no_device s =
     elim s.1 [
@@ -66,7 +66,7 @@ next_least =
     (λ x y h e. omega arith)
     (λ x y h e. omega arith)
 
-pub next_is : (s x : ℕ) → s ≤ 2 → IsNextMultiple s x ((x / 2 ^ s + 1) * 2 ^ s)
+pub next_is : (s x : ℕ) → s ≤ 2 → IsNextAccessAddress s x ((x / 2 ^ s + 1) * 2 ^ s)
 next_is s x small = record {
   above = next_above s small x;
   fits = from_units s small (x / 2 ^ s + 1) ((x / 2 ^ s + 1) * 2 ^ s) refl;
@@ -81,7 +81,7 @@ pub record Walked (plan : PlanData) (least last step size x : ℕ) : Type 0 wher
   pub before : (y : ℕ) → IsMember y (Span least last step) → y < x → IsStoreInRange plan (y, size)
 
 -- from a range to the first member that leaves it
-pub walk_more : (plan : PlanData) (least last step size x end next : ℕ) → Walked plan least last step size x → StaysInRange plan size x end → IsNextMultiple step (end - size) next
+pub walk_more : (plan : PlanData) (least last step size x end next : ℕ) → Walked plan least last step size x → StaysInRange plan size x end → IsNextAccessAddress step (end - size) next
     → Walked plan least last step size next
 walk_more plan least last step size x end next w s n = record {
   from = omega (arith, w.from, s.here, n.above);
@@ -126,13 +126,13 @@ pub first_fits : {least greatest s : ℕ} (lo last step : ℕ) → IsWell (Span 
 first_fits {least} lo last step well e = (range_among least lo last step well.0 e.low_in).2
 
 -- ---- multiples of a size
-size_twos : (n x : ℕ) → IsSize n → (alignment_log2 n ≤ alignment_log2 x) ↔ (x % n ≡ 0)
+size_twos : (n x : ℕ) → IsAccessSize n → (alignment_log2 n ≤ alignment_log2 x) ↔ (x % n ≡ 0)
 unfolding alignment_log2
 size_twos n x (inl e) = grind (arith, nat_tests)
 size_twos n x (inr (inl e)) = grind (arith, nat_tests)
 size_twos n x (inr (inr e)) = grind (arith, nat_tests)
 
-pub aligned_is : {least greatest s : ℕ} (v : Val) (n : ℕ) → IsWell v → IsSize n → IsExtent (members v) least greatest s → (alignment_log2 n ≤ s) ↔ AreAligned v n
+pub aligned_is : {least greatest s : ℕ} (v : Val) (n : ℕ) → IsWell v → IsAccessSize n → IsExtent (members v) least greatest s → (alignment_log2 n ≤ s) ↔ AreAligned v n
 aligned_is {s = s} v n well size e = (
   (λ h x m. (size_twos n x size).0 (let f : s ≤ alignment_log2 x = e.fits x (among_member v x (has_step v well) m) in omega arith)),
   (λ each. e.full (alignment_log2 n) (twos_le n) (λ z i. (size_twos n z size).1 (each z (member_among v z (has_step v well) i)))),

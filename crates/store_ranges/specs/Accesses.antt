@@ -8,8 +8,8 @@ use Rattle.value_domain.specs.Values.{IsMember, members}
 use Rattle.std.specs.List.{list_all}
 
 -- an access is to 1, 2 or 4 bytes
-abbrev pub IsSize : ℕ → Type 0
-IsSize n = (n ≡ 1) ⊎ (n ≡ 2) ⊎ (n ≡ 4)
+abbrev pub IsAccessSize : ℕ → Type 0
+IsAccessSize n = (n ≡ 1) ⊎ (n ≡ 2) ⊎ (n ≡ 4)
 
 -- each access from a member doesn't pass 2^32 and is wholly in one ram range or one device range
 abbrev pub AreStoresInRange : PlanData → Val → ℕ → Type 0
@@ -26,7 +26,7 @@ pub record StaysInRange (plan : PlanData) (size x end : ℕ) : Type 0 where
   pub each : (y : ℕ) → x ≤ y → y + size ≤ end → IsStoreInRange plan (y, size)
 
 -- the least multiple of 2 ^ step above x
-pub record IsNextMultiple (step x next : ℕ) : Type 0 where
+pub record IsNextAccessAddress (step x next : ℕ) : Type 0 where
   pub above : x < next
   pub fits : step ≤ alignment_log2 next
   pub least : (y : ℕ) → x < y → step ≤ alignment_log2 y → next ≤ y

@@ -5,11 +5,11 @@ use Rattle.tcd_plan.specs.PlanData.{PlanData, IsPlan}
 use Rattle.value_domain.specs.declared.values.Val.{Val}
 use Rattle.value_domain.specs.Limits.{Limits}
 use Rattle.value_domain.specs.Values.{IsValue, IsBelow}
-use Rattle.store_ranges.specs.Accesses.{IsSize}
+use Rattle.store_ranges.specs.Accesses.{IsAccessSize}
 use Rattle.store_ranges.specs.Loads.{loaded_of}
 
 -- a value with fewer members gives fewer loaded words
 abbrev pub LoadsGrow : Type 0
 LoadsGrow =
-    (b : Limits) (image : ImageData) (plan : PlanData) (v w : Val) (size : ℕ) (signed : Bool) → IsPlan plan → IsImage image → IsSize size →
+    (b : Limits) (image : ImageData) (plan : PlanData) (v w : Val) (size : ℕ) (signed : Bool) → IsPlan plan → IsImage image → IsAccessSize size →
     IsValue b v → IsValue b w → IsBelow v w → IsBelow (loaded_of b image plan v size signed) (loaded_of b image plan w size signed)

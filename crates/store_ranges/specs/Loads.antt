@@ -2,11 +2,11 @@
 use Rattle.std.specs.Prelude.{◌<◌, ◌+◌, ◌-◌, ◌*◌, ◌^◌, ◌==◌, ℕ, zero, suc, Bool, List, [], ◌∷◌, map, find, if◌then◌else◌, Option, Some, None, IsSome, option_and_then}
 use Rattle.std.specs.List.{list_all, list_any, flat_map}
 use Rattle.std.specs.Option.{option_map}
-use Rattle.csa_chain.specs.MemoryBytes.{Memory, load_number, extend, HasBytes}
+use Rattle.csa_chain.specs.MemoryBytes.{Memory, load_number, extend_loaded_bytes, HasBytes}
 use Rattle.elf_image.specs.Images.{ImageData, image_byte}
 use Rattle.tcd_plan.specs.declared.plans.Device.{Device}
 use Rattle.tcd_plan.specs.PlanData.{PlanData}
-use Rattle.tcd_base.specs.Ranges.{IsInOne, is_within}
+use Rattle.tcd_base.specs.Ranges.{IsInOneRange, is_within_range}
 use Rattle.tc_mem.specs.PlanMemory.{IsPlanMemory, HoldsRom}
 use Rattle.value_domain.specs.declared.values.Val.{Val}
 use Rattle.value_domain.specs.declared.values.Val.TheVariants.{Set, Span}
@@ -16,7 +16,7 @@ use Rattle.tcd_plan.specs.Regions.{AnswersLoad}
 
 -- the n bytes from x on are in one rom range and held by segments of the image
 pub record IsLoadedRom (image : ImageData) (plan : PlanData) (x n : ℕ) : Type 0 where
-  pub in_rom : IsInOne x n plan.rom
+  pub in_rom : IsInOneRange x n plan.rom
   pub held : (i : ℕ) → i < n → IsSome (image_byte image (x + i))
 
 -- the number in the n bytes from x on, the lowest byte first, if segments of the image hold them
@@ -26,35 +26,35 @@ held_number image x (suc n) = option_and_then (λ b. option_map (λ w. b + 2 ^ 8
 
 -- the number in the n bytes from x on, if they are in one rom range and held by segments
 abbrev pub rom_number : ImageData → PlanData → ℕ → ℕ → Option ℕ
-rom_number image plan x n = if list_any (is_within x n) plan.rom then held_number image x n else None
+rom_number image plan x n = if list_any (is_within_range x n) plan.rom then held_number image x n else None
 
 -- the device whose range has each access; only words are loaded from devices
-abbrev pub device_of : PlanData → ℕ → List ℕ → Option Device
-device_of plan size xs = if size == 4 then find (λ d. list_all (λ x. is_within x 4 d.range) xs) plan.devices else None
+abbrev pub device_of_loads : PlanData → ℕ → List ℕ → Option Device
+device_of_loads plan size xs = if size == 4 then find (λ d. list_all (λ x. is_within_range x 4 d.range) xs) plan.devices else None
 
 -- all words that a load of that size and sign gives
 abbrev pub all_extended : ℕ → Bool → List ℕ
-all_extended size signed = map (extend signed size) (range 0 (2 ^ (8 * size) - 1) 0)
+all_extended size signed = map (extend_loaded_bytes signed size) (range 0 (2 ^ (8 * size) - 1) 0)
 
 -- the words that a device can answer; without a device, all words of that size and sign
-abbrev pub answers : ℕ → Bool → Option Device → List ℕ
-answers size signed None = all_extended size signed
-answers size signed (Some d) = range d.lo d.hi 0
+abbrev pub loaded_answers : ℕ → Bool → Option Device → List ℕ
+loaded_answers size signed None = all_extended size signed
+loaded_answers size signed (Some d) = range d.lo d.hi 0
 
 -- the loaded word of a number that is known, else what the device can answer
-abbrev pub number_or : ℕ → Bool → Option Device → Option ℕ → List ℕ
-number_or size signed device None = answers size signed device
-number_or size signed device (Some w) = extend signed size w ∷ []
+abbrev pub loaded_number_or : ℕ → Bool → Option Device → Option ℕ → List ℕ
+loaded_number_or size signed device None = loaded_answers size signed device
+loaded_number_or size signed device (Some w) = extend_loaded_bytes signed size w ∷ []
 
 -- what an address gives: the word in rom, else what the device can answer, else any word
-abbrev pub words_at : ImageData → PlanData → ℕ → Bool → ℕ → List ℕ
-words_at image plan size signed x = number_or size signed (device_of plan size (x ∷ [])) (rom_number image plan x size)
+abbrev pub loaded_words_at : ImageData → PlanData → ℕ → Bool → ℕ → List ℕ
+loaded_words_at image plan size signed x = loaded_number_or size signed (device_of_loads plan size (x ∷ [])) (rom_number image plan x size)
 
 -- The least value that holds what the loads from all members give. For a Span that is what one
 -- device answers if all accesses are in its range, else any word.
 abbrev pub loaded_of : Limits → ImageData → PlanData → Val → ℕ → Bool → Val
-loaded_of b image plan (Set ws) size signed = cover b (flat_map (words_at image plan size signed) ws)
-loaded_of b image plan (Span lo last step) size signed = cover b (answers size signed (device_of plan size (range lo last step)))
+loaded_of b image plan (Set ws) size signed = cover b (flat_map (loaded_words_at image plan size signed) ws)
+loaded_of b image plan (Span lo last step) size signed = cover b (loaded_answers size signed (device_of_loads plan size (range lo last step)))
 
 -- Each word that the machine can load from a member is one of the value. The memory is the plan's
 -- and has the image's bytes in rom, and the input is within a device's bounds if the device has the
@@ -62,4 +62,4 @@ loaded_of b image plan (Span lo last step) size signed = cover b (answers size s
 abbrev pub HoldsLoads : ImageData → PlanData → Val → ℕ → Bool → Val → Type 0
 HoldsLoads image plan at size signed v =
     (mem : Memory) (x input : ℕ) → HasBytes mem → IsPlanMemory plan mem → HoldsRom image plan mem → input < 2 ^ 32
-    → AnswersLoad plan input (Some (x, size)) → IsMember x at → IsMember (extend signed size (load_number mem input x size)) v
+    → AnswersLoad plan input (Some (x, size)) → IsMember x at → IsMember (extend_loaded_bytes signed size (load_number mem input x size)) v

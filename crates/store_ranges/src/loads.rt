@@ -2,14 +2,14 @@
 ghost use Rattle.std.specs.Prelude.{◌≡◌, ◌≤◌, ◌<◌, ◌+◌, ◌-◌, ◌*◌, ◌^◌, ◌++◌, ◌&&◌, ◌==◌, if◌then◌else◌, find, length, List, ℕ, IfSome, false};
 ghost use Rattle.std.specs.List.{flat_map};
 ghost use Rattle.csa_chain.specs.MemoryBytes as memory;
-ghost use Rattle.tcd_base.specs.Ranges.{is_within};
+ghost use Rattle.tcd_base.specs.Ranges.{is_within_range};
 ghost use Rattle.value_domain.specs.Values.{IsValue, cover, members};
 ghost use Rattle.value_domain.specs.declared.values.Val.TheVariants.{Set, Span};
-ghost use Rattle.store_ranges.specs.Accesses.{IsSize};
+ghost use Rattle.store_ranges.specs.Accesses.{IsAccessSize};
 ghost use Rattle.store_ranges.specs.Loads as loads;
-ghost use Rattle.store_ranges.specs.Loads.{HoldsLoads, all_extended, words_at, loaded_of};
+ghost use Rattle.store_ranges.specs.Loads.{HoldsLoads, all_extended, loaded_words_at, loaded_of};
 
-use crate::ranges::device_at;
+use crate::ranges::device_range_at;
 use crate::rom::rom_number;
 use elf_image::Image;
 use tcd_base::sext;
@@ -30,7 +30,7 @@ pub struct LoadKind {
 /// device answer, any other address any word.
 pub fn load_of(b: &Bounds, image: &Image, plan: &Plan, at: &Val, size: u8, signed: bool) -> Val
     requires at { IsValue b.now at.now }
-    requires size { IsSize size }
+    requires size { IsAccessSize size }
     ensures loaded { result ≡ loaded_of b.now image.now plan.now at.now size signed }
     ensures value { IsValue b.now result }
     ensures sound { HoldsLoads image.now plan.now at.now size signed result }
@@ -45,7 +45,7 @@ pub fn load_of(b: &Bounds, image: &Image, plan: &Plan, at: &Val, size: u8, signe
 /// own.
 pub fn write_load(b: &Bounds, image: &Image, plan: &Plan, at: &Val, load: LoadKind, out: &mut Val)
     requires at { IsValue b.now at.now }
-    requires size { IsSize load.size }
+    requires size { IsAccessSize load.size }
     ensures loaded { out.new ≡ loaded_of b.now image.now plan.now at.now load.size load.signed }
     ensures value { IsValue b.now out.new }
     ensures sound { HoldsLoads image.now plan.now at.now load.size load.signed out.new }
@@ -54,16 +54,17 @@ pub fn write_load(b: &Bounds, image: &Image, plan: &Plan, at: &Val, load: LoadKi
     let _areas = plan.areas;
     match at {
         Val::Set(words) => write_each(b, image, plan, words.as_slice(), load, out),
-        Val::Span { .. } => write_span(b, plan, at, load, out),
+        Val::Span { .. } => write_loads_of_span(b, plan, at, load, out),
     }
 }
 
 /// Overwrites a value with what all addresses give.
 fn write_each(b: &Bounds, image: &Image, plan: &Plan, words: &[u32], load: LoadKind, out: &mut Val)
     requires some { 1 ≤ length words.now }
-    requires size { IsSize load.size }
+    requires size { IsAccessSize load.size }
     ensures loaded { out.new
-        ≡ cover b.now (flat_map (words_at image.now plan.now load.size load.signed) words.now) }
+        ≡ cover b.now (flat_map
+        (loaded_words_at image.now plan.now load.size load.signed) words.now) }
     ensures value { IsValue b.now out.new }
 {
     write_at(b, image, plan, words[0], load, out);
@@ -74,14 +75,14 @@ fn write_each(b: &Bounds, image: &Image, plan: &Plan, words: &[u32], load: LoadK
 
 /// Overwrites a value with what an address gives.
 fn write_at(b: &Bounds, image: &Image, plan: &Plan, x: u32, load: LoadKind, out: &mut Val)
-    requires { IsSize load.size }
+    requires { IsAccessSize load.size }
     ensures loaded { out.new
-        ≡ cover b.now (words_at image.now plan.now load.size load.signed x) }
+        ≡ cover b.now (loaded_words_at image.now plan.now load.size load.signed x) }
     ensures value { IsValue b.now out.new }
-    ensures some { 1 ≤ length (words_at image.now plan.now load.size load.signed x) }
+    ensures some { 1 ≤ length (loaded_words_at image.now plan.now load.size load.signed x) }
 {
     let _most_words = b.most_words();
-    let device = device_for(plan, x, x, load.size);
+    let device = device_of_load(plan, x, x, load.size);
     match rom_number(image, plan, x, load.size) {
         Some(number) => set_words(out, &[extend(number, load)]),
         None => write_answers(b, device, load, out),
@@ -90,13 +91,13 @@ fn write_at(b: &Bounds, image: &Image, plan: &Plan, x: u32, load: LoadKind, out:
 
 /// Widens a value to the least one that holds what an address gives, too.
 fn add_at(b: &Bounds, image: &Image, plan: &Plan, x: u32, load: LoadKind, out: &mut Val)
-    requires size { IsSize load.size }
+    requires size { IsAccessSize load.size }
     requires value { IsValue b.now out.old }
     ensures loaded { out.new ≡ cover b.now
-        (members out.old ++ words_at image.now plan.now load.size load.signed x) }
+        (members out.old ++ loaded_words_at image.now plan.now load.size load.signed x) }
     ensures value { IsValue b.now out.new }
 {
-    let device = device_for(plan, x, x, load.size);
+    let device = device_of_load(plan, x, x, load.size);
     match rom_number(image, plan, x, load.size) {
         Some(number) => add_words(b, out, &[extend(number, load)]),
         None => add_answers(b, device, load, out),
@@ -104,38 +105,39 @@ fn add_at(b: &Bounds, image: &Image, plan: &Plan, x: u32, load: LoadKind, out: &
 }
 
 /// Overwrites a value with what a Span of addresses gives.
-fn write_span(b: &Bounds, plan: &Plan, at: &Val, load: LoadKind, out: &mut Val)
+fn write_loads_of_span(b: &Bounds, plan: &Plan, at: &Val, load: LoadKind, out: &mut Val)
     requires at { IsValue b.now at.now }
-    requires size { IsSize load.size }
-    ensures loaded { out.new ≡ cover b.now (loads.answers load.size load.signed
-        (loads.device_of plan.now load.size (members at.now))) }
+    requires size { IsAccessSize load.size }
+    ensures loaded { out.new ≡ cover b.now (loads.loaded_answers load.size load.signed
+        (loads.device_of_loads plan.now load.size (members at.now))) }
     ensures value { IsValue b.now out.new }
 {
     let e = extent_of(at);
-    let device = device_for(plan, e.least, e.greatest, load.size);
+    let device = device_of_load(plan, e.least, e.greatest, load.size);
     write_answers(b, device, load, out);
 }
 
 /// Returns the device whose range has a word both at `low` and at `high`. For smaller accesses
 /// there is none.
-fn device_for(plan: &Plan, low: u32, high: u32, size: u8) -> Option<Device>
+fn device_of_load(plan: &Plan, low: u32, high: u32, size: u8) -> Option<Device>
     ensures device { result
         ≡ (if size == 4
-        then find (λ d. is_within low 4 d.range && is_within high 4 d.range) plan.now.devices
+        then find (λ d. is_within_range low 4 d.range && is_within_range high 4 d.range)
+        plan.now.devices
         else None) }
     ensures bounds { IfSome result (λ d. d.lo ≤ d.hi) }
 {
     if size != 4 {
         return None;
     }
-    device_at(plan.devices.as_slice(), low, high, 4)
+    device_range_at(plan.devices.as_slice(), low, high, 4)
 }
 
 /// Extends a loaded number to a word.
 fn extend(number: u32, load: LoadKind) -> u32
-    requires size { IsSize load.size }
+    requires size { IsAccessSize load.size }
     requires below { number < 2 ^ (8 * load.size) }
-    ensures { result ≡ memory.extend load.signed load.size number }
+    ensures { result ≡ memory.extend_loaded_bytes load.signed load.size number }
 {
     if load.signed {
         sext(number, 8 * load.size)
@@ -147,11 +149,11 @@ fn extend(number: u32, load: LoadKind) -> u32
 /// Overwrites a value with the cover of the words that a device can answer. Without a device, it is
 /// that of anything.
 fn write_answers(b: &Bounds, device: Option<Device>, load: LoadKind, out: &mut Val)
-    requires size { IsSize load.size }
+    requires size { IsAccessSize load.size }
     requires bounds { IfSome device (λ d. d.lo ≤ d.hi) }
-    ensures cover { out.new ≡ cover b.now (loads.answers load.size load.signed device) }
+    ensures cover { out.new ≡ cover b.now (loads.loaded_answers load.size load.signed device) }
     ensures value { IsValue b.now out.new }
-    ensures some { 1 ≤ length (loads.answers load.size load.signed device) }
+    ensures some { 1 ≤ length (loads.loaded_answers load.size load.signed device) }
 {
     match device {
         Some(device) => write_cover(b, device.lo, device.hi, 0, out),
@@ -163,11 +165,11 @@ fn write_answers(b: &Bounds, device: Option<Device>, load: LoadKind, out: &mut V
 /// function of its own, so that its callers need no stack for a value.
 #[inline(never)]
 fn add_answers(b: &Bounds, device: Option<Device>, load: LoadKind, out: &mut Val)
-    requires size { IsSize load.size }
+    requires size { IsAccessSize load.size }
     requires bounds { IfSome device (λ d. d.lo ≤ d.hi) }
     requires value { IsValue b.now out.old }
     ensures cover { out.new
-        ≡ cover b.now (members out.old ++ loads.answers load.size load.signed device) }
+        ≡ cover b.now (members out.old ++ loads.loaded_answers load.size load.signed device) }
     ensures value { IsValue b.now out.new }
 {
     let mut answers = Val::any();
@@ -177,7 +179,7 @@ fn add_answers(b: &Bounds, device: Option<Device>, load: LoadKind, out: &mut Val
 
 /// Overwrites a value with the cover of all words that a load of this kind can give.
 fn write_anything(b: &Bounds, load: LoadKind, out: &mut Val)
-    requires { IsSize load.size }
+    requires { IsAccessSize load.size }
     ensures cover { out.new ≡ cover b.now (all_extended load.size load.signed) }
     ensures value { IsValue b.now out.new }
 {
@@ -185,13 +187,13 @@ fn write_anything(b: &Bounds, load: LoadKind, out: &mut Val)
     if load.signed {
         write_any(out);
     } else {
-        write_numbers(b, load.size, out);
+        write_load_numbers(b, load.size, out);
     }
 }
 
 /// Overwrites a value with the cover of all numbers of `size` bytes.
-fn write_numbers(b: &Bounds, size: u8, out: &mut Val)
-    requires { IsSize size }
+fn write_load_numbers(b: &Bounds, size: u8, out: &mut Val)
+    requires { IsAccessSize size }
     ensures cover { out.new ≡ cover b.now (all_extended size false) }
     ensures value { IsValue b.now out.new }
 {
@@ -199,14 +201,14 @@ fn write_numbers(b: &Bounds, size: u8, out: &mut Val)
     if size == 4 {
         write_any(out);
     } else {
-        let last = b.above(greatest_of(size)) - 1;
+        let last = b.above(greatest_loaded_number(size)) - 1;
         set_span(out, 0, last as u32, 0);
     }
 }
 
 /// Returns the greatest number of `size` bytes.
-fn greatest_of(size: u8) -> u32
-    requires { IsSize size }
+fn greatest_loaded_number(size: u8) -> u32
+    requires { IsAccessSize size }
     ensures { result ≡ 2 ^ (8 * size) - 1 }
 {
     match size {

@@ -1,26 +1,26 @@
 // The ranges that hold an access.
-ghost use Rattle.std.specs.Prelude.{◌≡◌, ◌&&◌, find, ◌≤◌, ◌<◌, ◌-◌, ◌*◌, ◌/◌, ◌↔◌, All, IsTrue, MatchOption};
-ghost use Rattle.tcd_base.specs.Ranges.{is_within};
+ghost use Rattle.std.specs.Prelude.{◌≡◌, ◌&&◌, find, ◌≤◌, ◌<◌, ◌-◌, ◌*◌, ◌/◌, ◌↔◌, All, IsTrue, MatchOption, ◌+◌, ◌^◌};
+ghost use Rattle.tcd_base.specs.Ranges.{is_within_range};
 ghost use Rattle.tcd_plan.specs.Regions.{IsStoreInRange};
 ghost use Rattle.value_domain.specs.Sets as sets;
 ghost use Rattle.value_domain.specs.declared.values.Val.TheVariants.{Span};
-ghost use Rattle.store_ranges.specs.Accesses.{AreStoresInRange, StaysInRange};
+ghost use Rattle.store_ranges.specs.Accesses.{AreStoresInRange, StaysInRange, IsNextAccessAddress};
 
-use crate::stores::next_multiple;
 use tcd_base::Range;
 use tcd_plan::{Device, Plan};
 use value_domain::alignment_log2;
 
 /// Returns the first range that has the `n` addresses from `x` on.
-pub(crate) fn range_at(ranges: &[Range], x: u32, n: u8) -> Option<Range>
-    ensures { result ≡ find (is_within x n) ranges.now }
+pub(crate) fn store_range_at(ranges: &[Range], x: u32, n: u8) -> Option<Range>
+    ensures { result ≡ find (is_within_range x n) ranges.now }
 {
     ranges.iter().find(|r| r.holds(x, u32::from(n))).copied()
 }
 
 /// Returns the first device whose range has an access of `n` bytes both at `low` and at `high`.
-pub(crate) fn device_at(devices: &[Device], low: u32, high: u32, n: u8) -> Option<Device>
-    ensures { result ≡ find (λ d. is_within low n d.range && is_within high n d.range) devices.now }
+pub(crate) fn device_range_at(devices: &[Device], low: u32, high: u32, n: u8) -> Option<Device>
+    ensures { result ≡ find (λ d. is_within_range low n d.range && is_within_range high n d.range)
+        devices.now }
 {
     let n = u32::from(n);
     devices
@@ -29,6 +29,8 @@ pub(crate) fn device_at(devices: &[Device], low: u32, high: u32, n: u8) -> Optio
         .copied()
 }
 
+/// Returns true if each store of so many bytes at one of these addresses is wholly in one ram range
+/// or one device range.
 pub(crate) fn are_in_range(plan: &Plan, words: &[u32], size: u8) -> bool
     ensures { IsTrue result ↔ All (λ x. IsStoreInRange plan.now (x, size)) words.now }
 {
@@ -53,10 +55,10 @@ fn range_end(plan: &Plan, x: u32, size: u8) -> Option<u64>
     ensures { MatchOption result (¬ IsStoreInRange plan.now (x, size))
         (λ end. StaysInRange plan.now size x end) }
 {
-    match range_at(plan.ram.as_slice(), x, size) {
+    match store_range_at(plan.ram.as_slice(), x, size) {
         Some(range) => Some(range.end()),
         None => {
-            let device = device_at(plan.devices.as_slice(), x, x, size)?;
+            let device = device_range_at(plan.devices.as_slice(), x, x, size)?;
             Some(device.range.end())
         }
     }
@@ -74,7 +76,17 @@ pub(crate) fn is_span_in_range(plan: &Plan, least: u32, last: u32, step: u8, siz
         let Some(end) = range_end(plan, x as u32, size) else {
             return false;
         };
-        x = next_multiple(end - u64::from(size), step);
+        x = next_store_address(end - u64::from(size), step);
     }
     true
+}
+
+/// Returns the least multiple of `2 ^ step` above `x`, where the walk from range to range goes on.
+pub(crate) fn next_store_address(x: u64, step: u8) -> u64
+    requires step { step ≤ 2 }
+    requires small { x ≤ 2 ^ 32 }
+    ensures { IsNextAccessAddress step x result }
+{
+    let unit = 1u64 << step;
+    (x / unit + 1) * unit
 }

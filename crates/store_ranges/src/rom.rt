@@ -3,12 +3,12 @@ ghost use Rattle.std.specs.Prelude.{◌≡◌, ◌≤◌, ◌<◌, ◌+◌, ◌*
 ghost use Rattle.std.specs.Bool.{OnTrue};
 ghost use Rattle.std.specs.List.{list_any};
 ghost use Rattle.elf_image.specs.Images.{image_byte};
-ghost use Rattle.tcd_base.specs.Ranges.{is_within};
+ghost use Rattle.tcd_base.specs.Ranges.{is_within_range};
 ghost use Rattle.store_ranges.specs.Loads as loads;
 ghost use Rattle.store_ranges.specs.Loads.{IsLoadedRom};
 
 use elf_image::Image;
-use tcd_base::any_holds;
+use tcd_base::is_in_any_range;
 use tcd_plan::Plan;
 
 /// Returns true if the `len` bytes from `addr` on are in one rom range and held by segments of the
@@ -19,17 +19,19 @@ pub fn loaded_rom(image: &Image, plan: &Plan, addr: u32, len: u8) -> bool
     if !is_in_rom(plan, addr, len) {
         return false;
     }
-    are_held(image, addr, len)
+    are_held_in_rom(image, addr, len)
 }
 
+/// Returns true if the `n` bytes from `x` on are in one rom range.
 fn is_in_rom(plan: &Plan, x: u32, n: u8) -> bool
-    ensures value { result ≡ list_any (is_within x n) plan.now.rom }
+    ensures value { result ≡ list_any (is_within_range x n) plan.now.rom }
     ensures fits { OnTrue result (x + n ≤ 2 ^ 32) }
 {
-    any_holds(plan.rom.as_slice(), x, u32::from(n))
+    is_in_any_range(plan.rom.as_slice(), x, u32::from(n))
 }
 
-fn are_held(image: &Image, x: u32, n: u8) -> bool
+/// Returns true if segments of the image hold the `n` bytes from `x` on.
+fn are_held_in_rom(image: &Image, x: u32, n: u8) -> bool
     requires { x + n ≤ 2 ^ 32 }
     ensures { IsTrue result ↔ ((i : ℕ) → i < n → IsSome (image_byte image.now (x + i))) }
 {
@@ -54,6 +56,7 @@ pub(crate) fn rom_number(image: &Image, plan: &Plan, x: u32, n: u8) -> Option<u3
     held_number(image, x, n)
 }
 
+/// Returns the number in the `n` bytes from `x` on, little-endian, if segments hold them.
 fn held_number(image: &Image, x: u32, n: u8) -> Option<u32>
     requires few { n ≤ 4 }
     requires fits { x + n ≤ 2 ^ 32 }

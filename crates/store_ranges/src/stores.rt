@@ -1,8 +1,8 @@
 // Checks of stores (is each in range?) and of accesses (is each aligned?).
-ghost use Rattle.std.specs.Prelude.{◌≤◌, ◌<◌, ◌+◌, ◌-◌, ◌*◌, ◌/◌, ◌^◌, ◌↔◌, IsTrue};
+ghost use Rattle.std.specs.Prelude.{◌<◌, ◌-◌, ◌*◌, ◌/◌, ◌^◌, ◌↔◌, IsTrue};
 ghost use Rattle.value_domain.specs.Values.{IsWell};
 ghost use Rattle.value_domain.specs.declared.values.Val.TheVariants.{Set, Span};
-ghost use Rattle.store_ranges.specs.Accesses.{IsSize, AreStoresInRange, AreAligned, IsNextMultiple};
+ghost use Rattle.store_ranges.specs.Accesses.{IsAccessSize, AreStoresInRange, AreAligned};
 
 use crate::ranges::{are_in_range, is_span_in_range};
 use tcd_plan::Plan;
@@ -12,7 +12,7 @@ use value_domain::{Val, alignment_log2, extent_of};
 /// ram range or one device range. Addresses don't wrap at 2^32.
 pub fn store_ok(plan: &Plan, at: &Val, size: u8) -> bool
     requires well { IsWell at.now }
-    requires size { IsSize size }
+    requires size { IsAccessSize size }
     ensures { IsTrue result ↔ AreStoresInRange plan.now at.now size }
 {
     match at {
@@ -27,21 +27,12 @@ pub fn store_ok(plan: &Plan, at: &Val, size: u8) -> bool
     }
 }
 
-/// Returns true if each member of the value is a multiple of 1, 2 or 4 (`size`).
+/// Checks whether accesses are aligned: returns true if each member of the value is a multiple of
+/// 1, 2 or 4 (`size`).
 pub fn aligned(at: &Val, size: u8) -> bool
     requires well { IsWell at.now }
-    requires size { IsSize size }
+    requires size { IsAccessSize size }
     ensures { IsTrue result ↔ AreAligned at.now size }
 {
     alignment_log2(u32::from(size)) <= extent_of(at).step
-}
-
-/// Returns the least multiple of `2 ^ step` above `x`.
-pub(crate) fn next_multiple(x: u64, step: u8) -> u64
-    requires step { step ≤ 2 }
-    requires small { x ≤ 2 ^ 32 }
-    ensures { IsNextMultiple step x result }
-{
-    let unit = 1u64 << step;
-    (x / unit + 1) * unit
 }

@@ -4,7 +4,7 @@ use Rattle.std.proofs.lemmas.Bool.{cases_lt, cases_eq}
 use Rattle.std.specs.FinMap as map
 use Rattle.csa_chain.specs.MemoryBytes.{Memory, is_mapped, with_words}
 use Rattle.csa_chain.specs.Chain.{link_in, link_address}
-use Rattle.csa_chain.specs.MemoryChanges.{HasWords}
+use Rattle.csa_chain.specs.ContextWordLaws.{HasContextWords}
 use Rattle.csa_chain.proofs.MemoryLaws.{get-with_words_other, is_mapped-with_words}
 use Rattle.csa_chain.proofs.ChainLaws.{SameAreas, SameAreas-written}
 use Rattle.csa_chain.proofs.WordLaws.{upper_words-HasWords, lower_words-HasWords}
@@ -15,19 +15,18 @@ use Rattle.tc_isa.specs.declared.shapes.Shape.TheVariants.{Call}
 use Rattle.tc_machine.specs.declared.events.Event.{Event}
 use Rattle.tc_machine.specs.declared.events.End.TheVariants.{Running}
 use Rattle.tc_machine.specs.declared.state.Machine.{Machine}
-use Rattle.tc_machine.specs.Machine.{moved, then_}
+use Rattle.tc_machine.specs.Machine.{machine_address_ahead, then_, IsMachine}
 use Rattle.tc_machine.specs.SavesAndRestores.{context_of, saved, save}
 use Rattle.tc_machine.specs.Fetching.{fetched}
 use Rattle.tc_machine.specs.Instructions.{at_handler, target_of, does}
-use Rattle.tc_machine.specs.Stepping.{interrupt, is_taken, executed, done, step}
+use Rattle.tc_machine.specs.Stepping.{interrupt, is_taken, executed, machine_after_event, step}
 use Rattle.tcd_plan.specs.Regions.{IsInAreas}
-use Rattle.tc_machine.specs.PlanAreas.{links_up, first_link, plan_areas}
-use Rattle.tc_machine.specs.Safe.{IsMachine}
+use Rattle.tc_machine.specs.PlanAreas.{area_links_up, first_link, plan_areas}
 use Rattle.tc_machine.proofs.Saves.{save-is, then_-running}
 use Rattle.tc_machine.proofs.Steps.{with_event, step-is, step_does, does-call}
 use Rattle.tc_machine.proofs.PlanLaws.{link_address-area}
 use Rattle.tc_machine.proofs.Areas.{HasFree, has_free}
-use Rattle.csa_chain.specs.SeveralChains.{times, sum_below, with_chain, with_first}
+use Rattle.csa_chain.specs.SeveralChains.{times_in_list, sum_over_chains, with_chain, with_chain_word}
 use Rattle.csa_chain.proofs.SeveralLaws.{cond_other, first_avoids, times-first, times-other}
 use Rattle.task_chains.proofs.Twins.{SameBehindFirst, areas_once, reserve_of, Twins, has_shared, Twins-saved}
 
@@ -53,13 +52,13 @@ pub record Alike (plan : PlanData) (n u : ℕ) (word_of : ℕ → ℕ) (chain_of
 
 -- ---- where areas lie
 -- a link in the list of areas is that of an area
-pub area_at : (l n f : ℕ) → times f (links_up l n) ≢ 0 → (i : ℕ) × (i < n) × (f ≡ l + i)
+pub area_at : (l n f : ℕ) → times_in_list f (area_links_up l n) ≢ 0 → (i : ℕ) × (i < n) × (f ≡ l + i)
 area_at l zero f some = absurd (some refl)
 area_at l (suc n) f some =
     elim (cases_eq l f) [
       | inl same ↦ (0, omega arith, omega arith)
       | inr apart ↦
-          let rest = area_at (l + 1) n f (λ none. some (times-other f l (links_up (l + 1) n) apart ∙ none)) in
+          let rest = area_at (l + 1) n f (λ none. some (times-other f l (area_links_up (l + 1) n) apart ∙ none)) in
           let at = rest.2 in
           (suc rest.0, (let lt = rest.1 in omega arith), omega arith)
     ]
@@ -81,7 +80,7 @@ outside_area {plan = plan} ok mem l i at lt ws few x not_in =
     get-with_words_other mem (link_address l) ws x (out_of x (link_address l) plan.csa_at plan.areas i (length ws) place lt few (in_areas_or_not plan x not_in))
 
 -- ---- contexts
-context_words : (m : Machine) → IsMachine m → (upper : Bool) → HasWords 16 (context_of m upper)
+context_words : (m : Machine) → IsMachine m → (upper : Bool) → HasContextWords 16 (context_of m upper)
 context_words m k true = upper_words-HasWords m.pcxi m.psw m.d m.d m.a k.pcxi k.psw ((k.d).count, (k.d).words) ((k.d).count, (k.d).words) ((k.a).count, (k.a).words)
 context_words m k false = lower_words-HasWords m.pcxi m.psw m.d m.d m.a k.pcxi k.psw ((k.d).count, (k.d).words) ((k.d).count, (k.d).words) ((k.a).count, (k.a).words)
 
@@ -96,7 +95,7 @@ context_alike m mem pcxi fcx false i lt = refl
 module _ {plan : PlanData} (ok : IsPlan plan) (Kept : ℕ → Type 0) (kept : (x : ℕ) → Kept x → IsInAreas plan x → ⊥) {n u : ℕ} {word_of : ℕ → ℕ} {chain_of : ℕ → List ℕ} {seen : List ℕ} (m : Machine) (view : Memory) (pcxi fcx : ℕ)
     (words : IsMachine m) (view_words : IsMachine (seen_as m view pcxi fcx)) (running : m.end ≡ Running)
     (t : Twins plan n u word_of chain_of seen m.mem m.pcxi m.fcx m.lcx view pcxi fcx)
-    (room : sum_below n (λ w. length (chain_of w)) < plan.areas - plan.reserve) (view_room : length seen < plan.areas - plan.reserve) where
+    (room : sum_over_chains n (λ w. length (chain_of w)) < plan.areas - plan.reserve) (view_room : length seen < plan.areas - plan.reserve) where
   abbrev v : Machine
   v = seen_as m view pcxi fcx
 
@@ -124,7 +123,7 @@ module _ {plan : PlanData} (ok : IsPlan plan) (Kept : ℕ → Type 0) (kept : (x
       let first = times-first (link_in m.fcx) rest in
       let at = area_at (first_link plan) plan.areas (link_in m.fcx) (λ none. omega arith) in
       record {
-        words = with_first word_of u (saved m upper).pcxi;
+        words = with_chain_word word_of u (saved m upper).pcxi;
         chains = with_chain chain_of u (link_in m.fcx ∷ chain_of u);
         seen = link_in fcx ∷ seen;
         view = (saved v upper).mem;
@@ -163,9 +162,9 @@ module _ {plan : PlanData} (ok : IsPlan plan) (Kept : ℕ → Type 0) (kept : (x
 
   pub Alike-interrupt : (e e2 : Event) → is_taken m e ≡ true → e2.irq ≡ e.irq → e2.status ≡ e.status → Alike plan n u word_of chain_of Kept view m (step m e) (step v e2)
   Alike-interrupt e e2 taken same_irq same_status =
-      let here : done m e ≡ interrupted e.irq = ap (λ b. cond b (interrupt m e.irq) (executed m e (fetched m))) taken ∙ interrupt-is e.irq in
+      let here : machine_after_event m e ≡ interrupted e.irq = ap (λ b. cond b (interrupt m e.irq) (executed m e (fetched m))) taken ∙ interrupt-is e.irq in
       let view_taken : is_taken v e2 ≡ true = ap (λ q. is_taken m (record e { irq = q })) same_irq ∙ taken in
-      let there : done v e2 ≡ seen_as (interrupted e.irq) (saved v true).mem (saved v true).pcxi (saved v true).fcx =
+      let there : machine_after_event v e2 ≡ seen_as (interrupted e.irq) (saved v true).mem (saved v true).pcxi (saved v true).fcx =
       ap (λ b. cond b (interrupt v e2.irq) (executed v e2 (fetched v))) view_taken ∙ view_interrupt-is e2.irq
       ∙ ap (λ q. seen_as (interrupted q) (saved v true).mem (saved v true).pcxi (saved v true).fcx) same_irq
       in
@@ -179,7 +178,7 @@ module _ {plan : PlanData} (ok : IsPlan plan) (Kept : ℕ → Type 0) (kept : (x
 
   -- ---- a call
   abbrev entered : Target → ℕ → Machine
-  entered to k = record (saved m true) { a = set m.a 11 (moved m.pc k); pc = target_of m to }
+  entered to k = record (saved m true) { a = set m.a 11 (machine_address_ahead m.pc k); pc = target_of m to }
 
   target_same : (to : Target) → target_of v to ≡ target_of m to
   target_same (target.Rel by) = refl
@@ -188,13 +187,13 @@ module _ {plan : PlanData} (ok : IsPlan plan) (Kept : ℕ → Type 0) (kept : (x
 
   call-is : (e : Event) (to : Target) (k : ℕ) → does m e (Call to) k ≡ entered to k
   call-is e to k =
-      does-call m e to k ∙ ap (λ s. then_ s (λ s. record s { a = set s.a 11 (moved m.pc k); pc = target_of m to })) (saves true)
-      ∙ then_-running (saved m true) (λ s. record s { a = set s.a 11 (moved m.pc k); pc = target_of m to }) running
+      does-call m e to k ∙ ap (λ s. then_ s (λ s. record s { a = set s.a 11 (machine_address_ahead m.pc k); pc = target_of m to })) (saves true)
+      ∙ then_-running (saved m true) (λ s. record s { a = set s.a 11 (machine_address_ahead m.pc k); pc = target_of m to }) running
 
   view_call-is : (e : Event) (to : Target) (k : ℕ) → does v e (Call to) k ≡ seen_as (entered to k) (saved v true).mem (saved v true).pcxi (saved v true).fcx
   view_call-is e to k =
-      does-call v e to k ∙ ap (λ s. then_ s (λ s. record s { a = set s.a 11 (moved v.pc k); pc = target_of v to })) (view_saves true)
-      ∙ then_-running (saved v true) (λ s. record s { a = set s.a 11 (moved v.pc k); pc = target_of v to }) running
+      does-call v e to k ∙ ap (λ s. then_ s (λ s. record s { a = set s.a 11 (machine_address_ahead v.pc k); pc = target_of v to })) (view_saves true)
+      ∙ then_-running (saved v true) (λ s. record s { a = set s.a 11 (machine_address_ahead v.pc k); pc = target_of v to }) running
       ∙ ap (λ q. record (seen_as (entered to k) (saved v true).mem (saved v true).pcxi (saved v true).fcx) { pc = q }) (target_same to)
 
   pub Alike-call : (e e2 : Event) (to : Target) (k : ℕ) → is_taken m e ≡ false → e2.irq ≡ e.irq → e2.status ≡ e.status → fetched m ≡ Ok (Call to, k) → fetched v ≡ Ok (Call to, k) → Alike plan n u word_of chain_of Kept view m (step m e) (step v e2)

@@ -19,19 +19,18 @@ use Rattle.tc_machine.specs.declared.events.Cause.{Cause}
 use Rattle.tc_machine.specs.declared.events.Cause.TheVariants.{Csu, Ctyp, NoArea}
 use Rattle.tc_machine.specs.declared.events.End.TheVariants.{Running, Dead}
 use Rattle.tc_machine.specs.declared.state.Machine.{Machine}
-use Rattle.tc_machine.specs.Machine.{a11, died, then_}
+use Rattle.tc_machine.specs.Machine.{a11, died, then_, IsMachine}
 use Rattle.tc_machine.specs.Instructions.{advanced, does}
-use Rattle.tc_machine.specs.SavesAndRestores.{has_kind, area_words, last_context, released, restored, restore}
+use Rattle.tc_machine.specs.SavesAndRestores.{has_kind, saved_area_words, last_context, released, restored, restore}
 use Rattle.tc_machine.specs.Fetching.{fetched}
 use Rattle.tc_machine.specs.Stepping.{is_taken, step}
 use Rattle.tcd_plan.specs.Regions.{IsInAreas}
 use Rattle.tc_machine.specs.PlanAreas.{first_link, plan_areas}
-use Rattle.tc_machine.specs.Safe.{IsMachine}
 use Rattle.tc_machine.proofs.Saves.{restore-is, then_-running}
 use Rattle.tc_machine.proofs.Steps.{with_event, step_does, does-ret}
 use Rattle.tc_machine.proofs.Areas.{is_freed}
 use Rattle.cfg_recover.proofs.Points.{does-rfe, does-rslcx}
-use Rattle.csa_chain.specs.SeveralChains.{times, with_chain, with_first}
+use Rattle.csa_chain.specs.SeveralChains.{times_in_list, with_chain, with_chain_word}
 use Rattle.csa_chain.proofs.SeveralLaws.{cond_other, owned_avoids, times-first, sum_below-at}
 use Rattle.task_chains.proofs.Twins.{SameContexts, SameBehindFirst, areas_once, Twins, same_before, links_before, named, Twins-restored}
 use Rattle.task_chains.proofs.Alike.{seen_as, Alike, area_at, outside_area}
@@ -115,10 +114,10 @@ module _ (ws ws2 rs : List ℕ) (alike : SameBehindFirst ws ws2) where
       ∷ get_or rs 8 0 ∷ get_or rs 9 0 ∷ get_or rs 10 0 ∷ alike 0 (omega arith) i ∷ get_or rs 12 0 ∷ get_or rs 13 0 ∷ get_or rs 14 0 ∷ get_or rs 15 0 ∷ []
 
 -- word i of an area
-area_words-at : (mem : Memory) (l i : ℕ) → i < 16 → get_or (area_words mem l) i 0 ≡ area_word mem l i
-area_words-at mem l i lt = below_16 (λ i. get_or (area_words mem l) i 0 ≡ area_word mem l i) refl refl refl refl refl refl refl refl refl refl refl refl refl refl refl refl i lt
+area_words-at : (mem : Memory) (l i : ℕ) → i < 16 → get_or (saved_area_words mem l) i 0 ≡ area_word mem l i
+area_words-at mem l i lt = below_16 (λ i. get_or (saved_area_words mem l) i 0 ≡ area_word mem l i) refl refl refl refl refl refl refl refl refl refl refl refl refl refl refl refl i lt
 
-pub same_area_words : (mem view : Memory) (l k : ℕ) → ((i : ℕ) → i < 15 → area_word mem l (suc i) ≡ area_word view k (suc i)) → SameBehindFirst (area_words mem l) (area_words view k)
+pub same_area_words : (mem view : Memory) (l k : ℕ) → ((i : ℕ) → i < 15 → area_word mem l (suc i) ≡ area_word view k (suc i)) → SameBehindFirst (saved_area_words mem l) (saved_area_words view k)
 same_area_words mem view l k same i lt = area_words-at mem l (suc i) (omega arith) ∙ same i lt ∙ sym (area_words-at view k (suc i) (omega arith))
 
 -- ---- both restore
@@ -178,14 +177,14 @@ module _ {plan : PlanData} (ok : IsPlan plan) (Kept : ℕ → Type 0) (kept : (x
   Alike-restored m2 mem_is pcxi_is fcx_is lcx_is =
       let once = areas_once plan in
       let all = (t.share).each l in
-      let owned = sum_below-at n (λ w. times l (chain_of w)) u t.own in
+      let owned = sum_below-at n (λ w. times_in_list l (chain_of w)) u t.own in
       let first = times-first l used in
-      let first_is : times l (chain_of u) ≡ times l (l ∷ used) = ap (times l) is in
+      let first_is : times_in_list l (chain_of u) ≡ times_in_list l (l ∷ used) = ap (times_in_list l) is in
       let at = area_at (first_link plan) plan.areas l (λ none. omega arith) in
       let freed = is_freed view fcx m.lcx k seen t.view_free t.view_areas in
       let twins = Twins-restored ok l used is words.bytes view_words.bytes t in
       record {
-        words = with_first word_of u (area_word m.mem l 0);
+        words = with_chain_word word_of u (area_word m.mem l 0);
         chains = with_chain chain_of u used;
         seen = seen;
         view = (released v).mem;

@@ -4,15 +4,15 @@ use Rattle.std.proofs.lemmas.Bool.{cases_lt}
 use Rattle.std.specs.FinMap as finite
 use Rattle.csa_chain.specs.MemoryBytes.{Memory, is_mapped, with_words, HasBytes}
 use Rattle.csa_chain.specs.Chain.{link_in, link_address, is_area, area_word}
-use Rattle.csa_chain.specs.ContextWords.{pcxi_word_of, ul_of, with_link}
-use Rattle.csa_chain.specs.SeveralChains.{times, with_chain, with_first}
+use Rattle.csa_chain.specs.ContextWords.{pcxi_word_of, ul_of, word_with_link}
+use Rattle.csa_chain.specs.SeveralChains.{times_in_list, with_chain, with_chain_word}
 use Rattle.csa_chain.proofs.ChainLaws.{Links, SameAreas, area_word_same, SameArea-written, SameAreas-written}
 use Rattle.csa_chain.proofs.ContextLaws.{ul_of-pcxi_word, link_in-with_link, with_link-lt, link_in-lt}
 use Rattle.csa_chain.proofs.MemoryLaws.{is_mapped-with_words}
 use Rattle.csa_chain.proofs.SeveralLaws.{cond_same, cond_other, sum_below-at, times-first, owned_avoids, Share-restored, restored_links, restored_free}
 use Rattle.csa_chain.proofs.WordLaws.{area_word-lt}
 use Rattle.elf_image.specs.Images.{ImageData, image_byte}
-use Rattle.tcd_base.specs.Ranges.{IsInOne}
+use Rattle.tcd_base.specs.Ranges.{IsInOneRange}
 use Rattle.tcd_plan.specs.PlanData.{PlanData, IsPlan}
 use Rattle.tcd_plan.specs.Regions.{IsInAreas}
 use Rattle.tc_isa.specs.Rows.{is_long}
@@ -25,13 +25,13 @@ use Rattle.tc_isa.specs.declared.shapes.Shape.TheVariants.{Ret, Rslcx, Nothing}
 use Rattle.tc_machine.specs.declared.events.Event.{Event}
 use Rattle.tc_machine.specs.declared.events.End.TheVariants.{Running}
 use Rattle.tc_machine.specs.declared.state.Machine.{Machine}
-use Rattle.tc_machine.specs.Machine.{a11, is_of, moved, then_}
-use Rattle.tc_machine.specs.Instructions.{with_status, advanced, does}
+use Rattle.tc_machine.specs.Machine.{a11, is_interrupt_stack_used, machine_address_ahead, then_, psw_with_status, IsMachine}
+use Rattle.tc_machine.specs.Instructions.{advanced, does}
 use Rattle.tc_machine.specs.SavesAndRestores.{has_kind, released, restored, restore}
 use Rattle.tc_machine.specs.Fetching.{fetched}
 use Rattle.tc_machine.specs.Stepping.{is_taken, step}
 use Rattle.tc_machine.specs.PlanAreas.{first_link, plan_areas}
-use Rattle.tc_machine.specs.Safe.{IsMachine, HasGlobals, Fits, Starts}
+use Rattle.tc_machine.specs.Safe.{HasGlobals, Fits, Starts}
 use Rattle.tc_mem.specs.PlanMemory.{HoldsRom, IsPlanMemory}
 use Rattle.tc_machine.proofs.Areas.{Areas-start}
 use Rattle.tc_machine.proofs.Kept.{none_when_off}
@@ -45,7 +45,7 @@ use Rattle.depth_cert.specs.Certs.{CertData}
 use Rattle.task_chains.specs.Tasks.{TasksData, AreTasks, count, task_at}
 use Rattle.task_chains.specs.SwitchRoutine.{HasRoutine}
 use Rattle.task_chains.specs.Views.{view_image_of, view_plan_of}
-use Rattle.task_chains.specs.TaskStarts.{current, upper_area, lower_area, IsReady}
+use Rattle.task_chains.specs.TaskStarts.{current_task, task_upper_area, task_lower_area, IsReady}
 use Rattle.task_chains.proofs.Alike.{seen_as, area_at, outside_area}
 use Rattle.task_chains.proofs.Backs.{restored_end}
 use Rattle.task_chains.proofs.Coming.{areas_same}
@@ -86,7 +86,7 @@ small_code image plan p shape size c =
     let f = fields_in c.inst in
     subst AreSmall (sym s.is) (small_spelled (is_long row) (word_of row f) (word-lt row.form row.op1 row.op2 f r.first r.second (i.fits).below) (λ e. short-lt row.form row.op1 row.op2 f r.first r.second (i.fits).below (sym r.size ∙ e)))
 
-pub view_small : (image : ImageData) (plan : PlanData) (tasks : TasksData) → AreTasks tasks → HasRoutine image plan tasks → (u : ℕ) (mem : Memory) → HoldsRom image plan mem → HasBytes mem → (x b : ℕ) → IsInOne x 1 plan.rom → image_byte (view_image_of image tasks u) x ≡ Some b → b < 2 ^ 8
+pub view_small : (image : ImageData) (plan : PlanData) (tasks : TasksData) → AreTasks tasks → HasRoutine image plan tasks → (u : ℕ) (mem : Memory) → HoldsRom image plan mem → HasBytes mem → (x b : ℕ) → IsInOneRange x 1 plan.rom → image_byte (view_image_of image tasks u) x ≡ Some b → b < 2 ^ 8
 view_small image plan tasks are has u mem rom bytes x b in_rom held =
     elim (cases_lt x tasks.switch) [
       | inl low ↦ bytes x b (rom x b in_rom (sym (view_byte_outside image tasks u x (inl low)) ∙ held))
@@ -108,8 +108,8 @@ view_small image plan tasks are has u mem rom bytes x b in_rom held =
 -- ---- a restore by the owner of PCXI
 -- what the tasks share, and what is unchanged
 record GivenBack (plan : PlanData) (n u : ℕ) (word_of : ℕ → ℕ) (chain_of : ℕ → List ℕ) (m x : Machine) (l : ℕ) (used : List ℕ) : Type 0 where
-  pub shared : Shared plan n u (with_first word_of u (area_word m.mem l 0)) (with_chain chain_of u used) x.mem x.pcxi x.fcx x.lcx
-  pub others : (w : ℕ) → w < n → w ≢ u → (with_first word_of u (area_word m.mem l 0) w ≡ word_of w) × (with_chain chain_of u used w ≡ chain_of w) × SameAreas m.mem x.mem (chain_of w)
+  pub shared : Shared plan n u (with_chain_word word_of u (area_word m.mem l 0)) (with_chain chain_of u used) x.mem x.pcxi x.fcx x.lcx
+  pub others : (w : ℕ) → w < n → w ≢ u → (with_chain_word word_of u (area_word m.mem l 0) w ≡ word_of w) × (with_chain chain_of u used w ≡ chain_of w) × SameAreas m.mem x.mem (chain_of w)
   pub outside : (y : ℕ) → (IsInAreas plan y → ⊥) → finite.get x.mem y ≡ finite.get m.mem y
   pub mapped : (y : ℕ) → is_mapped x.mem y ≡ is_mapped m.mem y
 
@@ -131,20 +131,20 @@ module _ {plan : PlanData} (ok : IsPlan plan) {n u : ℕ} {word_of : ℕ → ℕ
       let to_l = link_in-with_link m.fcx l small in
       let once = areas_once plan in
       let all = (s.share).each l in
-      let owned = sum_below-at n (λ w. times l (chain_of w)) u s.own in
+      let owned = sum_below-at n (λ w. times_in_list l (chain_of w)) u s.own in
       let first = times-first l used in
-      let first_is : times l (chain_of u) ≡ times l (l ∷ used) = ap (times l) is in
+      let first_is : times_in_list l (chain_of u) ≡ times_in_list l (l ∷ used) = ap (times_in_list l) is in
       let at = area_at (first_link plan) plan.areas l (λ none. omega arith) in
       let mem_at : x.mem ≡ with_words m.mem (link_address l) (m.fcx ∷ []) = mem_is ∙ ap (λ y. with_words m.mem (link_address y) (m.fcx ∷ [])) here in
       let pcxi_at : x.pcxi ≡ area_word m.mem l 0 = pcxi_is ∙ ap (λ y. area_word m.mem y 0) here in
-      let fcx_at : x.fcx ≡ with_link m.fcx l = fcx_is ∙ ap (with_link m.fcx) here in
-      let new : Shared plan n u (with_first word_of u (area_word m.mem l 0)) (with_chain chain_of u used) (with_words m.mem (link_address l) (m.fcx ∷ [])) (area_word m.mem l 0) (with_link m.fcx l) m.lcx =
+      let fcx_at : x.fcx ≡ word_with_link m.fcx l = fcx_is ∙ ap (word_with_link m.fcx) here in
+      let new : Shared plan n u (with_chain_word word_of u (area_word m.mem l 0)) (with_chain chain_of u used) (with_words m.mem (link_address l) (m.fcx ∷ [])) (area_word m.mem l 0) (word_with_link m.fcx l) m.lcx =
       record {
         own = s.own;
         first = cond_same u u (area_word m.mem l 0) (word_of u) refl;
-        links = restored_links m.mem n u m.fcx l word_of chain_of used s.free (plan_areas plan) s.links s.free_links s.share once s.own is s.fcx_word (with_link m.fcx l) to_l;
+        links = restored_links m.mem n u m.fcx l word_of chain_of used s.free (plan_areas plan) s.links s.free_links s.share once s.own is s.fcx_word (word_with_link m.fcx l) to_l;
         free = l ∷ s.free;
-        free_links = restored_free m.mem n u m.fcx l word_of chain_of used s.free (plan_areas plan) s.links s.free_links s.share once s.own is s.fcx_word (with_link m.fcx l) to_l;
+        free_links = restored_free m.mem n u m.fcx l word_of chain_of used s.free (plan_areas plan) s.links s.free_links s.share once s.own is s.fcx_word (word_with_link m.fcx l) to_l;
         share = Share-restored n u chain_of l used s.free (plan_areas plan) s.own is s.share;
         front = l ∷ s.front;
         reserved = ap (λ ls. l ∷ ls) s.reserved;
@@ -154,10 +154,10 @@ module _ {plan : PlanData} (ok : IsPlan plan) {n u : ℕ} {word_of : ℕ → ℕ
       }
       in
       record {
-        shared = subst (λ y. Shared plan n u (with_first word_of u (area_word m.mem l 0)) (with_chain chain_of u used) y x.pcxi x.fcx x.lcx) (sym mem_at)
-            (subst (λ y. Shared plan n u (with_first word_of u (area_word m.mem l 0)) (with_chain chain_of u used) (with_words m.mem (link_address l) (m.fcx ∷ [])) y x.fcx x.lcx) (sym pcxi_at)
-            (subst (λ y. Shared plan n u (with_first word_of u (area_word m.mem l 0)) (with_chain chain_of u used) (with_words m.mem (link_address l) (m.fcx ∷ [])) (area_word m.mem l 0) y x.lcx) (sym fcx_at)
-            (subst (λ y. Shared plan n u (with_first word_of u (area_word m.mem l 0)) (with_chain chain_of u used) (with_words m.mem (link_address l) (m.fcx ∷ [])) (area_word m.mem l 0) (with_link m.fcx l) y) (sym lcx_is) new)));
+        shared = subst (λ y. Shared plan n u (with_chain_word word_of u (area_word m.mem l 0)) (with_chain chain_of u used) y x.pcxi x.fcx x.lcx) (sym mem_at)
+            (subst (λ y. Shared plan n u (with_chain_word word_of u (area_word m.mem l 0)) (with_chain chain_of u used) (with_words m.mem (link_address l) (m.fcx ∷ [])) y x.fcx x.lcx) (sym pcxi_at)
+            (subst (λ y. Shared plan n u (with_chain_word word_of u (area_word m.mem l 0)) (with_chain chain_of u used) (with_words m.mem (link_address l) (m.fcx ∷ [])) (area_word m.mem l 0) y x.lcx) (sym fcx_at)
+            (subst (λ y. Shared plan n u (with_chain_word word_of u (area_word m.mem l 0)) (with_chain chain_of u used) (with_words m.mem (link_address l) (m.fcx ∷ [])) (area_word m.mem l 0) (word_with_link m.fcx l) y) (sym lcx_is) new)));
         others = λ w lt apart. (
           cond_other w u (area_word m.mem l 0) (word_of w) apart,
           cond_other w u used (chain_of w) apart,
@@ -174,10 +174,10 @@ module _ {plan : PlanData} (ok : IsPlan plan) {n u : ℕ} {word_of : ℕ → ℕ
       ap (λ q. area_word q k i) mem_at ∙ area_word_same (SameArea-written m.mem l k (m.fcx ∷ []) (omega arith) apart) i lt
 
 -- ---- PSW with another status
-status_is : (psw status : ℕ) → is_of (with_status psw status) ≡ is_of psw
+status_is : (psw status : ℕ) → is_interrupt_stack_used (psw_with_status psw status) ≡ is_interrupt_stack_used psw
 status_is psw status = ap (λ x. x == 1) (let e : (status * 2 ^ 24 + psw % 2 ^ 24) / 2 ^ 9 % 2 ≡ psw / 2 ^ 9 % 2 = omega arith in e)
 
-status_io : (psw status : ℕ) → with_status psw status / 2 ^ 10 % 4 ≡ psw / 2 ^ 10 % 4
+status_io : (psw status : ℕ) → psw_with_status psw status / 2 ^ 10 % 4 ≡ psw / 2 ^ 10 % 4
 status_io psw status = omega arith
 
 module _ {image : ImageData} {plan : PlanData} {tasks : TasksData} {certs : ℕ → CertData} {needs : ℕ → ℕ} (wd : World image plan tasks certs needs) where
@@ -191,7 +191,7 @@ module _ {image : ImageData} {plan : PlanData} {tasks : TasksData} {certs : ℕ 
     start_is = view_starts wd.ok image (view_image_of image tasks u) tasks u x.mem memory rom bytes (view_byte_outside image tasks u) (view_small image plan tasks wd.are wd.has u x.mem rom bytes)
 
     -- the turn of a task whose view starts here
-    pub start_turn : (word_of : ℕ → ℕ) (chain_of : ℕ → List ℕ) → Starts (view_image_of image tasks u) (view_plan_of plan tasks u) (seen_as x start_memory 0 (first_link plan)) → chain_of u ≡ [] → x.pcxi ≡ 0 → current tasks x.mem ≡ u
+    pub start_turn : (word_of : ℕ → ℕ) (chain_of : ℕ → List ℕ) → Starts (view_image_of image tasks u) (view_plan_of plan tasks u) (seen_as x start_memory 0 (first_link plan)) → chain_of u ≡ [] → x.pcxi ≡ 0 → current_task tasks x.mem ≡ u
         → Turn image plan tasks u word_of chain_of x
     start_turn word_of chain_of s none zero_pcxi now =
         let v = seen_as x start_memory 0 (first_link plan) in
@@ -216,7 +216,7 @@ module _ {image : ImageData} {plan : PlanData} {tasks : TasksData} {certs : ℕ 
         (p.code).even
 
   -- ---- a task's first turn
-  module _ (m : Machine) {u : ℕ} {word_of : ℕ → ℕ} {chain_of : ℕ → List ℕ} (k : AllKept image plan tasks needs m u word_of chain_of) (later : 1 ≤ u) (off : m.ie ≡ false) (level : m.ccpn ≡ plan.start_ccpn) (now : current tasks m.mem ≡ u) (e : Event) (fits : Fits plan m e) where
+  module _ (m : Machine) {u : ℕ} {word_of : ℕ → ℕ} {chain_of : ℕ → List ℕ} (k : AllKept image plan tasks needs m u word_of chain_of) (later : 1 ≤ u) (off : m.ie ≡ false) (level : m.ccpn ≡ plan.start_ccpn) (now : current_task tasks m.mem ≡ u) (e : Event) (fits : Fits plan m e) where
     abbrev own : u < count tasks
     own = (k.shared).own
 
@@ -226,14 +226,14 @@ module _ {image : ImageData} {plan : PlanData} {tasks : TasksData} {certs : ℕ 
     at_code : (i : ℕ) → m.pc ≡ tasks.switch + 4 * i → (shape : Shape) → IsCode image plan (tasks.switch + 4 * i) shape 4 → fetched m ≡ Ok (shape, 4)
     at_code i pc shape c = fetched_code image plan m shape 4 wd.ok k.rom (subst (λ x. IsCode image plan x shape 4) (sym pc) c)
 
-    next_pc : (i : ℕ) → i < 17 → m.pc ≡ tasks.switch + 4 * i → moved m.pc 4 ≡ tasks.switch + 4 * suc i
+    next_pc : (i : ℕ) → i < 17 → m.pc ≡ tasks.switch + 4 * i → machine_address_ahead m.pc 4 ≡ tasks.switch + 4 * suc i
     next_pc i lt pc = let f = routine_fits wd in omega arith
 
     after_machine : IsMachine (step m e)
     after_machine = stays_step m e k.words (irq_lt wd.ok m e fits) fits.input fits.status
 
     -- instruction 15 does nothing
-    pub begins_on : m.pc ≡ tasks.switch + 4 * 15 → IsReady m.core plan tasks m.mem u → m.pcxi ≡ pcxi_word_of m.core 0 false false (lower_area plan u) → chain_of u ≡ lower_area plan u ∷ upper_area plan u ∷ [] → Goes image plan tasks needs (step m e)
+    pub begins_on : m.pc ≡ tasks.switch + 4 * 15 → IsReady m.core plan tasks m.mem u → m.pcxi ≡ pcxi_word_of m.core 0 false false (task_lower_area plan u) → chain_of u ≡ task_lower_area plan u ∷ task_upper_area plan u ∷ [] → Goes image plan tasks needs (step m e)
     begins_on pc is word links =
         let m_is : step m e ≡ with_event (advanced 4 m) e =
         step_does m e Nothing 4 k.running none (at_code 15 pc Nothing (code_15 image plan tasks wd.are wd.has)) (ap (λ (y : Machine). y.end) (does-nothing m e 4) ∙ k.running) ∙ ap (λ (y : Machine). with_event y e) (does-nothing m e 4)
@@ -258,7 +258,7 @@ module _ {image : ImageData} {plan : PlanData} {tasks : TasksData} {certs : ℕ 
       gives : GivenBack plan (count tasks) u word_of chain_of m x l used
       gives = given_back wd.ok m k.shared (k.words).bytes l used is_l x mem_is pcxi_is fcx_is lcx_is
 
-      now_back : current tasks x.mem ≡ u
+      now_back : current_task tasks x.mem ≡ u
       now_back = block_same tasks m.mem x.mem (λ y low high. gives.outside y (is_kept y (inr (low, high)))) (count tasks) (omega arith) ∙ now
 
       memory_back : IsPlanMemory plan x.mem
@@ -267,62 +267,62 @@ module _ {image : ImageData} {plan : PlanData} {tasks : TasksData} {certs : ℕ 
       rom_back : HoldsRom image plan x.mem
       rom_back y b in_rom held = gives.outside y (is_kept y (inl in_rom)) ∙ k.rom y b in_rom held
 
-      all_back : IsMachine x → x.end ≡ Running → HasCore plan x → HasGlobals plan x.a → Turn image plan tasks u (with_first word_of u (area_word m.mem l 0)) (with_chain chain_of u used) x → Goes image plan tasks needs x
+      all_back : IsMachine x → x.end ≡ Running → HasCore plan x → HasGlobals plan x.a → Turn image plan tasks u (with_chain_word word_of u (area_word m.mem l 0)) (with_chain chain_of u used) x → Goes image plan tasks needs x
       all_back is_machine running core globals2 turn =
           let long : length (chain_of u) ≡ suc (length used) = ap length is_l in
           let most = k.needs_kept u own in
           let here : length (with_chain chain_of u used u) ≡ length used = ap length (cond_same u u used (chain_of u) refl) in
           record {
             owner = u;
-            words = with_first word_of u (area_word m.mem l 0);
+            words = with_chain_word word_of u (area_word m.mem l 0);
             chains = with_chain chain_of u used;
-            kept = all_from wd m x k (with_first word_of u (area_word m.mem l 0)) (with_chain chain_of u used) gives.shared is_machine running core globals2 gives.mapped (λ y in_rom. gives.outside y (is_kept y (inl in_rom))) gives.others
+            kept = all_from wd m x k (with_chain_word word_of u (area_word m.mem l 0)) (with_chain chain_of u used) gives.shared is_machine running core globals2 gives.mapped (λ y in_rom. gives.outside y (is_kept y (inl in_rom))) gives.others
                 (λ w lt apart. block_same tasks m.mem x.mem (λ y low high. gives.outside y (is_kept y (inr (low, high)))) w (omega arith)) (omega arith) turn;
           }
 
     -- instruction 16 restores the lower context
-    pub begins_lower : m.pc ≡ tasks.switch + 4 * 16 → IsReady m.core plan tasks m.mem u → m.pcxi ≡ pcxi_word_of m.core 0 false false (lower_area plan u) → chain_of u ≡ lower_area plan u ∷ upper_area plan u ∷ [] → Goes image plan tasks needs (step m e)
+    pub begins_lower : m.pc ≡ tasks.switch + 4 * 16 → IsReady m.core plan tasks m.mem u → m.pcxi ≡ pcxi_word_of m.core 0 false false (task_lower_area plan u) → chain_of u ≡ task_lower_area plan u ∷ task_upper_area plan u ∷ [] → Goes image plan tasks needs (step m e)
     begins_lower pc is word links =
-        let low = lower_area plan u in
-        let up = upper_area plan u in
+        let low = task_lower_area plan u in
+        let up = task_upper_area plan u in
         let bytes = (k.words).bytes in
-        let at = here wd.ok m k.shared (k.words).bytes (lower_area plan u) (upper_area plan u ∷ []) links in
-        let low_small = small wd.ok m k.shared (k.words).bytes (lower_area plan u) (upper_area plan u ∷ []) links in
-        let kind : has_kind m false ≡ true = ap (λ w. not (ul_of m.core w)) word ∙ ap not (ul_of-pcxi_word m.core 0 false false (lower_area plan u) low_small) in
+        let at = here wd.ok m k.shared (k.words).bytes (task_lower_area plan u) (task_upper_area plan u ∷ []) links in
+        let low_small = small wd.ok m k.shared (k.words).bytes (task_lower_area plan u) (task_upper_area plan u ∷ []) links in
+        let kind : has_kind m false ≡ true = ap (λ w. not (ul_of m.core w)) word ∙ ap not (ul_of-pcxi_word m.core 0 false false (task_lower_area plan u) low_small) in
         let m_does : does m e Rslcx 4 ≡ advanced 4 (restored m false) =
-        does-rslcx m e 4 ∙ ap (λ s. then_ s (advanced 4)) (stands wd.ok m k.shared (k.words).bytes (lower_area plan u) (upper_area plan u ∷ []) links false kind) ∙ then_-running (restored m false) (advanced 4) (restored_end m false ∙ k.running)
+        does-rslcx m e 4 ∙ ap (λ s. then_ s (advanced 4)) (stands wd.ok m k.shared (k.words).bytes (task_lower_area plan u) (task_upper_area plan u ∷ []) links false kind) ∙ then_-running (restored m false) (advanced 4) (restored_end m false ∙ k.running)
         in
         let m_is : step m e ≡ with_event (advanced 4 (restored m false)) e =
         step_does m e Rslcx 4 k.running none (at_code 16 pc Rslcx (code_16 image plan tasks wd.are wd.has)) (ap (λ (y : Machine). y.end) m_does ∙ k.running) ∙ ap (λ (y : Machine). with_event y e) m_does
         in
         let x : Machine = with_event (advanced 4 (restored m false)) e in
-        let word_same : (i : ℕ) → i < 16 → area_word (released m).mem (upper_area plan u) i ≡ area_word m.mem (upper_area plan u) i =
-        λ i lt. other_area wd.ok m k.shared (k.words).bytes (lower_area plan u) (upper_area plan u ∷ []) links (released m) refl (upper_area plan u) i (λ e. omega arith) lt
+        let word_same : (i : ℕ) → i < 16 → area_word (released m).mem (task_upper_area plan u) i ≡ area_word m.mem (task_upper_area plan u) i =
+        λ i lt. other_area wd.ok m k.shared (k.words).bytes (task_lower_area plan u) (task_upper_area plan u ∷ []) links (released m) refl (task_upper_area plan u) i (λ e. omega arith) lt
         in
-        let turn : Turn image plan tasks u (with_first word_of u (area_word m.mem (lower_area plan u) 0)) (with_chain chain_of u (upper_area plan u ∷ [])) (with_event (advanced 4 (restored m false)) e) =
+        let turn : Turn image plan tasks u (with_chain_word word_of u (area_word m.mem (task_lower_area plan u) 0)) (with_chain chain_of u (task_upper_area plan u ∷ [])) (with_event (advanced 4 (restored m false)) e) =
         begins 17 (omega arith) (omega arith) (next_pc 16 (omega arith) pc) off level later (λ a. absurd (omega arith))
         (λ _. (
-          cond_same u u (upper_area plan u ∷ []) (chain_of u) refl,
+          cond_same u u (task_upper_area plan u ∷ []) (chain_of u) refl,
           ap (λ y. ul_of m.core (area_word m.mem y 0)) at ∙ is.ul,
           ap (λ y. area_word m.mem y 1) at ∙ is.entry,
           word_same 0 (omega arith) ∙ is.ends,
           ap (λ y. y / 2 ^ 10 % 4) (word_same 1 (omega arith)) ∙ is.io,
-          ap is_of (word_same 1 (omega arith)) ∙ is.is,
+          ap is_interrupt_stack_used (word_same 1 (omega arith)) ∙ is.is,
           word_same 2 (omega arith) ∙ is.sp,
         ))
-        (now_back (lower_area plan u) (upper_area plan u ∷ []) links (with_event (advanced 4 (restored m false)) e) refl refl refl refl)
+        (now_back (task_lower_area plan u) (task_upper_area plan u ∷ []) links (with_event (advanced 4 (restored m false)) e) refl refl refl refl)
         in
         subst (Goes image plan tasks needs) (sym m_is)
-        (all_back (lower_area plan u) (upper_area plan u ∷ []) links (with_event (advanced 4 (restored m false)) e) refl refl refl refl (subst IsMachine m_is after_machine) k.running
+        (all_back (task_lower_area plan u) (task_upper_area plan u ∷ []) links (with_event (advanced 4 (restored m false)) e) refl refl refl refl (subst IsMachine m_is after_machine) k.running
         (record { lcx = k.lcx; biv = k.biv; btv = k.btv; isp = k.isp; core = k.core }) k.globals turn)
 
     -- instruction 17 returns to the task's entry, and its view starts
-    pub begins_home : m.pc ≡ tasks.switch + 4 * 17 → chain_of u ≡ upper_area plan u ∷ [] → ul_of m.core m.pcxi ≡ true → a11 m ≡ (task_at tasks u).entry → area_word m.mem (upper_area plan u) 0 ≡ 0 → area_word m.mem (upper_area plan u) 1 / 2 ^ 10 % 4 ≡ 2
-        → is_of (area_word m.mem (upper_area plan u) 1) ≡ false → area_word m.mem (upper_area plan u) 2 ≡ (task_at tasks u).sp → Goes image plan tasks needs (step m e)
+    pub begins_home : m.pc ≡ tasks.switch + 4 * 17 → chain_of u ≡ task_upper_area plan u ∷ [] → ul_of m.core m.pcxi ≡ true → a11 m ≡ (task_at tasks u).entry → area_word m.mem (task_upper_area plan u) 0 ≡ 0 → area_word m.mem (task_upper_area plan u) 1 / 2 ^ 10 % 4 ≡ 2
+        → is_interrupt_stack_used (area_word m.mem (task_upper_area plan u) 1) ≡ false → area_word m.mem (task_upper_area plan u) 2 ≡ (task_at tasks u).sp → Goes image plan tasks needs (step m e)
     begins_home pc links kind entry ends io is sp =
-        let at = here wd.ok m k.shared (k.words).bytes (upper_area plan u) [] links in
+        let at = here wd.ok m k.shared (k.words).bytes (task_upper_area plan u) [] links in
         let m_does : does m e Ret 4 ≡ record (restored m true) { pc = a11 m / 2 * 2 } =
-        does-ret m e 4 ∙ ap (λ s. then_ s (λ r. record r { pc = a11 m / 2 * 2 })) (stands wd.ok m k.shared (k.words).bytes (upper_area plan u) [] links true kind) ∙ then_-running (restored m true) (λ r. record r { pc = a11 m / 2 * 2 }) (restored_end m true ∙ k.running)
+        does-ret m e 4 ∙ ap (λ s. then_ s (λ r. record r { pc = a11 m / 2 * 2 })) (stands wd.ok m k.shared (k.words).bytes (task_upper_area plan u) [] links true kind) ∙ then_-running (restored m true) (λ r. record r { pc = a11 m / 2 * 2 }) (restored_end m true ∙ k.running)
         in
         let m_is : step m e ≡ with_event (record (restored m true) { pc = a11 m / 2 * 2 }) e =
         step_does m e Ret 4 k.running none (at_code 17 pc Ret (code_17 image plan tasks wd.are wd.has)) (ap (λ (y : Machine). y.end) m_does ∙ k.running) ∙ ap (λ (y : Machine). with_event y e) m_does
@@ -342,7 +342,7 @@ module _ {image : ImageData} {plan : PlanData} {tasks : TasksData} {certs : ℕ 
           isp = k.isp;
           ie = off;
           ccpn = level;
-          is = status_is (area_word m.mem (link_in m.pcxi) 1) e.status ∙ ap (λ y. is_of (area_word m.mem y 1)) at ∙ is;
+          is = status_is (area_word m.mem (link_in m.pcxi) 1) e.status ∙ ap (λ y. is_interrupt_stack_used (area_word m.mem y 1)) at ∙ is;
           io = status_io (area_word m.mem (link_in m.pcxi) 1) e.status ∙ ap (λ y. area_word m.mem y 1 / 2 ^ 10 % 4) at ∙ io;
           end = k.running;
           core = k.core;
@@ -350,15 +350,15 @@ module _ {image : ImageData} {plan : PlanData} {tasks : TasksData} {certs : ℕ 
         in
         let x0 : Machine = with_event (record (restored m true) { pc = (task_at tasks u).entry }) e in
         let x : Machine = with_event (record (restored m true) { pc = a11 m / 2 * 2 }) e in
-        let memory = memory_back (upper_area plan u) [] links x refl refl refl refl in
-        let rom = rom_back (upper_area plan u) [] links x refl refl refl refl in
+        let memory = memory_back (task_upper_area plan u) [] links x refl refl refl refl in
+        let rom = rom_back (task_upper_area plan u) [] links x refl refl refl refl in
         let s0 = view_begins wd.ok image tasks wd.fit u later x0 (begun (task_at tasks u).entry refl) (start_memory own x0 memory rom words.bytes) (start_is own x0 memory rom words.bytes) in
         let even : (task_at tasks u).entry % 2 ≡ 0 = entry_even own x0 memory rom words.bytes s0 in
         let home : a11 m / 2 * 2 ≡ (task_at tasks u).entry = omega arith in
         let s = view_begins wd.ok image tasks wd.fit u later x (begun (a11 m / 2 * 2) home) (start_memory own x memory rom words.bytes) (start_is own x memory rom words.bytes) in
-        let turn : Turn image plan tasks u (with_first word_of u (area_word m.mem (upper_area plan u) 0)) (with_chain chain_of u []) (with_event (record (restored m true) { pc = a11 m / 2 * 2 }) e) =
-        start_turn own x memory rom words.bytes (with_first word_of u (area_word m.mem (upper_area plan u) 0)) (with_chain chain_of u []) s (cond_same u u [] (chain_of u) refl) (ap (λ y. area_word m.mem y 0) at ∙ ends)
-        (now_back (upper_area plan u) [] links x refl refl refl refl)
+        let turn : Turn image plan tasks u (with_chain_word word_of u (area_word m.mem (task_upper_area plan u) 0)) (with_chain chain_of u []) (with_event (record (restored m true) { pc = a11 m / 2 * 2 }) e) =
+        start_turn own x memory rom words.bytes (with_chain_word word_of u (area_word m.mem (task_upper_area plan u) 0)) (with_chain chain_of u []) s (cond_same u u [] (chain_of u) refl) (ap (λ y. area_word m.mem y 0) at ∙ ends)
+        (now_back (task_upper_area plan u) [] links x refl refl refl refl)
         in
         subst (Goes image plan tasks needs) (sym m_is)
-        (all_back (upper_area plan u) [] links x refl refl refl refl words k.running (record { lcx = k.lcx; biv = k.biv; btv = k.btv; isp = k.isp; core = k.core }) k.globals turn)
+        (all_back (task_upper_area plan u) [] links x refl refl refl refl words k.running (record { lcx = k.lcx; biv = k.biv; btv = k.btv; isp = k.isp; core = k.core }) k.globals turn)

@@ -14,12 +14,12 @@ use Rattle.tc_machine.specs.declared.events.Cause.{Cause}
 use Rattle.tc_machine.specs.declared.events.Event.{Event}
 use Rattle.tc_machine.specs.declared.events.End.TheVariants.{Running}
 use Rattle.tc_machine.specs.declared.state.Machine.{Machine}
-use Rattle.tc_machine.specs.Machine.{reg, a11, moved, then_}
+use Rattle.tc_machine.specs.Machine.{reg, a11, machine_address_ahead, then_, IsMachine}
 use Rattle.tc_machine.specs.Instructions.{advanced, does}
 use Rattle.tc_machine.specs.SavesAndRestores.{has_kind, released, restored, restore}
-use Rattle.tc_machine.specs.Fetching.{fetched, size_in}
+use Rattle.tc_machine.specs.Fetching.{fetched, fetched_size}
 use Rattle.tc_machine.specs.Stepping.{is_taken, load_in, step}
-use Rattle.tc_machine.specs.Safe.{IsMachine, HasGlobals, Fits}
+use Rattle.tc_machine.specs.Safe.{HasGlobals, Fits}
 use Rattle.tc_machine.proofs.Areas.{Areas}
 use Rattle.tc_machine.proofs.Kept.{none_when_off}
 use Rattle.tc_machine.proofs.Saves.{then_-running}
@@ -28,13 +28,13 @@ use Rattle.tc_machine.proofs.Steps.{with_event, done-is, step_does, does-nothing
 use Rattle.depth_cert.specs.Certs.{CertData}
 use Rattle.cfg_recover.specs.Code.{IsCode}
 use Rattle.cfg_recover.specs.Frames.{Standing, frames_left, frames_by, frames_after}
-use Rattle.cfg_recover.specs.StepEdges.{to, ret, irq, way_by, way_in}
+use Rattle.cfg_recover.specs.StepEdges.{to, ret, irq, edge_way_by_trap, edge_way_in_fetch}
 use Rattle.cfg_recover.proofs.EntryLaws.{reg_lt}
 use Rattle.cfg_recover.proofs.Points.{does-rslcx}
 use Rattle.task_chains.specs.Tasks.{TasksData, count}
 use Rattle.task_chains.specs.Views.{view_image_of, view_plan_of}
-use Rattle.task_chains.specs.TaskStarts.{block_word, current}
-use Rattle.task_chains.specs.SafeTasks.{IsInRoutine}
+use Rattle.task_chains.specs.TaskStarts.{block_word, current_task}
+use Rattle.task_chains.specs.SwitchRoutine.{IsInRoutine}
 use Rattle.task_chains.proofs.Alike.{seen_as, Alike}
 use Rattle.task_chains.proofs.Backs.{restores_from, restored_end, Alike-restored}
 use Rattle.task_chains.proofs.Fitting.{fitting}
@@ -72,8 +72,8 @@ globals_same plan m v h g =
 first_returns : (tasks : TasksData) (v : Machine) (e : Event) (f : Standing) (fs : List Standing) → is_taken v e ≡ false → fetched v ≡ Ok (Ret, 4) → AreFirst tasks fs → AreFirst tasks (frames_after v e (f ∷ fs))
 first_returns tasks v e f fs none at first =
     let q = (step v e).pc in
-    let way : cond (is_taken v e) (irq q) (way_in v e (fetched v) q) ≡ ret = ap (λ t. cond t (irq q) (way_in v e (fetched v) q)) none ∙ ap (λ (r : Result (Shape × ℕ) Cause). way_in v e r q) at in
-    subst (λ w. AreFirst tasks (frames_by v.pc (moved v.pc (size_in (fetched v))) e.irq w (f ∷ fs))) (sym way) first
+    let way : cond (is_taken v e) (irq q) (edge_way_in_fetch v e (fetched v) q) ≡ ret = ap (λ t. cond t (irq q) (edge_way_in_fetch v e (fetched v) q)) none ∙ ap (λ (r : Result (Shape × ℕ) Cause). edge_way_in_fetch v e r q) at in
+    subst (λ w. AreFirst tasks (frames_by v.pc (machine_address_ahead v.pc (fetched_size (fetched v))) e.irq w (f ∷ fs))) (sym way) first
 
 module _ {image : ImageData} {plan : PlanData} {tasks : TasksData} {certs : ℕ → CertData} {needs : ℕ → ℕ} (wd : World image plan tasks certs needs) where
   -- ---- a view in the routine, with interrupts off
@@ -103,7 +103,7 @@ module _ {image : ImageData} {plan : PlanData} {tasks : TasksData} {certs : ℕ 
           next = view_run_step wd.ok wd.are wd.fit own (certs u) (wd.judged u own) (view_few wd u own) v of.run running of.rom seen free links areas e fits2 of.memory none (first none there);
         }
 
-    stays_in : (shape : Shape) → way_by v e shape (step v e).pc ≡ to (step v e).pc → is_taken v e ≡ false → fetched v ≡ Ok (shape, 4) → AreFirst tasks (frames_left (frames_after v e ((of.run).frame ∷ (of.run).behind)))
+    stays_in : (shape : Shape) → edge_way_by_trap v e shape (step v e).pc ≡ to (step v e).pc → is_taken v e ≡ false → fetched v ≡ Ok (shape, 4) → AreFirst tasks (frames_left (frames_after v e ((of.run).frame ∷ (of.run).behind)))
     stays_in shape way none there = first_stays tasks v e (of.run).frame (of.run).behind shape 4 none there way (of.run).first
 
     -- the instruction does nothing
@@ -128,7 +128,7 @@ module _ {image : ImageData} {plan : PlanData} {tasks : TasksData} {certs : ℕ 
     at_code : (i : ℕ) → m.pc ≡ tasks.switch + 4 * i → (shape : Shape) → IsCode image plan (tasks.switch + 4 * i) shape 4 → fetched m ≡ Ok (shape, 4)
     at_code i pc shape c = fetched_code image plan m shape 4 wd.ok k.rom (subst (λ x. IsCode image plan x shape 4) (sym pc) c)
 
-    next_pc : (i : ℕ) → i < 17 → m.pc ≡ tasks.switch + 4 * i → moved m.pc 4 ≡ tasks.switch + 4 * suc i
+    next_pc : (i : ℕ) → i < 17 → m.pc ≡ tasks.switch + 4 * i → machine_address_ahead m.pc 4 ≡ tasks.switch + 4 * suc i
     next_pc i lt pc = let f = routine_fits wd in omega arith
 
     module _ (mem : Memory) (pcxi fcx : ℕ) (seen : List ℕ) (of : ViewOf image plan tasks u m.mem (seen_as m mem pcxi fcx)) (pause : Paused plan m.mem m.pcxi (chain_of u) seen m.lcx mem pcxi fcx) (r : InRoutine tasks m u 14 word_of) where
@@ -209,7 +209,7 @@ module _ {image : ImageData} {plan : PlanData} {tasks : TasksData} {certs : ℕ 
           let same_pc : v.pc ≡ m.pc = pc_14 ∙ sym r.pc in
           comes_back (with_event (advanced 4 v) e) seen2 15 (omega arith) (omega arith) (next_pc 14 (omega arith) r.pc) r.off (view_nothing beyond.0 m.mem v of2 seen2 p2.view_free p2.view_links (subst (λ y. Areas plan v.mem v.fcx y seen2 p2.view_free) (sym (core2.lcx ∙ sym k.lcx)) p2.view_areas) off2 m e fits code)
           (record {
-            pc = ap (λ y. moved y 4) same_pc;
+            pc = ap (λ y. machine_address_ahead y 4) same_pc;
             lcx = core2.lcx ∙ sym k.lcx;
             ccpn = ccpn2 ∙ sym level;
             ie = off2 ∙ sym r.off;
@@ -227,7 +227,7 @@ module _ {image : ImageData} {plan : PlanData} {tasks : TasksData} {certs : ℕ 
           subst (Goes image plan tasks needs) (sym step_at) (record { owner = w; words = word_of; chains = chain_of; kept = all_with (incoming o.0 o.1) })
 
     -- ---- the view of the task that comes back
-    module _ (v : Machine) (seen : List ℕ) (off : m.ie ≡ false) (of : ViewOf image plan tasks u m.mem v) (beside : Beside m v) (pause : Paused plan m.mem m.pcxi (chain_of u) seen m.lcx v.mem v.pcxi v.fcx) (now : current tasks m.mem ≡ u) where
+    module _ (v : Machine) (seen : List ℕ) (off : m.ie ≡ false) (of : ViewOf image plan tasks u m.mem v) (beside : Beside m v) (pause : Paused plan m.mem m.pcxi (chain_of u) seen m.lcx v.mem v.pcxi v.fcx) (now : current_task tasks m.mem ≡ u) where
       view_off : v.ie ≡ false
       view_off = beside.ie ∙ off
 
@@ -254,7 +254,7 @@ module _ {image : ImageData} {plan : PlanData} {tasks : TasksData} {certs : ℕ 
           let words : IsMachine (with_event (advanced 4 m) e) = subst IsMachine m_is (stays_step m e k.words (irq_lt wd.ok m e fits) fits.input fits.status) in
           let turn : Turn image plan tasks u word_of chain_of (with_event (advanced 4 m) e) =
           comes_back (with_event (advanced 4 v) e) seen 16 (omega arith) (omega arith) (next_pc 15 (omega arith) pc) off of2
-          (record { pc = ap (λ y. moved y 4) beside.pc; lcx = beside.lcx; ccpn = beside.ccpn; ie = beside.ie; biv = beside.biv; btv = beside.btv; isp = beside.isp; core = beside.core; end = beside.end })
+          (record { pc = ap (λ y. machine_address_ahead y 4) beside.pc; lcx = beside.lcx; ccpn = beside.ccpn; ie = beside.ie; biv = beside.biv; btv = beside.btv; isp = beside.isp; core = beside.core; end = beside.end })
           (λ a. absurd (omega arith)) pause now
           in
           subst (Goes image plan tasks needs) (sym m_is)
@@ -308,7 +308,7 @@ module _ {image : ImageData} {plan : PlanData} {tasks : TasksData} {certs : ℕ 
             same_rom = λ z in_rom out. ap (λ (q : Memory). finite.get q z) is ∙ view_kept z (inl in_rom) ∙ of.same_rom z in_rom out ∙ sym (back.outside z (inl in_rom));
           }
 
-          now_back : current tasks x.mem ≡ u
+          now_back : current_task tasks x.mem ≡ u
           now_back = block_same tasks m.mem x.mem (λ y low high. back.outside y (inr (low, high))) (count tasks) (omega arith) ∙ now
 
           -- all tasks are kept, with a view that has that memory
@@ -378,7 +378,7 @@ module _ {image : ImageData} {plan : PlanData} {tasks : TasksData} {certs : ℕ 
           let low = lower_back wd.ok m v k.words words_of_view k.running beside l used is_l j seen2 t (globals_same plan m v k.globals (view_globals wd.ok wd.are wd.fit own (certs u) (wd.judged u own) (view_few wd u own) v of.run)) in
           let turn : Turn image plan tasks u bk.words bk.chains (with_event (advanced 4 (restored m false)) e) =
           comes_back (with_event (advanced 4 (restored v false)) e) bk.seen 17 (omega arith) (omega arith) (next_pc 16 (omega arith) pc) off (view_back l used is_l j seen2 is_s (with_event (advanced 4 (restored m false)) e) refl refl refl refl (with_event (advanced 4 (restored v false)) e) refl run)
-          (record { pc = ap (λ q. moved q 4) beside.pc; lcx = beside.lcx; ccpn = beside.ccpn; ie = beside.ie; biv = beside.biv; btv = beside.btv; isp = beside.isp; core = beside.core; end = beside.end })
+          (record { pc = ap (λ q. machine_address_ahead q 4) beside.pc; lcx = beside.lcx; ccpn = beside.ccpn; ie = beside.ie; biv = beside.biv; btv = beside.btv; isp = beside.isp; core = beside.core; end = beside.end })
           (λ _. record { d = low.d; a = low.a; back = low.back })
           (paused_back l used is_l j seen2 is_s (with_event (advanced 4 (restored m false)) e) refl refl refl refl) (now_back l used is_l j seen2 is_s (with_event (advanced 4 (restored m false)) e) refl refl refl refl)
           in

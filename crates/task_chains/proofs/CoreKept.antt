@@ -11,13 +11,13 @@ use Rattle.tc_machine.specs.declared.events.End.{End}
 use Rattle.tc_machine.specs.declared.events.End.TheVariants.{Running, Dead}
 use Rattle.tc_machine.specs.declared.events.Event.{Event}
 use Rattle.tc_machine.specs.declared.state.Machine.{Machine}
-use Rattle.tc_machine.specs.Machine.{a11, moved, died, goes_on, then_}
-use Rattle.tc_machine.specs.Instructions.{advanced, with_status, access_address, traps_at, at_handler, trap, target_of, does}
-use Rattle.tc_machine.specs.Stepping.{interrupt, is_taken, executed, done, step}
+use Rattle.tc_machine.specs.Machine.{a11, machine_address_ahead, died, goes_on, then_, psw_with_status}
+use Rattle.tc_machine.specs.Instructions.{advanced, access_address, is_trapping_access, at_handler, trap, target_of, does}
+use Rattle.tc_machine.specs.Stepping.{interrupt, is_taken, executed, machine_after_event, step}
 use Rattle.tc_machine.specs.SavesAndRestores.{has_kind, saved, save, restored, restore}
 use Rattle.tc_machine.specs.Fetching.{fetched}
 use Rattle.tc_machine.proofs.Steps.{done-is, does-call, does-ret}
-use Rattle.vd_transfer.specs.Holding.{WritesNoFixedRegister}
+use Rattle.vd_transfer.specs.Registers.{WritesNoFixedRegister}
 use Rattle.cfg_recover.proofs.Points.{does-rfe, does-svlcx, does-rslcx, does-bisr, does-syscall, does-trapped}
 use Rattle.task_chains.proofs.Leveling.{StoresNothing}
 use Rattle.task_chains.proofs.Plain.{Plainly, plain-compute, plain-scaled, plain-mfcr, plain-enable, plain-disable, plain-nothing, plain-jump, plain-branch, plain-load, plain-store}
@@ -98,18 +98,18 @@ module _ (m : Machine) (e : Event) (size : ℕ) where
   core_does (Compute op dst x y) w n = plainly (Compute op dst x y) (plain-compute m m.mem m.pcxi m.fcx e e op dst x y size)
   core_does (Scaled dst base index j) w n = plainly (Scaled dst base index j) (plain-scaled m m.mem m.pcxi m.fcx e e dst base index j size)
   core_does (Load dst base offset width signed after) w n =
-      elim (cases_Bool (traps_at e (access_address m base offset after) width)) [
+      elim (cases_Bool (is_trapping_access e (access_address m base offset after) width)) [
         | inl yes_trap ↦ through (Load dst base offset width signed after) (trap m 2 4 m.pc) (does-trapped m e size (Load dst base offset width signed after) yes_trap) (core_trap m 2 4 m.pc)
         | inr no_trap ↦ plainly (Load dst base offset width signed after) (plain-load m m.mem m.pcxi m.fcx e e dst base offset width signed after size no_trap refl refl)
       ]
   core_does (Store src base offset width after) w n =
-      elim (cases_Bool (traps_at e (access_address m base offset after) width)) [
+      elim (cases_Bool (is_trapping_access e (access_address m base offset after) width)) [
         | inl yes_trap ↦ through (Store src base offset width after) (trap m 2 4 m.pc) (does-trapped m e size (Store src base offset width after) yes_trap) (core_trap m 2 4 m.pc)
         | inr no_trap ↦ plainly (Store src base offset width after) (plain-store m m.mem m.pcxi m.fcx e e src base offset width after size no_trap refl (n no_trap))
       ]
   core_does (Branch test x y by lowers) w n = plainly (Branch test x y by lowers) (plain-branch m m.mem m.pcxi m.fcx e e test x y by lowers size)
   core_does (Jump target) w n = plainly (Jump target) (plain-jump m m.mem m.pcxi m.fcx e e target size)
-  core_does (Call target) w n = through (Call target) _ (does-call m e target size) (core_then m (save m true) (λ s. record s { a = set s.a 11 (moved m.pc size); pc = target_of m target }) (core_save m true) (λ r h. record { lcx = h.lcx; biv = h.biv; btv = h.btv; isp = h.isp; core = h.core }))
+  core_does (Call target) w n = through (Call target) _ (does-call m e target size) (core_then m (save m true) (λ s. record s { a = set s.a 11 (machine_address_ahead m.pc size); pc = target_of m target }) (core_save m true) (λ r h. record { lcx = h.lcx; biv = h.biv; btv = h.btv; isp = h.isp; core = h.core }))
   core_does Ret w n = through Ret _ (does-ret m e size) (core_then m (restore m true) (λ r. record r { pc = a11 m / 2 * 2 }) (core_restore m true) (λ r h. record { lcx = h.lcx; biv = h.biv; btv = h.btv; isp = h.isp; core = h.core }))
   core_does Rfe w n =
       through Rfe _ (does-rfe m e size)
@@ -119,18 +119,18 @@ module _ (m : Machine) (e : Event) (size : ℕ) where
   core_does (Bisr c) w n = through (Bisr c) _ (does-bisr m e size c) (core_then m (save m false) (λ s. record (advanced size s) { ccpn = c; ie = true }) (core_save m false) (λ r h. record { lcx = h.lcx; biv = h.biv; btv = h.btv; isp = h.isp; core = h.core }))
   core_does Enable w n = plainly Enable (plain-enable m m.mem m.pcxi m.fcx e e size)
   core_does Disable w n = plainly Disable (plain-disable m m.mem m.pcxi m.fcx e e size)
-  core_does (Syscall tin) w n = through (Syscall tin) (trap m 6 tin (moved m.pc size)) (does-syscall m e size tin) (core_trap m 6 tin (moved m.pc size))
+  core_does (Syscall tin) w n = through (Syscall tin) (trap m 6 tin (machine_address_ahead m.pc size)) (does-syscall m e size tin) (core_trap m 6 tin (machine_address_ahead m.pc size))
   core_does (Mfcr dst number) w n = plainly (Mfcr dst number) (plain-mfcr m m.mem m.pcxi m.fcx e e dst number size refl)
   core_does (Mtcr src number) w n = absurd w
   core_does Nothing w n = plainly Nothing (plain-nothing m m.mem m.pcxi m.fcx e e size)
 
 -- ---- steps
-core_of_done : (m : Machine) (e : Event) → SameCore m (done m e) → SameCore m (step m e)
+core_of_done : (m : Machine) (e : Event) → SameCore m (machine_after_event m e) → SameCore m (step m e)
 unfolding step
 core_of_done m e h = by_end m.end
   where
-    by_end : (end : End) → SameCore m (goes_on end m (λ m. then_ (done m e) (λ n. record n { psw = with_status n.psw e.status })))
-    by_end Running = core_then m (done m e) (λ n. record n { psw = with_status n.psw e.status }) h (λ r k. record { lcx = k.lcx; biv = k.biv; btv = k.btv; isp = k.isp; core = k.core })
+    by_end : (end : End) → SameCore m (goes_on end m (λ m. then_ (machine_after_event m e) (λ n. record n { psw = psw_with_status n.psw e.status })))
+    by_end Running = core_then m (machine_after_event m e) (λ n. record n { psw = psw_with_status n.psw e.status }) h (λ r k. record { lcx = k.lcx; biv = k.biv; btv = k.btv; isp = k.isp; core = k.core })
     by_end (Dead cause) = itself m
 
 pub core_taken : (m : Machine) (e : Event) → is_taken m e ≡ true → SameCore m (step m e)

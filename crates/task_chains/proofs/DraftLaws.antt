@@ -5,26 +5,26 @@ use Rattle.std.specs.Option.{option_or}
 use Rattle.std.proofs.lemmas.Bool.{cases_lt}
 use Rattle.std.proofs.lemmas.List.{length-append, length-take, map-append, take_all, take-append-le, append-nil}
 use Rattle.std.proofs.lemmas.List.Elements.{filter-append}
-use Rattle.tcd_text.specs.Lines.{lines_of, is_written}
+use Rattle.tcd_text.specs.Lines.{text_lines, is_nonempty_line}
 use Rattle.task_chains.specs.declared.lines.Places.{Places}
 use Rattle.task_chains.specs.declared.drafts.Draft.{Draft}
 use Rattle.task_chains.specs.declared.task_lists.Task.{Task}
 use Rattle.task_chains.specs.declared.task_lists.TasksErr.TheVariants.{BadLine}
 use Rattle.task_chains.specs.Tasks.{TasksData}
-use Rattle.task_chains.specs.TaskListText.{places_of, task_of, written, AreSaid, BreaksForm, IsEighth, tasks_with, TellsEighth, IsDraftBy, IsDraft, TakesLine, IsLineBad}
+use Rattle.task_chains.specs.TaskListText.{places_of, task_of, written_task_lines, AreSaid, BreaksTaskForm, IsEighthTaskLine, tasks_with, TellsEighth, IsDraftBy, IsTasksDraft, TakesTaskLine, IsLineBad}
 
 abbrev some_task : Task → Option Task
 some_task t = Some t
 
 -- ---- what is written
 module _ (before : List (List ℕ)) where
-  written_more : (line : List ℕ) → written (before ++ line ∷ []) ≡ written before ++ written (line ∷ [])
-  written_more line = filter-append is_written before (line ∷ [])
+  written_more : (line : List ℕ) → written_task_lines (before ++ line ∷ []) ≡ written_task_lines before ++ written_task_lines (line ∷ [])
+  written_more line = filter-append is_nonempty_line before (line ∷ [])
 
-  written_empty : written (before ++ [] ∷ []) ≡ written before
-  written_empty = written_more [] ∙ append-nil (written before)
+  written_empty : written_task_lines (before ++ [] ∷ []) ≡ written_task_lines before
+  written_empty = written_more [] ∙ append-nil (written_task_lines before)
 
-  written_line : (line : List ℕ) → 0 < length line → written (before ++ line ∷ []) ≡ written before ++ line ∷ []
+  written_line : (line : List ℕ) → 0 < length line → written_task_lines (before ++ line ∷ []) ≡ written_task_lines before ++ line ∷ []
   written_line [] lt = absurd (omega arith)
   written_line (x ∷ xs) lt = written_more (x ∷ xs)
 
@@ -37,7 +37,7 @@ behind_more [] ys x y = refl
 behind_more (z ∷ zs) ys x y = ap (λ l. z ∷ l) (behind_more zs ys x y)
 
 -- ---- an eighth task stays where it is
-eighth_more : (before : List (List ℕ)) (line : List ℕ) (n : ℕ) → IsEighth before n → IsEighth (before ++ line ∷ []) n
+eighth_more : (before : List (List ℕ)) (line : List ℕ) (n : ℕ) → IsEighthTaskLine before n → IsEighthTaskLine (before ++ line ∷ []) n
 eighth_more before line n e = record {
   before = e.before;
   line = e.line;
@@ -73,7 +73,7 @@ module _ (before : List (List ℕ)) where
     more = subst (TellsEighth (before ++ line ∷ []) (tasks_with p [])) (sym d.2) (omega arith);
   }
 
-  pub bad_places : (line : List ℕ) (list : List Task) (eighth : Option ℕ) → 0 < length line → places_of line ≡ None → IsDraftBy before None list eighth → BreaksForm before line
+  pub bad_places : (line : List ℕ) (list : List Task) (eighth : Option ℕ) → 0 < length line → places_of line ≡ None → IsDraftBy before None list eighth → BreaksTaskForm before line
   bad_places line list eighth lt none d = (not_empty line lt, inl (d.0, none))
 
   -- a line that names a task
@@ -119,19 +119,19 @@ module _ (before : List (List ℕ)) where
             }
       ]
 
-  pub bad_task : (line : List ℕ) (p : Places) (list : List Task) (eighth : Option ℕ) → 0 < length line → task_of line ≡ None → IsDraftBy before (Some p) list eighth → BreaksForm before line
+  pub bad_task : (line : List ℕ) (p : Places) (list : List Task) (eighth : Option ℕ) → 0 < length line → task_of line ≡ None → IsDraftBy before (Some p) list eighth → BreaksTaskForm before line
   bad_task line p list eighth lt none d = (not_empty line lt, inr ((tasks_with p d.all, d.said), none))
 
-pub draft_nothing : (before : List (List ℕ)) (line : List ℕ) (d : Draft) → length line ≡ 0 → IsDraft before d → IsDraft (before ++ line ∷ []) d
+pub draft_nothing : (before : List (List ℕ)) (line : List ℕ) (d : Draft) → length line ≡ 0 → IsTasksDraft before d → IsTasksDraft (before ++ line ∷ []) d
 draft_nothing before [] d none is = draft_empty before d.places d.list.items d.eighth is
 draft_nothing before (x ∷ xs) d none is = absurd (omega arith)
 
 -- ---- a draft and one line more
-pub takes_nothing : (d : Draft) (n : ℕ) (line : List ℕ) → length line ≡ 0 → TakesLine d n line d
+pub takes_nothing : (d : Draft) (n : ℕ) (line : List ℕ) → length line ≡ 0 → TakesTaskLine d n line d
 takes_nothing d n line none before made at = draft_nothing before line d none made
 
 module _ (old : Draft) (n : ℕ) (line : List ℕ) (some : 0 < length line) where
-  pub takes_places : (p : Places) → old.places ≡ None → places_of line ≡ Some p → TakesLine old n line (record { places = Some p; list = old.list; eighth = old.eighth })
+  pub takes_places : (p : Places) → old.places ≡ None → places_of line ≡ Some p → TakesTaskLine old n line (record { places = Some p; list = old.list; eighth = old.eighth })
   takes_places p none is before made at = draft_places before line p old.list.items old.eighth some is (subst (λ o. IsDraftBy before o old.list.items old.eighth) none made)
 
   pub bad_first : old.places ≡ None → places_of line ≡ None → IsLineBad old n line (BadLine n)
@@ -143,12 +143,12 @@ module _ (old : Draft) (n : ℕ) (line : List ℕ) (some : 0 < length line) wher
   takes_by (Some p) t list more eighth next there is room full before made at = draft_task before n line p t list more eighth next at some is room full made
 
   pub takes_task : (new : Draft) (t : Task) → IsSome old.places → task_of line ≡ Some t → new.places ≡ old.places → (length old.list.items < 7 → (new.list.items ≡ old.list.items ++ t ∷ []) × (new.eighth ≡ old.eighth))
-      → (7 ≤ length old.list.items → (new.list.items ≡ old.list.items) × (new.eighth ≡ option_or old.eighth (Some n))) → TakesLine old n line new
+      → (7 ≤ length old.list.items → (new.list.items ≡ old.list.items) × (new.eighth ≡ option_or old.eighth (Some n))) → TakesTaskLine old n line new
   takes_task new t there is same room full before made at =
       subst (λ o. IsDraftBy (before ++ line ∷ []) o new.list.items new.eighth) (sym same)
       (takes_by old.places t old.list.items new.list.items old.eighth new.eighth there is room full before made at)
 
-  bad_by : (o : Option Places) (list : List Task) (eighth : Option ℕ) → IsSome o → task_of line ≡ None → (before : List (List ℕ)) → IsDraftBy before o list eighth → BreaksForm before line
+  bad_by : (o : Option Places) (list : List Task) (eighth : Option ℕ) → IsSome o → task_of line ≡ None → (before : List (List ℕ)) → IsDraftBy before o list eighth → BreaksTaskForm before line
   bad_by None list eighth there is before made = absurd (let f : false ≡ true = there in cc)
   bad_by (Some p) list eighth there is before made = bad_task before line p list eighth some is made
 
@@ -159,24 +159,24 @@ module _ (old : Draft) (n : ℕ) (line : List ℕ) (some : 0 < length line) wher
 -- the draft is that of the lines before those that are left
 pub record IsDraftSoFar (bytes rest : List ℕ) (number : ℕ) (d : Draft) : Type 0 where
   pub before : List (List ℕ)
-  pub split : lines_of bytes ≡ before ++ lines_of rest
+  pub split : text_lines bytes ≡ before ++ text_lines rest
   pub count : number ≡ length before
-  pub made : IsDraft before d
+  pub made : IsTasksDraft before d
 
 behind_one : (xs ys : List (List ℕ)) (x : List ℕ) → xs ++ x ∷ ys ≡ (xs ++ x ∷ []) ++ ys
 behind_one [] ys x = refl
 behind_one (z ∷ zs) ys x = ap (λ l. z ∷ l) (behind_one zs ys x)
 
-pub drafted_more : (bytes rest line behind : List ℕ) (number : ℕ) (d more : Draft) → IsDraftSoFar bytes rest number d → lines_of rest ≡ line ∷ lines_of behind
-    → ((before : List (List ℕ)) → IsDraft before d → number + 1 ≡ length before + 1 → IsDraft (before ++ line ∷ []) more) → IsDraftSoFar bytes behind (number + 1) more
+pub drafted_more : (bytes rest line behind : List ℕ) (number : ℕ) (d more : Draft) → IsDraftSoFar bytes rest number d → text_lines rest ≡ line ∷ text_lines behind
+    → ((before : List (List ℕ)) → IsTasksDraft before d → number + 1 ≡ length before + 1 → IsTasksDraft (before ++ line ∷ []) more) → IsDraftSoFar bytes behind (number + 1) more
 drafted_more bytes rest line behind number d more so cut takes = record {
   before = so.before ++ line ∷ [];
-  split = so.split ∙ ap (λ l. so.before ++ l) cut ∙ behind_one so.before (lines_of behind) line;
+  split = so.split ∙ ap (λ l. so.before ++ l) cut ∙ behind_one so.before (text_lines behind) line;
   count = omega (arith, so.count, length-append so.before (line ∷ []));
   made = takes so.before so.made (ap (λ k. k + 1) so.count);
 }
 
-pub drafted_all : (bytes rest : List ℕ) (number : ℕ) (d : Draft) → length rest ≡ 0 → IsDraftSoFar bytes rest number d → IsDraft (lines_of bytes) d
-unfolding lines_of
-drafted_all bytes [] number d none so = subst (λ ls. IsDraft ls d) (sym (so.split ∙ append-nil so.before)) so.made
+pub drafted_all : (bytes rest : List ℕ) (number : ℕ) (d : Draft) → length rest ≡ 0 → IsDraftSoFar bytes rest number d → IsTasksDraft (text_lines bytes) d
+unfolding text_lines
+drafted_all bytes [] number d none so = subst (λ ls. IsTasksDraft ls d) (sym (so.split ∙ append-nil so.before)) so.made
 drafted_all bytes (x ∷ xs) number d none so = absurd (omega arith)

@@ -6,7 +6,7 @@ use Rattle.std.specs.List.{list_all}
 use Rattle.csa_chain.specs.Chain.{link_in, is_area}
 use Rattle.tcd_base.specs.declared.range.Range.{Range}
 use Rattle.tcd_plan.specs.declared.plans.Device.{Device}
-use Rattle.tcd_plan.specs.PlanData.{PlanData, IsPlan, is_range, is_device, areas_range, all_apart}
+use Rattle.tcd_plan.specs.PlanData.{PlanData, IsPlan, is_range, is_device, areas_range, are_all_ranges_apart}
 use Rattle.tc_machine.specs.declared.events.Event.{Event}
 use Rattle.tc_machine.specs.declared.events.Cause.{Cause}
 use Rattle.tc_machine.specs.declared.events.Cause.TheVariants.{Fcd, Fcu, NoArea}
@@ -15,7 +15,7 @@ use Rattle.tc_machine.specs.declared.state.Machine.{Machine}
 use Rattle.tc_machine.specs.Machine.{died}
 use Rattle.tc_machine.specs.SavesAndRestores.{saved, save}
 use Rattle.tc_machine.specs.Stepping.{load_at_pc}
-use Rattle.tcd_base.specs.Ranges.{IsWithin, IsInOne}
+use Rattle.tcd_base.specs.Ranges.{IsWithinRange, IsInOneRange}
 use Rattle.tc_machine.specs.PlanAreas.{first_link}
 use Rattle.tc_machine.specs.Safe.{Fits}
 use Rattle.tcd_plan.specs.Regions.{AnswersAt, AnswersLoad}
@@ -41,7 +41,7 @@ All-none P i d lt = absurd (omega arith)
 
 -- the bounds of an input, if a device has the word
 abbrev Answered : ℕ → ℕ → Device → Type 0
-Answered x input d = IsWithin x 4 d.range → (d.lo ≤ input) × (input ≤ d.hi)
+Answered x input d = IsWithinRange x 4 d.range → (d.lo ≤ input) × (input ≤ d.hi)
 
 device_bounds : (d : Device) → is_device d ≡ true → (d.lo ≤ d.hi) × (d.hi < 2 ^ 32)
 device_bounds d h =
@@ -49,12 +49,12 @@ device_bounds d h =
     (leb-true d.lo d.hi (and_parts (is_range d.range) (nat_le d.lo d.hi) a.0).1, ltb-true d.hi (2 ^ 32) a.1)
 
 -- if no device of the list has the word, each input fits
-none_within : (ds : List Device) (x input : ℕ) → (IsInOne x 1 (map (λ (d : Device). d.range) ds) → ⊥) → AnswersAt x input ds
+none_within : (ds : List Device) (x input : ℕ) → (IsInOneRange x 1 (map (λ (d : Device). d.range) ds) → ⊥) → AnswersAt x input ds
 none_within [] x input none = All-none (Answered x input)
 none_within (d ∷ ds) x input none = All-cons (Answered x input) d ds (λ there. absurd (none (inl (there.0, (let h = there.1 in omega arith))))) (none_within ds x input (λ h. none (inr h)))
 
 -- the device that has the word answers in its bounds, and no other has it
-answers : (ds : List Device) (x : ℕ) (rest : List Range) → list_all is_device ds ≡ true → all_apart (map (λ (d : Device). d.range) ds ++ rest) ≡ true → AnswersAt x (answer ds x) ds × (answer ds x < 2 ^ 32)
+answers : (ds : List Device) (x : ℕ) (rest : List Range) → list_all is_device ds ≡ true → are_all_ranges_apart (map (λ (d : Device). d.range) ds ++ rest) ≡ true → AnswersAt x (answer ds x) ds × (answer ds x < 2 ^ 32)
 answers [] x rest are apart = (All-none (Answered x 0), omega arith)
 answers (d ∷ ds) x rest are apart =
     let parts = and_parts (is_device d) (list_all is_device ds) are in
@@ -64,7 +64,7 @@ answers (d ∷ ds) x rest are apart =
       | true ↦ λ has.
           let low : (d.range).at ≤ x = leb-true (d.range).at x (and_parts _ _ has).0 in
           let high : x + 4 ≤ (d.range).at + (d.range).len = leb-true (x + 4) ((d.range).at + (d.range).len) (and_parts _ _ has).1 in
-          let none : IsInOne x 1 (map (λ (d : Device). d.range) ds) → ⊥ =
+          let none : IsInOneRange x 1 (map (λ (d : Device). d.range) ds) → ⊥ =
           λ there. all_apart-before x (d.range ∷ []) (map (λ (d : Device). d.range) ds ++ rest) apart (inl (low, omega arith)) (IsInOne-front x 1 (map (λ (d : Device). d.range) ds) rest there)
           in
           let lo_hi = bounds.0 in
@@ -92,13 +92,13 @@ pub record Quiet (plan : PlanData) (m : Machine) : Type 0 where
 pub quiet : {plan : PlanData} → IsPlan plan → (m : Machine) → Quiet plan m
 unfolding some_event input_of
 quiet {plan = plan} ok m =
-    let apart : all_apart (map (λ (d : Device). d.range) plan.devices ++ areas_range plan ∷ []) ≡ true =
-    all_apart-behind plan.ram _ (all_apart-behind plan.rom _ (sym (ap all_apart (append_assoc (plan.rom ++ plan.ram) (map (λ (d : Device). d.range) plan.devices) (areas_range plan ∷ []) ∙ append_assoc plan.rom plan.ram (map (λ (d : Device). d.range) plan.devices ++ areas_range plan ∷ []))) ∙ ok.apart))
+    let apart : are_all_ranges_apart (map (λ (d : Device). d.range) plan.devices ++ areas_range plan ∷ []) ≡ true =
+    all_apart-behind plan.ram _ (all_apart-behind plan.rom _ (sym (ap are_all_ranges_apart (append_assoc (plan.rom ++ plan.ram) (map (λ (d : Device). d.range) plan.devices) (areas_range plan ∷ []) ∙ append_assoc plan.rom plan.ram (map (λ (d : Device). d.range) plan.devices ++ areas_range plan ∷ []))) ∙ ok.apart))
     in
     let by = by_load apart (load_at_pc m) in
     record { event = some_event plan m; fits = record { irq = inl refl; input = by.1; status = omega arith; answers = λ none. by.0 }; irq = refl; aln = refl }
   where
-    by_load : all_apart (map (λ (d : Device). d.range) plan.devices ++ areas_range plan ∷ []) ≡ true → (o : Option (ℕ × ℕ)) → AnswersLoad plan (input_of plan o) o × (input_of plan o < 2 ^ 32)
+    by_load : are_all_ranges_apart (map (λ (d : Device). d.range) plan.devices ++ areas_range plan ∷ []) ≡ true → (o : Option (ℕ × ℕ)) → AnswersLoad plan (input_of plan o) o × (input_of plan o < 2 ^ 32)
     by_load apart None = (tt, omega arith)
     by_load apart (Some l) = let a = answers plan.devices l.0 (areas_range plan ∷ []) (ok.ranges).devices apart in (λ four. a.0, a.1)
 

@@ -8,24 +8,23 @@ use Rattle.tc_isa.specs.declared.shapes.Shape.TheVariants.{Svlcx, Bisr, Syscall}
 use Rattle.tc_machine.specs.declared.events.Event.{Event}
 use Rattle.tc_machine.specs.declared.events.End.TheVariants.{Running}
 use Rattle.tc_machine.specs.declared.state.Machine.{Machine}
-use Rattle.tc_machine.specs.Machine.{moved, then_}
+use Rattle.tc_machine.specs.Machine.{machine_address_ahead, then_, IsMachine}
 use Rattle.tc_machine.specs.Instructions.{advanced, at_handler, does, traps}
 use Rattle.tc_machine.specs.SavesAndRestores.{saved, save}
 use Rattle.tc_machine.specs.Fetching.{fetched}
 use Rattle.tc_machine.specs.Stepping.{is_taken, step}
 use Rattle.tcd_plan.specs.Regions.{IsInAreas}
-use Rattle.tc_machine.specs.Safe.{IsMachine}
 use Rattle.tc_machine.proofs.Saves.{then_-running}
 use Rattle.tc_machine.proofs.Steps.{with_event, step_does}
 use Rattle.cfg_recover.proofs.Points.{does-svlcx, does-bisr, does-syscall, does-trapped}
-use Rattle.csa_chain.specs.SeveralChains.{sum_below}
+use Rattle.csa_chain.specs.SeveralChains.{sum_over_chains}
 use Rattle.task_chains.proofs.Twins.{Twins}
 use Rattle.task_chains.proofs.Alike.{seen_as, Alike, saves, view_saves, Alike-saved}
 
 module _ {plan : PlanData} (ok : IsPlan plan) (Kept : ℕ → Type 0) (kept : (x : ℕ) → Kept x → IsInAreas plan x → ⊥) {n u : ℕ} {word_of : ℕ → ℕ} {chain_of : ℕ → List ℕ} {seen : List ℕ} (m : Machine) (view : Memory) (pcxi fcx : ℕ)
     (words : IsMachine m) (view_words : IsMachine (seen_as m view pcxi fcx)) (running : m.end ≡ Running)
     (t : Twins plan n u word_of chain_of seen m.mem m.pcxi m.fcx m.lcx view pcxi fcx)
-    (room : sum_below n (λ w. length (chain_of w)) < plan.areas - plan.reserve) (view_room : length seen < plan.areas - plan.reserve)
+    (room : sum_over_chains n (λ w. length (chain_of w)) < plan.areas - plan.reserve) (view_room : length seen < plan.areas - plan.reserve)
     (e e2 : Event) (none : is_taken m e ≡ false) (same_irq : e2.irq ≡ e.irq) (same_status : e2.status ≡ e.status) where
   abbrev v : Machine
   v = seen_as m view pcxi fcx
@@ -60,7 +59,7 @@ module _ {plan : PlanData} (ok : IsPlan plan) (Kept : ℕ → Type 0) (kept : (x
 
   pub Alike-syscall : (tin size : ℕ) → fetched m ≡ Ok (Syscall tin, size) → fetched v ≡ Ok (Syscall tin, size) → Alike plan n u word_of chain_of Kept view m (step m e) (step v e2)
   Alike-syscall tin size at view_at =
-      Alike-forth true (Syscall tin) size (λ s. record (at_handler m s (moved m.pc size) (bit_or m.btv (6 * 2 ^ 5))) { d = set s.d 15 tin }) (λ s. record (at_handler v s (moved v.pc size) (bit_or v.btv (6 * 2 ^ 5))) { d = set s.d 15 tin })
+      Alike-forth true (Syscall tin) size (λ s. record (at_handler m s (machine_address_ahead m.pc size) (bit_or m.btv (6 * 2 ^ 5))) { d = set s.d 15 tin }) (λ s. record (at_handler v s (machine_address_ahead v.pc size) (bit_or v.btv (6 * 2 ^ 5))) { d = set s.d 15 tin })
       (does-syscall m e size tin) (does-syscall v e2 size tin) refl refl refl refl refl refl at view_at
 
   pub Alike-misaligned : (shape : Shape) (size : ℕ) → traps m e shape ≡ true → traps v e2 shape ≡ true → fetched m ≡ Ok (shape, size) → fetched v ≡ Ok (shape, size) → Alike plan n u word_of chain_of Kept view m (step m e) (step v e2)

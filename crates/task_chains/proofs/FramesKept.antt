@@ -7,13 +7,13 @@ use Rattle.tc_isa.specs.declared.shapes.Shape.TheVariants.{Compute, Scaled, Load
 use Rattle.tc_machine.specs.declared.events.Cause.{Cause}
 use Rattle.tc_machine.specs.declared.events.Event.{Event}
 use Rattle.tc_machine.specs.declared.state.Machine.{Machine}
-use Rattle.tc_machine.specs.Machine.{moved}
-use Rattle.tc_machine.specs.Fetching.{fetched, size_in}
+use Rattle.tc_machine.specs.Machine.{machine_address_ahead}
+use Rattle.tc_machine.specs.Fetching.{fetched, fetched_size}
 use Rattle.tc_machine.specs.Stepping.{is_taken, step}
 use Rattle.depth_cert.specs.declared.keys.Key.{Key}
 use Rattle.depth_cert.specs.Keys.{IsKey}
 use Rattle.cfg_recover.specs.Frames.{Standing, frames_left, frames_by, frames_after}
-use Rattle.cfg_recover.specs.StepEdges.{Way, to, call, irq, sys, aln, ret, rfe, way_of_shape, way_in}
+use Rattle.cfg_recover.specs.StepEdges.{EdgeWay, to, call, irq, sys, aln, ret, rfe, edge_way_of_shape, edge_way_in_fetch}
 use Rattle.tc_machine.specs.Instructions.{traps}
 use Rattle.task_chains.specs.Tasks.{TasksData}
 use Rattle.task_chains.specs.SwitchRoutine.{switch_key}
@@ -34,10 +34,10 @@ AreFirst-left tasks [] h = tt
 AreFirst-left tasks (f ∷ fs) h = h.1
 
 -- if something holds after each case of a step, it holds after the step
-pub by_way : (v : Machine) (e : Event) (q : ℕ) (P : Way → Type 0) → P (to q) → P (call q) → P (irq q) → P (sys q) → P (aln q) → P ret → P rfe → P (cond (is_taken v e) (irq q) (way_in v e (fetched v) q))
-by_way v e q P goes calls interrupts systems misaligns returns leaves = cond_both (is_taken v e) (irq q) (way_in v e (fetched v) q) P (λ _. interrupts) (λ _. by_found (fetched v))
+pub by_way : (v : Machine) (e : Event) (q : ℕ) (P : EdgeWay → Type 0) → P (to q) → P (call q) → P (irq q) → P (sys q) → P (aln q) → P ret → P rfe → P (cond (is_taken v e) (irq q) (edge_way_in_fetch v e (fetched v) q))
+by_way v e q P goes calls interrupts systems misaligns returns leaves = cond_both (is_taken v e) (irq q) (edge_way_in_fetch v e (fetched v) q) P (λ _. interrupts) (λ _. by_found (fetched v))
   where
-    by_shape : (shape : Shape) → P (way_of_shape shape q)
+    by_shape : (shape : Shape) → P (edge_way_of_shape shape q)
     by_shape (Call x) = calls
     by_shape Ret = returns
     by_shape Rfe = leaves
@@ -57,15 +57,15 @@ by_way v e q P goes calls interrupts systems misaligns returns leaves = cond_bot
     by_shape (Mtcr src number) = goes
     by_shape Nothing = goes
 
-    by_found : (r : Result (Shape × ℕ) Cause) → P (way_in v e r q)
-    by_found (Ok found) = cond_both (traps v e found.0) (aln q) (way_of_shape found.0 q) P (λ _. misaligns) (λ _. by_shape found.0)
+    by_found : (r : Result (Shape × ℕ) Cause) → P (edge_way_in_fetch v e r q)
+    by_found (Ok found) = cond_both (traps v e found.0) (aln q) (edge_way_of_shape found.0 q) P (λ _. misaligns) (λ _. by_shape found.0)
     by_found (Err cause) = goes
 
 -- the numbers of keys are in range after a step
 pub keys_next : (v : Machine) (e : Event) (f : Standing) (fs : List Standing) → AreKeys (f ∷ fs) → e.irq < 2 ^ 8 → (step v e).pc < 2 ^ 32 → AreKeys (frames_after v e (f ∷ fs))
 keys_next v e f fs keys irq_lt pc_lt =
     let same : IsKey f.key = keys.0 in
-    by_way v e (step v e).pc (λ w. AreKeys (frames_by v.pc (moved v.pc (size_in (fetched v))) e.irq w (f ∷ fs)))
+    by_way v e (step v e).pc (λ w. AreKeys (frames_by v.pc (machine_address_ahead v.pc (fetched_size (fetched v))) e.irq w (f ∷ fs)))
     keys
     (record { kind = omega arith; entry = pc_lt; prio = same.prio }, keys)
     (record { kind = omega arith; entry = pc_lt; prio = irq_lt }, keys)
@@ -77,7 +77,7 @@ keys_next v e f fs keys irq_lt pc_lt =
 -- a step from outside of the routine enters it only at the first instruction
 pub first_next : (tasks : TasksData) (v : Machine) (e : Event) (f : Standing) (fs : List Standing) → (f.key ≡ switch_key tasks → ⊥) → AreFirst tasks fs → AreFirst tasks (frames_after v e (f ∷ fs))
 first_next tasks v e f fs apart first =
-    by_way v e (step v e).pc (λ w. AreFirst tasks (frames_by v.pc (moved v.pc (size_in (fetched v))) e.irq w (f ∷ fs)))
+    by_way v e (step v e).pc (λ w. AreFirst tasks (frames_by v.pc (machine_address_ahead v.pc (fetched_size (fetched v))) e.irq w (f ∷ fs)))
     (λ is. absurd (apart is), first)
     (λ is. ap (λ (k : Key). k.entry) is, (λ is. absurd (apart is), first))
     (λ is. absurd (let k : 2 ≡ 1 = ap (λ (k : Key). k.kind) is in omega arith), (λ is. absurd (apart is), first))
@@ -89,5 +89,5 @@ first_next tasks v e f fs apart first =
 -- an interrupt enters a handler, and the frame below returns to where it was
 pub first_interrupt : (tasks : TasksData) (v : Machine) (e : Event) (f : Standing) (fs : List Standing) → is_taken v e ≡ true → (f.key ≡ switch_key tasks → v.pc ≡ tasks.switch) → AreFirst tasks fs → AreFirst tasks (frames_after v e (f ∷ fs))
 first_interrupt tasks v e f fs taken at first =
-    subst (λ t. AreFirst tasks (frames_by v.pc (moved v.pc (size_in (fetched v))) e.irq (cond t (irq (step v e).pc) (way_in v e (fetched v) (step v e).pc)) (f ∷ fs))) (sym taken)
+    subst (λ t. AreFirst tasks (frames_by v.pc (machine_address_ahead v.pc (fetched_size (fetched v))) e.irq (cond t (irq (step v e).pc) (edge_way_in_fetch v e (fetched v) (step v e).pc)) (f ∷ fs))) (sym taken)
     (λ is. absurd (let k : 2 ≡ 1 = ap (λ (k : Key). k.kind) is in omega arith), (at, first))

@@ -13,10 +13,10 @@ use Rattle.tc_machine.specs.declared.events.Cause.{Cause}
 use Rattle.tc_machine.specs.declared.events.Event.{Event}
 use Rattle.tc_machine.specs.declared.events.End.TheVariants.{Running, Dead}
 use Rattle.tc_machine.specs.declared.state.Machine.{Machine}
-use Rattle.tc_machine.specs.Machine.{reg, moved}
-use Rattle.tc_machine.specs.Instructions.{advanced, access_address, traps_at, does}
+use Rattle.tc_machine.specs.Machine.{reg, machine_address_ahead}
+use Rattle.tc_machine.specs.Instructions.{advanced, access_address, is_trapping_access, does}
 use Rattle.tc_machine.specs.SavesAndRestores.{save}
-use Rattle.tc_machine.specs.Fetching.{fetched, size_in}
+use Rattle.tc_machine.specs.Fetching.{fetched, fetched_size}
 use Rattle.std.specs.Prelude.{IfSome}
 use Rattle.tc_machine.specs.declared.events.End.{End}
 use Rattle.tc_machine.specs.Stepping.{is_taken, where_running, store_in, stored, step}
@@ -31,12 +31,13 @@ use Rattle.depth_cert.specs.Certs.{CertData}
 use Rattle.cfg_recover.specs.RulesHoldOrFail.{limits_in}
 use Rattle.cfg_recover.specs.Code.{IsCode}
 use Rattle.cfg_recover.specs.Frames.{Standing, frames_left, frames_by, frames_after}
-use Rattle.cfg_recover.specs.StepEdges.{to, irq, way_by, way_in}
+use Rattle.cfg_recover.specs.StepEdges.{to, irq, edge_way_by_trap, edge_way_in_fetch}
 use Rattle.cfg_recover.proofs.CodeLaws.{IsCode-bounded, IsCode-one, IsCode-sized}
-use Rattle.task_chains.specs.Tasks.{TasksData, count, routine_size}
+use Rattle.task_chains.specs.Tasks.{TasksData, count}
+use Rattle.task_chains.specs.SwitchRoutine.{routine_size, IsInRoutine}
 use Rattle.task_chains.specs.Views.{view_image_of, view_plan_of}
-use Rattle.task_chains.specs.TaskStarts.{block_word, current}
-use Rattle.task_chains.specs.SafeTasks.{IsInRoutine, IsTaskStore}
+use Rattle.task_chains.specs.TaskStarts.{block_word, current_task}
+use Rattle.task_chains.specs.SafeTasks.{IsTaskStore}
 use Rattle.task_chains.proofs.Alike.{seen_as, Alike}
 use Rattle.task_chains.proofs.FramesKept.{AreFirst, AreFirst-left, first_next, first_interrupt}
 use Rattle.task_chains.proofs.Invariant.{ViewOf, Turn, runs, switches, AllKept}
@@ -66,19 +67,19 @@ pub code_to : (image : ImageData) (plan : PlanData) (tasks : TasksData) (u p : �
 code_to image plan tasks u p shape size c = record { even = c.even; bytes = c.bytes; inst = c.inst; spells = record { spelled = c.spells.spelled; in_rom = c.spells.in_rom; held = c.spells.held }; shaped = c.shaped; sized = c.sized }
 
 -- an instruction that stays in its frame leaves the older frames as they are
-pub first_stays : (tasks : TasksData) (v : Machine) (e : Event) (f : Standing) (fs : List Standing) (shape : Shape) (size : ℕ) → is_taken v e ≡ false → fetched v ≡ Ok (shape, size) → way_by v e shape (step v e).pc ≡ to (step v e).pc → AreFirst tasks fs
+pub first_stays : (tasks : TasksData) (v : Machine) (e : Event) (f : Standing) (fs : List Standing) (shape : Shape) (size : ℕ) → is_taken v e ≡ false → fetched v ≡ Ok (shape, size) → edge_way_by_trap v e shape (step v e).pc ≡ to (step v e).pc → AreFirst tasks fs
     → AreFirst tasks (frames_left (frames_after v e (f ∷ fs)))
 first_stays tasks v e f fs shape size none at is first =
     let q = (step v e).pc in
-    let way : cond (is_taken v e) (irq q) (way_in v e (fetched v) q) ≡ to q = ap (λ t. cond t (irq q) (way_in v e (fetched v) q)) none ∙ ap (λ (r : Result (Shape × ℕ) Cause). way_in v e r q) at ∙ is in
-    subst (λ w. AreFirst tasks (frames_left (frames_by v.pc (moved v.pc (size_in (fetched v))) e.irq w (f ∷ fs)))) (sym way) first
+    let way : cond (is_taken v e) (irq q) (edge_way_in_fetch v e (fetched v) q) ≡ to q = ap (λ t. cond t (irq q) (edge_way_in_fetch v e (fetched v) q)) none ∙ ap (λ (r : Result (Shape × ℕ) Cause). edge_way_in_fetch v e r q) at ∙ is in
+    subst (λ w. AreFirst tasks (frames_left (frames_by v.pc (machine_address_ahead v.pc (fetched_size (fetched v))) e.irq w (f ∷ fs)))) (sym way) first
 
 disable_is : (m : Machine) (e : Event) → does m e Disable 4 ≡ record (advanced 4 m) { ie = false }
 unfolding does
 disable_is m e = refl
 
 module _ {image : ImageData} {plan : PlanData} {tasks : TasksData} {certs : ℕ → CertData} {needs : ℕ → ℕ} (wd : World image plan tasks certs needs) (m : Machine) {u : ℕ} {word_of : ℕ → ℕ} {chain_of : ℕ → List ℕ} (k : AllKept image plan tasks needs m u word_of chain_of)
-    (mem : Memory) (pcxi fcx : ℕ) (seen : List ℕ) (of : ViewOf image plan tasks u m.mem (seen_as m mem pcxi fcx)) (paused : Paused plan m.mem m.pcxi (chain_of u) seen m.lcx mem pcxi fcx) (here_now : current tasks m.mem ≡ u) (e : Event) (fits : Fits plan m e) where
+    (mem : Memory) (pcxi fcx : ℕ) (seen : List ℕ) (of : ViewOf image plan tasks u m.mem (seen_as m mem pcxi fcx)) (paused : Paused plan m.mem m.pcxi (chain_of u) seen m.lcx mem pcxi fcx) (here_now : current_task tasks m.mem ≡ u) (e : Event) (fits : Fits plan m e) where
   abbrev v : Machine
   v = seen_as m mem pcxi fcx
 
@@ -106,7 +107,7 @@ module _ {image : ImageData} {plan : PlanData} {tasks : TasksData} {certs : ℕ 
   -- the task is still the current one
   module _ (e2 : Event) (fits2 : Fits (view_plan_of plan tasks u) (seen_as m mem pcxi fcx) e2) (a : Alike plan (count tasks) u word_of chain_of (IsKept plan tasks) mem m (step m e) (step (seen_as m mem pcxi fcx) e2))
       (next : NextRun image plan tasks u (step (seen_as m mem pcxi fcx) e2) (frames_after (seen_as m mem pcxi fcx) e2 ((of.run).frame ∷ (of.run).behind))) where
-    still_now : current tasks (step m e).mem ≡ u
+    still_now : current_task tasks (step m e).mem ≡ u
     still_now = block_same tasks m.mem (step m e).mem (λ x low high. a.outside x (inr (low, high))) (count tasks) (omega arith) ∙ here_now
 
     others_blocks : (w : ℕ) → w < count tasks → w ≢ u → block_word tasks (step m e).mem w ≡ block_word tasks m.mem w
@@ -160,7 +161,7 @@ module _ {image : ImageData} {plan : PlanData} {tasks : TasksData} {certs : ℕ 
   store_is (Store src base offset width after) size h =
       λ none.
       let same = address-same m mem pcxi fcx e e base offset after in
-      let range : IsStoreInRange plan2 (access_address m base offset after, width) = subst (λ y. IsStoreInRange plan2 (y, width)) same (h.store_at (ap (λ y. traps_at e y width) same ∙ none)) in
+      let range : IsStoreInRange plan2 (access_address m base offset after, width) = subst (λ y. IsStoreInRange plan2 (y, width)) same (h.store_at (ap (λ y. is_trapping_access e y width) same ∙ none)) in
       let some : 0 < width = size_some width (IsCode-bounded view plan2 m.pc (Store src base offset width after) size h.code).3 in (
         (view_store wd.ok tasks wd.are wd.fit u (access_address m base offset after) width some range).0,
         view_store_gone wd.ok tasks wd.are wd.fit u mem of.memory (access_address m base offset after) width (reg m src) some range,
@@ -196,7 +197,7 @@ module _ {image : ImageData} {plan : PlanData} {tasks : TasksData} {certs : ℕ 
     -- the first instruction of the routine disables interrupts
     goes_in : m.pc ≡ tasks.switch → p.shape ≡ Disable → p.size ≡ 4 → Goes image plan tasks needs (step m e)
     goes_in start is long =
-        let first = first_stays tasks v e2 (of.run).frame (of.run).behind p.shape p.size none there (ap (λ (s : Shape). way_by v e2 s (step v e2).pc) is) (of.run).first in
+        let first = first_stays tasks v e2 (of.run).frame (of.run).behind p.shape p.size none there (ap (λ (s : Shape). edge_way_by_trap v e2 s (step v e2).pc) is) (of.run).first in
         let at_4 : fetched m ≡ Ok (Disable, 4) = here ∙ (λ i. Ok (is i, long i)) in
         let next_is : step m e ≡ with_event (record (advanced 4 m) { ie = false }) e =
         step_does m e Disable 4 k.running none at_4 (ap (λ (x : Machine). x.end) (disable_is m e) ∙ k.running) ∙ ap (λ (x : Machine). with_event x e) (disable_is m e)
@@ -226,7 +227,7 @@ module _ {image : ImageData} {plan : PlanData} {tasks : TasksData} {certs : ℕ 
     -- the second saves the lower context
     goes_saved : m.pc ≡ tasks.switch + 4 * 1 → m.ie ≡ false → p.shape ≡ Svlcx → p.size ≡ 4 → Goes image plan tasks needs (step m e)
     goes_saved here_1 off is long =
-        let first = first_stays tasks v e2 (of.run).frame (of.run).behind p.shape p.size none there (ap (λ (s : Shape). way_by v e2 s (step v e2).pc) is) (of.run).first in
+        let first = first_stays tasks v e2 (of.run).frame (of.run).behind p.shape p.size none there (ap (λ (s : Shape). edge_way_by_trap v e2 s (step v e2).pc) is) (of.run).first in
         let at_4 : fetched m ≡ Ok (Svlcx, 4) = here ∙ (λ i. Ok (is i, long i)) in
         let after_runs : (step m e).end ≡ Running = sym (ap (λ (x : Machine). x.end) alike.is) ∙ runs_too wd m k mem pcxi fcx seen of paused e e2 fits2 in
         let does_runs : (does m e Svlcx 4).end ≡ Running = sym (ap (λ (x : Machine). x.end) (done-is m e Svlcx 4 none at_4)) ∙ done_runs m e k.running after_runs in
@@ -239,7 +240,7 @@ module _ {image : ImageData} {plan : PlanData} {tasks : TasksData} {certs : ℕ 
         to_turn e2 fits2 alike next
         (switches (alike.view) (alike.view_pcxi) (alike.view_fcx) (alike.seen) 2 (omega arith) (omega arith) (of2 e2 fits2 alike next) (paused2 e2 fits2 alike next)
         (record {
-          pc = ap (λ (x : Machine). x.pc) next_is ∙ ap (λ x. moved x 4) place.0 ∙ (let f : (m.pc + 4) % 2 ^ 32 ≡ tasks.switch + 4 * 2 = omega arith in f);
+          pc = ap (λ (x : Machine). x.pc) next_is ∙ ap (λ x. machine_address_ahead x 4) place.0 ∙ (let f : (m.pc + 4) % 2 ^ 32 ≡ tasks.switch + 4 * 2 = omega arith in f);
           off = ap (λ (x : Machine). x.ie) next_is ∙ place.1 ∙ off;
           high = λ a. absurd (omega arith);
           block = λ a. absurd (omega arith);
@@ -312,10 +313,10 @@ module _ {image : ImageData} {plan : PlanData} {tasks : TasksData} {certs : ℕ 
       let x = access_address m base offset after in
       let same = address-same m mem pcxi fcx e e base offset after in
       let some : 0 < width = size_some width (IsCode-bounded view plan2 m.pc (Store src base offset width after) size h.code).3 in
-      elim (cases_Bool (traps_at e x width)) [
+      elim (cases_Bool (is_trapping_access e x width)) [
         | inl trapped ↦ subst (λ t. IfSome (cond t None (Some (x, width))) (IsTaskStore plan tasks m.pc)) (sym trapped) tt
         | inr none ↦
-            let range : IsStoreInRange plan2 (x, width) = subst (λ y. IsStoreInRange plan2 (y, width)) same (h.store_at (ap (λ y. traps_at e y width) same ∙ none)) in
+            let range : IsStoreInRange plan2 (x, width) = subst (λ y. IsStoreInRange plan2 (y, width)) same (h.store_at (ap (λ y. is_trapping_access e y width) same ∙ none)) in
             let s = view_store wd.ok tasks wd.are wd.fit u x width some range in
             subst (λ t. IfSome (cond t None (Some (x, width))) (IsTaskStore plan tasks m.pc)) (sym none) (s.0, λ out. s.1)
       ]

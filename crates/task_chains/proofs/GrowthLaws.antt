@@ -11,7 +11,7 @@ use Rattle.value_domain.specs.declared.states.State.{State}
 use Rattle.value_domain.specs.Limits.{Limits}
 use Rattle.value_domain.specs.State.{Covers}
 use Rattle.vd_transfer.specs.EffectsOnStates.{address_of}
-use Rattle.vd_transfer.specs.Soundness.{IsSetting}
+use Rattle.vd_transfer.specs.Soundness.{IsSoundSetting}
 use Rattle.depth_cert.specs.declared.keys.Key.{Key}
 use Rattle.depth_cert.specs.declared.points.Point.{Point}
 use Rattle.depth_cert.specs.Nodes.{NodeData}
@@ -28,7 +28,7 @@ use Rattle.cfg_recover.proofs.AccessGrowth.{access_grows}
 use Rattle.cfg_recover.proofs.KnownPlaces.{above, limits_same, setting}
 
 -- ---- a load from a smaller state
-module _ (b : Limits) (p : PlanData) (s t : State) (low : IsSetting b p s) (high : IsSetting b p t) (c : Covers t s) where
+module _ (b : Limits) (p : PlanData) (s t : State) (low : IsSoundSetting b p s) (high : IsSoundSetting b p t) (c : Covers t s) where
   -- if a load misses the areas and the routine from a state, it does from each smaller one
   loads_shrink : (tasks : TasksData) (shape : Shape) → IsShape shape → LoadsElsewhere b p tasks t shape → LoadsElsewhere b p tasks s shape
   unfolding address_of
@@ -47,7 +47,7 @@ module _ (view : ImageData) (plan : PlanData) (tasks : TasksData) (lower upper :
       → HoldsApart view plan tasks upper other z → HoldsApart view plan tasks lower node q
   holds_below node other q z has stands up_has up_stands key at covers holds shape n code =
       let is = IsCode-bounded view plan q.addr shape n code in
-      let high = subst (λ (b : Limits). IsSetting b plan z.state) (limits_same plan lower upper same) (setting view plan upper ok up_cert up_ok other z up_has up_stands) in
+      let high = subst (λ (b : Limits). IsSoundSetting b plan z.state) (limits_same plan lower upper same) (setting view plan upper ok up_cert up_ok other z up_has up_stands) in
       let there = holds shape n (subst (λ x. IsCode view plan x shape n) (sym at) code) in
       let limited = subst (λ (b : Limits). StaysApart b plan tasks other.key z.addr z.state shape) (limits_same plan lower upper same) there in
       let moved = subst (λ x. StaysApart (limits_in plan lower) plan tasks other.key x z.state shape) at limited in

@@ -10,17 +10,17 @@ use Rattle.csa_chain.specs.ContextWords.{pcxi_word_of, ul_of}
 use Rattle.tcd_base.specs.declared.range.Range.{Range}
 use Rattle.tcd_base.specs.declared.core_version.Core.{Core}
 use Rattle.tcd_base.specs.declared.core_version.Core.TheVariants.{V13, V16}
-use Rattle.tcd_base.specs.Ranges.{IsInOne}
+use Rattle.tcd_base.specs.Ranges.{IsInOneRange}
 use Rattle.tcd_plan.specs.declared.plans.Device.{Device}
-use Rattle.tcd_plan.specs.PlanData.{ranges_apart, all_apart, areas_range}
+use Rattle.tcd_plan.specs.PlanData.{are_ranges_apart, are_all_ranges_apart, areas_range}
 use Rattle.tcd_plan.proofs.ApartLaws.{all_apart-behind}
 use Rattle.tc_machine.specs.PlanAreas.{first_link, link_or_end}
-use Rattle.tc_machine.specs.Machine.{is_of}
+use Rattle.tc_machine.specs.Machine.{is_interrupt_stack_used}
 use Rattle.tc_machine.proofs.PlanLaws.{link_lt}
 use Rattle.task_chains.specs.declared.task_lists.Task.{Task}
-use Rattle.tcd_plan.specs.Cutting.{without, ranges_without}
+use Rattle.tcd_plan.specs.Cutting.{cut_range_parts, cut_plan_ranges}
 use Rattle.tcd_plan.proofs.CutLaws.{two_left, one_left}
-use Rattle.task_chains.specs.TaskStarts.{upper_area, lower_area, held_at_start, IsReady}
+use Rattle.task_chains.specs.TaskStarts.{task_upper_area, task_lower_area, held_at_start, IsReady}
 use Rattle.task_chains.specs.TaskGuardLaws.{EveryTaskIsReady, EveryPlanFits, EveryTasksStart}
 use Rattle.task_chains.proofs.DeviceLaws.{length-devices}
 
@@ -39,10 +39,10 @@ bare_word : (core : Core) (link : ℕ) → link ≡ pcxi_word_of core 0 false fa
 bare_word V13 link = omega arith
 bare_word V16 link = omega arith
 
-not_is : (psw : ℕ) → psw / 2 ^ 9 % 8 ≡ 4 → is_of psw ≡ false
-not_is psw e = by_test (is_of psw) refl
+not_is : (psw : ℕ) → psw / 2 ^ 9 % 8 ≡ 4 → is_interrupt_stack_used psw ≡ false
+not_is psw e = by_test (is_interrupt_stack_used psw) refl
   where
-    by_test : (t : Bool) → is_of psw ≡ t → t ≡ false
+    by_test : (t : Bool) → is_interrupt_stack_used psw ≡ t → t ≡ false
     by_test false h = refl
     by_test true h = absurd (let one = eqb-true (psw / 2 ^ 9 % 2) 1 h in omega arith)
 
@@ -50,17 +50,17 @@ pub every_ready : EveryTaskIsReady
 every_ready core plan switch block list mem i t there ends psw sp link first second entry word =
     let same : 2 * (i + 1 - 1) ≡ 2 * i = omega arith in
     let is = task_is list (i + 1) t (record { entry = 0; sp = 0 }) there in
-    let up : upper_area plan (i + 1) ≡ first_link plan + 2 * i = ap (λ k. first_link plan + k) same in
-    let down : lower_area plan (i + 1) ≡ first_link plan + (2 * i + 1) = ap (λ k. first_link plan + (k + 1)) same in
+    let up : task_upper_area plan (i + 1) ≡ first_link plan + 2 * i = ap (λ k. first_link plan + k) same in
+    let down : task_lower_area plan (i + 1) ≡ first_link plan + (2 * i + 1) = ap (λ k. first_link plan + (k + 1)) same in
     record {
       ends = ap (λ l. area_word mem l 0) up ∙ ends;
       io = ap (λ l. area_word mem l 1 / 2 ^ 10 % 4) up ∙ (omega arith);
-      is = ap (λ l. is_of (area_word mem l 1)) up ∙ not_is _ psw;
+      is = ap (λ l. is_interrupt_stack_used (area_word mem l 1)) up ∙ not_is _ psw;
       sp = ap (λ l. area_word mem l 2) up ∙ sp ∙ ap (λ (x : Task). x.sp) (sym is);
       above = ap (λ l. link_in (area_word mem l 0)) down ∙ link ∙ sym up;
       ul = ap (λ l. ul_of core (area_word mem l 0)) down ∙ ul_is core _ first second;
       entry = ap (λ l. area_word mem l 1) down ∙ entry ∙ ap (λ (x : Task). x.entry) (sym is);
-      word = word ∙ sym down ∙ bare_word core (lower_area plan (i + 1));
+      word = word ∙ sym down ∙ bare_word core (task_lower_area plan (i + 1));
     }
 
 -- ---- what fits a plan
@@ -69,58 +69,58 @@ or_cases true b e = inl refl
 or_cases false b e = inr e
 
 -- ranges before others
-apart_front : (rs ss : List Range) → all_apart (rs ++ ss) ≡ true → all_apart rs ≡ true
+apart_front : (rs ss : List Range) → are_all_ranges_apart (rs ++ ss) ≡ true → are_all_ranges_apart rs ≡ true
 apart_front [] ss e = refl
 apart_front (r ∷ rs) ss e =
     let parts = and_parts _ _ e in
-    let each = and_parts (list_all (ranges_apart r) rs) (list_all (ranges_apart r) ss) (sym (list_all-append (ranges_apart r) rs ss) ∙ parts.0) in
+    let each = and_parts (list_all (are_ranges_apart r) rs) (list_all (are_ranges_apart r) ss) (sym (list_all-append (are_ranges_apart r) rs ss) ∙ parts.0) in
     and_from _ _ each.0 (apart_front rs ss parts.1)
 
 module _ (x n : ℕ) where
   -- ranges that share no byte with a range that has the bytes are below them or above
-  away_front : (r s : Range) → r.at ≤ x → x + n ≤ r.at + r.len → ranges_apart r s ≡ true → (s.at + s.len ≤ x) ⊎ (x + n ≤ s.at)
+  away_front : (r s : Range) → r.at ≤ x → x + n ≤ r.at + r.len → are_ranges_apart r s ≡ true → (s.at + s.len ≤ x) ⊎ (x + n ≤ s.at)
   away_front r s low high apart = elim (or_cases (nat_le (r.at + r.len) s.at) (nat_le (s.at + s.len) r.at) apart) [
     | inl above ↦ inr (let le = leb-true (r.at + r.len) s.at above in omega arith)
     | inr below ↦ inl (let le = leb-true (s.at + s.len) r.at below in omega arith)
   ]
 
-  away_behind : (r s : Range) → r.at ≤ x → x + n ≤ r.at + r.len → ranges_apart s r ≡ true → (s.at + s.len ≤ x) ⊎ (x + n ≤ s.at)
+  away_behind : (r s : Range) → r.at ≤ x → x + n ≤ r.at + r.len → are_ranges_apart s r ≡ true → (s.at + s.len ≤ x) ⊎ (x + n ≤ s.at)
   away_behind r s low high apart = elim (or_cases (nat_le (s.at + s.len) r.at) (nat_le (r.at + r.len) s.at) apart) [
     | inl below ↦ inl (let le = leb-true (s.at + s.len) r.at below in omega arith)
     | inr above ↦ inr (let le = leb-true (r.at + r.len) s.at above in omega arith)
   ]
 
   -- the number of parts that are left of one range and of others
-  left_step : (s : Range) (rs : List Range) → length (ranges_without x n (s ∷ rs)) ≡ length (without x n s) + length (ranges_without x n rs)
-  left_step s rs = length-append (without x n s) (ranges_without x n rs)
+  left_step : (s : Range) (rs : List Range) → length (cut_plan_ranges x n (s ∷ rs)) ≡ length (cut_range_parts x n s) + length (cut_plan_ranges x n rs)
+  left_step s rs = length-append (cut_range_parts x n s) (cut_plan_ranges x n rs)
 
-  others_left : (r : Range) (rs : List Range) → r.at ≤ x → x + n ≤ r.at + r.len → list_all (ranges_apart r) rs ≡ true → length (ranges_without x n rs) ≤ length rs
+  others_left : (r : Range) (rs : List Range) → r.at ≤ x → x + n ≤ r.at + r.len → list_all (are_ranges_apart r) rs ≡ true → length (cut_plan_ranges x n rs) ≤ length rs
   others_left r [] low high apart = omega arith
   others_left r (s ∷ rs) low high apart =
-      let parts = and_parts (ranges_apart r s) (list_all (ranges_apart r) rs) apart in
+      let parts = and_parts (are_ranges_apart r s) (list_all (are_ranges_apart r) rs) apart in
       let one = one_left x n s (away_front r s low high parts.0) in
       let rest = others_left r rs low high parts.1 in
       omega (arith, left_step s rs)
 
-  in_list : (s r : Range) (rs : List Range) (k : ℕ) → k < length rs → get_or rs k r ≡ r → list_all (ranges_apart s) rs ≡ true → ranges_apart s r ≡ true
+  in_list : (s r : Range) (rs : List Range) (k : ℕ) → k < length rs → get_or rs k r ≡ r → list_all (are_ranges_apart s) rs ≡ true → are_ranges_apart s r ≡ true
   in_list s r [] k lt at all = absurd (omega arith)
-  in_list s r (z ∷ zs) zero lt at all = ap (ranges_apart s) (sym at) ∙ (and_parts (ranges_apart s z) (list_all (ranges_apart s) zs) all).0
-  in_list s r (z ∷ zs) (suc k) lt at all = in_list s r zs k (omega arith) at (and_parts (ranges_apart s z) (list_all (ranges_apart s) zs) all).1
+  in_list s r (z ∷ zs) zero lt at all = ap (are_ranges_apart s) (sym at) ∙ (and_parts (are_ranges_apart s z) (list_all (are_ranges_apart s) zs) all).0
+  in_list s r (z ∷ zs) (suc k) lt at all = in_list s r zs k (omega arith) at (and_parts (are_ranges_apart s z) (list_all (are_ranges_apart s) zs) all).1
 
-  left_all : (rs : List Range) (r : Range) (k : ℕ) → r.at ≤ x → x + n ≤ r.at + r.len → k < length rs → get_or rs k r ≡ r → all_apart rs ≡ true → length (ranges_without x n rs) ≤ length rs + 1
+  left_all : (rs : List Range) (r : Range) (k : ℕ) → r.at ≤ x → x + n ≤ r.at + r.len → k < length rs → get_or rs k r ≡ r → are_all_ranges_apart rs ≡ true → length (cut_plan_ranges x n rs) ≤ length rs + 1
   left_all [] r k low high lt at apart = absurd (omega arith)
   left_all (s ∷ rs) r zero low high lt at apart =
-      let parts = and_parts (list_all (ranges_apart s) rs) (all_apart rs) apart in
+      let parts = and_parts (list_all (are_ranges_apart s) rs) (are_all_ranges_apart rs) apart in
       let two = two_left x n s in
       let rest = others_left s rs (subst (λ (z : Range). z.at ≤ x) (sym at) low) (subst (λ (z : Range). x + n ≤ z.at + z.len) (sym at) high) parts.0 in
       omega (arith, left_step s rs)
   left_all (s ∷ rs) r (suc k) low high lt at apart =
-      let parts = and_parts (list_all (ranges_apart s) rs) (all_apart rs) apart in
+      let parts = and_parts (list_all (are_ranges_apart s) rs) (are_all_ranges_apart rs) apart in
       let one = one_left x n s (away_behind r s low high (in_list s r rs k (omega arith) at parts.0)) in
       let rest = left_all rs r k low high (omega arith) at parts.1 in
       omega (arith, left_step s rs)
 
-  in_one_of : (rs : List Range) (r : Range) (k : ℕ) → r.at ≤ x → x + n ≤ r.at + r.len → k < length rs → get_or rs k r ≡ r → IsInOne x n rs
+  in_one_of : (rs : List Range) (r : Range) (k : ℕ) → r.at ≤ x → x + n ≤ r.at + r.len → k < length rs → get_or rs k r ≡ r → IsInOneRange x n rs
   in_one_of [] r k low high lt at = absurd (omega arith)
   in_one_of (s ∷ rs) r zero low high lt at = inl (subst (λ (z : Range). z.at ≤ x) (sym at) low, subst (λ (z : Range). x + n ≤ z.at + z.len) (sym at) high)
   in_one_of (s ∷ rs) r (suc k) low high lt at = inr (in_one_of rs r k low high (omega arith) at)
@@ -129,10 +129,10 @@ pub every_fit : EveryPlanFits
 every_fit plan switch block list r ok has low high few own =
     let n = 4 * length list + 4 in
     let rest = map (λ (d : Device). d.range) plan.devices ++ areas_range plan ∷ [] in
-    let all : all_apart (plan.rom ++ (plan.ram ++ rest)) ≡ true = subst (λ l. all_apart l ≡ true) (append_assoc (plan.rom ++ plan.ram) (map (λ (d : Device). d.range) plan.devices) (areas_range plan ∷ []) ∙ append_assoc plan.rom plan.ram rest) ok.apart in
+    let all : are_all_ranges_apart (plan.rom ++ (plan.ram ++ rest)) ≡ true = subst (λ l. are_all_ranges_apart l ≡ true) (append_assoc (plan.rom ++ plan.ram) (map (λ (d : Device). d.range) plan.devices) (areas_range plan ∷ []) ∙ append_assoc plan.rom plan.ram rest) ok.apart in
     let apart = apart_front plan.ram rest (all_apart-behind plan.rom (plan.ram ++ rest) all) in
     let left = left_all block n plan.ram r has.0 low high has.1 has.2 apart in
-    record { in_ram = in_one_of block n plan.ram r has.0 low high has.1 has.2; room = omega (arith, length-devices plan.devices (ranges_without block n plan.ram)); own_stack = own }
+    record { in_ram = in_one_of block n plan.ram r has.0 low high has.1 has.2; room = omega (arith, length-devices plan.devices (cut_plan_ranges block n plan.ram)); own_stack = own }
 
 -- ---- start states
 pub every_tasks_start : EveryTasksStart

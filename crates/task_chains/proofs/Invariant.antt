@@ -8,15 +8,15 @@ use Rattle.elf_image.specs.Images.{ImageData}
 use Rattle.tcd_plan.specs.PlanData.{PlanData}
 use Rattle.tc_machine.specs.declared.events.End.TheVariants.{Running}
 use Rattle.tc_machine.specs.declared.state.Machine.{Machine}
-use Rattle.tc_machine.specs.Machine.{reg, a11, is_of}
-use Rattle.tc_machine.specs.Safe.{IsMachine, HasGlobals}
+use Rattle.tc_machine.specs.Machine.{reg, a11, is_interrupt_stack_used, IsMachine}
+use Rattle.tc_machine.specs.Safe.{HasGlobals}
 use Rattle.tc_mem.specs.PlanMemory.{HoldsRom, IsPlanMemory}
 use Rattle.tc_machine.specs.PlanAreas.{first_link}
 use Rattle.task_chains.specs.Tasks.{TasksData, count, task_at}
 use Rattle.tc_isa.specs.NamedInstructions.{upper_half}
 use Rattle.task_chains.specs.Views.{view_image_of, view_plan_of}
-use Rattle.task_chains.specs.TaskStarts.{block_word, current, upper_area, lower_area, IsReady}
-use Rattle.task_chains.specs.SafeTasks.{IsInRoutine}
+use Rattle.task_chains.specs.TaskStarts.{block_word, current_task, task_upper_area, task_lower_area, IsReady}
+use Rattle.task_chains.specs.SwitchRoutine.{IsInRoutine}
 use Rattle.task_chains.proofs.Alike.{seen_as}
 use Rattle.task_chains.proofs.Switch.{Paused, Shared, Beside, SameLower}
 use Rattle.task_chains.proofs.ViewStart.{SameRom}
@@ -38,7 +38,7 @@ pub record ViewOf (image : ImageData) (plan : PlanData) (tasks : TasksData) (u :
 -- A task that waits, with the links of its chain: it is ready for its first turn, or its view is at
 -- the instruction that it has instead of the one that gives PCXI to the next task.
 pub data Waits (image : ImageData) (plan : PlanData) (tasks : TasksData) (u : ℕ) (m : Machine) (word : ℕ) (links : List ℕ) : Type 0 where
-  ready : 1 ≤ u → IsReady m.core plan tasks m.mem u → links ≡ lower_area plan u ∷ upper_area plan u ∷ [] → Waits image plan tasks u m word links
+  ready : 1 ≤ u → IsReady m.core plan tasks m.mem u → links ≡ task_lower_area plan u ∷ task_upper_area plan u ∷ [] → Waits image plan tasks u m word links
   paused :
       (v : Machine) (seen : List ℕ) → ViewOf image plan tasks u m.mem v → v.pc ≡ tasks.switch + 56 → v.ie ≡ false → v.ccpn ≡ plan.start_ccpn
       → Paused plan m.mem word links seen m.lcx v.mem v.pcxi v.fcx → Waits image plan tasks u m word links
@@ -57,8 +57,8 @@ pub record InRoutine (tasks : TasksData) (m : Machine) (u i : ℕ) (word_of : �
   pub one_on : 9 ≤ i → i ≤ 10 → reg m 0 ≡ suc u
   pub at_end : i ≡ 10 → suc u ≡ count tasks
   pub next : 11 ≤ i → reg m 0 ≡ after (count tasks) u
-  pub old_current : i ≤ 11 → current tasks m.mem ≡ u
-  pub new_current : 12 ≤ i → current tasks m.mem ≡ after (count tasks) u
+  pub old_current : i ≤ 11 → current_task tasks m.mem ≡ u
+  pub new_current : 12 ≤ i → current_task tasks m.mem ≡ after (count tasks) u
   pub next_word : i ≡ 13 → reg m 19 ≡ tasks.block + 4 * after (count tasks) u
   pub next_pcxi : i ≡ 14 → reg m 1 ≡ word_of (after (count tasks) u)
 
@@ -69,19 +69,19 @@ pub record InRoutine (tasks : TasksData) (m : Machine) (u i : ℕ) (word_of : �
 pub data Turn (image : ImageData) (plan : PlanData) (tasks : TasksData) (u : ℕ) (word_of : ℕ → ℕ) (chain_of : ℕ → List ℕ) (m : Machine) : Type 0 where
   runs :
       (view : Memory) (pcxi fcx : ℕ) (seen : List ℕ) → ViewOf image plan tasks u m.mem (seen_as m view pcxi fcx) → Paused plan m.mem m.pcxi (chain_of u) seen m.lcx view pcxi fcx
-      → current tasks m.mem ≡ u → (IsInRoutine tasks m.pc → m.pc ≡ tasks.switch) → Turn image plan tasks u word_of chain_of m
+      → current_task tasks m.mem ≡ u → (IsInRoutine tasks m.pc → m.pc ≡ tasks.switch) → Turn image plan tasks u word_of chain_of m
   switches :
       (view : Memory) (pcxi fcx : ℕ) (seen : List ℕ) (i : ℕ) → 1 ≤ i → i ≤ 14 → ViewOf image plan tasks u m.mem (seen_as m view pcxi fcx) → Paused plan m.mem m.pcxi (chain_of u) seen m.lcx view pcxi fcx
       → InRoutine tasks m u i word_of → Turn image plan tasks u word_of chain_of m
   comes_back :
       (v : Machine) (seen : List ℕ) (i : ℕ) → 15 ≤ i → i ≤ 17 → m.pc ≡ tasks.switch + 4 * i → m.ie ≡ false → ViewOf image plan tasks u m.mem v → Beside m v → (i ≡ 17 → SameLower m v)
-      → Paused plan m.mem m.pcxi (chain_of u) seen m.lcx v.mem v.pcxi v.fcx → current tasks m.mem ≡ u → Turn image plan tasks u word_of chain_of m
+      → Paused plan m.mem m.pcxi (chain_of u) seen m.lcx v.mem v.pcxi v.fcx → current_task tasks m.mem ≡ u → Turn image plan tasks u word_of chain_of m
   begins :
       (i : ℕ) → 15 ≤ i → i ≤ 17 → m.pc ≡ tasks.switch + 4 * i → m.ie ≡ false → m.ccpn ≡ plan.start_ccpn → 1 ≤ u
-      → (i ≤ 16 → IsReady m.core plan tasks m.mem u × (m.pcxi ≡ pcxi_word_of m.core 0 false false (lower_area plan u)) × (chain_of u ≡ lower_area plan u ∷ upper_area plan u ∷ []))
-      → (i ≡ 17 → (chain_of u ≡ upper_area plan u ∷ []) × (ul_of m.core m.pcxi ≡ true) × (a11 m ≡ (task_at tasks u).entry) × (area_word m.mem (upper_area plan u) 0 ≡ 0) × (area_word m.mem (upper_area plan u) 1 / 2 ^ 10 % 4 ≡ 2)
-      × (is_of (area_word m.mem (upper_area plan u) 1) ≡ false) × (area_word m.mem (upper_area plan u) 2 ≡ (task_at tasks u).sp))
-      → current tasks m.mem ≡ u → Turn image plan tasks u word_of chain_of m
+      → (i ≤ 16 → IsReady m.core plan tasks m.mem u × (m.pcxi ≡ pcxi_word_of m.core 0 false false (task_lower_area plan u)) × (chain_of u ≡ task_lower_area plan u ∷ task_upper_area plan u ∷ []))
+      → (i ≡ 17 → (chain_of u ≡ task_upper_area plan u ∷ []) × (ul_of m.core m.pcxi ≡ true) × (a11 m ≡ (task_at tasks u).entry) × (area_word m.mem (task_upper_area plan u) 0 ≡ 0) × (area_word m.mem (task_upper_area plan u) 1 / 2 ^ 10 % 4 ≡ 2)
+      × (is_interrupt_stack_used (area_word m.mem (task_upper_area plan u) 1) ≡ false) × (area_word m.mem (task_upper_area plan u) 2 ≡ (task_at tasks u).sp))
+      → current_task tasks m.mem ≡ u → Turn image plan tasks u word_of chain_of m
 
 -- ---- all
 -- The invariant, with the task that owns PCXI, the first words of the chains, and the chains.

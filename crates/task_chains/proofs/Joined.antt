@@ -6,10 +6,10 @@ use Rattle.std.specs.FinMap as finite
 use Rattle.csa_chain.specs.MemoryBytes.{Memory, is_mapped}
 use Rattle.csa_chain.proofs.ChainLaws.{SameAreas}
 use Rattle.csa_chain.proofs.MemoryLaws.{word_at_agrees}
-use Rattle.csa_chain.specs.SeveralChains.{sum_below}
+use Rattle.csa_chain.specs.SeveralChains.{sum_over_chains}
 use Rattle.csa_chain.proofs.SeveralLaws.{sum_below-at}
 use Rattle.elf_image.specs.Images.{ImageData}
-use Rattle.tcd_base.specs.Ranges.{IsInOne}
+use Rattle.tcd_base.specs.Ranges.{IsInOneRange}
 use Rattle.tcd_base.proofs.RangeLaws.{in_one, IsInOne-front, IsInOne-behind}
 use Rattle.tcd_plan.specs.PlanData.{PlanData, IsPlan, areas_range}
 use Rattle.tcd_plan.specs.Regions.{IsInAreas}
@@ -19,15 +19,16 @@ use Rattle.tc_machine.specs.declared.events.End.TheVariants.{Running}
 use Rattle.tc_machine.specs.declared.state.Machine.{Machine}
 use Rattle.tc_machine.specs.SavesAndRestores.{save, saved}
 use Rattle.tc_machine.specs.Stepping.{step}
-use Rattle.tc_machine.specs.Safe.{IsMachine, HasGlobals, Fits}
+use Rattle.tc_machine.specs.Safe.{HasGlobals, Fits}
+use Rattle.tc_machine.specs.Machine.{IsMachine}
 use Rattle.tc_machine.proofs.Stays.{stays_step, irq_lt}
 use Rattle.depth_cert.specs.Certs.{CertData}
 use Rattle.cfg_recover.specs.RulesHoldOrFail.{certified_need}
-use Rattle.task_chains.specs.Tasks.{TasksData, AreTasks, count, block_size, routine_size}
-use Rattle.task_chains.specs.SwitchRoutine.{HasRoutine}
+use Rattle.task_chains.specs.Tasks.{TasksData, AreTasks, count, block_size}
+use Rattle.task_chains.specs.SwitchRoutine.{routine_size, HasRoutine, IsInRoutine}
 use Rattle.task_chains.specs.Views.{view_image_of, view_plan_of, FitPlan}
 use Rattle.task_chains.specs.TaskStarts.{block_word}
-use Rattle.task_chains.specs.SafeTasks.{IsInRoutine, IsJudged}
+use Rattle.task_chains.specs.SafeTasks.{IsJudged}
 use Rattle.task_chains.proofs.Alike.{seen_as, Alike}
 use Rattle.task_chains.proofs.Fitting.{fitting}
 use Rattle.task_chains.proofs.Invariant.{ViewOf, Waits, Turn, AllKept}
@@ -49,7 +50,7 @@ pub record World (image : ImageData) (plan : PlanData) (tasks : TasksData) (cert
   pub judged : (w : ℕ) → w < count tasks → IsJudged image plan tasks (certs w) w
   pub enough : (w : ℕ) → w < count tasks → certified_need (view_image_of image tasks w) (view_plan_of plan tasks w) (certs w) ≤ needs w
   pub two : (w : ℕ) → 1 ≤ w → w < count tasks → 2 ≤ needs w
-  pub sum : sum_below (count tasks) needs ≤ plan.areas - plan.reserve
+  pub sum : sum_over_chains (count tasks) needs ≤ plan.areas - plan.reserve
 
 pub in_or_out : (tasks : TasksData) (x : ℕ) → IsInRoutine tasks x ⊎ (IsInRoutine tasks x → ⊥)
 in_or_out tasks x =
@@ -65,10 +66,10 @@ block_same tasks m n same j le = word_at_agrees m n (tasks.block + 4 * j) (λ i 
 
 module _ {plan : PlanData} (ok : IsPlan plan) {tasks : TasksData} (fit : FitPlan plan tasks) where
   -- the block is in ram
-  pub block_in_ram : (x : ℕ) → tasks.block ≤ x → x < tasks.block + block_size tasks → IsInOne x 1 plan.ram
-  block_in_ram x low high = subst (λ y. IsInOne y 1 plan.ram) (let e : tasks.block + (x - tasks.block) ≡ x = omega arith in e) (in_one tasks.block (block_size tasks) (x - tasks.block) plan.ram (omega arith) fit.in_ram)
+  pub block_in_ram : (x : ℕ) → tasks.block ≤ x → x < tasks.block + block_size tasks → IsInOneRange x 1 plan.ram
+  block_in_ram x low high = subst (λ y. IsInOneRange y 1 plan.ram) (let e : tasks.block + (x - tasks.block) ≡ x = omega arith in e) (in_one tasks.block (block_size tasks) (x - tasks.block) plan.ram (omega arith) fit.in_ram)
 
-  pub ram_areas : (x : ℕ) → IsInOne x 1 plan.ram → IsInAreas plan x → ⊥
+  pub ram_areas : (x : ℕ) → IsInOneRange x 1 plan.ram → IsInAreas plan x → ⊥
   ram_areas x ram at =
       all_apart-before x (plan.rom ++ plan.ram ++ map (λ d. d.range) plan.devices) (areas_range plan ∷ []) ok.apart
       (IsInOne-front x 1 (plan.rom ++ plan.ram) (map (λ d. d.range) plan.devices) (IsInOne-behind x 1 plan.rom plan.ram ram)) (inl (at.0, (let lt = at.1 in omega arith)))
@@ -91,7 +92,7 @@ module _ {image : ImageData} {plan : PlanData} {tasks : TasksData} {certs : ℕ 
 
   -- ---- all of them, where one that owns PCXI went on
   pub all_from : (m m2 : Machine) {u : ℕ} {word_of : ℕ → ℕ} {chain_of : ℕ → List ℕ} → AllKept image plan tasks needs m u word_of chain_of → (words2 : ℕ → ℕ) (chains2 : ℕ → List ℕ) → Shared plan (count tasks) u words2 chains2 m2.mem m2.pcxi m2.fcx m2.lcx
-      → IsMachine m2 → m2.end ≡ Running → HasCore plan m2 → HasGlobals plan m2.a → ((x : ℕ) → is_mapped m2.mem x ≡ is_mapped m.mem x) → ((x : ℕ) → IsInOne x 1 plan.rom → finite.get m2.mem x ≡ finite.get m.mem x)
+      → IsMachine m2 → m2.end ≡ Running → HasCore plan m2 → HasGlobals plan m2.a → ((x : ℕ) → is_mapped m2.mem x ≡ is_mapped m.mem x) → ((x : ℕ) → IsInOneRange x 1 plan.rom → finite.get m2.mem x ≡ finite.get m.mem x)
       → ((w : ℕ) → w < count tasks → w ≢ u → (words2 w ≡ word_of w) × (chains2 w ≡ chain_of w) × SameAreas m.mem m2.mem (chain_of w))
       → ((w : ℕ) → w < count tasks → w ≢ u → block_word tasks m2.mem w ≡ block_word tasks m.mem w) → length (chains2 u) ≤ needs u → Turn image plan tasks u words2 chains2 m2
       → AllKept image plan tasks needs m2 u words2 chains2
@@ -159,13 +160,13 @@ module _ {image : ImageData} {plan : PlanData} {tasks : TasksData} {certs : ℕ 
       own_room = view_room wd.ok wd.are wd.fit own (certs u) (wd.judged u own) (view_few u own) v of.run k.running of.rom seen paused.view_free paused.view_links paused.view_areas e2 fits2
 
       pub room_for_all : (upper : Bool) → length seen < plan.areas - plan.reserve → (step (seen_as m mem pcxi fcx) e2).mem ≡ (saved (seen_as m mem pcxi fcx) upper).mem → (step (seen_as m mem pcxi fcx) e2).pcxi ≡ (saved (seen_as m mem pcxi fcx) upper).pcxi
-          → sum_below (count tasks) (λ w. length (chain_of w)) < plan.areas - plan.reserve
+          → sum_over_chains (count tasks) (λ w. length (chain_of w)) < plan.areas - plan.reserve
       room_for_all upper room mem_is pcxi_is =
           view_all_room wd.ok wd.are wd.fit own (certs u) (wd.judged u own) (view_few u own) v of.run k.running of.rom seen paused.view_free paused.view_links paused.view_areas e2 fits2 (count tasks) u chain_of needs own k.needs_kept
           (SameContexts-length m.mem mem m.pcxi pcxi (chain_of u) seen paused.same) (wd.enough u own) wd.sum upper room mem_is pcxi_is
 
       -- ---- and what is so afterwards
-      module _ (Kept : ℕ → Type 0) (rom_kept : (x : ℕ) → IsInOne x 1 plan.rom → Kept x) (a : Alike plan (count tasks) u word_of chain_of Kept mem m (step m e) (step (seen_as m mem pcxi fcx) e2)) (run2 : ViewRun image plan tasks u (step (seen_as m mem pcxi fcx) e2)) where
+      module _ (Kept : ℕ → Type 0) (rom_kept : (x : ℕ) → IsInOneRange x 1 plan.rom → Kept x) (a : Alike plan (count tasks) u word_of chain_of Kept mem m (step m e) (step (seen_as m mem pcxi fcx) e2)) (run2 : ViewRun image plan tasks u (step (seen_as m mem pcxi fcx) e2)) where
         abbrev m2 : Machine
         m2 = step m e
 

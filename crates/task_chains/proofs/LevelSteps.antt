@@ -12,7 +12,7 @@ use Rattle.tc_machine.specs.declared.events.Event.{Event}
 use Rattle.tc_machine.specs.declared.events.End.TheVariants.{Running}
 use Rattle.tc_machine.specs.declared.state.Machine.{Machine}
 use Rattle.tc_machine.specs.SavesAndRestores.{context_of, saved, save, released}
-use Rattle.tc_machine.specs.Safe.{IsMachine}
+use Rattle.tc_machine.specs.Machine.{IsMachine}
 use Rattle.tc_machine.proofs.Saves.{save-is, length-context_of}
 use Rattle.tc_machine.proofs.Areas.{Areas, HasFree, has_free, is_freed}
 use Rattle.depth_cert.specs.declared.keys.Key.{Key}

@@ -12,20 +12,19 @@ use Rattle.tc_machine.specs.declared.events.Event.{Event}
 use Rattle.tc_machine.specs.declared.events.Cause.{Cause}
 use Rattle.tc_machine.specs.declared.events.End.TheVariants.{Running}
 use Rattle.tc_machine.specs.declared.state.Machine.{Machine}
-use Rattle.tc_machine.specs.Machine.{reg, a11, moved, then_}
-use Rattle.tc_machine.specs.Instructions.{advanced, access_address, traps_at, at_handler, target_of, does, traps}
-use Rattle.tc_machine.specs.Stepping.{interrupt, is_taken, executed, done, step}
+use Rattle.tc_machine.specs.Machine.{reg, a11, machine_address_ahead, then_, IsMachine}
+use Rattle.tc_machine.specs.Instructions.{advanced, access_address, is_trapping_access, at_handler, target_of, does, traps}
+use Rattle.tc_machine.specs.Stepping.{interrupt, is_taken, executed, machine_after_event, step}
 use Rattle.tc_machine.specs.SavesAndRestores.{saved, save, has_kind, restored, restore}
-use Rattle.tc_machine.specs.Fetching.{fetched, size_in}
-use Rattle.tc_machine.specs.Safe.{IsMachine}
+use Rattle.tc_machine.specs.Fetching.{fetched, fetched_size}
 use Rattle.tc_machine.proofs.Saves.{then_-running, restore-is}
 use Rattle.tc_machine.proofs.Steps.{with_event, step-is, step_does, done-is, does-call, does-ret}
 use Rattle.tc_machine.proofs.Areas.{Areas}
-use Rattle.vd_transfer.specs.Holding.{WritesNoFixedRegister}
+use Rattle.vd_transfer.specs.Registers.{WritesNoFixedRegister}
 use Rattle.depth_cert.specs.declared.keys.Key.{Key}
 use Rattle.cfg_recover.specs.Entries.{call_key, handler_key}
 use Rattle.cfg_recover.specs.Frames.{Standing, frames_by, frames_after}
-use Rattle.cfg_recover.specs.StepEdges.{Way, irq, aln, way_of_shape, way_by, way_in}
+use Rattle.cfg_recover.specs.StepEdges.{EdgeWay, irq, aln, edge_way_of_shape, edge_way_by_trap, edge_way_in_fetch}
 use Rattle.cfg_recover.proofs.Points.{does-rfe, does-svlcx, does-rslcx, does-bisr, does-syscall, does-trapped}
 use Rattle.cfg_recover.proofs.Went.{changed}
 use Rattle.task_chains.specs.Rule17.{IsNoBisr}
@@ -43,7 +42,7 @@ EndsBy key _ = Unit {0}
 
 -- a store is to no mapped byte
 abbrev pub StoresNothing : Machine → Event → Shape → Type 0
-StoresNothing v e (Store src base offset size after) = traps_at e (access_address v base offset after) size ≡ false → with_bytes v.mem (access_address v base offset after) (reg v src) size ≡ v.mem
+StoresNothing v e (Store src base offset size after) = is_trapping_access e (access_address v base offset after) size ≡ false → with_bytes v.mem (access_address v base offset after) (reg v src) size ≡ v.mem
 StoresNothing v e _ = Unit {0}
 
 dead_runs : (s : Machine) (next : Machine → Machine) → (then_ s next).end ≡ Running → s.end ≡ Running
@@ -71,12 +70,12 @@ module _ {plan : PlanData} (ok : IsPlan plan) (level : ℕ) (v : Machine) (words
   pub level_interrupt : is_taken v e ≡ true → Next
   level_interrupt taken =
       let next : Machine → Machine = λ s. record (at_handler v s v.pc (bit_or v.biv (e.irq * 2 ^ 5))) { ccpn = e.irq } in
-      let done_is : done v e ≡ then_ (save v true) next = ap (λ t. cond t (interrupt v e.irq) (executed v e (fetched v))) taken in
+      let done_is : machine_after_event v e ≡ then_ (save v true) next = ap (λ t. cond t (interrupt v e.irq) (executed v e (fetched v))) taken in
       let runs2 : (then_ (save v true) next).end ≡ Running = sym (ap (λ (x : Machine). x.end) done_is) ∙ done_runs v e running runs in
-      let is : done v e ≡ next (saved v true) = done_is ∙ ap (λ s. then_ s next) (saves_on true next runs2) ∙ then_-running (saved v true) next running in
+      let is : machine_after_event v e ≡ next (saved v true) = done_is ∙ ap (λ s. then_ s next) (saves_on true next runs2) ∙ then_-running (saved v true) next running in
       let step_is : step v e ≡ with_event (next (saved v true)) e = step-is v e running (ap (λ (x : Machine). x.end) is ∙ running) ∙ ap (λ (x : Machine). with_event x e) is in
       let keys_are : keys_of (frames_after v e (f ∷ fs)) ≡ handler_key 2 (step v e).pc e.irq ∷ keys_of (f ∷ fs) =
-      ap (λ t. keys_of (frames_by v.pc (moved v.pc (size_in (fetched v))) e.irq (cond t (irq (step v e).pc) (way_in v e (fetched v) (step v e).pc)) (f ∷ fs))) taken
+      ap (λ t. keys_of (frames_by v.pc (machine_address_ahead v.pc (fetched_size (fetched v))) e.irq (cond t (irq (step v e).pc) (edge_way_in_fetch v e (fetched v) (step v e).pc)) (f ∷ fs))) taken
       in
       subst (λ (x : Machine). Leveled level x (frames_after v e (f ∷ fs))) (sym step_is)
       (leveled_upper ok level v words running f fs l free areas e (room_on true next runs2) (with_event (next (saved v true)) e) (frames_after v e (f ∷ fs)) (handler_key 2 (step v e).pc e.irq) refl refl refl keys_are
@@ -84,13 +83,13 @@ module _ {plan : PlanData} (ok : IsPlan plan) (level : ℕ) (v : Machine) (words
 
   -- ---- an instruction
   module _ (shape : Shape) (size : ℕ) (none : is_taken v e ≡ false) (at : fetched v ≡ Ok (shape, size)) where
-    abbrev way : Way
-    way = way_by v e shape (step v e).pc
+    abbrev way : EdgeWay
+    way = edge_way_by_trap v e shape (step v e).pc
 
-    keys_are : keys_of (frames_after v e (f ∷ fs)) ≡ keys_of (frames_by v.pc (moved v.pc (size_in (fetched v))) e.irq way (f ∷ fs))
+    keys_are : keys_of (frames_after v e (f ∷ fs)) ≡ keys_of (frames_by v.pc (machine_address_ahead v.pc (fetched_size (fetched v))) e.irq way (f ∷ fs))
     keys_are =
-        ap (λ t. keys_of (frames_by v.pc (moved v.pc (size_in (fetched v))) e.irq (cond t (irq (step v e).pc) (way_in v e (fetched v) (step v e).pc)) (f ∷ fs))) none
-        ∙ ap (λ (r : Result (Shape × ℕ) Cause). keys_of (frames_by v.pc (moved v.pc (size_in (fetched v))) e.irq (way_in v e r (step v e).pc) (f ∷ fs))) at
+        ap (λ t. keys_of (frames_by v.pc (machine_address_ahead v.pc (fetched_size (fetched v))) e.irq (cond t (irq (step v e).pc) (edge_way_in_fetch v e (fetched v) (step v e).pc)) (f ∷ fs))) none
+        ∙ ap (λ (r : Result (Shape × ℕ) Cause). keys_of (frames_by v.pc (machine_address_ahead v.pc (fetched_size (fetched v))) e.irq (edge_way_in_fetch v e r (step v e).pc) (f ∷ fs))) at
 
     does_runs : (does v e shape size).end ≡ Running
     does_runs = sym (ap (λ (x : Machine). x.end) (done-is v e shape size none at)) ∙ done_runs v e running runs
@@ -102,7 +101,7 @@ module _ {plan : PlanData} (ok : IsPlan plan) (level : ℕ) (v : Machine) (words
     to_step x is h = subst (λ (y : Machine). Leveled level y (frames_after v e (f ∷ fs))) (sym (step_is x is)) h
 
     -- instructions that stay in their frame
-    plain_on : (mem : Memory) → mem ≡ v.mem → Plainly v v (does v e shape size) (does v e shape size) mem v.mem → keys_of (frames_by v.pc (moved v.pc (size_in (fetched v))) e.irq way (f ∷ fs)) ≡ keys_of (f ∷ fs) → Next
+    plain_on : (mem : Memory) → mem ≡ v.mem → Plainly v v (does v e shape size) (does v e shape size) mem v.mem → keys_of (frames_by v.pc (machine_address_ahead v.pc (fetched_size (fetched v))) e.irq way (f ∷ fs)) ≡ keys_of (f ∷ fs) → Next
     plain_on mem same p stay =
         to_step (changed v p.d p.a p.pc p.ie mem) p.is
         (leveled_plain ok level v words running f fs l free areas e (with_event (changed v p.d p.a p.pc p.ie mem) e) (frames_after v e (f ∷ fs))
@@ -133,28 +132,28 @@ module _ {plan : PlanData} (ok : IsPlan plan) (level : ℕ) (v : Machine) (words
   trapped : (shape : Shape) (size : ℕ) → is_taken v e ≡ false → fetched v ≡ Ok (shape, size) → traps v e shape ≡ true → Next
   trapped shape size none at traps_is =
       let next : Machine → Machine = λ s. record (at_handler v s v.pc (bit_or v.btv (2 * 2 ^ 5))) { d = set s.d 15 4 } in
-      let stay : keys_of (frames_by v.pc (moved v.pc (size_in (fetched v))) e.irq (way_by v e shape (step v e).pc) (f ∷ fs)) ≡ handler_key 4 (step v e).pc (f.key).prio ∷ keys_of (f ∷ fs) =
-      ap (λ t. keys_of (frames_by v.pc (moved v.pc (size_in (fetched v))) e.irq (cond t (aln (step v e).pc) (way_of_shape shape (step v e).pc)) (f ∷ fs))) traps_is
+      let stay : keys_of (frames_by v.pc (machine_address_ahead v.pc (fetched_size (fetched v))) e.irq (edge_way_by_trap v e shape (step v e).pc) (f ∷ fs)) ≡ handler_key 4 (step v e).pc (f.key).prio ∷ keys_of (f ∷ fs) =
+      ap (λ t. keys_of (frames_by v.pc (machine_address_ahead v.pc (fetched_size (fetched v))) e.irq (cond t (aln (step v e).pc) (edge_way_of_shape shape (step v e).pc)) (f ∷ fs))) traps_is
       in
       forth shape size none at true next (does-trapped v e size shape traps_is) (λ _. refl)
       (λ room. leveled_upper ok level v words running f fs l free areas e room (with_event (next (saved v true)) e) (frames_after v e (f ∷ fs)) (handler_key 4 (step v e).pc (f.key).prio) refl refl refl
       (keys_are shape size none at ∙ stay) (λ k. absurd (let t : 4 ≡ 1 = k in omega arith)) (λ base. absurd (not_base 4 (step v e).pc (f.key).prio base)))
 
-  not_trapped : (shape : Shape) → traps v e shape ≡ false → keys_of (frames_by v.pc (moved v.pc (size_in (fetched v))) e.irq (way_of_shape shape (step v e).pc) (f ∷ fs)) ≡ keys_of (f ∷ fs)
-      → keys_of (frames_by v.pc (moved v.pc (size_in (fetched v))) e.irq (way_by v e shape (step v e).pc) (f ∷ fs)) ≡ keys_of (f ∷ fs)
-  not_trapped shape no_trap stay = ap (λ t. keys_of (frames_by v.pc (moved v.pc (size_in (fetched v))) e.irq (cond t (aln (step v e).pc) (way_of_shape shape (step v e).pc)) (f ∷ fs))) no_trap ∙ stay
+  not_trapped : (shape : Shape) → traps v e shape ≡ false → keys_of (frames_by v.pc (machine_address_ahead v.pc (fetched_size (fetched v))) e.irq (edge_way_of_shape shape (step v e).pc) (f ∷ fs)) ≡ keys_of (f ∷ fs)
+      → keys_of (frames_by v.pc (machine_address_ahead v.pc (fetched_size (fetched v))) e.irq (edge_way_by_trap v e shape (step v e).pc) (f ∷ fs)) ≡ keys_of (f ∷ fs)
+  not_trapped shape no_trap stay = ap (λ t. keys_of (frames_by v.pc (machine_address_ahead v.pc (fetched_size (fetched v))) e.irq (cond t (aln (step v e).pc) (edge_way_of_shape shape (step v e).pc)) (f ∷ fs))) no_trap ∙ stay
 
   pub level_step : (shape : Shape) (size : ℕ) → is_taken v e ≡ false → fetched v ≡ Ok (shape, size) → WritesNoFixedRegister shape → EndsBy f.key shape → (IsBase f.key → IsNoBisr shape) → StoresNothing v e shape → Next
   level_step (Compute op dst x y) size none at writes ends no_bisr stores = plain_on (Compute op dst x y) size none at v.mem refl (plain-compute v v.mem v.pcxi v.fcx e e op dst x y size) refl
   level_step (Scaled dst base index j) size none at writes ends no_bisr stores = plain_on (Scaled dst base index j) size none at v.mem refl (plain-scaled v v.mem v.pcxi v.fcx e e dst base index j size) refl
   level_step (Load dst base offset width signed after) size none at writes ends no_bisr stores =
-      elim (cases_Bool (traps_at e (access_address v base offset after) width)) [
+      elim (cases_Bool (is_trapping_access e (access_address v base offset after) width)) [
         | inl yes_trap ↦ trapped (Load dst base offset width signed after) size none at yes_trap
         | inr no_trap ↦ plain_on (Load dst base offset width signed after) size none at v.mem refl (plain-load v v.mem v.pcxi v.fcx e e dst base offset width signed after size no_trap refl refl)
             (not_trapped (Load dst base offset width signed after) no_trap refl)
       ]
   level_step (Store src base offset width after) size none at writes ends no_bisr stores =
-      elim (cases_Bool (traps_at e (access_address v base offset after) width)) [
+      elim (cases_Bool (is_trapping_access e (access_address v base offset after) width)) [
         | inl yes_trap ↦ trapped (Store src base offset width after) size none at yes_trap
         | inr no_trap ↦ plain_on (Store src base offset width after) size none at (with_bytes v.mem (access_address v base offset after) (reg v src) width) (stores no_trap)
             (plain-store v v.mem v.pcxi v.fcx e e src base offset width after size no_trap refl (stores no_trap)) (not_trapped (Store src base offset width after) no_trap refl)
@@ -162,7 +161,7 @@ module _ {plan : PlanData} (ok : IsPlan plan) (level : ℕ) (v : Machine) (words
   level_step (Branch test x y by lowers) size none at writes ends no_bisr stores = plain_on (Branch test x y by lowers) size none at v.mem refl (plain-branch v v.mem v.pcxi v.fcx e e test x y by lowers size) refl
   level_step (Jump target) size none at writes ends no_bisr stores = plain_on (Jump target) size none at v.mem refl (plain-jump v v.mem v.pcxi v.fcx e e target size) refl
   level_step (Call target) size none at writes ends no_bisr stores =
-      let next : Machine → Machine = λ s. record s { a = set s.a 11 (moved v.pc size); pc = target_of v target } in
+      let next : Machine → Machine = λ s. record s { a = set s.a 11 (machine_address_ahead v.pc size); pc = target_of v target } in
       forth (Call target) size none at true next (does-call v e target size) (λ _. refl)
       (λ room. leveled_upper ok level v words running f fs l free areas e room (with_event (next (saved v true)) e) (frames_after v e (f ∷ fs)) (call_key f.key (step v e).pc) refl refl refl (keys_are (Call target) size none at)
       (λ k base. base) (λ base. (refl, base)))
@@ -187,7 +186,7 @@ module _ {plan : PlanData} (ok : IsPlan plan) (level : ℕ) (v : Machine) (words
   level_step Enable size none at writes ends no_bisr stores = plain_on Enable size none at v.mem refl (plain-enable v v.mem v.pcxi v.fcx e e size) refl
   level_step Disable size none at writes ends no_bisr stores = plain_on Disable size none at v.mem refl (plain-disable v v.mem v.pcxi v.fcx e e size) refl
   level_step (Syscall tin) size none at writes ends no_bisr stores =
-      let next : Machine → Machine = λ s. record (at_handler v s (moved v.pc size) (bit_or v.btv (6 * 2 ^ 5))) { d = set s.d 15 tin } in
+      let next : Machine → Machine = λ s. record (at_handler v s (machine_address_ahead v.pc size) (bit_or v.btv (6 * 2 ^ 5))) { d = set s.d 15 tin } in
       forth (Syscall tin) size none at true next (does-syscall v e size tin) (λ _. refl)
       (λ room. leveled_upper ok level v words running f fs l free areas e room (with_event (next (saved v true)) e) (frames_after v e (f ∷ fs)) (handler_key 3 (step v e).pc (f.key).prio) refl refl refl (keys_are (Syscall tin) size none at)
       (λ k. absurd (let t : 3 ≡ 1 = k in omega arith)) (λ base. absurd (not_base 3 (step v e).pc (f.key).prio base)))

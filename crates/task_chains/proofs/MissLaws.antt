@@ -7,8 +7,8 @@ use Rattle.value_domain.specs.declared.values.Val.TheVariants.{Set, Span}
 use Rattle.value_domain.specs.Sets.{Among}
 use Rattle.value_domain.specs.Values.{IsMember, IsWell}
 use Rattle.value_domain.proofs.CoverLaws.{step_cases, in_units, from_units}
-use Rattle.store_ranges.specs.Accesses.{IsSize}
-use Rattle.task_chains.specs.Rule17.{AllMiss, HasBetween}
+use Rattle.store_ranges.specs.Accesses.{IsAccessSize}
+use Rattle.task_chains.specs.Rule17.{AreAccessesApart, HasAccessBetween}
 
 -- ---- words of a list
 abbrev pub HasWord : List ℕ → ℕ → ℕ → Type 0
@@ -50,13 +50,13 @@ from_least : (step : ℕ) → step ≤ 2 → (m k : ℕ) → m ≤ k * 2 ^ step 
 from_least = step_cases (λ s. (m k : ℕ) → m ≤ k * 2 ^ s → multiple_from m s ≤ k * 2 ^ s) (λ m k h. omega arith) (λ m k h. omega arith) (λ m k h. omega arith)
 
 module _ (lo last step low high : ℕ) (small : step ≤ 2) where
-  span_has : multiple_from (max low lo) step ≤ min high last → HasBetween (Span lo last step) low high
+  span_has : multiple_from (max low lo) step ≤ min high last → HasAccessBetween (Span lo last step) low high
   span_has le =
       let m = multiple_from (max low lo) step in
       let above = from_below step small (max low lo) in
       (m, ((let a : lo ≤ m = omega arith in a), (let b : m ≤ last = omega arith in b), from_units step small ((max low lo + (2 ^ step - 1)) / 2 ^ step) m refl), (let c : low ≤ m = omega arith in c), (let d : m ≤ high = omega arith in d))
 
-  span_least : HasBetween (Span lo last step) low high → multiple_from (max low lo) step ≤ min high last
+  span_least : HasAccessBetween (Span lo last step) low high → multiple_from (max low lo) step ≤ min high last
   span_least (x, member, above, below) =
       let e = in_units step small x member.2 in
       let a = member.0 in
@@ -67,7 +67,7 @@ module _ (lo last step low high : ℕ) (small : step ≤ 2) where
       let least2 : multiple_from (max low lo) step ≤ x = subst (λ y. multiple_from (max low lo) step ≤ y) (sym e) least in
       omega arith
 
-  pub span_both : (first most : ℕ) → first ≡ multiple_from (max low lo) step → most ≡ min high last → (IsTrue (nat_le first most) → HasBetween (Span lo last step) low high) × (HasBetween (Span lo last step) low high → IsTrue (nat_le first most))
+  pub span_both : (first most : ℕ) → first ≡ multiple_from (max low lo) step → most ≡ min high last → (IsTrue (nat_le first most) → HasAccessBetween (Span lo last step) low high) × (HasAccessBetween (Span lo last step) low high → IsTrue (nat_le first most))
   span_both first most a b = (
     λ t. span_has (let le = leb-true first most t in subst (λ y. multiple_from (max low lo) step ≤ y) b (subst (λ y. y ≤ most) a le)),
     λ h. le-leb first most (let le = span_least h in subst (λ y. first ≤ y) (sym b) (subst (λ y. y ≤ min high last) (sym a) le)),
@@ -78,14 +78,14 @@ member_small : (v : Val) → IsWell v → (x : ℕ) → IsMember x v → x < 2 ^
 member_small (Set ws) well x m = well.below x m
 member_small (Span lo last step) well x m = let a = m.1 in let b = well.2 in omega arith
 
-size_some : (n : ℕ) → IsSize n → (1 ≤ n) × (n ≤ 4)
+size_some : (n : ℕ) → IsAccessSize n → (1 ≤ n) × (n ≤ 4)
 size_some n (inl e) = (omega arith, omega arith)
 size_some n (inr (inl e)) = (omega arith, omega arith)
 size_some n (inr (inr e)) = (omega arith, omega arith)
 
-module _ (v : Val) (n from len low last : ℕ) (well : IsWell v) (size : IsSize n) (some : 0 < len) (word : from < 2 ^ 32) (lowest : low ≡ from - (n - 1)) (end : last ≡ min (from + (len - 1)) (2 ^ 32 - 1)) where
+module _ (v : Val) (n from len low last : ℕ) (well : IsWell v) (size : IsAccessSize n) (some : 0 < len) (word : from < 2 ^ 32) (lowest : low ≡ from - (n - 1)) (end : last ≡ min (from + (len - 1)) (2 ^ 32 - 1)) where
   -- an access from between them touches the range
-  touched : HasBetween v low last → AllMiss v n from len → ⊥
+  touched : HasAccessBetween v low last → AreAccessesApart v n from len → ⊥
   touched (x, member, above, below) all =
       let s = size_some n size in
       let s0 = s.0 in
@@ -99,7 +99,7 @@ module _ (v : Val) (n from len low last : ℕ) (well : IsWell v) (size : IsSize 
       ]
 
   -- so does an access from the last addresses, if the range is among the first ones
-  wrapped : (first : ℕ) → from < n - 1 → first ≡ (from + (2 ^ 32 - (n - 1))) % 2 ^ 32 → HasBetween v first (2 ^ 32 - 1) → AllMiss v n from len → ⊥
+  wrapped : (first : ℕ) → from < n - 1 → first ≡ (from + (2 ^ 32 - (n - 1))) % 2 ^ 32 → HasAccessBetween v first (2 ^ 32 - 1) → AreAccessesApart v n from len → ⊥
   wrapped first near is (x, member, above, below) all =
       let s = size_some n size in
       let s0 = s.0 in
@@ -112,7 +112,7 @@ module _ (v : Val) (n from len low last : ℕ) (well : IsWell v) (size : IsSize 
       ]
 
   -- no other access touches the range
-  missed : (first : ℕ) → (HasBetween v low last → ⊥) → (n - 1 ≤ from) ⊎ ((first ≡ (from + (2 ^ 32 - (n - 1))) % 2 ^ 32) × (HasBetween v first (2 ^ 32 - 1) → ⊥)) → AllMiss v n from len
+  missed : (first : ℕ) → (HasAccessBetween v low last → ⊥) → (n - 1 ≤ from) ⊎ ((first ≡ (from + (2 ^ 32 - (n - 1))) % 2 ^ 32) × (HasAccessBetween v first (2 ^ 32 - 1) → ⊥)) → AreAccessesApart v n from len
   missed first none other x member i lt =
       let s = size_some n size in
       let s0 = s.0 in
@@ -138,13 +138,13 @@ module _ (v : Val) (n from len low last : ℕ) (well : IsWell v) (size : IsSize 
         ]
       ]
 
-  pub touches_then : HasBetween v low last → (IsTrue false → AllMiss v n from len) × (AllMiss v n from len → IsTrue false)
+  pub touches_then : HasAccessBetween v low last → (IsTrue false → AreAccessesApart v n from len) × (AreAccessesApart v n from len → IsTrue false)
   touches_then has = (λ t. absurd (let f : false ≡ true = t in cc), λ all. absurd (touched has all))
 
-  pub misses_then : (HasBetween v low last → ⊥) → n - 1 ≤ from → (IsTrue true → AllMiss v n from len) × (AllMiss v n from len → IsTrue true)
+  pub misses_then : (HasAccessBetween v low last → ⊥) → n - 1 ≤ from → (IsTrue true → AreAccessesApart v n from len) × (AreAccessesApart v n from len → IsTrue true)
   misses_then none far = (λ t. missed 0 none (inl far), λ all. refl)
 
-  pub misses_else : (first : ℕ) (r : Bool) → (HasBetween v low last → ⊥) → from < n - 1 → first ≡ (from + (2 ^ 32 - (n - 1))) % 2 ^ 32 → (IsTrue r → HasBetween v first (2 ^ 32 - 1)) × (HasBetween v first (2 ^ 32 - 1) → IsTrue r)
-      → (IsTrue (not r) → AllMiss v n from len) × (AllMiss v n from len → IsTrue (not r))
+  pub misses_else : (first : ℕ) (r : Bool) → (HasAccessBetween v low last → ⊥) → from < n - 1 → first ≡ (from + (2 ^ 32 - (n - 1))) % 2 ^ 32 → (IsTrue r → HasAccessBetween v first (2 ^ 32 - 1)) × (HasAccessBetween v first (2 ^ 32 - 1) → IsTrue r)
+      → (IsTrue (not r) → AreAccessesApart v n from len) × (AreAccessesApart v n from len → IsTrue (not r))
   misses_else first true none near is both = (λ t. absurd (let f : false ≡ true = t in cc), λ all. absurd (wrapped first near is (both.0 refl) all))
   misses_else first false none near is both = (λ t. missed first none (inr (is, λ has. let f : false ≡ true = both.1 has in absurd (let g : false ≡ true = f in cc))), λ all. refl)

@@ -20,13 +20,12 @@ use Rattle.tc_machine.specs.declared.events.Event.{Event}
 use Rattle.tc_machine.specs.declared.events.End.{End}
 use Rattle.tc_machine.specs.declared.events.End.TheVariants.{Running, Dead}
 use Rattle.tc_machine.specs.declared.state.Machine.{Machine}
-use Rattle.tc_machine.specs.Machine.{reg, a11, moved, then_, goes_on}
-use Rattle.tc_machine.specs.Instructions.{advanced, access_address, traps_at, core_register, at_handler, target_of, does, traps}
-use Rattle.tc_machine.specs.Stepping.{interrupt, is_taken, executed, done, step}
+use Rattle.tc_machine.specs.Machine.{reg, a11, machine_address_ahead, then_, goes_on, IsMachine}
+use Rattle.tc_machine.specs.Instructions.{advanced, access_address, is_trapping_access, core_register, at_handler, target_of, does, traps}
+use Rattle.tc_machine.specs.Stepping.{interrupt, is_taken, executed, machine_after_event, step}
 use Rattle.tc_machine.specs.SavesAndRestores.{has_kind, restore, saved, save}
 use Rattle.tc_machine.specs.Fetching.{fetched}
 use Rattle.tcd_plan.specs.Regions.{IsInAreas, IsStoreInRange}
-use Rattle.tc_machine.specs.Safe.{IsMachine}
 use Rattle.tc_mem.specs.PlanMemory.{HoldsRom, IsPlanMemory}
 use Rattle.tc_machine.proofs.Steps.{with_event, done-is, step-is, step_does, does-call, does-ret}
 use Rattle.tc_machine.proofs.Saves.{save-is, then_-running}
@@ -34,15 +33,16 @@ use Rattle.tc_machine.proofs.Areas.{HasFree, has_free}
 use Rattle.tc_machine.proofs.Fetched.{fetched-is}
 use Rattle.value_domain.specs.declared.states.State.{State}
 use Rattle.value_domain.specs.Limits.{Limits}
-use Rattle.vd_transfer.specs.Holding.{WritesNoFixedRegister}
+use Rattle.vd_transfer.specs.Registers.{WritesNoFixedRegister}
 use Rattle.cfg_recover.specs.Code.{IsCode}
 use Rattle.cfg_recover.proofs.Points.{does-rfe, does-svlcx, does-rslcx, does-bisr, does-syscall, does-trapped}
 use Rattle.cfg_recover.proofs.Writes.{store_keeps_areas}
 use Rattle.csa_chain.proofs.MemoryLaws.{is_mapped-with_bytes}
-use Rattle.csa_chain.specs.SeveralChains.{sum_below}
-use Rattle.task_chains.specs.Tasks.{TasksData, routine_size}
+use Rattle.csa_chain.specs.SeveralChains.{sum_over_chains}
+use Rattle.task_chains.specs.Tasks.{TasksData}
+use Rattle.task_chains.specs.SwitchRoutine.{routine_size}
 use Rattle.task_chains.specs.Views.{view_plan_of}
-use Rattle.task_chains.specs.Rule17.{Misses, LoadsElsewhere, ReadsNoLink}
+use Rattle.task_chains.specs.Rule17.{IsAccessApart, LoadsElsewhere, ReadsNoLink}
 use Rattle.task_chains.proofs.Twins.{Twins, SameContexts-length}
 use Rattle.task_chains.proofs.Alike.{seen_as, Alike, Alike-interrupt, Alike-call}
 use Rattle.task_chains.proofs.Backs.{restores_from, Alike-ret, Alike-rfe, Alike-rslcx}
@@ -105,11 +105,11 @@ pub dead≢running : (end : End) (m : Machine) (next : Machine → Machine) → 
 dead≢running Running m next is e = is
 dead≢running (Dead cause) m next is e = sym (ap (λ x. (goes_on x m next).end) is) ∙ e
 
-pub done_runs : (m : Machine) (e : Event) → m.end ≡ Running → (step m e).end ≡ Running → (done m e).end ≡ Running
+pub done_runs : (m : Machine) (e : Event) → m.end ≡ Running → (step m e).end ≡ Running → (machine_after_event m e).end ≡ Running
 unfolding step
 done_runs m e running after =
-    let inner : (then_ (done m e) (λ n. with_event n e)).end ≡ Running = sym (ap (λ x. (goes_on x m (λ m. then_ (done m e) (λ n. with_event n e))).end) running) ∙ after in
-    dead≢running (done m e).end (done m e) (λ n. with_event n e) refl inner
+    let inner : (then_ (machine_after_event m e) (λ n. with_event n e)).end ≡ Running = sym (ap (λ x. (goes_on x m (λ m. then_ (machine_after_event m e) (λ n. with_event n e))).end) running) ∙ after in
+    dead≢running (machine_after_event m e).end (machine_after_event m e) (λ n. with_event n e) refl inner
 
 pub back_runs : (m : Machine) (upper : Bool) (next : Machine → Machine) → (then_ (restore m upper) next).end ≡ Running → (restore m upper).end ≡ Running
 back_runs m upper next e = dead≢running (restore m upper).end (restore m upper) next refl e
@@ -121,7 +121,7 @@ module _ {image view : ImageData} {plan : PlanData} (ok : IsPlan plan) {tasks : 
 
   -- ---- loads
   -- a byte that a load reaches: it is in no save area and not in the routine
-  byte_agrees : (x i size : ℕ) → i < size → Misses x size plan.csa_at (64 * plan.areas) → Misses x size tasks.switch routine_size → Agrees mem m.mem ((x + i) % 2 ^ 32)
+  byte_agrees : (x i size : ℕ) → i < size → IsAccessApart x size plan.csa_at (64 * plan.areas) → IsAccessApart x size tasks.switch routine_size → Agrees mem m.mem ((x + i) % 2 ^ 32)
   byte_agrees x i size lt areas routine =
       let y = (x + i) % 2 ^ 32 in
       elim (cases_Bool (is_mapped mem y)) [
@@ -138,7 +138,7 @@ module _ {image view : ImageData} {plan : PlanData} (ok : IsPlan plan) {tasks : 
       unmapped (Some c) g = absurd (false≢true (sym g))
 
   module _ (dst : ℕ) (base : Arg) (offset size : ℕ) (signed after : Bool) (len : ℕ) (at : AtPoint b view plan tasks u v e s (Load dst base offset size signed after) len) where
-    load_misses : Misses (access_address v base offset after) size plan.csa_at (64 * plan.areas) × Misses (access_address v base offset after) size tasks.switch routine_size
+    load_misses : IsAccessApart (access_address v base offset after) size plan.csa_at (64 * plan.areas) × IsAccessApart (access_address v base offset after) size tasks.switch routine_size
     load_misses = ((at.loads).0 (access_address v base offset after) at.load_at, (at.loads).1 (access_address v base offset after) at.load_at)
 
     pub same_load : access_address m base offset after < 2 ^ 32 → load_number mem (load_number m.mem e.input (access_address m base offset after) size) (access_address m base offset after) size ≡ load_number m.mem e.input (access_address m base offset after) size
@@ -157,7 +157,7 @@ module _ {image view : ImageData} {plan : PlanData} (ok : IsPlan plan) {tasks : 
   -- a store is in range, is to no byte that the view has, and doesn't change what is to be kept
   abbrev pub StoreIs : Shape → Type 0
   StoreIs (Store src base offset size after) =
-      traps_at e (access_address m base offset after) size ≡ false
+      is_trapping_access e (access_address m base offset after) size ≡ false
       → IsStoreInRange plan (access_address m base offset after, size)
       × (with_bytes mem (access_address m base offset after) (reg m src) size ≡ mem)
       × ((y : ℕ) → Kept y → finite.get (with_bytes m.mem (access_address m base offset after) (reg m src) size) y ≡ finite.get m.mem y)
@@ -167,7 +167,7 @@ module _ {image view : ImageData} {plan : PlanData} (ok : IsPlan plan) {tasks : 
   -- does, so have all tasks
   pub record Rooms (e2 : Event) : Type 0 where
     pub own_room : (upper : Bool) → (save v upper).end ≡ Running → length seen < plan.areas - plan.reserve
-    pub all_room : (upper : Bool) → length seen < plan.areas - plan.reserve → (step v e2).mem ≡ (saved v upper).mem → (step v e2).pcxi ≡ (saved v upper).pcxi → sum_below n (λ w. length (chain_of w)) < plan.areas - plan.reserve
+    pub all_room : (upper : Bool) → length seen < plan.areas - plan.reserve → (step v e2).mem ≡ (saved v upper).mem → (step v e2).pcxi ≡ (saved v upper).pcxi → sum_over_chains n (λ w. length (chain_of w)) < plan.areas - plan.reserve
 
   view_stands : (upper : Bool) → length seen < plan.areas - plan.reserve → save v upper ≡ saved v upper
   view_stands upper room =
@@ -185,10 +185,10 @@ module _ {image view : ImageData} {plan : PlanData} (ok : IsPlan plan) {tasks : 
   interrupt_step taken e2 same_irq same_status rooms runs =
       let next : Machine → Machine = λ s. record (at_handler v s v.pc (bit_or v.biv (e2.irq * 2 ^ 5))) { ccpn = e2.irq } in
       let view_taken : is_taken v e2 ≡ true = ap (λ q. is_taken m (record e { irq = q })) same_irq ∙ taken in
-      let done_is : done v e2 ≡ then_ (save v true) next = ap (λ t. cond t (interrupt v e2.irq) (executed v e2 (fetched v))) view_taken in
+      let done_is : machine_after_event v e2 ≡ then_ (save v true) next = ap (λ t. cond t (interrupt v e2.irq) (executed v e2 (fetched v))) view_taken in
       let runs2 : (then_ (save v true) next).end ≡ Running = sym (ap (λ (x : Machine). x.end) done_is) ∙ done_runs v e2 k.running runs in
       let room = rooms.own_room true (save_runs true next runs2) in
-      let is : done v e2 ≡ next (saved v true) = done_is ∙ ap (λ s. then_ s next) (view_stands true room) ∙ then_-running (saved v true) next k.running in
+      let is : machine_after_event v e2 ≡ next (saved v true) = done_is ∙ ap (λ s. then_ s next) (view_stands true room) ∙ then_-running (saved v true) next k.running in
       let step_at : step v e2 ≡ with_event (next (saved v true)) e2 = step-is v e2 k.running (ap (λ (x : Machine). x.end) is ∙ k.running) ∙ ap (λ (x : Machine). with_event x e2) is in
       Alike-interrupt ok Kept kept m mem pcxi fcx k.words k.view_words k.running k.twins (rooms.all_room true room (ap (λ (x : Machine). x.mem) step_at) (ap (λ (x : Machine). x.pcxi) step_at)) room e e2 taken same_irq same_status
 
@@ -217,7 +217,7 @@ module _ {image view : ImageData} {plan : PlanData} (ok : IsPlan plan) {tasks : 
     same_memory p = plainly m.mem (λ x at. refl) (λ x. refl) p (λ x is. refl)
 
     rooms_for : Rooms e2 → (upper : Bool) (next : Machine → Machine) → does v e2 shape size ≡ then_ (save v upper) next → (next (saved v upper)).mem ≡ (saved v upper).mem → (next (saved v upper)).pcxi ≡ (saved v upper).pcxi → (step v e2).end ≡ Running
-        → (sum_below n (λ w. length (chain_of w)) < plan.areas - plan.reserve) × (length seen < plan.areas - plan.reserve)
+        → (sum_over_chains n (λ w. length (chain_of w)) < plan.areas - plan.reserve) × (length seen < plan.areas - plan.reserve)
     rooms_for rooms upper next is mem_is pcxi_is runs =
         let room = rooms.own_room upper (save_runs upper next (sym (ap (λ (x : Machine). x.end) is) ∙ runs_on runs)) in
         let does_is : does v e2 shape size ≡ next (saved v upper) = is ∙ ap (λ s. then_ s next) (view_stands upper room) ∙ then_-running (saved v upper) next k.running in
@@ -251,9 +251,9 @@ module _ {image view : ImageData} {plan : PlanData} (ok : IsPlan plan) {tasks : 
       let e2 = event_for m e shape in
       let is = address-same m mem pcxi fcx e e base offset after in
       let bounded = IsCode-bounded view (view_plan_of plan tasks u) m.pc shape size at.code in
-      elim (cases_Bool (traps_at e (access_address m base offset after) width)) [
+      elim (cases_Bool (is_trapping_access e (access_address m base offset after) width)) [
         | inl trapped ↦
-            let view_yes : traps v e2 shape ≡ true = ap (λ x. traps_at e x width) is ∙ trapped in
+            let view_yes : traps v e2 shape ≡ true = ap (λ x. is_trapping_access e x width) is ∙ trapped in
             let r = rooms_for shape size at same none rooms true (λ s. record (at_handler v s v.pc (bit_or v.btv (2 * 2 ^ 5))) { d = set s.d 15 4 }) (does-trapped v e2 size shape view_yes) refl refl runs in
             Alike-misaligned ok Kept kept m mem pcxi fcx k.words k.view_words k.running k.twins r.0 r.1 e e2 none refl refl shape size trapped view_yes (here shape size at same none) (there shape size at same none)
         | inr free_of ↦ same_memory shape size at same none (plain-load m mem pcxi fcx e e2 dst base offset width signed after size free_of refl (same_load dst base offset width signed after size at (access_lt base offset after bounded.1)))
@@ -261,9 +261,9 @@ module _ {image view : ImageData} {plan : PlanData} (ok : IsPlan plan) {tasks : 
   outside_step (Store src base offset width after) size at same none rooms store runs =
       let shape = Store src base offset width after in
       let is = address-same m mem pcxi fcx e e base offset after in
-      elim (cases_Bool (traps_at e (access_address m base offset after) width)) [
+      elim (cases_Bool (is_trapping_access e (access_address m base offset after) width)) [
         | inl trapped ↦
-            let view_yes : traps v e shape ≡ true = ap (λ x. traps_at e x width) is ∙ trapped in
+            let view_yes : traps v e shape ≡ true = ap (λ x. is_trapping_access e x width) is ∙ trapped in
             let r = rooms_for shape size at same none rooms true (λ s. record (at_handler v s v.pc (bit_or v.btv (2 * 2 ^ 5))) { d = set s.d 15 4 }) (does-trapped v e size shape view_yes) refl refl runs in
             Alike-misaligned ok Kept kept m mem pcxi fcx k.words k.view_words k.running k.twins r.0 r.1 e e none refl refl shape size trapped view_yes (here shape size at same none) (there shape size at same none)
         | inr free_of ↦
@@ -276,7 +276,7 @@ module _ {image view : ImageData} {plan : PlanData} (ok : IsPlan plan) {tasks : 
   outside_step (Branch test x y by lowers) size at same none rooms store runs = same_memory (Branch test x y by lowers) size at same none (plain-branch m mem pcxi fcx e e test x y by lowers size)
   outside_step (Jump to) size at same none rooms store runs = same_memory (Jump to) size at same none (plain-jump m mem pcxi fcx e e to size)
   outside_step (Call to) size at same none rooms store runs =
-      let r = rooms_for (Call to) size at same none rooms true (λ s. record s { a = set s.a 11 (moved v.pc size); pc = target_of v to }) (does-call v e to size) refl refl runs in
+      let r = rooms_for (Call to) size at same none rooms true (λ s. record s { a = set s.a 11 (machine_address_ahead v.pc size); pc = target_of v to }) (does-call v e to size) refl refl runs in
       Alike-call ok Kept kept m mem pcxi fcx k.words k.view_words k.running k.twins r.0 r.1 e e to size none refl refl (here (Call to) size at same none) (there (Call to) size at same none)
   outside_step Ret size at same none rooms store runs =
       with_context Ret size at same none true (λ r. record r { pc = a11 v / 2 * 2 }) (does-ret v e size) runs
@@ -296,7 +296,7 @@ module _ {image view : ImageData} {plan : PlanData} (ok : IsPlan plan) {tasks : 
   outside_step Enable size at same none rooms store runs = same_memory Enable size at same none (plain-enable m mem pcxi fcx e e size)
   outside_step Disable size at same none rooms store runs = same_memory Disable size at same none (plain-disable m mem pcxi fcx e e size)
   outside_step (Syscall tin) size at same none rooms store runs =
-      let r = rooms_for (Syscall tin) size at same none rooms true (λ s. record (at_handler v s (moved v.pc size) (bit_or v.btv (6 * 2 ^ 5))) { d = set s.d 15 tin }) (does-syscall v e size tin) refl refl runs in
+      let r = rooms_for (Syscall tin) size at same none rooms true (λ s. record (at_handler v s (machine_address_ahead v.pc size) (bit_or v.btv (6 * 2 ^ 5))) { d = set s.d 15 tin }) (does-syscall v e size tin) refl refl runs in
       Alike-syscall ok Kept kept m mem pcxi fcx k.words k.view_words k.running k.twins r.0 r.1 e e none refl refl tin size (here (Syscall tin) size at same none) (there (Syscall tin) size at same none)
   outside_step (Mfcr dst number) size at same none rooms store runs = same_memory (Mfcr dst number) size at same none (plain-mfcr m mem pcxi fcx e e dst number size (core_same number at.links))
   outside_step (Mtcr src number) size at same none rooms store runs = absurd at.writes

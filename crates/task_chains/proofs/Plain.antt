@@ -2,7 +2,7 @@
 -- context.
 use Rattle.std.proofs.Common.{◌≡◌, ℕ, ◌+◌, ◌-◌, ◌*◌, ◌^◌, ◌<◌, ◌≤◌, Bool, true, false, cond, List, [], ◌∷◌, set, Ok, refl, sym, ap, ◌∙◌, subst, arith, ltb}
 use Rattle.std.specs.FinMap as map
-use Rattle.csa_chain.specs.MemoryBytes.{Memory, is_mapped, load_number, extend, with_bytes}
+use Rattle.csa_chain.specs.MemoryBytes.{Memory, is_mapped, load_number, extend_loaded_bytes, with_bytes}
 use Rattle.csa_chain.specs.Chain.{link_address}
 use Rattle.csa_chain.proofs.ChainLaws.{SameAreas, Links-same}
 use Rattle.tcd_plan.specs.PlanData.{PlanData, IsPlan}
@@ -18,8 +18,8 @@ use Rattle.tc_isa.specs.Arithmetic.{alu_of, taken_of}
 use Rattle.tc_machine.specs.declared.events.Event.{Event}
 use Rattle.tc_machine.specs.declared.events.End.TheVariants.{Running}
 use Rattle.tc_machine.specs.declared.state.Machine.{Machine}
-use Rattle.tc_machine.specs.Machine.{reg, with_reg, moved}
-use Rattle.tc_machine.specs.Instructions.{arg, advanced, access_address, with_base, traps_at, misaligned, core_register, target_of, does}
+use Rattle.tc_machine.specs.Machine.{reg, with_reg, machine_address_ahead}
+use Rattle.tc_machine.specs.Instructions.{arg, advanced, access_address, with_base, is_trapping_access, misaligned, core_register, target_of, does}
 use Rattle.tc_machine.specs.Fetching.{fetched}
 use Rattle.tc_machine.specs.Stepping.{is_taken, step}
 use Rattle.tcd_plan.specs.Regions.{IsInAreas}
@@ -27,7 +27,7 @@ use Rattle.tc_machine.specs.PlanAreas.{first_link, plan_areas}
 use Rattle.tc_machine.proofs.Steps.{with_event, step_does}
 use Rattle.tc_machine.proofs.PlanLaws.{link_address-area}
 use Rattle.cfg_recover.proofs.Went.{changed}
-use Rattle.csa_chain.specs.SeveralChains.{times}
+use Rattle.csa_chain.specs.SeveralChains.{times_in_list}
 use Rattle.csa_chain.proofs.SeveralLaws.{times-first, sum_below-at}
 use Rattle.task_chains.proofs.Twins.{Twins, SameContexts-kept}
 use Rattle.task_chains.proofs.Alike.{seen_as, Alike, area_at}
@@ -64,14 +64,14 @@ module _ (m : Machine) (view : Memory) (pcxi fcx : ℕ) (e e2 : Event) where
   arg-same (Word w) = refl
 
   pub address-same : (base : Arg) (offset : ℕ) (after : Bool) → access_address v base offset after ≡ access_address m base offset after
-  address-same base offset after = ap (λ x. cond after x (moved x offset)) (arg-same base)
+  address-same base offset after = ap (λ x. cond after x (machine_address_ahead x offset)) (arg-same base)
 
   -- registers of m with one set
   pub set_one : (k r w w2 : ℕ) → w2 ≡ w → Plainly m v (advanced k (with_reg m r w)) (advanced k (with_reg v r w2)) m.mem view
   set_one k r w w2 same = record {
     d = d_with m.d r w;
     a = a_with m.a r w;
-    pc = moved m.pc k;
+    pc = machine_address_ahead m.pc k;
     ie = m.ie;
     is = ap (advanced k) (with_reg-is m r w);
     view_is = ap (advanced k) (ap (with_reg v r) same ∙ with_reg-is v r w);
@@ -83,7 +83,7 @@ module _ (m : Machine) (view : Memory) (pcxi fcx : ℕ) (e e2 : Event) where
 
   pub plain-scaled : (dst base index j k : ℕ) → Plainly m v (does m e (Scaled dst base index j) k) (does v e2 (Scaled dst base index j) k) m.mem view
   unfolding does
-  plain-scaled dst base index j k = set_one k dst (moved (reg m base) (reg m index * 2 ^ j)) _ refl
+  plain-scaled dst base index j k = set_one k dst (machine_address_ahead (reg m base) (reg m index * 2 ^ j)) _ refl
 
   pub plain-mfcr : (dst number k : ℕ) → core_register v e2 number ≡ core_register m e number → Plainly m v (does m e (Mfcr dst number) k) (does v e2 (Mfcr dst number) k) m.mem view
   unfolding does
@@ -91,15 +91,15 @@ module _ (m : Machine) (view : Memory) (pcxi fcx : ℕ) (e e2 : Event) where
 
   pub plain-enable : (k : ℕ) → Plainly m v (does m e Enable k) (does v e2 Enable k) m.mem view
   unfolding does
-  plain-enable k = record { d = m.d; a = m.a; pc = moved m.pc k; ie = true; is = refl; view_is = refl }
+  plain-enable k = record { d = m.d; a = m.a; pc = machine_address_ahead m.pc k; ie = true; is = refl; view_is = refl }
 
   pub plain-disable : (k : ℕ) → Plainly m v (does m e Disable k) (does v e2 Disable k) m.mem view
   unfolding does
-  plain-disable k = record { d = m.d; a = m.a; pc = moved m.pc k; ie = false; is = refl; view_is = refl }
+  plain-disable k = record { d = m.d; a = m.a; pc = machine_address_ahead m.pc k; ie = false; is = refl; view_is = refl }
 
   pub plain-nothing : (k : ℕ) → Plainly m v (does m e Nothing k) (does v e2 Nothing k) m.mem view
   unfolding does
-  plain-nothing k = record { d = m.d; a = m.a; pc = moved m.pc k; ie = m.ie; is = refl; view_is = refl }
+  plain-nothing k = record { d = m.d; a = m.a; pc = machine_address_ahead m.pc k; ie = m.ie; is = refl; view_is = refl }
 
   target_same : (to : Target) → target_of v to ≡ target_of m to
   target_same (target.Rel by) = refl
@@ -115,19 +115,19 @@ module _ (m : Machine) (view : Memory) (pcxi fcx : ℕ) (e e2 : Event) where
   plain-branch test x y by false k = record {
     d = m.d;
     a = m.a;
-    pc = cond (taken_of test (reg m x) (arg m y)) (moved m.pc by) (moved m.pc k);
+    pc = cond (taken_of test (reg m x) (arg m y)) (machine_address_ahead m.pc by) (machine_address_ahead m.pc k);
     ie = m.ie;
     is = refl;
-    view_is = λ i. record v { pc = cond (taken_of test (reg m x) (arg-same y i)) (moved m.pc by) (moved m.pc k) };
+    view_is = λ i. record v { pc = cond (taken_of test (reg m x) (arg-same y i)) (machine_address_ahead m.pc by) (machine_address_ahead m.pc k) };
   }
   plain-branch test x y by true k = record {
-    d = d_with m.d x (moved (reg m x) (2 ^ 32 - 1));
-    a = a_with m.a x (moved (reg m x) (2 ^ 32 - 1));
-    pc = cond (taken_of test (reg m x) (arg m y)) (moved m.pc by) (moved m.pc k);
+    d = d_with m.d x (machine_address_ahead (reg m x) (2 ^ 32 - 1));
+    a = a_with m.a x (machine_address_ahead (reg m x) (2 ^ 32 - 1));
+    pc = cond (taken_of test (reg m x) (arg m y)) (machine_address_ahead m.pc by) (machine_address_ahead m.pc k);
     ie = m.ie;
-    is = ap (λ (b : Machine). record b { pc = cond (taken_of test (reg m x) (arg m y)) (moved m.pc by) (moved m.pc k) }) (with_reg-is m x (moved (reg m x) (2 ^ 32 - 1)));
-    view_is = (λ i. record (with_reg v x (moved (reg v x) (2 ^ 32 - 1))) { pc = cond (taken_of test (reg m x) (arg-same y i)) (moved m.pc by) (moved m.pc k) })
-        ∙ ap (λ (b : Machine). record b { pc = cond (taken_of test (reg m x) (arg m y)) (moved m.pc by) (moved m.pc k) }) (with_reg-is v x (moved (reg m x) (2 ^ 32 - 1)));
+    is = ap (λ (b : Machine). record b { pc = cond (taken_of test (reg m x) (arg m y)) (machine_address_ahead m.pc by) (machine_address_ahead m.pc k) }) (with_reg-is m x (machine_address_ahead (reg m x) (2 ^ 32 - 1)));
+    view_is = (λ i. record (with_reg v x (machine_address_ahead (reg v x) (2 ^ 32 - 1))) { pc = cond (taken_of test (reg m x) (arg-same y i)) (machine_address_ahead m.pc by) (machine_address_ahead m.pc k) })
+        ∙ ap (λ (b : Machine). record b { pc = cond (taken_of test (reg m x) (arg m y)) (machine_address_ahead m.pc by) (machine_address_ahead m.pc k) }) (with_reg-is v x (machine_address_ahead (reg m x) (2 ^ 32 - 1)));
   }
 
   -- ---- accesses
@@ -141,41 +141,41 @@ module _ (m : Machine) (view : Memory) (pcxi fcx : ℕ) (e e2 : Event) where
   based : (base : Arg) (offset : ℕ) (after : Bool) → Based (with_base m base offset after) (with_base v base offset after)
   based (Word w) offset after = record { d = m.d; a = m.a; is = refl; view_is = refl }
   based (Reg r) offset false = record { d = m.d; a = m.a; is = refl; view_is = refl }
-  based (Reg r) offset true = record { d = d_with m.d r (moved (reg m r) offset); a = a_with m.a r (moved (reg m r) offset); is = with_reg-is m r _; view_is = with_reg-is v r _ }
+  based (Reg r) offset true = record { d = d_with m.d r (machine_address_ahead (reg m r) offset); a = a_with m.a r (machine_address_ahead (reg m r) offset); is = with_reg-is m r _; view_is = with_reg-is v r _ }
 
-  pub plain-load : (dst : ℕ) (base : Arg) (offset size : ℕ) (signed after : Bool) (k : ℕ) → traps_at e (access_address m base offset after) size ≡ false → e2.aln ≡ e.aln
+  pub plain-load : (dst : ℕ) (base : Arg) (offset size : ℕ) (signed after : Bool) (k : ℕ) → is_trapping_access e (access_address m base offset after) size ≡ false → e2.aln ≡ e.aln
       → load_number view e2.input (access_address m base offset after) size ≡ load_number m.mem e.input (access_address m base offset after) size
       → Plainly m v (does m e (Load dst base offset size signed after) k) (does v e2 (Load dst base offset size signed after) k) m.mem view
   unfolding does
   plain-load dst base offset size signed after k none same_aln same =
       let x = access_address m base offset after in
-      let w = extend signed size (load_number m.mem e.input x size) in
+      let w = extend_loaded_bytes signed size (load_number m.mem e.input x size) in
       let b = based base offset after in
-      let view_none : traps_at e2 (access_address v base offset after) size ≡ false = (λ i. traps_at (record e { aln = same_aln i }) (address-same base offset after i) size) ∙ none in
-      let value : extend signed size (load_number view e2.input (access_address v base offset after) size) ≡ w = ap (λ y. extend signed size (load_number view e2.input y size)) (address-same base offset after) ∙ ap (extend signed size) same in
+      let view_none : is_trapping_access e2 (access_address v base offset after) size ≡ false = (λ i. is_trapping_access (record e { aln = same_aln i }) (address-same base offset after i) size) ∙ none in
+      let value : extend_loaded_bytes signed size (load_number view e2.input (access_address v base offset after) size) ≡ w = ap (λ y. extend_loaded_bytes signed size (load_number view e2.input y size)) (address-same base offset after) ∙ ap (extend_loaded_bytes signed size) same in
       record {
         d = d_with b.d dst w;
         a = a_with b.a dst w;
-        pc = moved m.pc k;
+        pc = machine_address_ahead m.pc k;
         ie = m.ie;
         is = ap (λ t. cond t (misaligned m) (advanced k (with_reg (with_base m base offset after) dst w))) none ∙ ap (λ (y : Machine). advanced k (with_reg y dst w)) b.is ∙ ap (advanced k) (with_reg-is (record m { d = b.d; a = b.a }) dst w);
-        view_is = ap (λ t. cond t (misaligned v) (advanced k (with_reg (with_base v base offset after) dst (extend signed size (load_number view e2.input (access_address v base offset after) size))))) view_none
+        view_is = ap (λ t. cond t (misaligned v) (advanced k (with_reg (with_base v base offset after) dst (extend_loaded_bytes signed size (load_number view e2.input (access_address v base offset after) size))))) view_none
             ∙ ap (λ (y : ℕ). advanced k (with_reg (with_base v base offset after) dst y)) value ∙ ap (λ (y : Machine). advanced k (with_reg y dst w)) b.view_is ∙ ap (advanced k) (with_reg-is (record v { d = b.d; a = b.a }) dst w);
       }
 
-  pub plain-store : (src : ℕ) (base : Arg) (offset size : ℕ) (after : Bool) (k : ℕ) → traps_at e (access_address m base offset after) size ≡ false → e2.aln ≡ e.aln
+  pub plain-store : (src : ℕ) (base : Arg) (offset size : ℕ) (after : Bool) (k : ℕ) → is_trapping_access e (access_address m base offset after) size ≡ false → e2.aln ≡ e.aln
       → with_bytes view (access_address m base offset after) (reg m src) size ≡ view
       → Plainly m v (does m e (Store src base offset size after) k) (does v e2 (Store src base offset size after) k) (with_bytes m.mem (access_address m base offset after) (reg m src) size) view
   unfolding does
   plain-store src base offset size after k none same_aln same =
       let x = access_address m base offset after in
       let b = based base offset after in
-      let view_none : traps_at e2 (access_address v base offset after) size ≡ false = (λ i. traps_at (record e { aln = same_aln i }) (address-same base offset after i) size) ∙ none in
+      let view_none : is_trapping_access e2 (access_address v base offset after) size ≡ false = (λ i. is_trapping_access (record e { aln = same_aln i }) (address-same base offset after i) size) ∙ none in
       let stays : with_bytes view (access_address v base offset after) (reg v src) size ≡ view = ap (λ y. with_bytes view y (reg m src) size) (address-same base offset after) ∙ same in
       record {
         d = b.d;
         a = b.a;
-        pc = moved m.pc k;
+        pc = machine_address_ahead m.pc k;
         ie = m.ie;
         is = ap (λ t. cond t (misaligned m) (advanced k (record (with_base m base offset after) { mem = with_bytes m.mem x (reg m src) size }))) none
             ∙ ap (λ (y : Machine). advanced k (record y { mem = with_bytes m.mem x (reg m src) size })) b.is;
@@ -185,7 +185,7 @@ module _ (m : Machine) (view : Memory) (pcxi fcx : ℕ) (e e2 : Event) where
 
 -- ---- what they share stays
 -- links of the plan's areas keep their bytes if the areas' bytes are unchanged
-pub SameAreas-inside : {plan : PlanData} → IsPlan plan → (old new : Memory) → ((x : ℕ) → IsInAreas plan x → map.get new x ≡ map.get old x) → (ls : List ℕ) → ((l : ℕ) → times l ls ≤ times l (plan_areas plan)) → SameAreas old new ls
+pub SameAreas-inside : {plan : PlanData} → IsPlan plan → (old new : Memory) → ((x : ℕ) → IsInAreas plan x → map.get new x ≡ map.get old x) → (ls : List ℕ) → ((l : ℕ) → times_in_list l ls ≤ times_in_list l (plan_areas plan)) → SameAreas old new ls
 SameAreas-inside ok old new same [] few = tt
 SameAreas-inside {plan = plan} ok old new same (l ∷ ls) few =
     let first = times-first l ls in
@@ -200,13 +200,13 @@ SameAreas-inside {plan = plan} ok old new same (l ∷ ls) few =
 module _ {plan : PlanData} (ok : IsPlan plan) (Kept : ℕ → Type 0) {n u : ℕ} {word_of : ℕ → ℕ} {chain_of : ℕ → List ℕ} {seen : List ℕ} (m : Machine) (view : Memory) (pcxi fcx : ℕ) (running : m.end ≡ Running)
     (t : Twins plan n u word_of chain_of seen m.mem m.pcxi m.fcx m.lcx view pcxi fcx) where
   -- each chain's links are areas
-  pub chain_in_areas : (w : ℕ) → w < n → (l : ℕ) → times l (chain_of w) ≤ times l (plan_areas plan)
+  pub chain_in_areas : (w : ℕ) → w < n → (l : ℕ) → times_in_list l (chain_of w) ≤ times_in_list l (plan_areas plan)
   chain_in_areas w lt l =
       let all = (t.share).each l in
-      let here = sum_below-at n (λ u. times l (chain_of u)) w lt in
+      let here = sum_below-at n (λ u. times_in_list l (chain_of u)) w lt in
       omega arith
 
-  free_in_areas : (l : ℕ) → times l t.free ≤ times l (plan_areas plan)
+  free_in_areas : (l : ℕ) → times_in_list l t.free ≤ times_in_list l (plan_areas plan)
   free_in_areas l = let all = (t.share).each l in omega arith
 
   SameAreas-refl : (mem : Memory) (ls : List ℕ) → SameAreas mem mem ls

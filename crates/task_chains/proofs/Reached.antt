@@ -9,10 +9,10 @@ use Rattle.tc_isa.specs.declared.shapes.Shape.{Shape}
 use Rattle.tc_isa.specs.declared.shapes.Shape.TheVariants.{Compute, Scaled, Load, Store, Branch, Jump, Call, Ret, Rfe, Svlcx, Rslcx, Bisr, Enable, Disable, Syscall, Mfcr, Mtcr, Nothing}
 use Rattle.tc_machine.specs.declared.events.Event.{Event}
 use Rattle.tc_machine.specs.declared.state.Machine.{Machine}
-use Rattle.tc_machine.specs.Machine.{reg, is_of}
-use Rattle.tc_machine.specs.Instructions.{access_address, traps_at}
+use Rattle.tc_machine.specs.Machine.{reg, is_interrupt_stack_used, IsMachine}
+use Rattle.tc_machine.specs.Instructions.{access_address, is_trapping_access}
 use Rattle.tc_machine.specs.Stepping.{step, run}
-use Rattle.tc_machine.specs.Safe.{IsMachine, Starts, Fits, AllFit, IsSafeAt, Safe}
+use Rattle.tc_machine.specs.Safe.{Starts, Fits, AllFit, IsSafeAt, Safe}
 use Rattle.tcd_plan.specs.Regions.{IsStoreInRange}
 use Rattle.tc_machine.proofs.Stays.{stays_run}
 use Rattle.value_domain.specs.declared.states.State.{State}
@@ -20,7 +20,7 @@ use Rattle.value_domain.specs.Limits.{Limits}
 use Rattle.value_domain.specs.State.{AreValues}
 use Rattle.value_domain.specs.Values.{IsMember}
 use Rattle.vd_transfer.specs.EffectsOnStates.{address_of}
-use Rattle.vd_transfer.specs.Soundness.{IsSetting}
+use Rattle.vd_transfer.specs.Soundness.{IsSoundSetting}
 use Rattle.vd_transfer.proofs.HoldLaws.{address_holds}
 use Rattle.depth_cert.specs.declared.keys.Key.{Key}
 use Rattle.depth_cert.specs.declared.points.Point.{Point}
@@ -86,7 +86,7 @@ LoadsAt b plan s m _ = Unit {0}
 
 -- a store that doesn't trap is in range
 abbrev pub StoresAt : PlanData → Machine → Event → Shape → Type 0
-StoresAt plan m e (Store src base offset size after) = traps_at e (access_address m base offset after) size ≡ false → IsStoreInRange plan (access_address m base offset after, size)
+StoresAt plan m e (Store src base offset size after) = is_trapping_access e (access_address m base offset after) size ≡ false → IsStoreInRange plan (access_address m base offset after, size)
 StoresAt plan m e _ = Unit {0}
 
 -- The point of a state that is reached: the instruction, and what the rules ask of it.
@@ -108,7 +108,7 @@ module _ (image : ImageData) (plan : PlanData) (ok : IsPlan plan) (cert : CertDa
   load_at : (v : Machine) (s : State) (shape : Shape) (size : ℕ) → IsCode image plan v.pc shape size → length s.regs ≡ 27 → AreValues (limits_in plan cert) s.regs → InState plan v s → LoadsAt (limits_in plan cert) plan s v shape
   load_at v s (Load dst base offset size signed after) n code regs values inside =
       let bounded = IsCode-bounded image plan v.pc (Load dst base offset size signed after) n code in
-      let setting : IsSetting (limits_in plan cert) plan s = record { limits = limits_are plan cert.version; plan = ok; regs = regs; values = values } in
+      let setting : IsSoundSetting (limits_in plan cert) plan s = record { limits = limits_are plan cert.version; plan = ok; regs = regs; values = values } in
       rw (address-is v base offset after) (address_holds.load (limits_in plan cert) plan dst base offset size signed after s (reg v) v.ie v.ccpn setting bounded.1 bounded.2 inside)
   load_at v s _ n code regs values inside = tt
 
@@ -169,7 +169,7 @@ module _ (image : ImageData) (plan : PlanData) (ok : IsPlan plan) (cert : CertDa
       absurd h
   some_frame v (f ∷ fs) held r = (f, fs, refl)
 
-  pub is_of_frame : (v : Machine) (f : Standing) (fs : List Standing) → FramesHeld image plan cert → Reached image plan v (f ∷ fs) → is_of v.psw ≡ (f.key).is
+  pub is_of_frame : (v : Machine) (f : Standing) (fs : List Standing) → FramesHeld image plan cert → Reached image plan v (f ∷ fs) → is_interrupt_stack_used v.psw ≡ (f.key).is
   is_of_frame v f fs held r =
       let h0 = held r.from r.events r.starts r.fit in
       let h : HoldFrames plan cert v (f ∷ fs) = subst (λ (x : Machine). HoldFrames plan cert x (f ∷ fs)) (sym r.is) (subst (HoldFrames plan cert (run r.from r.events)) (sym r.frames_are) h0) in

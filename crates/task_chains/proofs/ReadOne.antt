@@ -9,8 +9,8 @@ use Rattle.task_chains.specs.declared.task_lists.Task.{Task}
 use Rattle.task_chains.specs.declared.task_lists.TasksErr.{TasksErr}
 use Rattle.task_chains.specs.declared.task_lists.TasksErr.TheVariants.{BadLine, TooMany, TooFew, NotRam, NoRoom, OnIsp, Count}
 use Rattle.task_chains.specs.Tasks.{TasksData, count}
-use Rattle.task_chains.specs.TaskListText.{places_of, task_of, written, AreSaid, BreaksForm, IsFirstBad, IsBadLine, IsEighth, IsAgainst, IsRefused, Reads, ReadsOne}
-use Rattle.tcd_text.specs.Lines.{is_written}
+use Rattle.task_chains.specs.TaskListText.{places_of, task_of, written_task_lines, AreSaid, BreaksTaskForm, FirstBadTaskLine, IsBadTaskLine, IsEighthTaskLine, IsAgainst, IsRefused, Reads, TaskTextReadsOne}
+use Rattle.tcd_text.specs.Lines.{is_nonempty_line}
 
 abbrev some_task : Task → Option Task
 some_task t = Some t
@@ -47,12 +47,12 @@ cut (b ∷ bs) (a ∷ rest) ys ws x z e lt =
     (c.0, cons_same a b rest (bs ++ x ∷ c.0) (sym (front_same b a (bs ++ x ∷ ys) (rest ++ z ∷ ws) e)) c.1)
 
 -- ---- lines
-written_line : (line : List ℕ) (behind : List (List ℕ)) → line ≢ [] → written (line ∷ behind) ≡ line ∷ written behind
+written_line : (line : List ℕ) (behind : List (List ℕ)) → line ≢ [] → written_task_lines (line ∷ behind) ≡ line ∷ written_task_lines behind
 written_line [] behind some = absurd (some refl)
 written_line (c ∷ cs) behind some = refl
 
-written_split : (before behind : List (List ℕ)) (line : List ℕ) → line ≢ [] → written (before ++ line ∷ behind) ≡ written before ++ line ∷ written behind
-written_split before behind line some = filter-append is_written before (line ∷ behind) ∙ ap (λ l. written before ++ l) (written_line line behind some)
+written_split : (before behind : List (List ℕ)) (line : List ℕ) → line ≢ [] → written_task_lines (before ++ line ∷ behind) ≡ written_task_lines before ++ line ∷ written_task_lines behind
+written_split before behind line some = filter-append is_nonempty_line before (line ∷ behind) ∙ ap (λ l. written_task_lines before ++ l) (written_line line behind some)
 
 -- each of the lines that name tasks names one, and there are more tasks than lines before it
 named_at : (xs ys : List (List ℕ)) (line : List ℕ) (list : List Task) → map task_of (xs ++ line ∷ ys) ≡ map some_task list → (task_of line ≡ None → ⊥) × (length xs < length list)
@@ -86,17 +86,17 @@ said_one lines t s a b =
 
 module _ (before behind : List (List ℕ)) (line : List ℕ) (some : line ≢ []) (t : TasksData) (said : AreSaid (before ++ line ∷ behind) t) where
   -- the lines after the first, if the lines before this one name tasks
-  behind_is : (s : TasksData) (front : AreSaid before s) → said.behind ≡ front.behind ++ line ∷ written behind
+  behind_is : (s : TasksData) (front : AreSaid before s) → said.behind ≡ front.behind ++ line ∷ written_task_lines behind
   behind_is s front =
-      rest_same said.first front.first said.behind (front.behind ++ line ∷ written behind)
-      (sym said.split ∙ written_split before behind line some ∙ ap (λ l. l ++ line ∷ written behind) front.split)
+      rest_same said.first front.first said.behind (front.behind ++ line ∷ written_task_lines behind)
+      (sym said.split ∙ written_split before behind line some ∙ ap (λ l. l ++ line ∷ written_task_lines behind) front.split)
 
   named_here : (s : TasksData) (front : AreSaid before s) → (task_of line ≡ None → ⊥) × (length front.behind < length t.list)
-  named_here s front = named_at front.behind (written behind) line t.list (ap (λ (l : List (List ℕ)). map task_of l) (sym (behind_is s front)) ∙ said.named)
+  named_here s front = named_at front.behind (written_task_lines behind) line t.list (ap (λ (l : List (List ℕ)). map task_of l) (sym (behind_is s front)) ∙ said.named)
 
-  good_front : ((written before ≡ []) × (places_of line ≡ None)) ⊎ (((s : TasksData) × AreSaid before s) × (task_of line ≡ None)) → ⊥
+  good_front : ((written_task_lines before ≡ []) × (places_of line ≡ None)) ⊎ (((s : TasksData) × AreSaid before s) × (task_of line ≡ None)) → ⊥
   good_front (inl (none, bad)) =
-      let first = front_same said.first line said.behind (written behind) (sym said.split ∙ written_split before behind line some ∙ ap (λ l. l ++ line ∷ written behind) none) in
+      let first = front_same said.first line said.behind (written_task_lines behind) (sym said.split ∙ written_split before behind line some ∙ ap (λ l. l ++ line ∷ written_task_lines behind) none) in
       let p : Places = record { switch = t.switch; block = t.block } in
       absurd (let f : None ≡ Some p = sym bad ∙ ap places_of (sym first) ∙ said.places in cc)
   good_front (inr ((s, front), bad)) = (named_here s front).0 bad
@@ -108,48 +108,48 @@ module _ (before behind : List (List ℕ)) (line : List ℕ) (some : line ≢ []
       omega (arith, lt, size, length-map front.behind task_of, length-map s.list some_task)
 
 -- ---- one bad line
-said_or_bad : (lines : List (List ℕ)) (t : TasksData) (n : ℕ) → AreSaid lines t → IsBadLine lines n → ⊥
+said_or_bad : (lines : List (List ℕ)) (t : TasksData) (n : ℕ) → AreSaid lines t → IsBadTaskLine lines n → ⊥
 said_or_bad lines t n said (inl (none, at)) = absurd (let f : said.first ∷ said.behind ≡ [] = sym said.split ∙ none in cc)
 said_or_bad lines t n said (inr bad) = good_front bad.before bad.behind bad.line (bad.breaks).0 t (subst (λ l. AreSaid l t) bad.split said) (bad.breaks).1
 
 -- lines that are of the right form so far
-not_before : (before mid : List (List ℕ)) (line other : List ℕ) → BreaksForm (before ++ line ∷ mid) other → BreaksForm before line → ⊥
-not_before before mid line other (some, inl (none, bad)) breaks = not_nothing (written before) (written mid) line (sym (written_split before mid line breaks.0) ∙ none)
+not_before : (before mid : List (List ℕ)) (line other : List ℕ) → BreaksTaskForm (before ++ line ∷ mid) other → BreaksTaskForm before line → ⊥
+not_before before mid line other (some, inl (none, bad)) breaks = not_nothing (written_task_lines before) (written_task_lines mid) line (sym (written_split before mid line breaks.0) ∙ none)
 not_before before mid line other (some, inr ((s, said), bad)) breaks = good_front before mid line breaks.0 s said breaks.1
 
-first_one : (lines : List (List ℕ)) (n m : ℕ) → IsFirstBad lines n → IsFirstBad lines m → n ≡ m
+first_one : (lines : List (List ℕ)) (n m : ℕ) → FirstBadTaskLine lines n → FirstBadTaskLine lines m → n ≡ m
 first_one lines n m a b =
     elim (cases_lt (length a.before) (length b.before)) [
       | inl less ↦
           let c = cut a.before b.before a.behind b.behind a.line b.line (sym a.split ∙ b.split) less in
-          absurd (not_before a.before c.0 a.line b.line (subst (λ l. BreaksForm l b.line) c.1 b.breaks) a.breaks)
+          absurd (not_before a.before c.0 a.line b.line (subst (λ l. BreaksTaskForm l b.line) c.1 b.breaks) a.breaks)
       | inr from ↦ elim (cases_lt (length b.before) (length a.before)) [
         | inl less ↦
             let c = cut b.before a.before b.behind a.behind b.line a.line (sym b.split ∙ a.split) less in
-            absurd (not_before b.before c.0 b.line a.line (subst (λ l. BreaksForm l a.line) c.1 a.breaks) b.breaks)
+            absurd (not_before b.before c.0 b.line a.line (subst (λ l. BreaksTaskForm l a.line) c.1 a.breaks) b.breaks)
         | inr past ↦ omega (arith, a.at, b.at)
       ]
     ]
 
-bad_one : (lines : List (List ℕ)) (n m : ℕ) → IsBadLine lines n → IsBadLine lines m → n ≡ m
+bad_one : (lines : List (List ℕ)) (n m : ℕ) → IsBadTaskLine lines n → IsBadTaskLine lines m → n ≡ m
 bad_one lines n m (inl a) (inl b) = a.1 ∙ sym b.1
-bad_one lines n m (inl a) (inr b) = absurd (not_nothing (written b.before) (written b.behind) b.line (sym (written_split b.before b.behind b.line (b.breaks).0) ∙ ap written (sym b.split) ∙ a.0))
-bad_one lines n m (inr a) (inl b) = absurd (not_nothing (written a.before) (written a.behind) a.line (sym (written_split a.before a.behind a.line (a.breaks).0) ∙ ap written (sym a.split) ∙ b.0))
+bad_one lines n m (inl a) (inr b) = absurd (not_nothing (written_task_lines b.before) (written_task_lines b.behind) b.line (sym (written_split b.before b.behind b.line (b.breaks).0) ∙ ap written_task_lines (sym b.split) ∙ a.0))
+bad_one lines n m (inr a) (inl b) = absurd (not_nothing (written_task_lines a.before) (written_task_lines a.behind) a.line (sym (written_split a.before a.behind a.line (a.breaks).0) ∙ ap written_task_lines (sym a.split) ∙ b.0))
 bad_one lines n m (inr a) (inr b) = first_one lines n m a b
 
 -- ---- one thing against tasks
 module _ (lines : List (List ℕ)) where
-  many : (t : TasksData) (n : ℕ) → AreSaid lines t → IsEighth lines n → 8 ≤ count t
+  many : (t : TasksData) (n : ℕ) → AreSaid lines t → IsEighthTaskLine lines n → 8 ≤ count t
   many t n said e = eight_said e.before e.behind e.line e.some t (subst (λ l. AreSaid l t) e.split said) e.seven e.said e.many
 
-  longer : (n m : ℕ) (a : IsEighth lines n) (b : IsEighth lines m) → length a.before < length b.before → ⊥
+  longer : (n m : ℕ) (a : IsEighthTaskLine lines n) (b : IsEighthTaskLine lines m) → length a.before < length b.before → ⊥
   longer n m a b less =
       let c = cut a.before b.before a.behind b.behind a.line b.line (sym a.split ∙ b.split) less in
       let le = eight_said a.before c.0 a.line a.some b.seven (subst (λ l. AreSaid l b.seven) c.1 b.said) a.seven a.said a.many in
       let seven = b.many in
       absurd (omega arith)
 
-  eighth_one : (n m : ℕ) → IsEighth lines n → IsEighth lines m → n ≡ m
+  eighth_one : (n m : ℕ) → IsEighthTaskLine lines n → IsEighthTaskLine lines m → n ≡ m
   eighth_one n m a b =
       elim (cases_lt (length a.before) (length b.before)) [
         | inl less ↦ absurd (longer n m a b less)
@@ -160,7 +160,7 @@ module _ (lines : List (List ℕ)) where
       ]
 
 module _ (plan : PlanData) (lines : List (List ℕ)) (t : TasksData) (said : AreSaid lines t) where
-  many_few : (n : ℕ) → IsEighth lines n → count t ≤ 7 → ⊥
+  many_few : (n : ℕ) → IsEighthTaskLine lines n → count t ≤ 7 → ⊥
   many_few n e few = let le = many lines t n said e in absurd (omega arith)
 
   one_against : (e f : TasksErr) → IsAgainst plan lines t e → IsAgainst plan lines t f → e ≡ f
@@ -204,7 +204,7 @@ module _ (plan : PlanData) (lines : List (List ℕ)) (t : TasksData) (said : Are
 
 -- ---- one answer
 module _ (plan : PlanData) (lines : List (List ℕ)) where
-  refusal : (e : TasksErr) → IsRefused plan lines e → ((n : ℕ) × (e ≡ BadLine n) × IsBadLine lines n) ⊎ ((t : TasksData) × AreSaid lines t × IsAgainst plan lines t e)
+  refusal : (e : TasksErr) → IsRefused plan lines e → ((n : ℕ) × (e ≡ BadLine n) × IsBadTaskLine lines n) ⊎ ((t : TasksData) × AreSaid lines t × IsAgainst plan lines t e)
   refusal (BadLine n) bad = inl (n, refl, bad)
   refusal _ bad = inr bad
 
@@ -237,7 +237,7 @@ module _ (plan : PlanData) (lines : List (List ℕ)) where
       by_error OnIsp a = absurd (let f : true ≡ false = sym a.3 ∙ (good.fit).own_stack in cc)
       by_error Count a = a
 
-pub reads_one : ReadsOne
+pub reads_one : TaskTextReadsOne
 reads_one plan lines (Ok t) (Ok s) a b = ap Ok (said_one lines t s a.said b.said)
 reads_one plan lines (Ok t) (Err f) a b = absurd (good_or_not plan lines t f a b)
 reads_one plan lines (Err e) (Ok s) a b = absurd (good_or_not plan lines s e b a)

@@ -5,7 +5,7 @@ use Rattle.std.proofs.lemmas.Bool.{cases_lt}
 use Rattle.std.proofs.lemmas.List.{take_all}
 use Rattle.tcd_plan.specs.PlanData.{PlanData}
 use Rattle.tcd_base.specs.declared.range.Range.{Range}
-use Rattle.tcd_base.specs.Ranges.{is_within, IsInOne}
+use Rattle.tcd_base.specs.Ranges.{is_within_range, IsInOneRange}
 use Rattle.store_ranges.proofs.RomLaws.{any_one, one_any}
 use Rattle.task_chains.specs.declared.lines.Places.{Places}
 use Rattle.task_chains.specs.declared.task_lists.Task.{Task}
@@ -41,9 +41,9 @@ module _ (plan : PlanData) (lines : List (List ℕ)) where
   all_read tasks said are fit = record { said = said; are = are; fit = fit }
 
 -- ---- the tests under a plan
-pub in_one : (b : Bool) (at n : ℕ) (rs ss : List Range) → rs ≡ ss → b ≡ list_any (is_within at n) rs → (IsTrue b → IsInOne at n ss) × (IsInOne at n ss → IsTrue b)
+pub in_one : (b : Bool) (at n : ℕ) (rs ss : List Range) → rs ≡ ss → b ≡ list_any (is_within_range at n) rs → (IsTrue b → IsInOneRange at n ss) × (IsInOneRange at n ss → IsTrue b)
 in_one b at n rs ss same t =
-    let P : List Range → Type 0 = λ l. (IsTrue b → IsInOne at n l) × (IsInOne at n l → IsTrue b) in
+    let P : List Range → Type 0 = λ l. (IsTrue b → IsInOneRange at n l) × (IsInOneRange at n l → IsTrue b) in
     subst P same (λ h. any_one at n rs (sym t ∙ h), λ h. t ∙ one_any at n rs h)
 
 -- what a test denies doesn't hold

@@ -20,16 +20,16 @@ use Rattle.tc_isa.specs.declared.shapes.Op.TheVariants.{Second, Add}
 use Rattle.tc_isa.specs.declared.shapes.Cond.TheVariants as cond
 use Rattle.tc_isa.specs.declared.shapes.Shape.{Shape}
 use Rattle.tc_isa.specs.declared.shapes.Shape.TheVariants.{Compute, Scaled, Load, Store, Branch, Ret, Svlcx, Rslcx, Disable, Mfcr, Mtcr, Nothing}
-use Rattle.tcd_base.specs.Ranges.{IsInOne}
+use Rattle.tcd_base.specs.Ranges.{IsInOneRange}
 use Rattle.cfg_recover.specs.Code.{IsCode}
-use Rattle.task_chains.specs.Tasks.{TasksData, AreTasks, count, routine_size}
+use Rattle.task_chains.specs.Tasks.{TasksData, AreTasks, count}
+use Rattle.task_chains.specs.SwitchRoutine.{routine_size, routine_bytes, view_routine_bytes, HasRoutine}
 use Rattle.tc_isa.specs.NamedInstructions.{disable, svlcx, isync, rslcx, ret, nop, movh_a, lea_l, ld_w_l, st_w_l, addsc_a, mfcr, mtcr, addi, mov, jne, upper_half, lower_half}
-use Rattle.task_chains.specs.SwitchRoutine.{routine_bytes, view_routine_bytes, HasRoutine}
 use Rattle.task_chains.specs.Views.{is_in_routine, view_image_of}
 use Rattle.task_chains.proofs.ViewImage.{seen_byte, view_byte}
 
 -- an instruction of four bytes whose spelling is at p
-code_at : (image : ImageData) (plan : PlanData) (p : ℕ) (r : RowData) (inst : InstData) (shape : Shape) → p % 2 ≡ 0 → slice_get listed inst.row ≡ Some r → Fits r (fields_in inst) → is_long r ≡ true → shape_of inst ≡ shape → IsInOne p 4 plan.rom
+code_at : (image : ImageData) (plan : PlanData) (p : ℕ) (r : RowData) (inst : InstData) (shape : Shape) → p % 2 ≡ 0 → slice_get listed inst.row ≡ Some r → Fits r (fields_in inst) → is_long r ≡ true → shape_of inst ≡ shape → IsInOneRange p 4 plan.rom
     → ((j : ℕ) → j < 4 → image_byte image (p + j) ≡ Some (slice_index (spelling r (fields_in inst)) j)) → IsCode image plan p shape 4
 code_at image plan p r inst shape even listed_is fits long is in_rom held =
     let four : length (spelling r (fields_in inst)) ≡ 4 = ap (λ t. length (spelling_of t (word_of r (fields_in inst)))) long in
@@ -39,7 +39,7 @@ code_at image plan p r inst shape even listed_is fits long is in_rom held =
       inst = inst;
       spells = record {
         spelled = record { inst = record { row = r; at = listed_is; fits = fits }; is = refl };
-        in_rom = subst (λ k. IsInOne p k plan.rom) (sym four) in_rom;
+        in_rom = subst (λ k. IsInOneRange p k plan.rom) (sym four) in_rom;
         held = λ i lt. held i (omega arith);
       };
       shaped = is;
@@ -54,10 +54,10 @@ below_4 P p0 p1 p2 p3 (suc (suc (suc zero))) lt = p3
 below_4 P p0 p1 p2 p3 (suc (suc (suc (suc j)))) lt = absurd (omega arith)
 
 -- four bytes of a range
-inner : (y p k : ℕ) (plan : PlanData) → IsInOne y 72 plan.rom → y ≤ p → p + 4 ≤ y + 72 → IsInOne p 4 plan.rom
+inner : (y p k : ℕ) (plan : PlanData) → IsInOneRange y 72 plan.rom → y ≤ p → p + 4 ≤ y + 72 → IsInOneRange p 4 plan.rom
 inner y p k plan h low high = by_list plan.rom h
   where
-    by_list : (rs : List Range) → IsInOne y 72 rs → IsInOne p 4 rs
+    by_list : (rs : List Range) → IsInOneRange y 72 rs → IsInOneRange p 4 rs
     by_list [] none = absurd none
     by_list (r ∷ rs) (inl w) = inl (let a = w.0 in omega arith, let c = w.1 in omega arith)
     by_list (r ∷ rs) (inr rest) = inr (by_list rs rest)
@@ -69,7 +69,7 @@ module _ (image : ImageData) (plan : PlanData) (tasks : TasksData) (are : AreTas
   abbrev b : ℕ
   b = tasks.block
 
-  whole : IsInOne tasks.switch 72 plan.rom
+  whole : IsInOneRange tasks.switch 72 plan.rom
   whole = (has 71 (omega arith)).in_rom
 
   place : (i j : ℕ) → tasks.switch + (4 * i + j) ≡ tasks.switch + 4 * i + j

@@ -11,8 +11,8 @@ use Rattle.tc_isa.specs.declared.shapes.Shape.TheVariants.{Load, Store, Mfcr, Mt
 use Rattle.tc_machine.specs.declared.events.Event.{Event}
 use Rattle.tc_machine.specs.declared.events.End.TheVariants.{Running}
 use Rattle.tc_machine.specs.declared.state.Machine.{Machine}
-use Rattle.tc_machine.specs.Machine.{reg, with_reg, moved}
-use Rattle.tc_machine.specs.Instructions.{advanced, traps_at, misaligned, core_register, does}
+use Rattle.tc_machine.specs.Machine.{reg, with_reg, machine_address_ahead}
+use Rattle.tc_machine.specs.Instructions.{advanced, is_trapping_access, misaligned, core_register, does}
 use Rattle.tc_machine.specs.Fetching.{fetched}
 use Rattle.tc_machine.specs.Stepping.{is_taken, step}
 use Rattle.tc_machine.proofs.Steps.{with_event, step_does}
@@ -94,17 +94,17 @@ module _ (m : Machine) (view : Memory) (pcxi fcx : ℕ) (e e2 : Event) where
   v = seen_as m view pcxi fcx
 
   -- the machine loads a word; the view reads a core register that is an input
-  pub plain-taken : (dst r offset number k : ℕ) → traps_at e (moved (reg m r) offset) 4 ≡ false → core_register v e2 number ≡ load_number m.mem e.input (moved (reg m r) offset) 4
+  pub plain-taken : (dst r offset number k : ℕ) → is_trapping_access e (machine_address_ahead (reg m r) offset) 4 ≡ false → core_register v e2 number ≡ load_number m.mem e.input (machine_address_ahead (reg m r) offset) 4
       → Plainly m v (does m e (Load dst (Reg r) offset 4 false false) k) (does v e2 (Mfcr dst number) k) m.mem view
   unfolding does
   plain-taken dst r offset number k none same =
-      let p = set_one m view pcxi fcx e e2 k dst (load_number m.mem e.input (moved (reg m r) offset) 4) (core_register v e2 number) same in
+      let p = set_one m view pcxi fcx e e2 k dst (load_number m.mem e.input (machine_address_ahead (reg m r) offset) 4) (core_register v e2 number) same in
       record {
         d = p.d;
         a = p.a;
         pc = p.pc;
         ie = p.ie;
-        is = ap (λ t. cond t (misaligned m) (advanced k (with_reg m dst (load_number m.mem e.input (moved (reg m r) offset) 4)))) none ∙ p.is;
+        is = ap (λ t. cond t (misaligned m) (advanced k (with_reg m dst (load_number m.mem e.input (machine_address_ahead (reg m r) offset) 4)))) none ∙ p.is;
         view_is = p.view_is;
       }
 
@@ -114,15 +114,15 @@ module _ (m : Machine) (view : Memory) (pcxi fcx : ℕ) (e e2 : Event) where
   plain-pcxi dst number k same = set_one m view pcxi fcx e e2 k dst m.pcxi (core_register v e2 number) same
 
   -- the machine stores a word; the view does nothing
-  pub plain-put : (src r offset k : ℕ) → traps_at e (moved (reg m r) offset) 4 ≡ false
-      → Plainly m v (does m e (Store src (Reg r) offset 4 false) k) (does v e2 Nothing k) (with_bytes m.mem (moved (reg m r) offset) (reg m src) 4) view
+  pub plain-put : (src r offset k : ℕ) → is_trapping_access e (machine_address_ahead (reg m r) offset) 4 ≡ false
+      → Plainly m v (does m e (Store src (Reg r) offset 4 false) k) (does v e2 Nothing k) (with_bytes m.mem (machine_address_ahead (reg m r) offset) (reg m src) 4) view
   unfolding does
   plain-put src r offset k none = record {
     d = m.d;
     a = m.a;
-    pc = moved m.pc k;
+    pc = machine_address_ahead m.pc k;
     ie = m.ie;
-    is = ap (λ t. cond t (misaligned m) (advanced k (record m { mem = with_bytes m.mem (moved (reg m r) offset) (reg m src) 4 }))) none;
+    is = ap (λ t. cond t (misaligned m) (advanced k (record m { mem = with_bytes m.mem (machine_address_ahead (reg m r) offset) (reg m src) 4 }))) none;
     view_is = refl;
   }
 
@@ -130,7 +130,7 @@ module _ (m : Machine) (view : Memory) (pcxi fcx : ℕ) (e e2 : Event) where
 -- The machine with the next task's word in PCXI: what the tasks share is unchanged, that task owns
 -- PCXI and has the view that it had, and the task that gave way is one that waits.
 pub record Switched (plan : PlanData) (n w : ℕ) (word_of : ℕ → ℕ) (chain_of : ℕ → List ℕ) (m m2 : Machine) (u : ℕ) (seen seen2 : List ℕ) (old_view : Memory) (old_pcxi old_fcx : ℕ) (view : Memory) (view_pcxi view_fcx : ℕ) : Type 0 where
-  pub pc : m2.pc ≡ moved m.pc 4
+  pub pc : m2.pc ≡ machine_address_ahead m.pc 4
   pub pcxi : m2.pcxi ≡ word_of w
   pub mem : m2.mem ≡ m.mem
   pub twins : Twins plan n w word_of chain_of seen2 m2.mem m2.pcxi m2.fcx m2.lcx view view_pcxi view_fcx

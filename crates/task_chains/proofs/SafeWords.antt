@@ -9,35 +9,35 @@ use Rattle.csa_chain.specs.Chain.{link_address, area_word}
 use Rattle.csa_chain.proofs.ChainLaws.{Links, are_mapped_each, are_mapped_from, chain_within-Links, Links-chain_within}
 use Rattle.csa_chain.proofs.SeveralLaws.{sum_below-at, cond_same, cond_other}
 use Rattle.tcd_base.specs.declared.range.Range.{Range}
-use Rattle.tcd_base.specs.Ranges.{IsInOne}
+use Rattle.tcd_base.specs.Ranges.{IsInOneRange}
 use Rattle.tcd_base.proofs.RangeLaws.{IsInOne-front, IsInOne-behind}
 use Rattle.tcd_plan.specs.declared.plans.Device.{Device}
-use Rattle.tcd_plan.specs.PlanData.{PlanData, IsPlan, ranges_apart, all_apart, areas_range}
+use Rattle.tcd_plan.specs.PlanData.{PlanData, IsPlan, are_ranges_apart, are_all_ranges_apart, areas_range}
 use Rattle.tcd_plan.specs.Regions.{IsInDevice, IsStoreInRange}
 use Rattle.tc_machine.specs.declared.events.Event.{Event}
 use Rattle.tc_machine.specs.declared.state.Machine.{Machine}
 use Rattle.tc_machine.specs.PlanAreas.{first_link, plan_areas}
 use Rattle.tc_machine.specs.Stepping.{step, run, stored}
 use Rattle.tc_machine.specs.Safe.{Fits, AllFit}
-use Rattle.tc_machine.specs.MachineLaws.{IsWalk, LiesInRange, first_events}
+use Rattle.tc_machine.specs.MachineLaws.{IsAreaWalk, LiesInRange, first_events}
 use Rattle.tc_machine.proofs.Guards.{every_run}
 use Rattle.tc_machine.proofs.PlanLaws.{length-links_up}
 use Rattle.task_chains.specs.declared.task_lists.Task.{Task}
 use Rattle.task_chains.specs.Tasks.{TasksData}
-use Rattle.task_chains.specs.TaskStarts.{block_word, current}
-use Rattle.task_chains.specs.SafeTasks.{before, owner, chain_word, IsTaskStore, AreSafeAt}
-use Rattle.task_chains.specs.SafeTasksInWords.{OwnsChain, IsStoreApart, HasTaskParts, SafeTasksSay, PartsAreSafe}
+use Rattle.task_chains.specs.TaskStarts.{block_word, current_task}
+use Rattle.task_chains.specs.SafeTasks.{task_before, owner, chain_word, IsTaskStore, AreSafeAt}
+use Rattle.task_chains.specs.SafeTasksInWords.{OwnsChain, IsSafeTaskStore, HasSafeTaskParts, SafeTasksSay, TaskPartsAreSafe}
 use Rattle.task_chains.proofs.Places.{sum_below-less, place_of, among, one_place, area_times, area_of, each_of}
 use Rattle.task_chains.proofs.Together.{owner_now, place_here}
 use Rattle.task_chains.proofs.Twins.{areas_once}
 use Rattle.task_chains.proofs.ViewPlan.{ranges_of}
 
 -- ---- chains as walks
-walks : (mem : Memory) (word : ℕ) (ls : List ℕ) → Links mem word ls → IsWalk mem word ls
+walks : (mem : Memory) (word : ℕ) (ls : List ℕ) → Links mem word ls → IsAreaWalk mem word ls
 walks mem word [] h = h
 walks mem word (l ∷ ls) h = (h.0, h.1, λ i lt. are_mapped_each mem (link_address l) 64 h.2 i lt, walks mem (area_word mem l 0) ls h.3)
 
-links_of : (mem : Memory) (word : ℕ) (ls : List ℕ) → IsWalk mem word ls → Links mem word ls
+links_of : (mem : Memory) (word : ℕ) (ls : List ℕ) → IsAreaWalk mem word ls → Links mem word ls
 links_of mem word [] h = h
 links_of mem word (l ∷ ls) h = (h.0, h.1, are_mapped_from mem (link_address l) 64 h.2, links_of mem (area_word mem l 0) ls h.3)
 
@@ -45,32 +45,32 @@ links_of mem word (l ∷ ls) h = (h.0, h.1, are_mapped_from mem (link_address l)
 later : (r : Range) (rs : List Range) (x n : ℕ) → LiesInRange rs x n → LiesInRange (r ∷ rs) x n
 later r rs x n h = record { place = suc h.place; range = h.range; there = h.there; from = h.from; to = h.to }
 
-lies_in : (rs : List Range) (x n : ℕ) → IsInOne x n rs → LiesInRange rs x n
+lies_in : (rs : List Range) (x n : ℕ) → IsInOneRange x n rs → LiesInRange rs x n
 lies_in [] x n h = absurd h
 lies_in (r ∷ rs) x n (inl h) = record { place = 0; range = r; there = refl; from = h.0; to = h.1 }
 lies_in (r ∷ rs) x n (inr h) = later r rs x n (lies_in rs x n h)
 
-in_one_at : (rs : List Range) (x n k : ℕ) (r : Range) → slice_get rs k ≡ Some r → r.at ≤ x → x + n ≤ r.at + r.len → IsInOne x n rs
+in_one_at : (rs : List Range) (x n k : ℕ) (r : Range) → slice_get rs k ≡ Some r → r.at ≤ x → x + n ≤ r.at + r.len → IsInOneRange x n rs
 in_one_at [] x n k r is low high = absurd (let none : let o : Option Range = None in o ≡ Some r = is in cc)
 in_one_at (s ∷ rs) x n zero r is low high =
     let same : s ≡ r = cc in
     inl (subst (λ (z : Range). z.at ≤ x) (sym same) low, subst (λ (z : Range). x + n ≤ z.at + z.len) (sym same) high)
 in_one_at (s ∷ rs) x n (suc k) r is low high = inr (in_one_at rs x n k r is low high)
 
-in_device_at : (ds : List Device) (x n : ℕ) → IsInOne x n (map (λ (d : Device). d.range) ds) → IsInDevice x n ds
+in_device_at : (ds : List Device) (x n : ℕ) → IsInOneRange x n (map (λ (d : Device). d.range) ds) → IsInDevice x n ds
 in_device_at [] x n h = h
 in_device_at (d ∷ ds) x n (inl h) = inl h
 in_device_at (d ∷ ds) x n (inr h) = inr (in_device_at ds x n h)
 
 -- addresses inside one range are below each range that is apart from it, or above
-beside : (x n : ℕ) (r s : Range) → ranges_apart r s ≡ true → r.at ≤ x → x + n ≤ r.at + r.len → (x + n ≤ s.at) ⊎ (s.at + s.len ≤ x)
+beside : (x n : ℕ) (r s : Range) → are_ranges_apart r s ≡ true → r.at ≤ x → x + n ≤ r.at + r.len → (x + n ≤ s.at) ⊎ (s.at + s.len ≤ x)
 beside x n r s apart low high =
     elim (or_cases (nat_le (r.at + r.len) s.at) (nat_le (s.at + s.len) r.at) apart) [
       | inl below ↦ inl (let le = leb-true (r.at + r.len) s.at below in omega arith)
       | inr above ↦ inr (let le = leb-true (s.at + s.len) r.at above in omega arith)
     ]
 
-beside_other : (x n : ℕ) (r s : Range) → ranges_apart s r ≡ true → r.at ≤ x → x + n ≤ r.at + r.len → (x + n ≤ s.at) ⊎ (s.at + s.len ≤ x)
+beside_other : (x n : ℕ) (r s : Range) → are_ranges_apart s r ≡ true → r.at ≤ x → x + n ≤ r.at + r.len → (x + n ≤ s.at) ⊎ (s.at + s.len ≤ x)
 beside_other x n r s apart low high =
     elim (or_cases (nat_le (s.at + s.len) r.at) (nat_le (r.at + r.len) s.at) apart) [
       | inl above ↦ inr (let le = leb-true (s.at + s.len) r.at above in omega arith)
@@ -78,35 +78,35 @@ beside_other x n r s apart low high =
     ]
 
 -- addresses inside one of the first ranges, compared with the last one
-beside_last : (x n : ℕ) (rs : List Range) (s : Range) → all_apart (rs ++ s ∷ []) ≡ true → IsInOne x n rs → (x + n ≤ s.at) ⊎ (s.at + s.len ≤ x)
+beside_last : (x n : ℕ) (rs : List Range) (s : Range) → are_all_ranges_apart (rs ++ s ∷ []) ≡ true → IsInOneRange x n rs → (x + n ≤ s.at) ⊎ (s.at + s.len ≤ x)
 beside_last x n [] s apart h = absurd h
 beside_last x n (r ∷ rs) s apart (inl h) =
-    let each = (and_parts (list_all (ranges_apart r) (rs ++ s ∷ [])) (all_apart (rs ++ s ∷ [])) apart).0 in
-    let last = (and_parts (list_all (ranges_apart r) rs) (list_all (ranges_apart r) (s ∷ [])) (sym (list_all-append (ranges_apart r) rs (s ∷ [])) ∙ each)).1 in
-    beside x n r s (and_parts (ranges_apart r s) true last).0 h.0 h.1
-beside_last x n (r ∷ rs) s apart (inr h) = beside_last x n rs s (and_parts (list_all (ranges_apart r) (rs ++ s ∷ [])) (all_apart (rs ++ s ∷ [])) apart).1 h
+    let each = (and_parts (list_all (are_ranges_apart r) (rs ++ s ∷ [])) (are_all_ranges_apart (rs ++ s ∷ [])) apart).0 in
+    let last = (and_parts (list_all (are_ranges_apart r) rs) (list_all (are_ranges_apart r) (s ∷ [])) (sym (list_all-append (are_ranges_apart r) rs (s ∷ [])) ∙ each)).1 in
+    beside x n r s (and_parts (are_ranges_apart r s) true last).0 h.0 h.1
+beside_last x n (r ∷ rs) s apart (inr h) = beside_last x n rs s (and_parts (list_all (are_ranges_apart r) (rs ++ s ∷ [])) (are_all_ranges_apart (rs ++ s ∷ [])) apart).1 h
 
 -- addresses inside one of several ranges, compared with one that is apart from them all
-beside_each : (x n : ℕ) (s : Range) (rs : List Range) → list_all (ranges_apart s) rs ≡ true → IsInOne x n rs → (x + n ≤ s.at) ⊎ (s.at + s.len ≤ x)
+beside_each : (x n : ℕ) (s : Range) (rs : List Range) → list_all (are_ranges_apart s) rs ≡ true → IsInOneRange x n rs → (x + n ≤ s.at) ⊎ (s.at + s.len ≤ x)
 beside_each x n s [] apart h = absurd h
-beside_each x n s (r ∷ rs) apart (inl h) = beside_other x n r s (and_parts (ranges_apart s r) (list_all (ranges_apart s) rs) apart).0 h.0 h.1
-beside_each x n s (r ∷ rs) apart (inr h) = beside_each x n s rs (and_parts (ranges_apart s r) (list_all (ranges_apart s) rs) apart).1 h
+beside_each x n s (r ∷ rs) apart (inl h) = beside_other x n r s (and_parts (are_ranges_apart s r) (list_all (are_ranges_apart s) rs) apart).0 h.0 h.1
+beside_each x n s (r ∷ rs) apart (inr h) = beside_each x n s rs (and_parts (are_ranges_apart s r) (list_all (are_ranges_apart s) rs) apart).1 h
 
 -- addresses inside one of the later ranges, compared with each of the first ones
-beside_first : (x n : ℕ) (rs ss : List Range) (k : ℕ) (s : Range) → all_apart (rs ++ ss) ≡ true → slice_get rs k ≡ Some s → IsInOne x n ss → (x + n ≤ s.at) ⊎ (s.at + s.len ≤ x)
+beside_first : (x n : ℕ) (rs ss : List Range) (k : ℕ) (s : Range) → are_all_ranges_apart (rs ++ ss) ≡ true → slice_get rs k ≡ Some s → IsInOneRange x n ss → (x + n ≤ s.at) ⊎ (s.at + s.len ≤ x)
 beside_first x n [] ss k s apart is h = absurd (let none : let o : Option Range = None in o ≡ Some s = is in cc)
 beside_first x n (r ∷ rs) ss zero s apart is h =
     let same : r ≡ s = cc in
-    let each = (and_parts (list_all (ranges_apart r) (rs ++ ss)) (all_apart (rs ++ ss)) apart).0 in
-    let rest = (and_parts (list_all (ranges_apart r) rs) (list_all (ranges_apart r) ss) (sym (list_all-append (ranges_apart r) rs ss) ∙ each)).1 in
-    beside_each x n s ss (subst (λ (z : Range). list_all (ranges_apart z) ss ≡ true) same rest) h
-beside_first x n (r ∷ rs) ss (suc k) s apart is h = beside_first x n rs ss k s (and_parts (list_all (ranges_apart r) (rs ++ ss)) (all_apart (rs ++ ss)) apart).1 is h
+    let each = (and_parts (list_all (are_ranges_apart r) (rs ++ ss)) (are_all_ranges_apart (rs ++ ss)) apart).0 in
+    let rest = (and_parts (list_all (are_ranges_apart r) rs) (list_all (are_ranges_apart r) ss) (sym (list_all-append (are_ranges_apart r) rs ss) ∙ each)).1 in
+    beside_each x n s ss (subst (λ (z : Range). list_all (are_ranges_apart z) ss ≡ true) same rest) h
+beside_first x n (r ∷ rs) ss (suc k) s apart is h = beside_first x n rs ss k s (and_parts (list_all (are_ranges_apart r) (rs ++ ss)) (are_all_ranges_apart (rs ++ ss)) apart).1 is h
 
 module _ {plan : PlanData} (ok : IsPlan plan) (x n : ℕ) (at : IsStoreInRange plan (x, n)) where
   abbrev devices : List Range
   devices = map (λ (d : Device). d.range) plan.devices
 
-  in_behind : IsInOne x n (plan.ram ++ devices)
+  in_behind : IsInOneRange x n (plan.ram ++ devices)
   in_behind =
       elim at.1 [
         | inl ram ↦ IsInOne-front x n plan.ram devices ram
@@ -120,26 +120,26 @@ module _ {plan : PlanData} (ok : IsPlan plan) (x n : ℕ) (at : IsStoreInRange p
         | inr device ↦ inr (lies_in devices x n (ranges_of plan.devices x n device))
       ]
 
-  whole : all_apart (plan.rom ++ ((plan.ram ++ devices) ++ areas_range plan ∷ [])) ≡ true
+  whole : are_all_ranges_apart (plan.rom ++ ((plan.ram ++ devices) ++ areas_range plan ∷ [])) ≡ true
   whole =
-      subst (λ l. all_apart l ≡ true)
+      subst (λ l. are_all_ranges_apart l ≡ true)
       (ap (λ (l : List Range). l ++ areas_range plan ∷ []) (append_assoc plan.rom plan.ram devices) ∙ append_assoc plan.rom (plan.ram ++ devices) (areas_range plan ∷ [])) ok.apart
 
   off_areas_range : (x + n ≤ plan.csa_at) ⊎ (plan.csa_at + 64 * plan.areas ≤ x)
   off_areas_range =
       beside_last x n ((plan.rom ++ plan.ram) ++ devices) (areas_range plan) ok.apart
-      (subst (IsInOne x n) (sym (append_assoc plan.rom plan.ram devices)) (IsInOne-behind x n plan.rom (plan.ram ++ devices) in_behind))
+      (subst (IsInOneRange x n) (sym (append_assoc plan.rom plan.ram devices)) (IsInOne-behind x n plan.rom (plan.ram ++ devices) in_behind))
 
   off_rom_range : (place : ℕ) (r : Range) → slice_get plan.rom place ≡ Some r → (x + n ≤ r.at) ⊎ (r.at + r.len ≤ x)
   off_rom_range place r is =
       beside_first x n plan.rom ((plan.ram ++ devices) ++ areas_range plan ∷ []) place r whole is (IsInOne-front x n (plan.ram ++ devices) (areas_range plan ∷ []) in_behind)
 
 -- ---- the owner
-before_of : (n c u : ℕ) → before n c ≡ u → u < n → (c ≡ u + 1) ⊎ ((u + 1 ≡ n) × (c ≡ 0))
+before_of : (n c u : ℕ) → task_before n c ≡ u → u < n → (c ≡ u + 1) ⊎ ((u + 1 ≡ n) × (c ≡ 0))
 before_of n zero u e lt = inr (let is : n - 1 ≡ u = e in omega arith, refl)
 before_of n (suc c) u e lt = inl (let is : suc c - 1 ≡ u = sym (cond_other (suc c) 0 (n - 1) (suc c - 1) (λ z. omega arith)) ∙ e in omega arith)
 
-before_is : (n c u : ℕ) → (c ≡ u + 1) ⊎ ((u + 1 ≡ n) × (c ≡ 0)) → before n c ≡ u
+before_is : (n c u : ℕ) → (c ≡ u + 1) ⊎ ((u + 1 ≡ n) × (c ≡ 0)) → task_before n c ≡ u
 before_is n c u (inl next) = cond_other c 0 (n - 1) (c - 1) (λ e. omega arith) ∙ (omega arith)
 before_is n c u (inr round) = let last = round.0 in let none = round.1 in cond_same c 0 (n - 1) (c - 1) none ∙ (omega arith)
 
@@ -147,14 +147,14 @@ module _ (switch block : ℕ) (list : List Task) (m : Machine) where
   abbrev tasks : TasksData
   tasks = record { switch = switch; block = block; list = list }
 
-  owner_late : (m.pc ≡ switch + 48) ⊎ ((m.pc ≡ switch + 52) ⊎ (m.pc ≡ switch + 56)) → owner tasks m ≡ before (length list) (current tasks m.mem)
-  owner_late at = ap (λ t. cond t (before (length list) (current tasks m.mem)) (current tasks m.mem)) (place_here m.pc switch at)
+  owner_late : (m.pc ≡ switch + 48) ⊎ ((m.pc ≡ switch + 52) ⊎ (m.pc ≡ switch + 56)) → owner tasks m ≡ task_before (length list) (current_task tasks m.mem)
+  owner_late at = ap (λ t. cond t (task_before (length list) (current_task tasks m.mem)) (current_task tasks m.mem)) (place_here m.pc switch at)
 
   owns : owner tasks m < length list → OwnsChain switch block (length list) m (owner tasks m)
   owns lt = record {
     one = lt;
     now = λ a b c. sym (owner_now tasks m a b c);
-    later = λ at. before_of (length list) (current tasks m.mem) (owner tasks m) (sym (owner_late at)) lt;
+    later = λ at. before_of (length list) (current_task tasks m.mem) (owner tasks m) (sym (owner_late at)) lt;
   }
 
   owner_is : (u : ℕ) → OwnsChain switch block (length list) m u → owner tasks m ≡ u
@@ -171,7 +171,7 @@ module _ (switch block : ℕ) (list : List Task) (m : Machine) where
       ]
     where
       late : (m.pc ≡ switch + 48) ⊎ ((m.pc ≡ switch + 52) ⊎ (m.pc ≡ switch + 56)) → owner tasks m ≡ u
-      late at = owner_late at ∙ before_is (length list) (current tasks m.mem) u (h.later at)
+      late at = owner_late at ∙ before_is (length list) (current_task tasks m.mem) u (h.later at)
 
 -- ---- a state's parts
 module _ {plan : PlanData} (ok : IsPlan plan) (switch block : ℕ) (list : List Task) (needs : ℕ → ℕ) (m : Machine) (e : Event) where
@@ -181,7 +181,7 @@ module _ {plan : PlanData} (ok : IsPlan plan) (switch block : ℕ) (list : List 
   abbrev n : ℕ
   n = length list
 
-  store_apart : (o : Option (ℕ × ℕ)) → IfSome o (IsTaskStore plan group m.pc) → (x size : ℕ) → o ≡ Some (x, size) → IsStoreApart plan switch block n m.pc x size
+  store_apart : (o : Option (ℕ × ℕ)) → IfSome o (IsTaskStore plan group m.pc) → (x size : ℕ) → o ≡ Some (x, size) → IsSafeTaskStore plan switch block n m.pc x size
   store_apart o h x size is =
       let at : IsTaskStore plan group m.pc (x, size) = subst (λ (p : Option (ℕ × ℕ)). IfSome p (IsTaskStore plan group m.pc)) is h in
       record {
@@ -192,7 +192,7 @@ module _ {plan : PlanData} (ok : IsPlan plan) (switch block : ℕ) (list : List 
         off_block = λ out. at.1 (λ inside. elim out [ inl low ↦ (let from = inside.0 in omega arith) | inr high ↦ (let to_ = inside.1 in omega arith) ]);
       }
 
-  pub parts_of : AreSafeAt plan group needs m e → HasTaskParts plan switch block n needs m e
+  pub parts_of : AreSafeAt plan group needs m e → HasSafeTaskParts plan switch block n needs m e
   parts_of safe =
       let a = safe.areas in
       let own = owner group m in
@@ -203,8 +203,8 @@ module _ {plan : PlanData} (ok : IsPlan plan) (switch block : ℕ) (list : List 
         owns = owns switch block list m safe.owner;
         used = a.chain_of;
         free = a.free;
-        own_walk = subst (λ w. IsWalk m.mem w (a.chain_of own)) (cond_same own own m.pcxi (block_word group m.mem own) refl) (link own safe.owner);
-        other_walks = λ u lt apart. subst (λ w. IsWalk m.mem w (a.chain_of u)) (cond_other u own m.pcxi (block_word group m.mem u) apart) (link u lt);
+        own_walk = subst (λ w. IsAreaWalk m.mem w (a.chain_of own)) (cond_same own own m.pcxi (block_word group m.mem own) refl) (link own safe.owner);
+        other_walks = λ u lt apart. subst (λ w. IsAreaWalk m.mem w (a.chain_of u)) (cond_other u own m.pcxi (block_word group m.mem u) apart) (link u lt);
         free_walk = walks m.mem m.fcx a.free (Links-chain_within m.mem 4096 m.fcx a.free a.free_chain).0;
         count = (a.share).count ∙ length-links_up (first_link plan) plan.areas;
         places = λ i lt. place_of n a.chain_of a.free (plan_areas plan) a.share (first_link plan + i) (area_times plan i lt);
@@ -217,22 +217,22 @@ module _ {plan : PlanData} (ok : IsPlan plan) (switch block : ℕ) (list : List 
       }
 
   -- ---- and what they say
-  module _ (p : HasTaskParts plan switch block n needs m e) where
+  module _ (p : HasSafeTaskParts plan switch block n needs m e) where
     few_used : (u : ℕ) → u < n → length (p.used u) ≤ 4096
     few_used u lt = let here = sum_below-at n (λ w. length (p.used w)) u lt in let all = p.count in let few = (ok.areas).few in omega arith
 
     few_free : length p.free ≤ 4096
     few_free = let all = p.count in let few = (ok.areas).few in omega arith
 
-    walk_at : (u : ℕ) → u < n → IsWalk m.mem (chain_word group m u) (p.used u)
+    walk_at : (u : ℕ) → u < n → IsAreaWalk m.mem (chain_word group m u) (p.used u)
     walk_at u lt =
         let is = owner_is switch block list m p.own p.owns in
         elim (cases_eq u p.own) [
           | inl same ↦
-              subst (λ w. IsWalk m.mem w (p.used u)) (sym (cond_same u (owner group m) m.pcxi (block_word group m.mem u) (same ∙ sym is)))
-              (subst (λ w. IsWalk m.mem m.pcxi (p.used w)) (sym same) p.own_walk)
+              subst (λ w. IsAreaWalk m.mem w (p.used u)) (sym (cond_same u (owner group m) m.pcxi (block_word group m.mem u) (same ∙ sym is)))
+              (subst (λ w. IsAreaWalk m.mem m.pcxi (p.used w)) (sym same) p.own_walk)
           | inr apart ↦
-              subst (λ w. IsWalk m.mem w (p.used u)) (sym (cond_other u (owner group m) m.pcxi (block_word group m.mem u) (λ e. apart (e ∙ is)))) (p.other_walks u lt apart)
+              subst (λ w. IsAreaWalk m.mem w (p.used u)) (sym (cond_other u (owner group m) m.pcxi (block_word group m.mem u) (λ e. apart (e ∙ is)))) (p.other_walks u lt apart)
         ]
 
     store_at : (o : Option (ℕ × ℕ)) → stored m e ≡ o → IfSome o (IsTaskStore plan group m.pc)
@@ -295,10 +295,10 @@ fits_after plan m (d ∷ es) e all zero lt = all.0
 fits_after plan m (d ∷ es) e all (suc k) lt =
     subst (λ (s : Machine). Fits plan s (get_or es k e)) (sym (one_later m (λ j. get_or (d ∷ es) j e) k)) (fits_after plan (step m d) es e all.1 k (omega arith))
 
-pub parts_are_safe : PartsAreSafe
+pub parts_are_safe : TaskPartsAreSafe
 parts_are_safe image plan switch block list needs ok parts m es e start all fits =
     let events = λ (k : ℕ). get_or es k e in
     let here =
     parts (after_events m events) events (length es) e (λ k. refl) start (fits_after plan m es e all) (subst (λ (s : Machine). Fits plan s e) (sym (run_after m es e)) fits)
     in
-    safe_of ok switch block list needs (run m es) e (subst (λ (s : Machine). HasTaskParts plan switch block (length list) needs s e) (run_after m es e) here)
+    safe_of ok switch block list needs (run m es) e (subst (λ (s : Machine). HasSafeTaskParts plan switch block (length list) needs s e) (run_after m es e) here)

@@ -4,9 +4,9 @@ use Rattle.csa_chain.specs.Chain.{link_in}
 use Rattle.csa_chain.proofs.ChainLaws.{Links, Avoids, chain_within-Links}
 use Rattle.tcd_plan.specs.PlanData.{PlanData, IsPlan}
 use Rattle.tc_machine.specs.declared.state.Machine.{Machine}
-use Rattle.tc_machine.specs.PlanAreas.{links_up, first_link, plan_areas}
+use Rattle.tc_machine.specs.PlanAreas.{area_links_up, first_link, plan_areas}
 use Rattle.tc_machine.proofs.PlanLaws.{length-links_up}
-use Rattle.csa_chain.specs.SeveralChains.{sum_below, Share}
+use Rattle.csa_chain.specs.SeveralChains.{sum_over_chains, Share}
 use Rattle.task_chains.specs.Tasks.{TasksData, count}
 use Rattle.task_chains.specs.SafeTasks.{chain_word, AreAreasShared}
 use Rattle.csa_chain.proofs.SeveralLaws.{sum_below-at, first_avoids_rest}
@@ -17,7 +17,7 @@ module _ {plan : PlanData} (ok : IsPlan plan) (tasks : TasksData) (m : Machine) 
   abbrev n : ℕ
   n = count tasks
 
-  all : sum_below n (λ w. length (chain_of w)) + length (s.free) ≡ plan.areas
+  all : sum_over_chains n (λ w. length (chain_of w)) + length (s.free) ≡ plan.areas
   all = (s.share).count ∙ length-links_up (first_link plan) plan.areas
 
   -- the first links of a list are at no later place
@@ -25,7 +25,7 @@ module _ {plan : PlanData} (ok : IsPlan plan) (tasks : TasksData) (m : Machine) 
   behind f [] ys h = h
   behind f (x ∷ xs) ys h = behind f xs ys h.1
 
-  head_of : (k x f : ℕ) → 1 ≤ k → Avoids f (links_up x k) → f ≢ x
+  head_of : (k x f : ℕ) → 1 ≤ k → Avoids f (area_links_up x k) → f ≢ x
   head_of zero x f some h = absurd (omega arith)
   head_of (suc k) x f some h = λ e. h.0 (sym e)
 
@@ -33,12 +33,12 @@ module _ {plan : PlanData} (ok : IsPlan plan) (tasks : TasksData) (m : Machine) 
   limit = first_link plan + (plan.areas - plan.reserve)
 
   -- if all areas except the reserve are in use, FCX is at the limit
-  to_limit : (front : List ℕ) → s.free ≡ front ++ reserve_of plan → sum_below n (λ w. length (chain_of w)) ≡ plan.areas - plan.reserve → link_in m.fcx ≡ link_in m.lcx
+  to_limit : (front : List ℕ) → s.free ≡ front ++ reserve_of plan → sum_over_chains n (λ w. length (chain_of w)) ≡ plan.areas - plan.reserve → link_in m.fcx ≡ link_in m.lcx
   to_limit [] is full =
       let l : Links m.mem m.fcx (reserve_of plan) = subst (Links m.mem m.fcx) is s.free_links in
       by_reserve plan.reserve (first_link plan + (plan.areas - plan.reserve)) ((ok.areas).reserved) l ∙ sym s.lcx_is
     where
-      by_reserve : (k x : ℕ) → 1 ≤ k → Links m.mem m.fcx (links_up x k) → link_in m.fcx ≡ x
+      by_reserve : (k x : ℕ) → 1 ≤ k → Links m.mem m.fcx (area_links_up x k) → link_in m.fcx ≡ x
       by_reserve zero x some l = absurd (omega arith)
       by_reserve (suc k) x some l = l.1
   to_limit (f ∷ front) is full =
@@ -49,7 +49,7 @@ module _ {plan : PlanData} (ok : IsPlan plan) (tasks : TasksData) (m : Machine) 
       absurd (omega arith)
 
   -- FCX is at the limit only then
-  from_limit : (front : List ℕ) → s.free ≡ front ++ reserve_of plan → link_in m.fcx ≡ link_in m.lcx → sum_below n (λ w. length (chain_of w)) ≡ plan.areas - plan.reserve
+  from_limit : (front : List ℕ) → s.free ≡ front ++ reserve_of plan → link_in m.fcx ≡ link_in m.lcx → sum_over_chains n (λ w. length (chain_of w)) ≡ plan.areas - plan.reserve
   from_limit [] is at =
       let a = all in
       let long : length (s.free) ≡ plan.reserve = ap length is ∙ length-links_up (first_link plan + (plan.areas - plan.reserve)) plan.reserve in

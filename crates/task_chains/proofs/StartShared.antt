@@ -7,41 +7,41 @@ use Rattle.csa_chain.proofs.ContextLaws.{link_in-pcxi_word}
 use Rattle.elf_image.specs.Images.{ImageData}
 use Rattle.tcd_plan.specs.PlanData.{PlanData, IsPlan}
 use Rattle.tc_machine.specs.declared.state.Machine.{Machine}
-use Rattle.tc_machine.specs.PlanAreas.{links_up, first_link, plan_areas, link_or_end}
+use Rattle.tc_machine.specs.PlanAreas.{area_links_up, first_link, plan_areas, link_or_end}
 use Rattle.tc_machine.proofs.PlanLaws.{length-links_up, link_address-area, some_link, link_lt}
-use Rattle.csa_chain.specs.SeveralChains.{times, sum_below, Share}
+use Rattle.csa_chain.specs.SeveralChains.{times_in_list, sum_over_chains, Share}
 use Rattle.task_chains.specs.Tasks.{TasksData, AreTasks, count}
-use Rattle.task_chains.specs.TaskStarts.{block_word, upper_area, lower_area, held_at_start, TasksStart}
+use Rattle.task_chains.specs.TaskStarts.{block_word, task_upper_area, task_lower_area, held_at_start, TasksStart}
 use Rattle.csa_chain.proofs.SeveralLaws.{cond_same, cond_other, AllLinks}
 use Rattle.task_chains.proofs.Switch.{Shared}
 
 -- ---- lists of links
-times-append : (l : ℕ) (xs ys : List ℕ) → times l (xs ++ ys) ≡ times l xs + times l ys
+times-append : (l : ℕ) (xs ys : List ℕ) → times_in_list l (xs ++ ys) ≡ times_in_list l xs + times_in_list l ys
 times-append l [] ys = omega arith
 times-append l (x ∷ xs) ys = let rest = times-append l xs ys in omega arith
 
-links_up-append : (l a b : ℕ) → links_up l (a + b) ≡ links_up l a ++ links_up (l + a) b
-links_up-append l zero b = (λ i. links_up (e0 i) (e1 i))
+links_up-append : (l a b : ℕ) → area_links_up l (a + b) ≡ area_links_up l a ++ area_links_up (l + a) b
+links_up-append l zero b = (λ i. area_links_up (e0 i) (e1 i))
   where
     e0 : l ≡ l + 0
     e0 = omega arith
 
     e1 : 0 + b ≡ b
     e1 = omega arith
-links_up-append l (suc a) b = ap (links_up l) (let e : suc a + b ≡ suc (a + b) = omega arith in e) ∙ ap (λ ls. l ∷ ls) (links_up-append (l + 1) a b ∙ ap (λ k. links_up (l + 1) a ++ links_up k b) (let e : l + 1 + a ≡ l + suc a = omega arith in e))
+links_up-append l (suc a) b = ap (area_links_up l) (let e : suc a + b ≡ suc (a + b) = omega arith in e) ∙ ap (λ ls. l ∷ ls) (links_up-append (l + 1) a b ∙ ap (λ k. area_links_up (l + 1) a ++ area_links_up k b) (let e : l + 1 + a ≡ l + suc a = omega arith in e))
 
 -- ---- the chains at the start
 abbrev pub start_word : TasksData → Machine → ℕ → ℕ
 start_word tasks m w = cond (w == 0) 0 (block_word tasks m.mem w)
 
 abbrev pub start_chain : PlanData → ℕ → List ℕ
-start_chain plan w = cond (w == 0) [] (lower_area plan w ∷ upper_area plan w ∷ [])
+start_chain plan w = cond (w == 0) [] (task_lower_area plan w ∷ task_upper_area plan w ∷ [])
 
 module _ (plan : PlanData) where
-  two_more : (k : ℕ) → links_up (first_link plan) (2 * suc k) ≡ links_up (first_link plan) (2 * k) ++ upper_area plan (suc k) ∷ lower_area plan (suc k) ∷ []
+  two_more : (k : ℕ) → area_links_up (first_link plan) (2 * suc k) ≡ area_links_up (first_link plan) (2 * k) ++ task_upper_area plan (suc k) ∷ task_lower_area plan (suc k) ∷ []
   two_more k =
-      ap (links_up (first_link plan)) (let e : 2 * suc k ≡ 2 * k + 2 = omega arith in e) ∙ links_up-append (first_link plan) (2 * k) 2
-      ∙ (λ i. links_up (first_link plan) (2 * k) ++ up i ∷ low i ∷ [])
+      ap (area_links_up (first_link plan)) (let e : 2 * suc k ≡ 2 * k + 2 = omega arith in e) ∙ links_up-append (first_link plan) (2 * k) 2
+      ∙ (λ i. area_links_up (first_link plan) (2 * k) ++ up i ∷ low i ∷ [])
     where
       up : first_link plan + 2 * k ≡ first_link plan + 2 * (suc k - 1)
       up = omega arith
@@ -49,19 +49,19 @@ module _ (plan : PlanData) where
       low : first_link plan + 2 * k + 1 ≡ first_link plan + (2 * (suc k - 1) + 1)
       low = omega arith
 
-  times_held : (l k : ℕ) → sum_below (suc k) (λ w. times l (start_chain plan w)) ≡ times l (links_up (first_link plan) (2 * k))
+  times_held : (l k : ℕ) → sum_over_chains (suc k) (λ w. times_in_list l (start_chain plan w)) ≡ times_in_list l (area_links_up (first_link plan) (2 * k))
   times_held l zero = refl
   times_held l (suc k) =
       let rest = times_held l k in
-      let here : times l (start_chain plan (suc k)) ≡ times l (lower_area plan (suc k) ∷ upper_area plan (suc k) ∷ []) = ap (times l) (cond_other (suc k) 0 [] (lower_area plan (suc k) ∷ upper_area plan (suc k) ∷ []) (λ e. omega arith)) in
-      let more = ap (times l) (two_more k) ∙ times-append l (links_up (first_link plan) (2 * k)) (upper_area plan (suc k) ∷ lower_area plan (suc k) ∷ []) in
+      let here : times_in_list l (start_chain plan (suc k)) ≡ times_in_list l (task_lower_area plan (suc k) ∷ task_upper_area plan (suc k) ∷ []) = ap (times_in_list l) (cond_other (suc k) 0 [] (task_lower_area plan (suc k) ∷ task_upper_area plan (suc k) ∷ []) (λ e. omega arith)) in
+      let more = ap (times_in_list l) (two_more k) ∙ times-append l (area_links_up (first_link plan) (2 * k)) (task_upper_area plan (suc k) ∷ task_lower_area plan (suc k) ∷ []) in
       omega arith
 
-  length_held : (k : ℕ) → sum_below (suc k) (λ w. length (start_chain plan w)) ≡ 2 * k
+  length_held : (k : ℕ) → sum_over_chains (suc k) (λ w. length (start_chain plan w)) ≡ 2 * k
   length_held zero = refl
   length_held (suc k) =
       let rest = length_held k in
-      let here : length (start_chain plan (suc k)) ≡ 2 = ap length (cond_other (suc k) 0 [] (lower_area plan (suc k) ∷ upper_area plan (suc k) ∷ []) (λ e. omega arith)) in
+      let here : length (start_chain plan (suc k)) ≡ 2 = ap length (cond_other (suc k) 0 [] (task_lower_area plan (suc k) ∷ task_upper_area plan (suc k) ∷ []) (λ e. omega arith)) in
       omega arith
 
 small_link : (b : Bool) (x : ℕ) → (b ≡ true → x < 2 ^ 20) → link_in (cond b x 0) ≡ cond b x 0
@@ -79,13 +79,13 @@ module _ (image : ImageData) (plan : PlanData) (ok : IsPlan plan) (tasks : Tasks
   area_mapped i lt = are_mapped_from m.mem _ 64 (λ j h. (start.memory _).1 (let at = link_address-area ok i lt in inr (inr (omega arith, omega arith))))
 
   -- a task that is ready has two areas
-  ready_links : (w : ℕ) → 1 ≤ w → w < n → Links m.mem (block_word tasks m.mem w) (lower_area plan w ∷ upper_area plan w ∷ [])
+  ready_links : (w : ℕ) → 1 ≤ w → w < n → Links m.mem (block_word tasks m.mem w) (task_lower_area plan w ∷ task_upper_area plan w ∷ [])
   ready_links w some lt =
       let r = start.ready w some lt in
       let up : 2 * (w - 1) < plan.areas = omega arith in
       let low : 2 * (w - 1) + 1 < plan.areas = omega arith in (
         some_link ok (2 * (w - 1) + 1),
-        ap link_in r.word ∙ link_in-pcxi_word plan.core 0 false false (lower_area plan w) (link_lt ok (2 * (w - 1) + 1) low),
+        ap link_in r.word ∙ link_in-pcxi_word plan.core 0 false false (task_lower_area plan w) (link_lt ok (2 * (w - 1) + 1) low),
         area_mapped (2 * (w - 1) + 1) low,
         (some_link ok (2 * (w - 1)), r.above, area_mapped (2 * (w - 1)) up, ap link_in r.ends),
       )
@@ -94,14 +94,14 @@ module _ (image : ImageData) (plan : PlanData) (ok : IsPlan plan) (tasks : Tasks
   all_links w lt =
       elim (cases_eq w 0) [
         | inl first ↦
-            subst (λ x. Links m.mem x (start_chain plan w)) (sym (cond_same w 0 0 (block_word tasks m.mem w) first)) (subst (Links m.mem 0) (sym (cond_same w 0 [] (lower_area plan w ∷ upper_area plan w ∷ []) first)) refl)
+            subst (λ x. Links m.mem x (start_chain plan w)) (sym (cond_same w 0 0 (block_word tasks m.mem w) first)) (subst (Links m.mem 0) (sym (cond_same w 0 [] (task_lower_area plan w ∷ task_upper_area plan w ∷ []) first)) refl)
         | inr later ↦
             subst (λ x. Links m.mem x (start_chain plan w)) (sym (cond_other w 0 0 (block_word tasks m.mem w) later))
-            (subst (Links m.mem (block_word tasks m.mem w)) (sym (cond_other w 0 [] (lower_area plan w ∷ upper_area plan w ∷ []) later)) (ready_links w (omega arith) lt))
+            (subst (Links m.mem (block_word tasks m.mem w)) (sym (cond_other w 0 [] (task_lower_area plan w ∷ task_upper_area plan w ∷ []) later)) (ready_links w (omega arith) lt))
       ]
 
   -- the areas from area i on, none of a task
-  free_from : (i k word : ℕ) → held ≤ i → i + k ≡ plan.areas → link_in word ≡ link_or_end plan i → Links m.mem word (links_up (first_link plan + i) k)
+  free_from : (i k word : ℕ) → held ≤ i → i + k ≡ plan.areas → link_in word ≡ link_or_end plan i → Links m.mem word (area_links_up (first_link plan + i) k)
   free_from i zero word le e w = w ∙ ap (λ t. cond t (first_link plan + i) 0) (le-ltb i plan.areas (omega arith))
   free_from i (suc k) word le e w =
       let lt : i < plan.areas = omega arith in
@@ -110,13 +110,13 @@ module _ (image : ImageData) (plan : PlanData) (ok : IsPlan plan) (tasks : Tasks
         some_link ok i,
         here,
         area_mapped i lt,
-        subst (λ l. Links m.mem (area_word m.mem (first_link plan + i) 0) (links_up l k)) (sym next)
+        subst (λ l. Links m.mem (area_word m.mem (first_link plan + i) 0) (area_links_up l k)) (sym next)
             (free_from (i + 1) k (area_word m.mem (first_link plan + i) 0) (omega arith) (omega arith)
             (ap link_in (start.linked i le lt) ∙ small_link (nat_lt (i + 1) plan.areas) (first_link plan + (i + 1)) (λ b. link_lt ok (i + 1) (ltb-true (i + 1) plan.areas b)))),
       )
 
   abbrev free : List ℕ
-  free = links_up (first_link plan + held) (plan.areas - held)
+  free = area_links_up (first_link plan + held) (plan.areas - held)
 
   free_links : Links m.mem m.fcx free
   free_links =
@@ -127,14 +127,14 @@ module _ (image : ImageData) (plan : PlanData) (ok : IsPlan plan) (tasks : Tasks
   round : (k : ℕ) → suc k ≡ n → Share n (start_chain plan) free (plan_areas plan)
   round k is =
       let held_is : held ≡ 2 * k = omega arith in
-      let whole : links_up (first_link plan) plan.areas ≡ links_up (first_link plan) held ++ free = ap (links_up (first_link plan)) (let e : plan.areas ≡ held + (plan.areas - held) = omega arith in e) ∙ links_up-append (first_link plan) held (plan.areas - held) in
+      let whole : area_links_up (first_link plan) plan.areas ≡ area_links_up (first_link plan) held ++ free = ap (area_links_up (first_link plan)) (let e : plan.areas ≡ held + (plan.areas - held) = omega arith in e) ∙ links_up-append (first_link plan) held (plan.areas - held) in
       record {
         each = λ l.
-            let t = ap (λ j. sum_below j (λ w. times l (start_chain plan w))) (sym is) ∙ times_held plan l k ∙ ap (λ j. times l (links_up (first_link plan) j)) (sym held_is) in
-            let all = ap (times l) whole ∙ times-append l (links_up (first_link plan) held) free in
+            let t = ap (λ j. sum_over_chains j (λ w. times_in_list l (start_chain plan w))) (sym is) ∙ times_held plan l k ∙ ap (λ j. times_in_list l (area_links_up (first_link plan) j)) (sym held_is) in
+            let all = ap (times_in_list l) whole ∙ times-append l (area_links_up (first_link plan) held) free in
             omega arith;
         count =
-            let t = ap (λ j. sum_below j (λ w. length (start_chain plan w))) (sym is) ∙ length_held plan k in
+            let t = ap (λ j. sum_over_chains j (λ w. length (start_chain plan w))) (sym is) ∙ length_held plan k in
             let f = length-links_up (first_link plan + held) (plan.areas - held) in
             let a = length-links_up (first_link plan) plan.areas in
             omega arith;
@@ -153,10 +153,10 @@ module _ (image : ImageData) (plan : PlanData) (ok : IsPlan plan) (tasks : Tasks
         free = free;
         free_links = free_links;
         share = round (n - 1) (omega arith);
-        front = links_up (first_link plan + held) (plan.areas - plan.reserve - held);
-        reserved = ap (links_up (first_link plan + held)) (let e : plan.areas - held ≡ (plan.areas - plan.reserve - held) + plan.reserve = omega arith in e)
+        front = area_links_up (first_link plan + held) (plan.areas - plan.reserve - held);
+        reserved = ap (area_links_up (first_link plan + held)) (let e : plan.areas - held ≡ (plan.areas - plan.reserve - held) + plan.reserve = omega arith in e)
             ∙ links_up-append (first_link plan + held) (plan.areas - plan.reserve - held) plan.reserve
-            ∙ ap (λ l. links_up (first_link plan + held) (plan.areas - plan.reserve - held) ++ links_up l plan.reserve) (let e : first_link plan + held + (plan.areas - plan.reserve - held) ≡ first_link plan + (plan.areas - plan.reserve) = omega arith in e);
+            ∙ ap (λ l. area_links_up (first_link plan + held) (plan.areas - plan.reserve - held) ++ area_links_up l plan.reserve) (let e : first_link plan + held + (plan.areas - plan.reserve - held) ≡ first_link plan + (plan.areas - plan.reserve) = omega arith in e);
         lcx_is = ap link_in start.lcx ∙ (let small = link_lt ok (plan.areas - plan.reserve) limit in let e : (first_link plan + (plan.areas - plan.reserve)) % 2 ^ 20 ≡ first_link plan + (plan.areas - plan.reserve) = omega arith in e);
         pcxi_word = (start.machine).pcxi;
         fcx_word = (start.machine).fcx;

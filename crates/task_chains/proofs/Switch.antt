@@ -10,12 +10,11 @@ use Rattle.tc_isa.specs.declared.shapes.Shape.TheVariants.{Mtcr, Ret}
 use Rattle.tc_machine.specs.declared.events.Event.{Event}
 use Rattle.tc_machine.specs.declared.events.End.TheVariants.{Running}
 use Rattle.tc_machine.specs.declared.state.Machine.{Machine}
-use Rattle.tc_machine.specs.Machine.{reg, a11, then_}
+use Rattle.tc_machine.specs.Machine.{reg, a11, then_, IsMachine}
 use Rattle.tc_machine.specs.Instructions.{advanced, does}
 use Rattle.tc_machine.specs.SavesAndRestores.{has_kind, last_context, released, restored, restore}
 use Rattle.tc_machine.specs.Fetching.{fetched}
 use Rattle.tc_machine.specs.Stepping.{is_taken, step}
-use Rattle.tc_machine.specs.Safe.{IsMachine}
 use Rattle.tc_machine.proofs.Saves.{restore-is, then_-running}
 use Rattle.tc_machine.proofs.Steps.{with_event, step_does, does-ret}
 use Rattle.tc_machine.proofs.Areas.{Areas}

@@ -2,7 +2,7 @@
 use Rattle.std.proofs.Common.{◌≡◌, ◌≢◌, ℕ, zero, suc, ◌+◌, ◌-◌, ◌*◌, ◌<◌, ◌≤◌, ◌⊎◌, inl, inr, Bool, true, false, ◌||◌, cond, max, List, [], ◌∷◌, length, refl, sym, ap, ◌∙◌, subst, arith, ◌==◌}
 use Rattle.std.proofs.lemmas.Bool.{cases_eq, cond_both, eq-eqb, ne_eqb, or_left, or_right}
 use Rattle.std.specs.Prelude.{IfSome}
-use Rattle.csa_chain.specs.SeveralChains.{sum_below}
+use Rattle.csa_chain.specs.SeveralChains.{sum_over_chains}
 use Rattle.csa_chain.proofs.SeveralLaws.{cond_same, cond_other}
 use Rattle.elf_image.specs.Images.{ImageData}
 use Rattle.tcd_plan.specs.PlanData.{PlanData}
@@ -16,8 +16,8 @@ use Rattle.depth_cert.specs.Certs.{CertData}
 use Rattle.cfg_recover.specs.RulesHoldOrFail.{certified_need}
 use Rattle.task_chains.specs.Tasks.{TasksData, count}
 use Rattle.task_chains.specs.Views.{view_image_of, view_plan_of}
-use Rattle.task_chains.specs.TaskStarts.{block_word, current, upper_area, lower_area, held_at_start, IsReady, TasksStart}
-use Rattle.task_chains.specs.SafeTasks.{before, owner, IsTaskStore, AreSafeAt, need_of_task, TasksAreSafe}
+use Rattle.task_chains.specs.TaskStarts.{block_word, current_task, task_upper_area, task_lower_area, held_at_start, IsReady, TasksStart}
+use Rattle.task_chains.specs.SafeTasks.{task_before, owner, IsTaskStore, AreSafeAt, need_of_task, TasksAreSafe}
 use Rattle.task_chains.proofs.Alike.{seen_as}
 use Rattle.task_chains.proofs.Beginning.{start_memory, start_is, start_turn, begins_on, begins_lower, begins_home}
 use Rattle.task_chains.proofs.Coming.{goes_switch, comes_on, comes_lower, comes_home}
@@ -33,8 +33,8 @@ use Rattle.task_chains.proofs.Turning.{goes_turning, no_store, turning_store}
 place_test : (x y : ℕ) → x ≢ y + 48 → x ≢ y + 52 → x ≢ y + 56 → (x == y + 48 || x == y + 52 || x == y + 56) ≡ false
 place_test x y a b c = (λ i. ne_eqb x (y + 48) a i || ne_eqb x (y + 52) b i || ne_eqb x (y + 56) c i)
 
-pub owner_now : (tasks : TasksData) (m : Machine) → m.pc ≢ tasks.switch + 48 → m.pc ≢ tasks.switch + 52 → m.pc ≢ tasks.switch + 56 → owner tasks m ≡ current tasks m.mem
-owner_now tasks m a b c = ap (λ t. cond t (before (count tasks) (current tasks m.mem)) (current tasks m.mem)) (place_test m.pc tasks.switch a b c)
+pub owner_now : (tasks : TasksData) (m : Machine) → m.pc ≢ tasks.switch + 48 → m.pc ≢ tasks.switch + 52 → m.pc ≢ tasks.switch + 56 → owner tasks m ≡ current_task tasks m.mem
+owner_now tasks m a b c = ap (λ t. cond t (task_before (count tasks) (current_task tasks m.mem)) (current_task tasks m.mem)) (place_test m.pc tasks.switch a b c)
 
 -- one of the three places
 pub place_here : (x y : ℕ) → (x ≡ y + 48) ⊎ ((x ≡ y + 52) ⊎ (x ≡ y + 56)) → (x == y + 48 || x == y + 52 || x == y + 56) ≡ true
@@ -42,15 +42,15 @@ place_here x y (inl a) = or_left (x == y + 48 || x == y + 52) (x == y + 56) (or_
 place_here x y (inr (inl b)) = or_left (x == y + 48 || x == y + 52) (x == y + 56) (or_right (x == y + 48) (x == y + 52) (eq-eqb x (y + 52) b))
 place_here x y (inr (inr c)) = or_right (x == y + 48 || x == y + 52) (x == y + 56) (eq-eqb x (y + 56) c)
 
-before_after : (n u : ℕ) → u < n → before n (after n u) ≡ u
+before_after : (n u : ℕ) → u < n → task_before n (after n u) ≡ u
 before_after n u lt =
     elim (cases_eq (suc u) n) [
       | inl last ↦
           let is : after n u ≡ 0 = cond_same (suc u) n 0 (suc u) last in
-          ap (before n) is ∙ cond_same 0 0 (n - 1) (0 - 1) refl ∙ (let f : n - 1 ≡ u = omega arith in f)
+          ap (task_before n) is ∙ cond_same 0 0 (n - 1) (0 - 1) refl ∙ (let f : n - 1 ≡ u = omega arith in f)
       | inr more ↦
           let is : after n u ≡ suc u = cond_other (suc u) n 0 (suc u) more in
-          ap (before n) is ∙ cond_other (suc u) 0 (n - 1) (suc u - 1) (λ e. omega arith) ∙ (let f : suc u - 1 ≡ u = omega arith in f)
+          ap (task_before n) is ∙ cond_other (suc u) 0 (n - 1) (suc u - 1) (λ e. omega arith) ∙ (let f : suc u - 1 ≡ u = omega arith in f)
     ]
 
 module _ {image : ImageData} {plan : PlanData} {tasks : TasksData} {certs : ℕ → CertData} {needs : ℕ → ℕ} (wd : World image plan tasks certs needs) where
@@ -87,7 +87,7 @@ module _ {image : ImageData} {plan : PlanData} {tasks : TasksData} {certs : ℕ 
     goes_on = goes_by k.turn
 
     -- ---- what is safe
-    away : (i : ℕ) → m.pc ≡ tasks.switch + 4 * i → (i ≤ 11) ⊎ (15 ≤ i) → owner tasks m ≡ current tasks m.mem
+    away : (i : ℕ) → m.pc ≡ tasks.switch + 4 * i → (i ≤ 11) ⊎ (15 ≤ i) → owner tasks m ≡ current_task tasks m.mem
     away i pc (inl low) = owner_now tasks m (λ a. omega arith) (λ a. omega arith) (λ a. omega arith)
     away i pc (inr high) = owner_now tasks m (λ a. omega arith) (λ a. omega arith) (λ a. omega arith)
 
@@ -110,9 +110,9 @@ module _ {image : ImageData} {plan : PlanData} {tasks : TasksData} {certs : ℕ 
           ]
         ]
       where
-        given : current tasks m.mem ≡ after (count tasks) u → (m.pc ≡ tasks.switch + 48) ⊎ ((m.pc ≡ tasks.switch + 52) ⊎ (m.pc ≡ tasks.switch + 56)) → owner tasks m ≡ u
+        given : current_task tasks m.mem ≡ after (count tasks) u → (m.pc ≡ tasks.switch + 48) ⊎ ((m.pc ≡ tasks.switch + 52) ⊎ (m.pc ≡ tasks.switch + 56)) → owner tasks m ≡ u
         given now at =
-            ap (λ t. cond t (before (count tasks) (current tasks m.mem)) (current tasks m.mem)) (place_here m.pc tasks.switch at) ∙ ap (before (count tasks)) now ∙ before_after (count tasks) u (k.shared).own
+            ap (λ t. cond t (task_before (count tasks) (current_task tasks m.mem)) (current_task tasks m.mem)) (place_here m.pc tasks.switch at) ∙ ap (task_before (count tasks)) now ∙ before_after (count tasks) u (k.shared).own
     owner_by (comes_back v seen i some most pc off of beside low pause now) = away i pc (inr some) ∙ now
     owner_by (begins i some most pc off level later early late now) = away i pc (inr some) ∙ now
 
@@ -154,7 +154,7 @@ module _ {image : ImageData} {plan : PlanData} {tasks : TasksData} {certs : ℕ 
   goes_run m k (e ∷ es) all = let g = goes_on m k e all.0 in goes_run (step m e) g.kept es all.1
 
   -- ---- the start
-  two_each : (n : ℕ) → 1 ≤ n → ((w : ℕ) → 1 ≤ w → w < n → 2 ≤ needs w) → 2 * (n - 1) ≤ sum_below n needs
+  two_each : (n : ℕ) → 1 ≤ n → ((w : ℕ) → 1 ≤ w → w < n → 2 ≤ needs w) → 2 * (n - 1) ≤ sum_over_chains n needs
   two_each zero some two = absurd (omega arith)
   two_each (suc zero) some two = omega arith
   two_each (suc (suc n)) some two =
@@ -213,15 +213,15 @@ module _ {image : ImageData} {plan : PlanData} {tasks : TasksData} {certs : ℕ 
           turn = start_turn wd first_own m start.memory start.rom (start.machine).bytes (start_word tasks m) (start_chain plan) view_starts_here refl start.pcxi start.first;
           waits = λ w lt apart.
               let later : 1 ≤ w = omega arith in
-              let chain_is : start_chain plan w ≡ lower_area plan w ∷ upper_area plan w ∷ [] = cond_other w 0 [] (lower_area plan w ∷ upper_area plan w ∷ []) apart in (
+              let chain_is : start_chain plan w ≡ task_lower_area plan w ∷ task_upper_area plan w ∷ [] = cond_other w 0 [] (task_lower_area plan w ∷ task_upper_area plan w ∷ []) apart in (
                 sym (cond_other w 0 0 (block_word tasks m.mem w) apart),
                 ready later (subst (λ c. IsReady c plan tasks m.mem w) (sym start.core) (start.ready w later lt)) chain_is,
               );
           needs_kept = λ w lt.
               elim (cases_eq w 0) [
-                | inl zero_w ↦ let none : length (start_chain plan w) ≡ 0 = ap length (cond_same w 0 [] (lower_area plan w ∷ upper_area plan w ∷ []) zero_w) in omega arith
+                | inl zero_w ↦ let none : length (start_chain plan w) ≡ 0 = ap length (cond_same w 0 [] (task_lower_area plan w ∷ task_upper_area plan w ∷ []) zero_w) in omega arith
                 | inr later ↦
-                    let two : length (start_chain plan w) ≡ 2 = ap length (cond_other w 0 [] (lower_area plan w ∷ upper_area plan w ∷ []) later) in
+                    let two : length (start_chain plan w) ≡ 2 = ap length (cond_other w 0 [] (task_lower_area plan w ∷ task_upper_area plan w ∷ []) later) in
                     let need = wd.two w (omega arith) lt in
                     omega arith
               ];

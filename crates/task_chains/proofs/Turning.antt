@@ -8,7 +8,7 @@ use Rattle.csa_chain.proofs.MemoryLaws.{get-with_bytes_other, is_mapped-with_byt
 use Rattle.csa_chain.proofs.SeveralLaws.{cond_same, cond_other}
 use Rattle.elf_image.specs.Images.{ImageData}
 use Rattle.tcd_base.specs.declared.range.Range.{Range}
-use Rattle.tcd_base.specs.Ranges.{IsInOne}
+use Rattle.tcd_base.specs.Ranges.{IsInOneRange}
 use Rattle.tcd_base.proofs.RangeLaws.{IsInOne-front}
 use Rattle.tcd_plan.specs.PlanData.{PlanData, areas_range}
 use Rattle.tcd_plan.specs.Regions.{IsInAreas, IsStoreInRange, AnswersLoad}
@@ -22,19 +22,20 @@ use Rattle.tc_isa.specs.declared.shapes.Shape.TheVariants.{Compute, Scaled, Load
 use Rattle.tc_machine.specs.declared.events.Cause.{Cause}
 use Rattle.tc_machine.specs.declared.events.Event.{Event}
 use Rattle.tc_machine.specs.declared.state.Machine.{Machine}
-use Rattle.tc_machine.specs.Machine.{reg, moved}
+use Rattle.tc_machine.specs.Machine.{reg, machine_address_ahead}
 use Rattle.tc_machine.specs.Fetching.{fetched}
-use Rattle.tc_machine.specs.Instructions.{traps_at, does}
+use Rattle.tc_machine.specs.Instructions.{is_trapping_access, does}
 use Rattle.std.specs.Prelude.{IfSome}
 use Rattle.tc_machine.specs.Stepping.{is_taken, load_in, store_in, stored, step}
 use Rattle.tc_machine.specs.Safe.{Fits}
 use Rattle.tc_machine.proofs.Kept.{none_when_off}
 use Rattle.tc_machine.proofs.Steps.{step_does, stored-is}
-use Rattle.task_chains.specs.SafeTasks.{IsInRoutine, IsTaskStore}
+use Rattle.task_chains.specs.SafeTasks.{IsTaskStore}
+use Rattle.task_chains.specs.SwitchRoutine.{IsInRoutine}
 use Rattle.tc_machine.proofs.Words.{load_lt}
 use Rattle.depth_cert.specs.Certs.{CertData}
 use Rattle.cfg_recover.specs.Code.{IsCode}
-use Rattle.cfg_recover.specs.StepEdges.{to, way_by}
+use Rattle.cfg_recover.specs.StepEdges.{to, edge_way_by_trap}
 use Rattle.cfg_recover.proofs.Writes.{store_keeps_areas}
 use Rattle.task_chains.specs.Tasks.{TasksData, count, block_size}
 use Rattle.tc_isa.specs.NamedInstructions.{upper_half, lower_half}
@@ -62,7 +63,7 @@ after_below n u some lt =
     ]
 
 -- a part of a range
-part_of : (rs : List Range) (x n y k : ℕ) → x ≤ y → y + k ≤ x + n → IsInOne x n rs → IsInOne y k rs
+part_of : (rs : List Range) (x n y k : ℕ) → x ≤ y → y + k ≤ x + n → IsInOneRange x n rs → IsInOneRange y k rs
 part_of [] x n y k low high none = absurd none
 part_of (r ∷ rs) x n y k low high (inl w) = inl (let a = w.0 in omega arith, let c = w.1 in omega arith)
 part_of (r ∷ rs) x n y k low high (inr rest) = inr (part_of rs x n y k low high rest)
@@ -71,7 +72,7 @@ part_of (r ∷ rs) x n y k low high (inr rest) = inr (part_of rs x n y k low hig
 record BlockStored (plan : PlanData) (tasks : TasksData) (m n : Memory) (j : ℕ) : Type 0 where
   pub areas : (x : ℕ) → IsInAreas plan x → finite.get n x ≡ finite.get m x
   pub mapped : (x : ℕ) → is_mapped n x ≡ is_mapped m x
-  pub rom : (x : ℕ) → IsInOne x 1 plan.rom → finite.get n x ≡ finite.get m x
+  pub rom : (x : ℕ) → IsInOneRange x 1 plan.rom → finite.get n x ≡ finite.get m x
   pub blocks : (w : ℕ) → w ≢ j → block_word tasks n w ≡ block_word tasks m w
 
 module _ {image : ImageData} {plan : PlanData} {tasks : TasksData} {certs : ℕ → CertData} {needs : ℕ → ℕ} (wd : World image plan tasks certs needs) where
@@ -139,9 +140,9 @@ module _ {image : ImageData} {plan : PlanData} {tasks : TasksData} {certs : ℕ 
       there = fetched_code (view_image_of image tasks u) (view_plan_of plan tasks u) v shape2 4 (view_ok wd u own) of.rom (code_to (view_image_of image tasks u) plan tasks u m.pc shape2 4 code2)
 
       -- both are alike again, and the machine is at the routine's next instruction
-      turns : (j : ℕ) → 1 ≤ j → j ≤ 14 → AnswersLoad (view_plan_of plan tasks u) input (load_in (seen_as m mem pcxi fcx) (Ok (shape2, 4))) → ((q : ℕ) → way_by (seen_as m mem pcxi fcx) (record e { input = input }) shape2 q ≡ to q)
+      turns : (j : ℕ) → 1 ≤ j → j ≤ 14 → AnswersLoad (view_plan_of plan tasks u) input (load_in (seen_as m mem pcxi fcx) (Ok (shape2, 4))) → ((q : ℕ) → edge_way_by_trap (seen_as m mem pcxi fcx) (record e { input = input }) shape2 q ≡ to q)
           → (mem2 : Memory) → Plainly m (seen_as m mem pcxi fcx) (does m e shape 4) (does (seen_as m mem pcxi fcx) (record e { input = input }) shape2 4) mem2 mem
-          → ((x : ℕ) → IsInAreas plan x → finite.get mem2 x ≡ finite.get m.mem x) → ((x : ℕ) → is_mapped mem2 x ≡ is_mapped m.mem x) → ((x : ℕ) → IsInOne x 1 plan.rom → finite.get mem2 x ≡ finite.get m.mem x)
+          → ((x : ℕ) → IsInAreas plan x → finite.get mem2 x ≡ finite.get m.mem x) → ((x : ℕ) → is_mapped mem2 x ≡ is_mapped m.mem x) → ((x : ℕ) → IsInOneRange x 1 plan.rom → finite.get mem2 x ≡ finite.get m.mem x)
           → ((w : ℕ) → w < count tasks → w ≢ u → block_word tasks mem2 w ≡ block_word tasks m.mem w)
           → InRoutine tasks (step m e) u j word_of → Goes image plan tasks needs (step m e)
       turns j some most answers way mem2 p areas maps roms blocks r =
@@ -154,8 +155,8 @@ module _ {image : ImageData} {plan : PlanData} {tasks : TasksData} {certs : ℕ 
             answers = λ _. subst (λ (r : Result (Shape × ℕ) Cause). AnswersLoad (view_plan_of plan tasks u) input (load_in v r)) (sym there) answers;
           }
           in
-          let a : Alike plan (count tasks) u word_of chain_of (λ x. IsInOne x 1 plan.rom) mem m (step m e) (step v e2) =
-          Alike-plain wd.ok (λ x. IsInOne x 1 plan.rom) m mem pcxi fcx k.running (twins wd m k mem pcxi fcx seen of paused e) mem2 areas maps e e2 shape shape2 4 p roms none refl refl here there
+          let a : Alike plan (count tasks) u word_of chain_of (λ x. IsInOneRange x 1 plan.rom) mem m (step m e) (step v e2) =
+          Alike-plain wd.ok (λ x. IsInOneRange x 1 plan.rom) m mem pcxi fcx k.running (twins wd m k mem pcxi fcx seen of paused e) mem2 areas maps e e2 shape shape2 4 p roms none refl refl here there
           in
           let first = first_stays tasks v e2 (of.run).frame (of.run).behind shape2 4 none there (way (step v e2).pc) (of.run).first in
           let next : NextRun image plan tasks u (step v e2) _ =
@@ -167,10 +168,10 @@ module _ {image : ImageData} {plan : PlanData} {tasks : TasksData} {certs : ℕ 
             owner = u;
             words = a.words;
             chains = a.chains;
-            kept = all_after wd m k mem pcxi fcx seen of paused e e2 fits2 (λ x. IsInOne x 1 plan.rom) (λ x in_rom. in_rom) a next.run fits
+            kept = all_after wd m k mem pcxi fcx seen of paused e e2 fits2 (λ x. IsInOneRange x 1 plan.rom) (λ x in_rom. in_rom) a next.run fits
                 (λ w lt apart. ap (λ y. block_word tasks y w) step_at ∙ blocks w lt apart)
-                (switches a.view a.view_pcxi a.view_fcx a.seen j some most (view_after wd m k mem pcxi fcx seen of paused e e2 fits2 (λ x. IsInOne x 1 plan.rom) (λ x in_rom. in_rom) a next.run)
-                (paused_after wd m k mem pcxi fcx seen of paused e e2 fits2 (λ x. IsInOne x 1 plan.rom) (λ x in_rom. in_rom) a next.run)
+                (switches a.view a.view_pcxi a.view_fcx a.seen j some most (view_after wd m k mem pcxi fcx seen of paused e e2 fits2 (λ x. IsInOneRange x 1 plan.rom) (λ x in_rom. in_rom) a next.run)
+                (paused_after wd m k mem pcxi fcx seen of paused e e2 fits2 (λ x. IsInOneRange x 1 plan.rom) (λ x in_rom. in_rom) a next.run)
                 (record {
                   pc = r.pc;
                   off = r.off;
@@ -203,24 +204,24 @@ module _ {image : ImageData} {plan : PlanData} {tasks : TasksData} {certs : ℕ 
 
       -- an instruction that both have, and that doesn't change memory
       same_turn : (j : ℕ) → 1 ≤ j → j ≤ 14 → (shape : Shape) → IsCode image plan (tasks.switch + 4 * i) shape 4 → IsCode (view_image_of image tasks u) plan (tasks.switch + 4 * i) shape 4
-          → AnswersLoad (view_plan_of plan tasks u) e.input (load_in (seen_as m mem pcxi fcx) (Ok (shape, 4))) → ((q : ℕ) → way_by (seen_as m mem pcxi fcx) e shape q ≡ to q)
+          → AnswersLoad (view_plan_of plan tasks u) e.input (load_in (seen_as m mem pcxi fcx) (Ok (shape, 4))) → ((q : ℕ) → edge_way_by_trap (seen_as m mem pcxi fcx) e shape q ≡ to q)
           → Plainly m (seen_as m mem pcxi fcx) (does m e shape 4) (does (seen_as m mem pcxi fcx) e shape 4) m.mem mem → InRoutine tasks (step m e) u j word_of → Goes image plan tasks needs (step m e)
       same_turn j some most shape c c2 answers way p next =
           turns r.off shape shape e.input fits.input (at_here shape c) (view_here shape c2) j some most answers way m.mem p (λ x at. refl) (λ x. refl) (λ x at. refl) (λ w lt apart. refl) next
 
       -- an instruction that stores to the block; the view does nothing
       put_turn : (j : ℕ) → 1 ≤ j → j ≤ 14 → (src base offset at : ℕ) → IsCode image plan (tasks.switch + 4 * i) (Store src (Reg base) offset 4 false) 4 → IsCode (view_image_of image tasks u) plan (tasks.switch + 4 * i) Nothing 4
-          → moved (reg m base) offset ≡ tasks.block + 4 * at → at ≤ count tasks → ((w : ℕ) → w < count tasks → w ≢ u → w ≢ at) → traps_at e (moved (reg m base) offset) 4 ≡ false → InRoutine tasks (step m e) u j word_of → Goes image plan tasks needs (step m e)
+          → machine_address_ahead (reg m base) offset ≡ tasks.block + 4 * at → at ≤ count tasks → ((w : ℕ) → w < count tasks → w ≢ u → w ≢ at) → is_trapping_access e (machine_address_ahead (reg m base) offset) 4 ≡ false → InRoutine tasks (step m e) u j word_of → Goes image plan tasks needs (step m e)
       put_turn j some most src base offset at c c2 place le others no_trap_here next =
-          let s = block_stored m.mem block_here (moved (reg m base) offset) at (reg m src) place le in
-          turns r.off (Store src (Reg base) offset 4 false) Nothing e.input fits.input (at_here (Store src (Reg base) offset 4 false) c) (view_here Nothing c2) j some most tt (λ q. refl) (with_bytes m.mem (moved (reg m base) offset) (reg m src) 4)
+          let s = block_stored m.mem block_here (machine_address_ahead (reg m base) offset) at (reg m src) place le in
+          turns r.off (Store src (Reg base) offset 4 false) Nothing e.input fits.input (at_here (Store src (Reg base) offset 4 false) c) (view_here Nothing c2) j some most tt (λ q. refl) (with_bytes m.mem (machine_address_ahead (reg m base) offset) (reg m src) 4)
           (plain-put m mem pcxi fcx e e src base offset 4 no_trap_here) s.areas s.mapped s.rom (λ w lt apart. s.blocks w (others w lt apart)) next
 
       -- an instruction that reads what is an input in the view
       get_turn : (j : ℕ) → 1 ≤ j → j ≤ 14 → (dst base offset : ℕ) → IsCode image plan (tasks.switch + 4 * i) (Load dst (Reg base) offset 4 false false) 4 → IsCode (view_image_of image tasks u) plan (tasks.switch + 4 * i) (Mfcr dst 0) 4
-          → traps_at e (moved (reg m base) offset) 4 ≡ false → InRoutine tasks (step m e) u j word_of → Goes image plan tasks needs (step m e)
+          → is_trapping_access e (machine_address_ahead (reg m base) offset) 4 ≡ false → InRoutine tasks (step m e) u j word_of → Goes image plan tasks needs (step m e)
       get_turn j some most dst base offset c c2 no_trap_here next =
-          let x = moved (reg m base) offset in
+          let x = machine_address_ahead (reg m base) offset in
           let w = load_number m.mem e.input x 4 in
           turns r.off (Load dst (Reg base) offset 4 false false) (Mfcr dst 0) w (load_lt m.mem (k.words).bytes false e.input x 4 (inr (inr refl))) (at_here (Load dst (Reg base) offset 4 false false) c) (view_here (Mfcr dst 0) c2) j some most tt (λ q. refl) m.mem
           (plain-taken m mem pcxi fcx e (record e { input = w }) dst base offset 0 4 no_trap_here refl) (λ x at. refl) (λ x. refl) (λ x at. refl) (λ w lt apart. refl) next
@@ -246,7 +247,7 @@ module _ {image : ImageData} {plan : PlanData} {tasks : TasksData} {certs : ℕ 
         same_turn 3 r 4 (omega arith) (omega arith) shape c (view_code_3 image plan tasks wd.are wd.has u) tt (λ q. refl) (plain-compute m mem pcxi fcx e e Add 18 (Reg 18) (Word (sign_extended 16 (lower_half tasks.block % 2 ^ 16))) 4)
         (next_3 tasks wd.are block_fits routine_fits m e u word_of k.running dl al block_here own (k.words).pcxi r (fetched_here 3 r shape c))
 
-    no_trap_at : (x j : ℕ) → x ≡ tasks.block + 4 * j → traps_at e x 4 ≡ false
+    no_trap_at : (x j : ℕ) → x ≡ tasks.block + 4 * j → is_trapping_access e x 4 ≡ false
     no_trap_at x j is = no_trap tasks wd.are block_fits routine_fits m e u word_of k.running dl al block_here own (k.words).pcxi x (ap (λ y. y % 4) is ∙ four_place tasks wd.are block_fits routine_fits m e u word_of k.running dl al block_here own (k.words).pcxi j)
 
     turn_4 : InRoutine tasks m u 4 word_of → Goes image plan tasks needs (step m e)
@@ -255,7 +256,7 @@ module _ {image : ImageData} {plan : PlanData} {tasks : TasksData} {certs : ℕ 
         let shape = Load 0 (Reg 18) offset 4 false false in
         let c = code_4 image plan tasks wd.are wd.has in
         let place = block_place tasks wd.are block_fits routine_fits m e u word_of k.running dl al block_here own (k.words).pcxi (reg m 18) (r.block (omega arith)) in
-        get_turn 4 r 5 (omega arith) (omega arith) 0 18 offset c (view_code_4 image plan tasks wd.are wd.has u) (no_trap_at (moved (reg m 18) offset) n place)
+        get_turn 4 r 5 (omega arith) (omega arith) 0 18 offset c (view_code_4 image plan tasks wd.are wd.has u) (no_trap_at (machine_address_ahead (reg m 18) offset) n place)
         (next_4 tasks wd.are block_fits routine_fits m e u word_of k.running dl al block_here own (k.words).pcxi r (fetched_here 4 r shape c))
 
     turn_5 : InRoutine tasks m u 5 word_of → Goes image plan tasks needs (step m e)
@@ -275,7 +276,7 @@ module _ {image : ImageData} {plan : PlanData} {tasks : TasksData} {certs : ℕ 
     turn_7 r =
         let c = code_7 image plan tasks wd.are wd.has in
         let place = zero_place tasks wd.are block_fits routine_fits m e u word_of k.running dl al block_here own (k.words).pcxi (reg m 19) u (r.own_word (omega arith) (omega arith)) (omega arith) in
-        put_turn 7 r 8 (omega arith) (omega arith) 1 19 0 u c (view_code_7 image plan tasks wd.are wd.has u) place (omega arith) (λ w lt apart. apart) (no_trap_at (moved (reg m 19) 0) u place)
+        put_turn 7 r 8 (omega arith) (omega arith) 1 19 0 u c (view_code_7 image plan tasks wd.are wd.has u) place (omega arith) (λ w lt apart. apart) (no_trap_at (machine_address_ahead (reg m 19) 0) u place)
         (next_7 tasks wd.are block_fits routine_fits m e u word_of k.running dl al block_here own (k.words).pcxi r (fetched_here 7 r (Store 1 (Reg 19) 0 4 false) c))
 
     turn_8 : InRoutine tasks m u 8 word_of → Goes image plan tasks needs (step m e)
@@ -309,7 +310,7 @@ module _ {image : ImageData} {plan : PlanData} {tasks : TasksData} {certs : ℕ 
         let offset = sign_extended 16 (4 * n % 2 ^ 16) in
         let c = code_11 image plan tasks wd.are wd.has in
         let place = block_place tasks wd.are block_fits routine_fits m e u word_of k.running dl al block_here own (k.words).pcxi (reg m 18) (r.block (omega arith)) in
-        put_turn 11 r 12 (omega arith) (omega arith) 0 18 offset n c (view_code_11 image plan tasks wd.are wd.has u) place (omega arith) (λ w lt apart is. omega arith) (no_trap_at (moved (reg m 18) offset) n place)
+        put_turn 11 r 12 (omega arith) (omega arith) 0 18 offset n c (view_code_11 image plan tasks wd.are wd.has u) place (omega arith) (λ w lt apart is. omega arith) (no_trap_at (machine_address_ahead (reg m 18) offset) n place)
         (next_11 tasks wd.are block_fits routine_fits m e u word_of k.running dl al block_here own (k.words).pcxi r (fetched_here 11 r (Store 0 (Reg 18) offset 4 false) c))
 
     turn_12 : InRoutine tasks m u 12 word_of → Goes image plan tasks needs (step m e)
@@ -324,7 +325,7 @@ module _ {image : ImageData} {plan : PlanData} {tasks : TasksData} {certs : ℕ 
         let beyond = after_below n u (wd.are).some own in
         let place = zero_place tasks wd.are block_fits routine_fits m e u word_of k.running dl al block_here own (k.words).pcxi (reg m 19) (after n u) (r.next_word refl) (let lt = beyond.0 in omega arith) in
         let waits = k.waits (after n u) beyond.0 beyond.1 in
-        get_turn 13 r 14 (omega arith) (omega arith) 1 19 0 c (view_code_13 image plan tasks wd.are wd.has u) (no_trap_at (moved (reg m 19) 0) (after n u) place)
+        get_turn 13 r 14 (omega arith) (omega arith) 1 19 0 c (view_code_13 image plan tasks wd.are wd.has u) (no_trap_at (machine_address_ahead (reg m 19) 0) (after n u) place)
         (next_13 tasks wd.are block_fits routine_fits m e u word_of k.running dl al block_here own (k.words).pcxi waits.0 r (fetched_here 13 r (Load 1 (Reg 19) 0 4 false false) c))
 
     -- all of them
@@ -349,16 +350,16 @@ module _ {image : ImageData} {plan : PlanData} {tasks : TasksData} {certs : ℕ 
     not_out : (i : ℕ) → i < 18 → m.pc ≡ tasks.switch + 4 * i → IsInRoutine tasks m.pc
     not_out i lt pc = (omega arith, omega arith)
 
-    block_store : (i : ℕ) → i < 18 → m.pc ≡ tasks.switch + 4 * i → m.ie ≡ false → (src base offset j : ℕ) → IsCode image plan (tasks.switch + 4 * i) (Store src (Reg base) offset 4 false) 4 → moved (reg m base) offset ≡ tasks.block + 4 * j → j ≤ count tasks
+    block_store : (i : ℕ) → i < 18 → m.pc ≡ tasks.switch + 4 * i → m.ie ≡ false → (src base offset j : ℕ) → IsCode image plan (tasks.switch + 4 * i) (Store src (Reg base) offset 4 false) 4 → machine_address_ahead (reg m base) offset ≡ tasks.block + 4 * j → j ≤ count tasks
         → IfSome (stored m e) (IsTaskStore plan tasks m.pc)
     block_store i lt pc off src base offset j c place le =
         let shape = Store src (Reg base) offset 4 false in
         let at : fetched m ≡ Ok (Store src (Reg base) offset 4 false, 4) = fetched_code image plan m shape 4 wd.ok k.rom (subst (λ x. IsCode image plan x shape 4) (sym pc) c) in
-        let free : traps_at e (moved (reg m base) offset) 4 ≡ false = no_trap_at (moved (reg m base) offset) j place in
-        let range : IsStoreInRange plan (moved (reg m base) offset, 4) = subst (λ y. IsStoreInRange plan (y, 4)) (sym place) (block_range j le) in
+        let free : is_trapping_access e (machine_address_ahead (reg m base) offset) 4 ≡ false = no_trap_at (machine_address_ahead (reg m base) offset) j place in
+        let range : IsStoreInRange plan (machine_address_ahead (reg m base) offset, 4) = subst (λ y. IsStoreInRange plan (y, 4)) (sym place) (block_range j le) in
         let inside = not_out i lt pc in
         subst (λ o. IfSome o (IsTaskStore plan tasks m.pc)) (sym (stored-is m e (Ok (shape, 4)) k.running (none_when_off m e off) at))
-        (subst (λ t. IfSome (cond t None (Some (moved (reg m base) offset, 4))) (IsTaskStore plan tasks m.pc)) (sym free) (range, λ out. absurd (out inside)))
+        (subst (λ t. IfSome (cond t None (Some (machine_address_ahead (reg m base) offset, 4))) (IsTaskStore plan tasks m.pc)) (sym free) (range, λ out. absurd (out inside)))
 
     pub turning_store : (i : ℕ) → 1 ≤ i → i ≤ 14 → InRoutine tasks m u i word_of → IfSome (stored m e) (IsTaskStore plan tasks m.pc)
     turning_store zero some most r = absurd (omega arith)

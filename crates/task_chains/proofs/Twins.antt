@@ -4,18 +4,18 @@ use Rattle.std.proofs.Common.{◌≡◌, ◌≢◌, ℕ, zero, suc, ◌+◌, ◌
 use Rattle.std.proofs.lemmas.Bool.{cases_eq}
 use Rattle.csa_chain.specs.MemoryBytes.{Memory, with_words, HasBytes}
 use Rattle.csa_chain.specs.Chain.{link_in, link_address, is_area, area_word}
-use Rattle.csa_chain.specs.ContextWords.{pcxi_word_of, with_link}
-use Rattle.csa_chain.specs.MemoryChanges.{HasWords}
+use Rattle.csa_chain.specs.ContextWords.{pcxi_word_of, word_with_link}
+use Rattle.csa_chain.specs.ContextWordLaws.{HasContextWords}
 use Rattle.csa_chain.proofs.WordLaws.{area_word-lt}
 use Rattle.csa_chain.proofs.ChainLaws.{Links, SameAreas, Avoids, Distinct, area_word_same, SameAreas-written, area_word-written, used_after_save, used_after_restore}
 use Rattle.csa_chain.proofs.ContextLaws.{link_in-with_link, with_link-lt, link_in-lt, link_in-pcxi_word, pcxi_word-lt}
 use Rattle.tcd_base.specs.declared.core_version.Core.{Core}
 use Rattle.tcd_base.specs.declared.core_version.Core.TheVariants.{V13, V16}
 use Rattle.tcd_plan.specs.PlanData.{PlanData, IsPlan}
-use Rattle.tc_machine.specs.PlanAreas.{links_up, first_link, plan_areas}
+use Rattle.tc_machine.specs.PlanAreas.{area_links_up, first_link, plan_areas}
 use Rattle.tc_machine.proofs.PlanLaws.{length-links_up, Distinct-links_up}
 use Rattle.tc_machine.proofs.Areas.{Areas, HasFree, has_free, Areas-saved, is_freed, Areas-restored}
-use Rattle.csa_chain.specs.SeveralChains.{times, sum_below, with_chain, with_first, Share, AreOnce}
+use Rattle.csa_chain.specs.SeveralChains.{times_in_list, sum_over_chains, with_chain, with_chain_word, Share, AreLinksOnce}
 use Rattle.csa_chain.proofs.SeveralLaws.{cond_same, AllLinks, first_avoids, first_avoids_rest, Share-saved, saved_links, saved_free, times-there, times-other, owned_avoids_rest, Share-restored, restored_links, restored_free}
 
 -- ---- contexts
@@ -62,15 +62,15 @@ SameBehindFirst ws ws2 = (i : ℕ) → i < 15 → get_or ws (suc i) 0 ≡ get_or
 
 -- ---- the shared areas
 -- each of the plan's areas once
-first_of_reserve : (reserve x f : ℕ) → 1 ≤ reserve → Avoids f (links_up x reserve) → f ≢ x
+first_of_reserve : (reserve x f : ℕ) → 1 ≤ reserve → Avoids f (area_links_up x reserve) → f ≢ x
 first_of_reserve zero x f some h = absurd (omega arith)
 first_of_reserve (suc r) x f some h = λ e. h.0 (sym e)
 
-times-Avoids : (l : ℕ) (ls : List ℕ) → Avoids l ls → times l ls ≡ 0
+times-Avoids : (l : ℕ) (ls : List ℕ) → Avoids l ls → times_in_list l ls ≡ 0
 times-Avoids l [] h = refl
 times-Avoids l (k ∷ ks) h = let rest = times-Avoids l ks h.1 in let first = times-other l k ks h.0 in omega arith
 
-pub AreOnce-Distinct : (ls : List ℕ) → Distinct ls → AreOnce ls
+pub AreOnce-Distinct : (ls : List ℕ) → Distinct ls → AreLinksOnce ls
 AreOnce-Distinct [] h l = omega arith
 AreOnce-Distinct (k ∷ ks) h l =
     elim (cases_eq k l) [
@@ -78,12 +78,12 @@ AreOnce-Distinct (k ∷ ks) h l =
       | inr apart ↦ let rest = AreOnce-Distinct ks h.1 l in let first = times-other l k ks apart in omega arith
     ]
 
-pub areas_once : (plan : PlanData) → AreOnce (plan_areas plan)
+pub areas_once : (plan : PlanData) → AreLinksOnce (plan_areas plan)
 areas_once plan = AreOnce-Distinct (plan_areas plan) (Distinct-links_up (first_link plan) plan.areas)
 
 -- the links of the reserve
 abbrev pub reserve_of : PlanData → List ℕ
-reserve_of plan = links_up (first_link plan + (plan.areas - plan.reserve)) plan.reserve
+reserve_of plan = area_links_up (first_link plan + (plan.areas - plan.reserve)) plan.reserve
 
 -- What n tasks share, one of which owns PCXI, and what the owner's view has.
 pub record Twins (plan : PlanData) (n u : ℕ) (word_of : ℕ → ℕ) (chain_of : ℕ → List ℕ) (seen : List ℕ) (mem : Memory) (pcxi fcx lcx : ℕ) (view : Memory) (view_pcxi view_fcx : ℕ) : Type 0 where
@@ -122,7 +122,7 @@ module _ {plan : PlanData} (ok : IsPlan plan) {n u : ℕ} {word_of : ℕ → ℕ
   not_reserved : (f : ℕ) (front : List ℕ) → Avoids f (front ++ reserve_of plan) → f ≢ first_link plan + (plan.areas - plan.reserve)
   not_reserved f front h = first_of_reserve plan.reserve (first_link plan + (plan.areas - plan.reserve)) f ((ok.areas).reserved) (Avoids-behind f front (reserve_of plan) h)
 
-  shared_from : (free front : List ℕ) → free ≡ front ++ reserve_of plan → Links mem fcx free → Share n chain_of free (plan_areas plan) → sum_below n (λ w. length (chain_of w)) < plan.areas - plan.reserve
+  shared_from : (free front : List ℕ) → free ≡ front ++ reserve_of plan → Links mem fcx free → Share n chain_of free (plan_areas plan) → sum_over_chains n (λ w. length (chain_of w)) < plan.areas - plan.reserve
       → HasShared plan n chain_of mem fcx lcx
   shared_from free [] is links share room =
       let all = share.count in
@@ -144,11 +144,11 @@ module _ {plan : PlanData} (ok : IsPlan plan) {n u : ℕ} {word_of : ℕ → ℕ
         share = subst (λ x. Share n chain_of (x ∷ front ++ reserve_of plan) (plan_areas plan)) (sym l.1) s;
       }
 
-  pub has_shared : sum_below n (λ w. length (chain_of w)) < plan.areas - plan.reserve → HasShared plan n chain_of mem fcx lcx
+  pub has_shared : sum_over_chains n (λ w. length (chain_of w)) < plan.areas - plan.reserve → HasShared plan n chain_of mem fcx lcx
   has_shared room = shared_from t.free t.front t.reserved t.free_links t.share room
 
   -- after a save of the same context on both sides
-  module _ (room : sum_below n (λ w. length (chain_of w)) < plan.areas - plan.reserve) (view_room : length seen < plan.areas - plan.reserve) (context context2 : List ℕ) (are : HasWords 16 context) (are2 : HasWords 16 context2)
+  module _ (room : sum_over_chains n (λ w. length (chain_of w)) < plan.areas - plan.reserve) (view_room : length seen < plan.areas - plan.reserve) (context context2 : List ℕ) (are : HasContextWords 16 context) (are2 : HasContextWords 16 context2)
       (is : get_or context 0 0 ≡ pcxi) (is2 : get_or context2 0 0 ≡ view_pcxi) (alike : SameBehindFirst context context2) (core : Core) (ccpn : ℕ) (ie upper : Bool) (small : ccpn < 2 ^ 8) where
     h : HasShared plan n chain_of mem fcx lcx
     h = has_shared room
@@ -160,7 +160,7 @@ module _ {plan : PlanData} (ok : IsPlan plan) {n u : ℕ} {word_of : ℕ → ℕ
     pcxi_of l = pcxi_word_of core ccpn ie upper l
 
     -- a word of the context that was saved
-    saved_word : (m : Memory) (l i : ℕ) (ws : List ℕ) → HasWords 16 ws → is_area m l ≡ true → i < 16 → area_word (with_words m (link_address l) ws) l i ≡ get_or ws i 0
+    saved_word : (m : Memory) (l i : ℕ) (ws : List ℕ) → HasContextWords 16 ws → is_area m l ≡ true → i < 16 → area_word (with_words m (link_address l) ws) l i ≡ get_or ws i 0
     saved_word m l i ws ws_are here lt = let long = ws_are.0 in area_word-written m l ws i (omega arith) here (omega arith) (ws_are.1 i 0 (omega arith))
 
     avoids_own : Avoids (link_in fcx) (chain_of u)
@@ -179,14 +179,14 @@ module _ {plan : PlanData} (ok : IsPlan plan) {n u : ℕ} {word_of : ℕ → ℕ
               (SameAreas-written view (link_in view_fcx) seen context2 (let long = are2.0 in omega arith) v.avoids_used) t.same),
         )
 
-    pub Twins-saved : Twins plan n u (with_first word_of u (pcxi_word_of core ccpn ie upper (link_in fcx))) (with_chain chain_of u (link_in fcx ∷ chain_of u)) (link_in view_fcx ∷ seen)
-        (with_words mem (link_address (link_in fcx)) context) (pcxi_word_of core ccpn ie upper (link_in fcx)) (with_link fcx (link_in (area_word mem (link_in fcx) 0))) lcx
-        (with_words view (link_address (link_in view_fcx)) context2) (pcxi_word_of core ccpn ie upper (link_in view_fcx)) (with_link view_fcx (link_in (area_word view (link_in view_fcx) 0)))
+    pub Twins-saved : Twins plan n u (with_chain_word word_of u (pcxi_word_of core ccpn ie upper (link_in fcx))) (with_chain chain_of u (link_in fcx ∷ chain_of u)) (link_in view_fcx ∷ seen)
+        (with_words mem (link_address (link_in fcx)) context) (pcxi_word_of core ccpn ie upper (link_in fcx)) (word_with_link fcx (link_in (area_word mem (link_in fcx) 0))) lcx
+        (with_words view (link_address (link_in view_fcx)) context2) (pcxi_word_of core ccpn ie upper (link_in view_fcx)) (word_with_link view_fcx (link_in (area_word view (link_in view_fcx) 0)))
     unfolding v
     Twins-saved =
         let h = has_shared room in
         let pcxi2 = pcxi_word_of core ccpn ie upper (link_in fcx) in
-        let fcx2 = with_link fcx (link_in (area_word mem (link_in fcx) 0)) in
+        let fcx2 = word_with_link fcx (link_in (area_word mem (link_in fcx) 0)) in
         let first_word : get_or context 0 0 ≡ word_of u = is ∙ sym t.first in
         let word_lt : word_of u < 2 ^ 32 = subst (λ x. x < 2 ^ 32) (sym t.first) t.pcxi_word in
         let to = link_in-pcxi_word core ccpn ie upper (link_in fcx) (link_in-lt fcx) in
@@ -233,8 +233,8 @@ module _ {plan : PlanData} (ok : IsPlan plan) {n u : ℕ} {word_of : ℕ → ℕ
   view_small : k < 2 ^ 20
   view_small = subst (λ x. x < 2 ^ 20) view_named (link_in-lt view_pcxi)
 
-  pub Twins-restored : Twins plan n u (with_first word_of u (area_word mem l 0)) (with_chain chain_of u used) seen (with_words mem (link_address l) (fcx ∷ [])) (area_word mem l 0) (with_link fcx l) lcx
-      (with_words view (link_address k) (view_fcx ∷ [])) (area_word view k 0) (with_link view_fcx k)
+  pub Twins-restored : Twins plan n u (with_chain_word word_of u (area_word mem l 0)) (with_chain chain_of u used) seen (with_words mem (link_address l) (fcx ∷ [])) (area_word mem l 0) (word_with_link fcx l) lcx
+      (with_words view (link_address k) (view_fcx ∷ [])) (area_word view k 0) (word_with_link view_fcx k)
   Twins-restored =
       let to = link_in-with_link fcx l small in
       let freed = is_freed view view_fcx lcx k seen t.view_free t.view_areas in
@@ -242,9 +242,9 @@ module _ {plan : PlanData} (ok : IsPlan plan) {n u : ℕ} {word_of : ℕ → ℕ
       record {
         own = t.own;
         first = cond_same u u (area_word mem l 0) (word_of u) refl;
-        links = restored_links mem n u fcx l word_of chain_of used t.free (plan_areas plan) t.links t.free_links t.share (areas_once plan) t.own is t.fcx_word (with_link fcx l) to;
+        links = restored_links mem n u fcx l word_of chain_of used t.free (plan_areas plan) t.links t.free_links t.share (areas_once plan) t.own is t.fcx_word (word_with_link fcx l) to;
         free = l ∷ t.free;
-        free_links = restored_free mem n u fcx l word_of chain_of used t.free (plan_areas plan) t.links t.free_links t.share (areas_once plan) t.own is t.fcx_word (with_link fcx l) to;
+        free_links = restored_free mem n u fcx l word_of chain_of used t.free (plan_areas plan) t.links t.free_links t.share (areas_once plan) t.own is t.fcx_word (word_with_link fcx l) to;
         share = Share-restored n u chain_of l used t.free (plan_areas plan) t.own is t.share;
         front = l ∷ t.front;
         reserved = ap (λ ls. l ∷ ls) t.reserved;

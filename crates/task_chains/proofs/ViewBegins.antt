@@ -5,9 +5,9 @@ use Rattle.elf_image.specs.Images.{ImageData}
 use Rattle.tcd_plan.specs.PlanData.{PlanData, IsPlan}
 use Rattle.tc_machine.specs.declared.events.End.TheVariants.{Running}
 use Rattle.tc_machine.specs.declared.state.Machine.{Machine}
-use Rattle.tc_machine.specs.Machine.{is_of}
+use Rattle.tc_machine.specs.Machine.{is_interrupt_stack_used, IsMachine}
 use Rattle.tc_machine.specs.PlanAreas.{first_link}
-use Rattle.tc_machine.specs.Safe.{IsMachine, Starts, HasGlobals}
+use Rattle.tc_machine.specs.Safe.{Starts, HasGlobals}
 use Rattle.tc_machine.proofs.PlanLaws.{link_lt}
 use Rattle.task_chains.specs.Tasks.{TasksData, task_at}
 use Rattle.task_chains.specs.Views.{view_image_of, view_plan_of, FitPlan}
@@ -27,7 +27,7 @@ pub record Begun (plan : PlanData) (tasks : TasksData) (u : ℕ) (m : Machine) :
   pub isp : m.isp ≡ plan.isp
   pub ie : m.ie ≡ false
   pub ccpn : m.ccpn ≡ plan.start_ccpn
-  pub is : is_of m.psw ≡ false
+  pub is : is_interrupt_stack_used m.psw ≡ false
   pub io : m.psw / 2 ^ 10 % 4 ≡ 2
   pub end : m.end ≡ Running
   pub core : m.core ≡ plan.core

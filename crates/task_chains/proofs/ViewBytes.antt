@@ -5,7 +5,7 @@ use Rattle.std.specs.List.{list_all}
 use Rattle.std.proofs.lemmas.Bool.{cases_eq, cases_lt, and_from, and_parts, le-leb, lt-ltb, leb-true, lt-leb, le-ltb}
 use Rattle.std.proofs.lemmas.List.{length-map}
 use Rattle.std.proofs.lemmas.List.Sums.{sum_by-cons}
-use Rattle.elf_image.specs.Images.{ImageData, SegmentData, IsImage, AreBytes, is_segment, are_apart, all_apart}
+use Rattle.elf_image.specs.Images.{ImageData, SegmentData, IsImage, AreSegmentBytes, is_segment, are_apart, all_apart}
 use Rattle.task_chains.specs.Tasks.{TasksData, AreTasks, count}
 use Rattle.task_chains.specs.SwitchRoutine.{view_routine_bytes}
 use Rattle.task_chains.specs.Views.{with_routine_from, view_segment, view_image_of}
@@ -127,7 +127,7 @@ module _ (tasks : TasksData) where
       ∙ ap (λ k. k + sum_by (λ (z : SegmentData). length z.bytes) (map (view_segment tasks) ss)) (length-with s.at s.bytes) ∙ ap (λ k. length s.bytes + k) (sum_same ss)
       ∙ sym (sum_by-cons (λ (z : SegmentData). length z.bytes) s ss)
 
-  pub view_is_image : (image : ImageData) (u : ℕ) → IsImage image → AreTasks tasks → u < count tasks → AreBytes (view_image_of image tasks u).segments → IsImage (view_image_of image tasks u)
+  pub view_is_image : (image : ImageData) (u : ℕ) → IsImage image → AreTasks tasks → u < count tasks → AreSegmentBytes (view_image_of image tasks u).segments → IsImage (view_image_of image tasks u)
   view_is_image image u ok are lt bytes = record {
     entry = (are.words u (record { entry = 0; sp = 0 }) lt).0;
     few = omega (arith, length-map image.segments (view_segment tasks), ok.few);

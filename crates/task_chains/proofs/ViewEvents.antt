@@ -8,7 +8,7 @@ use Rattle.csa_chain.specs.MemoryBytes.{Memory, is_mapped, load_number, with_byt
 use Rattle.elf_image.specs.Images.{ImageData}
 use Rattle.tcd_base.specs.declared.range.Range.{Range}
 use Rattle.tcd_plan.specs.declared.plans.Device.{Device}
-use Rattle.tcd_plan.specs.PlanData.{PlanData, IsPlan, areas_range, all_apart}
+use Rattle.tcd_plan.specs.PlanData.{PlanData, IsPlan, areas_range, are_all_ranges_apart}
 use Rattle.tc_isa.specs.declared.shapes.Shape.{Shape}
 use Rattle.tc_isa.specs.declared.shapes.Shape.TheVariants.{Compute, Scaled, Load, Store, Branch, Jump, Call, Ret, Rfe, Svlcx, Rslcx, Bisr, Enable, Disable, Syscall, Mfcr, Mtcr, Nothing}
 use Rattle.tc_machine.specs.declared.events.Cause.{Cause}
@@ -17,7 +17,7 @@ use Rattle.tc_machine.specs.declared.state.Machine.{Machine}
 use Rattle.tc_machine.specs.Fetching.{fetched}
 use Rattle.tc_machine.specs.Instructions.{access_address}
 use Rattle.tc_machine.specs.Stepping.{is_taken, load_in}
-use Rattle.tcd_base.specs.Ranges.{IsWithin, IsInOne}
+use Rattle.tcd_base.specs.Ranges.{IsWithinRange, IsInOneRange}
 use Rattle.tc_machine.specs.Safe.{Fits}
 use Rattle.tc_mem.specs.PlanMemory.{IsPlanMemory}
 use Rattle.tcd_plan.specs.Regions.{IsStoreInRange, AnswersAt, AnswersLoad}
@@ -30,7 +30,7 @@ use Rattle.value_domain.specs.Limits.{Limits}
 use Rattle.cfg_recover.proofs.CodeLaws.{IsCode-suits}
 use Rattle.csa_chain.proofs.MemoryLaws.{get-with_bytes_other}
 use Rattle.task_chains.specs.Tasks.{TasksData, AreTasks, block_size}
-use Rattle.task_chains.specs.Views.{any_device, view_devices, view_plan_of, FitPlan}
+use Rattle.task_chains.specs.Views.{any_view_device, view_devices, view_plan_of, FitPlan}
 use Rattle.task_chains.proofs.Alike.{seen_as}
 use Rattle.task_chains.proofs.Plain.{address-same}
 use Rattle.task_chains.proofs.Accesses.{store_gone}
@@ -39,7 +39,7 @@ use Rattle.task_chains.proofs.Outside.{Both, AtPoint, input_for, event_for}
 
 -- a byte in rom, or in the block
 abbrev pub IsKept : PlanData → TasksData → ℕ → Type 0
-IsKept plan tasks y = IsInOne y 1 plan.rom ⊎ ((tasks.block ≤ y) × (y < tasks.block + block_size tasks))
+IsKept plan tasks y = IsInOneRange y 1 plan.rom ⊎ ((tasks.block ≤ y) × (y < tasks.block + block_size tasks))
 
 pub size_some : (n : ℕ) → IsSize n → 0 < n
 size_some n (inl e) = omega arith
@@ -53,13 +53,13 @@ All-append P (x ∷ xs) ys h g zero d lt = h 0 d (omega arith)
 All-append P (x ∷ xs) ys h g (suc i) d lt = All-append P xs ys (λ j c less. h (suc j) c (omega arith)) g i d (omega arith)
 
 -- a byte of a device's range is one of the devices' bytes
-nth_in : (ds : List Device) (i : ℕ) (d : Device) → i < length ds → (y : ℕ) → IsWithin y 1 (slice_index_or ds i d).range → IsInOne y 1 (map (λ (d : Device). d.range) ds)
+nth_in : (ds : List Device) (i : ℕ) (d : Device) → i < length ds → (y : ℕ) → IsWithinRange y 1 (slice_index_or ds i d).range → IsInOneRange y 1 (map (λ (d : Device). d.range) ds)
 nth_in [] i d lt y h = absurd (omega arith)
 nth_in (x ∷ ds) zero d lt y h = inl h
 nth_in (x ∷ ds) (suc i) d lt y h = inr (nth_in ds i d (omega arith) y h)
 
 -- a range that answers with any word
-any_answer : (x w : ℕ) → w < 2 ^ 32 → (rs : List Range) → AnswersAt x w (map any_device rs)
+any_answer : (x w : ℕ) → w < 2 ^ 32 → (rs : List Range) → AnswersAt x w (map any_view_device rs)
 any_answer x w lt [] i d less = absurd (omega arith)
 any_answer x w lt (r ∷ rs) zero d less = λ within. (omega arith, omega arith)
 any_answer x w lt (r ∷ rs) (suc i) d less = any_answer x w lt rs i d (omega arith)
@@ -95,11 +95,11 @@ module _ {plan : PlanData} (ok : IsPlan plan) (tasks : TasksData) (are : AreTask
   abbrev devs : List Range
   devs = map (λ (d : Device). d.range) plan.devices
 
-  fits_word : (y : ℕ) → IsInOne y 1 devs → y + 1 ≤ 2 ^ 32
+  fits_word : (y : ℕ) → IsInOneRange y 1 devs → y + 1 ≤ 2 ^ 32
   fits_word y at = IsInOne-fits y 1 devs (device_ranges plan.devices (ok.ranges).devices) at
 
   -- a byte of a device isn't mapped
-  device_unmapped : (mem : Memory) → IsPlanMemory plan mem → (y : ℕ) → IsInOne y 1 devs → is_mapped mem y ≡ false
+  device_unmapped : (mem : Memory) → IsPlanMemory plan mem → (y : ℕ) → IsInOneRange y 1 devs → is_mapped mem y ≡ false
   device_unmapped mem memory y at =
       elim (cases_Bool (is_mapped mem y)) [
         | inr gone ↦ gone
@@ -112,19 +112,19 @@ module _ {plan : PlanData} (ok : IsPlan plan) (tasks : TasksData) (are : AreTask
 
   -- in the view no byte of its devices is mapped, which are the plan's devices and what is left of
   -- ram
-  view_unmapped : (mem : Memory) → IsPlanMemory (view_plan_of plan tasks u) mem → (y : ℕ) → IsInOne y 1 (devs ++ left ok tasks are fit) → is_mapped mem y ≡ false
+  view_unmapped : (mem : Memory) → IsPlanMemory (view_plan_of plan tasks u) mem → (y : ℕ) → IsInOneRange y 1 (devs ++ left ok tasks are fit) → is_mapped mem y ≡ false
   view_unmapped mem memory y at =
       elim (cases_Bool (is_mapped mem y)) [
         | inr gone ↦ gone
         | inl there ↦ elim ((memory y).0 there) [
           | inl rom ↦ absurd (all_apart-before y plan.rom ((devs ++ left ok tasks are fit) ++ areas_range plan ∷ []) (all_left ok tasks are fit) rom (IsInOne-front y 1 (devs ++ left ok tasks are fit) (areas_range plan ∷ []) at))
           | inr (inl none) ↦ absurd none
-          | inr (inr a) ↦ absurd (all_apart-before y (plan.rom ++ (devs ++ left ok tasks are fit)) (areas_range plan ∷ []) (ap all_apart (append_assoc plan.rom (devs ++ left ok tasks are fit) (areas_range plan ∷ [])) ∙ all_left ok tasks are fit)
+          | inr (inr a) ↦ absurd (all_apart-before y (plan.rom ++ (devs ++ left ok tasks are fit)) (areas_range plan ∷ []) (ap are_all_ranges_apart (append_assoc plan.rom (devs ++ left ok tasks are fit) (areas_range plan ∷ [])) ∙ all_left ok tasks are fit)
               (IsInOne-behind y 1 plan.rom (devs ++ left ok tasks are fit) at) (inl (a.0, (let lt = a.1 in omega arith))))
         ]
       ]
 
-  in_view_range : (x n : ℕ) → IsStoreInRange (view_plan_of plan tasks u) (x, n) → IsInOne x n (devs ++ left ok tasks are fit)
+  in_view_range : (x n : ℕ) → IsStoreInRange (view_plan_of plan tasks u) (x, n) → IsInOneRange x n (devs ++ left ok tasks are fit)
   in_view_range x n range =
       elim range.1 [
         | inl none ↦ absurd none
@@ -152,7 +152,7 @@ module _ {plan : PlanData} (ok : IsPlan plan) (tasks : TasksData) (are : AreTask
           | inr from ↦ elim (cases_lt y (x + n)) [
             | inr high ↦ inr high
             | inl within ↦
-                let there : IsInOne y 1 (devs ++ left ok tasks are fit) = subst (λ z. IsInOne z 1 (devs ++ left ok tasks are fit)) (let e : x + (y - x) ≡ y = omega arith in e) (in_one x n (y - x) (devs ++ left ok tasks are fit) (omega arith) (in_view_range x n range)) in
+                let there : IsInOneRange y 1 (devs ++ left ok tasks are fit) = subst (λ z. IsInOneRange z 1 (devs ++ left ok tasks are fit)) (let e : x + (y - x) ≡ y = omega arith in e) (in_one x n (y - x) (devs ++ left ok tasks are fit) (omega arith) (in_view_range x n range)) in
                 absurd (all_apart-before y plan.rom ((devs ++ left ok tasks are fit) ++ areas_range plan ∷ []) (all_left ok tasks are fit) rom (IsInOne-front y 1 (devs ++ left ok tasks are fit) (areas_range plan ∷ []) there))
           ]
         ]
@@ -174,7 +174,7 @@ module _ {plan : PlanData} (ok : IsPlan plan) (tasks : TasksData) (are : AreTask
     -- a word that the view loads from a device is in its bounds
     answered : (x : ℕ) → AnswersAt x e.input plan.devices → AnswersAt x (load_number m.mem e.input x 4) (view_devices plan tasks)
     answered x own =
-        All-append (λ (d : Device). IsWithin x 4 d.range → (d.lo ≤ load_number m.mem e.input x 4) × (load_number m.mem e.input x 4 ≤ d.hi)) plan.devices (map any_device (left ok tasks are fit))
+        All-append (λ (d : Device). IsWithinRange x 4 d.range → (d.lo ≤ load_number m.mem e.input x 4) × (load_number m.mem e.input x 4 ≤ d.hi)) plan.devices (map any_view_device (left ok tasks are fit))
         (λ i d less within.
         let there = own i d less within in
         let lo = there.0 in
@@ -183,7 +183,7 @@ module _ {plan : PlanData} (ok : IsPlan plan) (tasks : TasksData) (are : AreTask
         (omega arith, omega arith))
         (any_answer x (load_number m.mem e.input x 4) (word_lt x) (left ok tasks are fit))
       where
-        from_outside : (r : Range) → IsWithin x 4 r → ((y : ℕ) → IsWithin y 1 r → IsInOne y 1 devs) → load_number m.mem e.input x 4 ≡ e.input
+        from_outside : (r : Range) → IsWithinRange x 4 r → ((y : ℕ) → IsWithinRange y 1 r → IsInOneRange y 1 devs) → load_number m.mem e.input x 4 ≡ e.input
         from_outside r within inside =
             let low = within.0 in
             let high = within.1 in

@@ -7,35 +7,35 @@ use Rattle.std.specs.Prelude.{max}
 use Rattle.std.specs.List.{list_all}
 use Rattle.tcd_base.specs.declared.range.Range.{Range}
 use Rattle.tcd_plan.specs.declared.plans.Device.{Device}
-use Rattle.tcd_plan.specs.PlanData.{PlanData, IsPlan, is_range, is_device, areas_range, all_apart}
-use Rattle.tcd_base.specs.Ranges.{IsInOne}
+use Rattle.tcd_plan.specs.PlanData.{PlanData, IsPlan, is_range, is_device, areas_range, are_all_ranges_apart}
+use Rattle.tcd_base.specs.Ranges.{IsInOneRange}
 use Rattle.tcd_plan.specs.Regions.{IsInDevice, IsStoreInRange}
-use Rattle.tcd_plan.specs.Cutting.{ranges_without}
+use Rattle.tcd_plan.specs.Cutting.{cut_plan_ranges}
 use Rattle.tcd_base.proofs.RangeLaws.{in_one, IsInOne-front, IsInOne-behind}
 use Rattle.tcd_plan.proofs.ApartLaws.{device_ranges, HaveBytes, HaveBytes-ranges, HaveBytes-append, all_apart-before, all_apart-behind, all_apart-front, all_apart-append}
 use Rattle.tcd_plan.proofs.CutLaws.{IsInOne-parts, in_ranges_without, ranges_without_ranges, ranges_without_apart}
 use Rattle.task_chains.specs.Tasks.{TasksData, AreTasks, count, block_size}
-use Rattle.task_chains.specs.Views.{any_device, view_devices, view_plan_of, FitPlan}
+use Rattle.task_chains.specs.Views.{any_view_device, view_devices, view_plan_of, FitPlan}
 use Rattle.task_chains.specs.SafeTasks.{MissesBlock}
 
 -- ---- devices
-pub in_devices : (ds : List Device) (rs : List Range) (x n : ℕ) → IsInDevice x n (ds ++ map any_device rs) → IsInDevice x n ds ⊎ IsInOne x n rs
+pub in_devices : (ds : List Device) (rs : List Range) (x n : ℕ) → IsInDevice x n (ds ++ map any_view_device rs) → IsInDevice x n ds ⊎ IsInOneRange x n rs
 in_devices [] [] x n h = absurd h
 in_devices [] (r ∷ rs) x n (inl here) = inr (inl here)
 in_devices [] (r ∷ rs) x n (inr rest) = elim (in_devices [] rs x n rest) [ inl none ↦ absurd none | inr at ↦ inr (inr at) ]
 in_devices (d ∷ ds) rs x n (inl here) = inl (inl here)
 in_devices (d ∷ ds) rs x n (inr rest) = elim (in_devices ds rs x n rest) [ inl at ↦ inl (inr at) | inr at ↦ inr at ]
 
-pub ranges_of : (ds : List Device) (x n : ℕ) → IsInDevice x n ds → IsInOne x n (map (λ (d : Device). d.range) ds)
+pub ranges_of : (ds : List Device) (x n : ℕ) → IsInDevice x n ds → IsInOneRange x n (map (λ (d : Device). d.range) ds)
 ranges_of [] x n h = h
 ranges_of (d ∷ ds) x n (inl h) = inl h
 ranges_of (d ∷ ds) x n (inr h) = inr (ranges_of ds x n h)
 
-any_devices : (rs : List Range) → list_all is_range rs ≡ true → list_all is_device (map any_device rs) ≡ true
+any_devices : (rs : List Range) → list_all is_range rs ≡ true → list_all is_device (map any_view_device rs) ≡ true
 any_devices [] h = refl
 any_devices (r ∷ rs) h = let p = and_parts (is_range r) (list_all is_range rs) h in and_from _ _ (and_from _ _ (and_from _ _ p.0 refl) refl) (any_devices rs p.1)
 
-ranges_of_any : (rs : List Range) → map (λ (d : Device). d.range) (map any_device rs) ≡ rs
+ranges_of_any : (rs : List Range) → map (λ (d : Device). d.range) (map any_view_device rs) ≡ rs
 ranges_of_any [] = refl
 ranges_of_any (r ∷ rs) = ap (λ ss. r ∷ ss) (ranges_of_any rs)
 
@@ -45,15 +45,15 @@ module _ {plan : PlanData} (ok : IsPlan plan) (tasks : TasksData) (are : AreTask
   dev = map (λ (d : Device). d.range) plan.devices
 
   abbrev pub left : List Range
-  left = ranges_without tasks.block (block_size tasks) plan.ram
+  left = cut_plan_ranges tasks.block (block_size tasks) plan.ram
 
-  pub rest_apart : all_apart (plan.rom ++ (plan.ram ++ (dev ++ areas_range plan ∷ []))) ≡ true
-  rest_apart = sym (ap all_apart (append_assoc (plan.rom ++ plan.ram) dev (areas_range plan ∷ []) ∙ append_assoc plan.rom plan.ram (dev ++ areas_range plan ∷ []))) ∙ ok.apart
+  pub rest_apart : are_all_ranges_apart (plan.rom ++ (plan.ram ++ (dev ++ areas_range plan ∷ []))) ≡ true
+  rest_apart = sym (ap are_all_ranges_apart (append_assoc (plan.rom ++ plan.ram) dev (areas_range plan ∷ []) ∙ append_assoc plan.rom plan.ram (dev ++ areas_range plan ∷ []))) ∙ ok.apart
 
-  pub behind_rom : all_apart (plan.ram ++ (dev ++ areas_range plan ∷ [])) ≡ true
+  pub behind_rom : are_all_ranges_apart (plan.ram ++ (dev ++ areas_range plan ∷ [])) ≡ true
   behind_rom = all_apart-behind plan.rom (plan.ram ++ (dev ++ areas_range plan ∷ [])) rest_apart
 
-  pub behind_ram : all_apart (dev ++ areas_range plan ∷ []) ≡ true
+  pub behind_ram : are_all_ranges_apart (dev ++ areas_range plan ∷ []) ≡ true
   behind_ram = all_apart-behind plan.ram (dev ++ areas_range plan ∷ []) behind_rom
 
   whole_block : block_size tasks % 4 ≡ 0
@@ -62,7 +62,7 @@ module _ {plan : PlanData} (ok : IsPlan plan) (tasks : TasksData) (are : AreTask
   left_range : list_all is_range left ≡ true
   left_range = ranges_without_ranges tasks.block (block_size tasks) are.whole whole_block plan.ram (ok.ranges).ram
 
-  pub in_left : (y : ℕ) → IsInOne y 1 left → IsInOne y 1 plan.ram
+  pub in_left : (y : ℕ) → IsInOneRange y 1 left → IsInOneRange y 1 plan.ram
   in_left y h = (in_ranges_without tasks.block (block_size tasks) plan.ram y 1 h).0
 
   areas_have : HaveBytes (areas_range plan ∷ [])
@@ -72,7 +72,7 @@ module _ {plan : PlanData} (ok : IsPlan plan) (tasks : TasksData) (are : AreTask
   dev_have = HaveBytes-ranges dev (device_ranges plan.devices (ok.ranges).devices)
 
   -- rom, then the devices, the ram that is left, and the areas
-  pub all_left : all_apart (plan.rom ++ ((dev ++ left) ++ areas_range plan ∷ [])) ≡ true
+  pub all_left : are_all_ranges_apart (plan.rom ++ ((dev ++ left) ++ areas_range plan ∷ [])) ≡ true
   all_left =
       let left_have = HaveBytes-ranges left left_range in
       let dev_left = all_apart-append dev left dev_have left_have (all_apart-front dev (areas_range plan ∷ []) behind_ram)
@@ -94,7 +94,7 @@ module _ {plan : PlanData} (ok : IsPlan plan) (tasks : TasksData) (are : AreTask
       ])
 
   pub device_list : map (λ (d : Device). d.range) (view_devices plan tasks) ≡ dev ++ left
-  device_list = map-append (λ (d : Device). d.range) plan.devices (map any_device left) ∙ ap (λ rs. dev ++ rs) (ranges_of_any left)
+  device_list = map-append (λ (d : Device). d.range) plan.devices (map any_view_device left) ∙ ap (λ rs. dev ++ rs) (ranges_of_any left)
 
   pub view_is_plan : (u : ℕ) → u < count tasks → IsPlan (view_plan_of plan tasks u)
   view_is_plan u lt = record {
@@ -105,7 +105,7 @@ module _ {plan : PlanData} (ok : IsPlan plan) (tasks : TasksData) (are : AreTask
       few_devices = fit.room;
       rom = (ok.ranges).rom;
       ram = refl;
-      devices = list_all-append is_device plan.devices (map any_device left) ∙ and_from _ _ (ok.ranges).devices (any_devices left left_range);
+      devices = list_all-append is_device plan.devices (map any_view_device left) ∙ and_from _ _ (ok.ranges).devices (any_devices left left_range);
       small_rom = (ok.ranges).small_rom;
       small_ram = omega arith;
     };
@@ -132,7 +132,7 @@ module _ {plan : PlanData} (ok : IsPlan plan) (tasks : TasksData) (are : AreTask
       globals = (ok.words).globals;
     };
     irqs = ok.irqs;
-    apart = ap all_apart (ap (λ rs. (rs ++ map (λ (d : Device). d.range) (view_devices plan tasks)) ++ areas_range plan ∷ []) (append-nil plan.rom) ∙ ap (λ rs. (plan.rom ++ rs) ++ areas_range plan ∷ []) device_list ∙ append_assoc plan.rom (dev ++ left) (areas_range plan ∷ [])) ∙ all_left;
+    apart = ap are_all_ranges_apart (ap (λ rs. (rs ++ map (λ (d : Device). d.range) (view_devices plan tasks)) ++ areas_range plan ∷ []) (append-nil plan.rom) ∙ ap (λ rs. (plan.rom ++ rs) ++ areas_range plan ∷ []) device_list ∙ append_assoc plan.rom (dev ++ left) (areas_range plan ∷ [])) ∙ all_left;
   }
 
   -- ---- stores
@@ -156,8 +156,8 @@ module _ {plan : PlanData} (ok : IsPlan plan) (tasks : TasksData) (are : AreTask
               | inr behind ↦ inr behind
               | inl within ↦
                   let y = max x tasks.block in
-                  let d : IsInOne y 1 dev = subst (λ z. IsInOne z 1 dev) (let e : x + (y - x) ≡ y = omega arith in e) (in_one x n (y - x) dev (omega arith) (ranges_of plan.devices x n device)) in
-                  let r : IsInOne y 1 plan.ram = subst (λ z. IsInOne z 1 plan.ram) (let e : tasks.block + (y - tasks.block) ≡ y = omega arith in e) (in_one tasks.block (block_size tasks) (y - tasks.block) plan.ram (omega arith) fit.in_ram) in
+                  let d : IsInOneRange y 1 dev = subst (λ z. IsInOneRange z 1 dev) (let e : x + (y - x) ≡ y = omega arith in e) (in_one x n (y - x) dev (omega arith) (ranges_of plan.devices x n device)) in
+                  let r : IsInOneRange y 1 plan.ram = subst (λ z. IsInOneRange z 1 plan.ram) (let e : tasks.block + (y - tasks.block) ≡ y = omega arith in e) (in_one tasks.block (block_size tasks) (y - tasks.block) plan.ram (omega arith) fit.in_ram) in
                   absurd (all_apart-before y plan.ram (dev ++ areas_range plan ∷ []) behind_rom r (IsInOne-front y 1 dev (areas_range plan ∷ []) d))
             ]
           ]

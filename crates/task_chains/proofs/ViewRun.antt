@@ -3,7 +3,7 @@ use Rattle.std.proofs.Common.{◌≡◌, ℕ, ◌+◌, ◌-◌, ◌*◌, ◌%◌
 use Rattle.std.specs.Prelude.{IfSome}
 use Rattle.csa_chain.specs.Chain.{link_in}
 use Rattle.csa_chain.proofs.ChainLaws.{Links, Links-unique}
-use Rattle.csa_chain.specs.SeveralChains.{sum_below}
+use Rattle.csa_chain.specs.SeveralChains.{sum_over_chains}
 use Rattle.elf_image.specs.Images.{ImageData}
 use Rattle.tcd_plan.specs.PlanData.{PlanData, IsPlan}
 use Rattle.tcd_plan.specs.Regions.{IsStoreInRange}
@@ -13,20 +13,19 @@ use Rattle.tc_isa.specs.declared.shapes.Shape.TheVariants.{Compute, Scaled, Load
 use Rattle.tc_machine.specs.declared.events.Event.{Event}
 use Rattle.tc_machine.specs.declared.events.End.TheVariants.{Running}
 use Rattle.tc_machine.specs.declared.state.Machine.{Machine}
-use Rattle.tc_machine.specs.Machine.{reg}
+use Rattle.tc_machine.specs.Machine.{reg, IsMachine}
 use Rattle.tc_machine.specs.SavesAndRestores.{saved, save}
 use Rattle.tc_machine.specs.Fetching.{fetched}
 use Rattle.tc_machine.specs.Instructions.{access_address}
 use Rattle.tc_machine.specs.Stepping.{is_taken, store_in, step}
 use Rattle.tc_machine.specs.PlanAreas.{first_link}
-use Rattle.tc_machine.specs.Safe.{IsMachine, HasGlobals, Starts, Fits, IsSafeAt}
+use Rattle.tc_machine.specs.Safe.{HasGlobals, Starts, Fits, IsSafeAt}
 use Rattle.tc_mem.specs.PlanMemory.{HoldsRom, IsPlanMemory}
 use Rattle.tc_machine.proofs.Areas.{Areas}
 use Rattle.tc_machine.proofs.Kept.{none_when_low}
 use Rattle.tc_machine.proofs.Stays.{stays_step, irq_lt}
 use Rattle.tc_machine.proofs.Steps.{stored-is}
-use Rattle.vd_transfer.specs.Registers.{slot}
-use Rattle.vd_transfer.specs.Holding.{WritesNoFixedRegister}
+use Rattle.vd_transfer.specs.Registers.{slot, WritesNoFixedRegister}
 use Rattle.depth_cert.specs.declared.keys.Key.{Key}
 use Rattle.depth_cert.specs.Certs.{CertData}
 use Rattle.cfg_recover.specs.RulesHoldOrFail.{limits_in, certified_need}
@@ -37,8 +36,8 @@ use Rattle.cfg_recover.proofs.CodeLaws.{IsCode-bounded}
 use Rattle.task_chains.specs.Tasks.{TasksData, AreTasks, count}
 use Rattle.task_chains.specs.Views.{view_image_of, view_plan_of, FitPlan}
 use Rattle.task_chains.specs.Rule17.{StaysApart}
-use Rattle.task_chains.specs.SwitchRoutine.{switch_key}
-use Rattle.task_chains.specs.SafeTasks.{IsInRoutine, IsJudged}
+use Rattle.task_chains.specs.SwitchRoutine.{switch_key, IsInRoutine}
+use Rattle.task_chains.specs.SafeTasks.{IsJudged}
 use Rattle.depth_cert.proofs.KeyLaws.{one_number}
 use Rattle.task_chains.proofs.FramesKept.{AreKeys, AreFirst, keys_next}
 use Rattle.task_chains.proofs.Fitting.{quiet}
@@ -250,8 +249,8 @@ module _ {image : ImageData} {plan : PlanData} (ok : IsPlan plan) {tasks : Tasks
       view_room = own_room view plan2 view_ok cert judged.is_cert judged.accepted tasks judged.apart most judged.safe few v (r.frame ∷ r.behind) r.reached view_words seen links free view_areas e fits
 
       pub view_all_room : (n w : ℕ) (chain_of : ℕ → List ℕ) (needs : ℕ → ℕ) → w < n → ((j : ℕ) → j < n → length (chain_of j) ≤ needs j) → length (chain_of w) ≡ length seen
-          → certified_need (view_image_of image tasks u) (view_plan_of plan tasks u) cert ≤ needs w → sum_below n needs ≤ plan.areas - plan.reserve
-          → (upper : Bool) → length seen < plan.areas - plan.reserve → (step v e).mem ≡ (saved v upper).mem → (step v e).pcxi ≡ (saved v upper).pcxi → sum_below n (λ j. length (chain_of j)) < plan.areas - plan.reserve
+          → certified_need (view_image_of image tasks u) (view_plan_of plan tasks u) cert ≤ needs w → sum_over_chains n needs ≤ plan.areas - plan.reserve
+          → (upper : Bool) → length seen < plan.areas - plan.reserve → (step v e).mem ≡ (saved v upper).mem → (step v e).pcxi ≡ (saved v upper).pcxi → sum_over_chains n (λ j. length (chain_of j)) < plan.areas - plan.reserve
       view_all_room n w chain_of needs = all_room view plan2 view_ok cert judged.is_cert judged.accepted tasks judged.apart most judged.safe few v (r.frame ∷ r.behind) r.reached view_words seen links free view_areas e fits n w chain_of needs
 
       same_seen : seen ≡ (r.leveled).seen

@@ -9,16 +9,16 @@ use Rattle.elf_image.specs.Images.{ImageData}
 use Rattle.tcd_base.specs.declared.core_version.Core.{Core}
 use Rattle.tcd_plan.specs.PlanData.{PlanData}
 use Rattle.tc_machine.specs.declared.state.Machine.{Machine}
-use Rattle.tc_machine.specs.Machine.{is_of}
-use Rattle.tcd_base.specs.Ranges.{IsInOne}
+use Rattle.tc_machine.specs.Machine.{is_interrupt_stack_used}
+use Rattle.tcd_base.specs.Ranges.{IsInOneRange}
 use Rattle.tc_machine.proofs.Areas.{Areas}
 use Rattle.task_chains.specs.Tasks.{TasksData}
-use Rattle.task_chains.specs.TaskStarts.{block_word, upper_area, lower_area, IsReady}
+use Rattle.task_chains.specs.TaskStarts.{block_word, task_upper_area, task_lower_area, IsReady}
 use Rattle.task_chains.proofs.Twins.{SameContexts-kept}
 use Rattle.task_chains.proofs.Invariant.{Waits, ready, paused}
 
 -- a task that is ready, if its areas and its word are unchanged
-ready_kept : (core : Core) (plan : PlanData) (tasks : TasksData) (m n : Memory) (w : ℕ) → SameArea m n (lower_area plan w) → SameArea m n (upper_area plan w) → block_word tasks n w ≡ block_word tasks m w → IsReady core plan tasks m w → IsReady core plan tasks n w
+ready_kept : (core : Core) (plan : PlanData) (tasks : TasksData) (m n : Memory) (w : ℕ) → SameArea m n (task_lower_area plan w) → SameArea m n (task_upper_area plan w) → block_word tasks n w ≡ block_word tasks m w → IsReady core plan tasks m w → IsReady core plan tasks n w
 ready_kept core plan tasks m n w low up word r =
     let u0 = area_word_same up 0 (omega arith) in
     let u1 = area_word_same up 1 (omega arith) in
@@ -28,7 +28,7 @@ ready_kept core plan tasks m n w low up word r =
     record {
       ends = u0 ∙ r.ends;
       io = ap (λ x. x / 2 ^ 10 % 4) u1 ∙ r.io;
-      is = ap is_of u1 ∙ r.is;
+      is = ap is_interrupt_stack_used u1 ∙ r.is;
       sp = u2 ∙ r.sp;
       above = ap link_in l0 ∙ r.above;
       ul = ap (ul_of core) l0 ∙ r.ul;
@@ -41,7 +41,7 @@ same_refl mem [] = tt
 same_refl mem (l ∷ ls) = (record { bytes = λ i lt. refl }, same_refl mem ls)
 
 -- by the areas of its chain, rom and its word
-pub waits_kept : (image : ImageData) (plan : PlanData) (tasks : TasksData) (w : ℕ) (m n : Machine) (word : ℕ) (links : List ℕ) → SameAreas m.mem n.mem links → ((x : ℕ) → IsInOne x 1 plan.rom → finite.get n.mem x ≡ finite.get m.mem x)
+pub waits_kept : (image : ImageData) (plan : PlanData) (tasks : TasksData) (w : ℕ) (m n : Machine) (word : ℕ) (links : List ℕ) → SameAreas m.mem n.mem links → ((x : ℕ) → IsInOneRange x 1 plan.rom → finite.get n.mem x ≡ finite.get m.mem x)
     → block_word tasks n.mem w ≡ block_word tasks m.mem w → n.core ≡ m.core → n.lcx ≡ m.lcx → Waits image plan tasks w m word links → Waits image plan tasks w n word links
 waits_kept image plan tasks w m n word links same rom block core lcx (ready later r is) =
     let areas = subst (SameAreas m.mem n.mem) is same in

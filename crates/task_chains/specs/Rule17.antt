@@ -16,31 +16,31 @@ use Rattle.depth_cert.specs.Nodes.{NodeData}
 use Rattle.depth_cert.specs.Certs.{CertData}
 use Rattle.cfg_recover.specs.Code.{IsCode}
 use Rattle.cfg_recover.specs.RulesHoldOrFail.{limits_in}
-use Rattle.task_chains.specs.Tasks.{TasksData, routine_size}
-use Rattle.task_chains.specs.SwitchRoutine.{switch_key, IsRoutineStep}
+use Rattle.task_chains.specs.Tasks.{TasksData}
+use Rattle.task_chains.specs.SwitchRoutine.{routine_size, switch_key, IsRoutineStep}
 
 -- no byte of the access of n bytes from x, which can wrap at 2^32, is one of the len bytes from an
 -- address on
-abbrev pub Misses : ℕ → ℕ → ℕ → ℕ → Type 0
-Misses x n from len = (i : ℕ) → i < n → ((x + i) % 2 ^ 32 < from) ⊎ (from + len ≤ (x + i) % 2 ^ 32)
+abbrev pub IsAccessApart : ℕ → ℕ → ℕ → ℕ → Type 0
+IsAccessApart x n from len = (i : ℕ) → i < n → ((x + i) % 2 ^ 32 < from) ⊎ (from + len ≤ (x + i) % 2 ^ 32)
 
 -- no access at an address that is a word of the value shares a byte with them
-abbrev pub AllMiss : Val → ℕ → ℕ → ℕ → Type 0
-AllMiss v n from len = (x : ℕ) → IsMember x v → Misses x n from len
+abbrev pub AreAccessesApart : Val → ℕ → ℕ → ℕ → Type 0
+AreAccessesApart v n from len = (x : ℕ) → IsMember x v → IsAccessApart x n from len
 
 -- a load reaches no save area and no byte of the routine
 abbrev pub LoadsElsewhere : Limits → PlanData → TasksData → State → Shape → Type 0
 LoadsElsewhere b plan tasks s (Load dst base offset size signed after) =
-    AllMiss (address_of b plan (Load dst base offset size signed after) s) size plan.csa_at (64 * plan.areas)
-    × AllMiss (address_of b plan (Load dst base offset size signed after) s) size tasks.switch routine_size
+    AreAccessesApart (address_of b plan (Load dst base offset size signed after) s) size plan.csa_at (64 * plan.areas)
+    × AreAccessesApart (address_of b plan (Load dst base offset size signed after) s) size tasks.switch routine_size
 LoadsElsewhere b plan tasks s _ = Unit {0}
 
--- no MFCR reads PCXI, FCX or LCX
+-- a part of rule 17: no MFCR reads PCXI, FCX or LCX
 abbrev pub ReadsNoLink : Shape → Type 0
 ReadsNoLink (Mfcr dst number) = (number ≢ 0xfe00) × (number ≢ 0xfe38) × (number ≢ 0xfe3c)
 ReadsNoLink _ = Unit {0}
 
--- the instruction is no BISR, which would set CCPN and enable interrupts
+-- a part of rule 17: the instruction is no BISR, which would set CCPN and enable interrupts
 abbrev pub IsNoBisr : Shape → Type 0
 IsNoBisr (Bisr c) = ⊥
 IsNoBisr _ = Unit {0}
@@ -73,9 +73,9 @@ pub record IsTaskFault (view : ImageData) (plan : PlanData) (tasks : TasksData) 
   pub fails : FailsApart view plan tasks cert k p
   pub least : (j : Key) (x : ℕ) → FailsApart view plan tasks cert j x → number_of_key k * 2 ^ 32 + p ≤ number_of_key j * 2 ^ 32 + x
 
--- a word of the value is in low..=high
-abbrev pub HasBetween : Val → ℕ → ℕ → Type 0
-HasBetween v low high = (x : ℕ) × IsMember x v × (low ≤ x) × (x ≤ high)
+-- for rule 17 at a point: some word of the value, at which an access begins, is in low..=high
+abbrev pub HasAccessBetween : Val → ℕ → ℕ → Type 0
+HasAccessBetween v low high = (x : ℕ) × IsMember x v × (low ≤ x) × (x ≤ high)
 
 -- the routine's frame has points only at the routine's instructions, and no other frame has one in
 -- the routine

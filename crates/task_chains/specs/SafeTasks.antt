@@ -13,24 +13,24 @@ use Rattle.tcd_plan.specs.Regions.{IsStoreInRange}
 use Rattle.depth_cert.specs.Certs.{CertData, IsCert}
 use Rattle.cfg_recover.specs.RulesHoldOrFail.{Accepts, certified_need}
 use Rattle.cfg_recover.specs.FrameLaws.{FramesHeld}
-use Rattle.csa_chain.specs.SeveralChains.{sum_below, Share}
-use Rattle.task_chains.specs.Tasks.{TasksData, AreTasks, count, block_size, routine_size}
-use Rattle.task_chains.specs.SwitchRoutine.{HasRoutine}
+use Rattle.csa_chain.specs.SeveralChains.{sum_over_chains, Share}
+use Rattle.task_chains.specs.Tasks.{TasksData, AreTasks, count, block_size}
+use Rattle.task_chains.specs.SwitchRoutine.{HasRoutine, IsInRoutine}
 use Rattle.task_chains.specs.Views.{view_image_of, view_plan_of, FitPlan}
 use Rattle.task_chains.specs.Rule17.{KeepsApart}
-use Rattle.task_chains.specs.TaskStarts.{TasksStart, block_word, current}
+use Rattle.task_chains.specs.TaskStarts.{TasksStart, block_word, current_task}
 
 -- ---- the owner
 -- the task before this one in the round of n
-abbrev pub before : ℕ → ℕ → ℕ
-before n u = if u == 0 then n - 1 else u - 1
+abbrev pub task_before : ℕ → ℕ → ℕ
+task_before n u = if u == 0 then n - 1 else u - 1
 
 -- The task whose chain begins in PCXI: the current one. While the routine has made the next task
 -- the current one, but hasn't set PCXI yet, it is the task before the current one.
 abbrev pub owner : TasksData → Machine → ℕ
 owner tasks m =
-    if m.pc == tasks.switch + 48 || m.pc == tasks.switch + 52 || m.pc == tasks.switch + 56 then before (count tasks) (current tasks m.mem)
-    else current tasks m.mem
+    if m.pc == tasks.switch + 48 || m.pc == tasks.switch + 52 || m.pc == tasks.switch + 56 then task_before (count tasks) (current_task tasks m.mem)
+    else current_task tasks m.mem
 
 -- the word that begins the chain of task u
 abbrev pub chain_word : TasksData → Machine → ℕ → ℕ
@@ -46,15 +46,11 @@ pub record AreAreasShared (plan : PlanData) (tasks : TasksData) (needs : ℕ →
   pub free_chain : chain m.mem m.fcx ≡ Some free
   pub share : Share (count tasks) chain_of free (plan_areas plan)
   pub within_need : (u : ℕ) → u < count tasks → length (chain_of u) ≤ needs u
-  pub limit : (link_in m.fcx ≡ link_in m.lcx) ↔ (sum_below (count tasks) (λ u. length (chain_of u)) ≡ plan.areas - plan.reserve)
+  pub limit : (link_in m.fcx ≡ link_in m.lcx) ↔ (sum_over_chains (count tasks) (λ u. length (chain_of u)) ≡ plan.areas - plan.reserve)
 
--- the access shares no byte with the block
+-- in a safe run of tasks, this store shares no byte with the block
 abbrev pub MissesBlock : TasksData → ℕ × ℕ → Type 0
 MissesBlock tasks at = (at.0 + at.1 ≤ tasks.block) ⊎ (tasks.block + block_size tasks ≤ at.0)
-
--- pc is in the routine
-abbrev pub IsInRoutine : TasksData → ℕ → Type 0
-IsInRoutine tasks x = (tasks.switch ≤ x) × (x < tasks.switch + routine_size)
 
 -- a store in range that misses the block, unless the routine does it
 abbrev pub IsTaskStore : PlanData → TasksData → ℕ → ℕ × ℕ → Type 0
@@ -95,5 +91,5 @@ abbrev pub TasksAreSafe : Type 0
 TasksAreSafe =
     (image : ImageData) (plan : PlanData) (tasks : TasksData) (certs : ℕ → CertData) → IsPlan plan → AreTasks tasks → FitPlan plan tasks → HasRoutine image plan tasks
     → ((u : ℕ) → u < count tasks → IsJudged image plan tasks (certs u) u)
-    → sum_below (count tasks) (need_of_task image plan tasks certs) ≤ plan.areas - plan.reserve
+    → sum_over_chains (count tasks) (need_of_task image plan tasks certs) ≤ plan.areas - plan.reserve
     → SafeTasks image plan tasks (need_of_task image plan tasks certs)

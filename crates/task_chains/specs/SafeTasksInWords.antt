@@ -1,9 +1,9 @@
 -- What safe runs of all tasks are, part by part in plain equations: the statements of two guard
 -- laws. If the definition spoke of fewer runs, or said less of a state, the first law would break;
--- if it said more, the second. The guard laws of the premises are in Guards.
+-- if it said more, the second. The guard laws of the premises are in TaskGuardLaws.
 use Rattle.std.specs.Prelude.{◌≡◌, ◌≢◌, ◌↔◌, ℕ, ◌+◌, ◌-◌, ◌*◌, ◌%◌, ◌^◌, ◌<◌, ◌≤◌, ◌⊎◌, List, length, map, slice_get, Some}
 use Rattle.csa_chain.specs.MemoryBytes.{word_at}
-use Rattle.csa_chain.specs.SeveralChains.{sum_below}
+use Rattle.csa_chain.specs.SeveralChains.{sum_over_chains}
 use Rattle.elf_image.specs.Images.{ImageData}
 use Rattle.tcd_base.specs.declared.range.Range.{Range}
 use Rattle.tcd_plan.specs.PlanData.{PlanData, IsPlan}
@@ -13,7 +13,7 @@ use Rattle.tc_machine.specs.declared.state.Machine.{Machine}
 use Rattle.tc_machine.specs.PlanAreas.{first_link}
 use Rattle.tc_machine.specs.Stepping.{stored}
 use Rattle.tc_machine.specs.Safe.{Fits, IsRun}
-use Rattle.tc_machine.specs.MachineLaws.{IsWalk, LiesInRange}
+use Rattle.tc_machine.specs.MachineLaws.{IsAreaWalk, LiesInRange}
 use Rattle.task_chains.specs.declared.task_lists.Task.{Task}
 use Rattle.task_chains.specs.TaskStarts.{TasksStart}
 use Rattle.task_chains.specs.SafeTasks.{SafeTasks}
@@ -28,14 +28,15 @@ pub record OwnsChain (switch block n : ℕ) (m : Machine) (u : ℕ) : Type 0 whe
       (m.pc ≡ switch + 48) ⊎ ((m.pc ≡ switch + 52) ⊎ (m.pc ≡ switch + 56))
       → (word_at m.mem (block + 4 * n) ≡ u + 1) ⊎ ((u + 1 ≡ n) × (word_at m.mem (block + 4 * n) ≡ 0))
 
--- the link has this place in the list of task u of n, or in the free list, which is list n
-abbrev pub StandsAt : ℕ → (ℕ → List ℕ) → List ℕ → ℕ → ℕ → ℕ → Type 0
-StandsAt n used free link u place = ((u < n) × (slice_get (used u) place ≡ Some link)) ⊎ ((u ≡ n) × (slice_get free place ≡ Some link))
+-- in a safe state of all tasks, the link has this place in the list of task u of n, or in the free
+-- list, which is list n
+abbrev pub LinkStandsInTask : ℕ → (ℕ → List ℕ) → List ℕ → ℕ → ℕ → ℕ → Type 0
+LinkStandsInTask n used free link u place = ((u < n) × (slice_get (used u) place ≡ Some link)) ⊎ ((u ≡ n) × (slice_get free place ≡ Some link))
 
 -- A store of these bytes by an instruction at pc is inside one range of ram or of a device. It
 -- misses the save areas and all rom, where code and vectors are. It misses the block, unless pc is
 -- at one of the routine's 72 bytes.
-pub record IsStoreApart (plan : PlanData) (switch block n pc x size : ℕ) : Type 0 where
+pub record IsSafeTaskStore (plan : PlanData) (switch block n pc x size : ℕ) : Type 0 where
   pub fits : x + size ≤ 2 ^ 32
   pub in_range : LiesInRange plan.ram x size ⊎ LiesInRange (map (λ d. d.range) plan.devices) x size
   pub off_areas : (x + size ≤ plan.csa_at) ⊎ (plan.csa_at + 64 * plan.areas ≤ x)
@@ -48,23 +49,23 @@ pub record IsStoreApart (plan : PlanData) (switch block n pc x size : ℕ) : Typ
 -- place. Each task has at most its need, and all have at most the sum. FCX has LCX's link exactly
 -- if all areas except the reserve are in use. What the next event stores misses areas, rom and
 -- block.
-pub record HasTaskParts (plan : PlanData) (switch block n : ℕ) (needs : ℕ → ℕ) (m : Machine) (e : Event) : Type 0 where
+pub record HasSafeTaskParts (plan : PlanData) (switch block n : ℕ) (needs : ℕ → ℕ) (m : Machine) (e : Event) : Type 0 where
   pub running : m.end ≡ Running
   pub own : ℕ
   pub owns : OwnsChain switch block n m own
   pub used : ℕ → List ℕ
   pub free : List ℕ
-  pub own_walk : IsWalk m.mem m.pcxi (used own)
-  pub other_walks : (u : ℕ) → u < n → u ≢ own → IsWalk m.mem (word_at m.mem (block + 4 * u)) (used u)
-  pub free_walk : IsWalk m.mem m.fcx free
-  pub count : sum_below n (λ u. length (used u)) + length free ≡ plan.areas
-  pub places : (i : ℕ) → i < plan.areas → (u : ℕ) × (place : ℕ) × StandsAt n used free (first_link plan + i) u place
-  pub once : (l u v i j : ℕ) → StandsAt n used free l u i → StandsAt n used free l v j → (u ≡ v) × (i ≡ j)
-  pub areas : (l u place : ℕ) → StandsAt n used free l u place → (i : ℕ) × (i < plan.areas) × (l ≡ first_link plan + i)
+  pub own_walk : IsAreaWalk m.mem m.pcxi (used own)
+  pub other_walks : (u : ℕ) → u < n → u ≢ own → IsAreaWalk m.mem (word_at m.mem (block + 4 * u)) (used u)
+  pub free_walk : IsAreaWalk m.mem m.fcx free
+  pub count : sum_over_chains n (λ u. length (used u)) + length free ≡ plan.areas
+  pub places : (i : ℕ) → i < plan.areas → (u : ℕ) × (place : ℕ) × LinkStandsInTask n used free (first_link plan + i) u place
+  pub once : (l u v i j : ℕ) → LinkStandsInTask n used free l u i → LinkStandsInTask n used free l v j → (u ≡ v) × (i ≡ j)
+  pub areas : (l u place : ℕ) → LinkStandsInTask n used free l u place → (i : ℕ) × (i < plan.areas) × (l ≡ first_link plan + i)
   pub within_need : (u : ℕ) → u < n → length (used u) ≤ needs u
-  pub within_sum : sum_below n (λ u. length (used u)) ≤ sum_below n needs
-  pub limit : (m.fcx % 2 ^ 20 ≡ m.lcx % 2 ^ 20) ↔ (sum_below n (λ u. length (used u)) ≡ plan.areas - plan.reserve)
-  pub store : (x size : ℕ) → stored m e ≡ Some (x, size) → IsStoreApart plan switch block n m.pc x size
+  pub within_sum : sum_over_chains n (λ u. length (used u)) ≤ sum_over_chains n needs
+  pub limit : (m.fcx % 2 ^ 20 ≡ m.lcx % 2 ^ 20) ↔ (sum_over_chains n (λ u. length (used u)) ≡ plan.areas - plan.reserve)
+  pub store : (x size : ℕ) → stored m e ≡ Some (x, size) → IsSafeTaskStore plan switch block n m.pc x size
 
 -- If all runs of tasks are safe, each state of each run has these parts, for every fitting event
 -- that is next.
@@ -74,14 +75,15 @@ SafeTasksSay =
     → IsPlan plan → SafeTasks image plan (record { switch = switch; block = block; list = list }) needs
     → IsRun states events → TasksStart image plan (record { switch = switch; block = block; list = list }) (states 0)
     → ((k : ℕ) → k < n → Fits plan (states k) (events k)) → Fits plan (states n) e
-    → HasTaskParts plan switch block (length list) needs (states n) e
+    → HasSafeTaskParts plan switch block (length list) needs (states n) e
 
--- If each state of each run has these parts, all runs are safe.
-abbrev pub PartsAreSafe : Type 0
-PartsAreSafe =
+-- what safe runs of all tasks are, in plain equations: if each state of each run has these parts,
+-- all runs are safe
+abbrev pub TaskPartsAreSafe : Type 0
+TaskPartsAreSafe =
     (image : ImageData) (plan : PlanData) (switch block : ℕ) (list : List Task) (needs : ℕ → ℕ) → IsPlan plan
     → ((states : ℕ → Machine) (events : ℕ → Event) (n : ℕ) (e : Event)
     → IsRun states events → TasksStart image plan (record { switch = switch; block = block; list = list }) (states 0)
     → ((k : ℕ) → k < n → Fits plan (states k) (events k)) → Fits plan (states n) e
-    → HasTaskParts plan switch block (length list) needs (states n) e)
+    → HasSafeTaskParts plan switch block (length list) needs (states n) e)
     → SafeTasks image plan (record { switch = switch; block = block; list = list }) needs

@@ -1,13 +1,13 @@
 -- The switch routine: what it does, its bytes, and the bytes that a task's view has instead.
-use Rattle.std.specs.Prelude.{◌≡◌, ◌+◌, ◌*◌, ◌%◌, ◌^◌, ◌<◌, ℕ, List, ◌∷◌, slice_index, Some, false, []}
+use Rattle.std.specs.Prelude.{◌≡◌, ◌+◌, ◌*◌, ◌%◌, ◌^◌, ◌<◌, ℕ, List, ◌∷◌, slice_index, Some, false, ◌≤◌, []}
 use Rattle.std.specs.List.{flat_map}
 use Rattle.elf_image.specs.Images.{ImageData, image_byte}
 use Rattle.tcd_plan.specs.PlanData.{PlanData}
 use Rattle.tc_isa.specs.Insts.{InstData}
 use Rattle.tc_isa.specs.NamedInstructions.{disable, svlcx, movh_a, lea_l, ld_w_l, addsc_a, mfcr, st_w_l, addi, jne, mov, mtcr, isync, rslcx, ret, nop, upper_half, lower_half}
 use Rattle.tc_isa.specs.Spelling.{instruction_bytes}
-use Rattle.tcd_base.specs.Ranges.{IsInOne}
-use Rattle.task_chains.specs.Tasks.{TasksData, count, routine_size}
+use Rattle.tcd_base.specs.Ranges.{IsInOneRange}
+use Rattle.task_chains.specs.Tasks.{TasksData, count}
 use Rattle.depth_cert.specs.Keys.{call_kind}
 use Rattle.depth_cert.specs.declared.keys.Key.{Key}
 
@@ -36,8 +36,8 @@ routine_of n b =
     rslcx ∷
     ret ∷ []
 
--- the routine in a task's view: what it reads of the block and of PCXI is an input, and it writes
--- neither
+-- the switch routine as a task's view has it: what it reads of the block and of PCXI is an input,
+-- and it writes neither
 abbrev pub view_routine_of : ℕ → ℕ → List InstData
 view_routine_of n b =
     disable ∷
@@ -62,22 +62,26 @@ view_routine_of n b =
 -- ---- bytes
 
 -- the bytes of instructions, one after another
-abbrev pub bytes_of : List InstData → List ℕ
-bytes_of is = flat_map instruction_bytes is
+abbrev pub bytes_of_routine : List InstData → List ℕ
+bytes_of_routine is = flat_map instruction_bytes is
 
 -- the bytes of the routine that switches these tasks
 abbrev pub routine_bytes : TasksData → List ℕ
-routine_bytes tasks = bytes_of (routine_of (count tasks) tasks.block)
+routine_bytes tasks = bytes_of_routine (routine_of (count tasks) tasks.block)
 
--- the bytes that the view of a task has instead of the routine
+-- the bytes of the switch routine as a task's view has it
 abbrev pub view_routine_bytes : TasksData → List ℕ
-view_routine_bytes tasks = bytes_of (view_routine_of (count tasks) tasks.block)
+view_routine_bytes tasks = bytes_of_routine (view_routine_of (count tasks) tasks.block)
 
 -- byte i of the routine is at its address, in a segment, and inside the rom range that has all
 -- bytes up to it
 pub record HasRoutineByte (image : ImageData) (plan : PlanData) (tasks : TasksData) (i : ℕ) : Type 0 where
-  pub in_rom : IsInOne tasks.switch (i + 1) plan.rom
+  pub in_rom : IsInOneRange tasks.switch (i + 1) plan.rom
   pub held : image_byte image (tasks.switch + i) ≡ Some (slice_index (routine_bytes tasks) i)
+
+-- the size of the switch routine: 18 instructions of four bytes
+abbrev pub routine_size : ℕ
+routine_size = 72
 
 -- the image has the routine
 abbrev pub HasRoutine : ImageData → PlanData → TasksData → Type 0
@@ -92,10 +96,14 @@ pub record IsRoutineFault (image : ImageData) (plan : PlanData) (tasks : TasksDa
   pub least : (i : ℕ) → i < place → HasRoutineByte image plan tasks i
 
 -- ---- the routine's frame and its points
--- the address is one of the routine's instructions
+-- the address is that of one of the switch routine's instructions
 abbrev pub IsRoutineStep : TasksData → ℕ → Type 0
 IsRoutineStep tasks p = (i : ℕ) × (i < 18) × (p ≡ tasks.switch + 4 * i)
 
 -- the routine's frame: called at no priority and not on the interrupt stack
 abbrev pub switch_key : TasksData → Key
 switch_key tasks = record { kind = call_kind; entry = tasks.switch; prio = 0; is = false }
+
+-- the address is in the switch routine
+abbrev pub IsInRoutine : TasksData → ℕ → Type 0
+IsInRoutine tasks x = (tasks.switch ≤ x) × (x < tasks.switch + routine_size)

@@ -8,7 +8,7 @@ use Rattle.elf_image.specs.Images.{ImageData, image_byte}
 use Rattle.tcd_base.specs.declared.range.Range.{Range}
 use Rattle.tcd_base.specs.declared.core_version.Core.{Core}
 use Rattle.tcd_base.specs.declared.core_version.Core.TheVariants.{V13, V16}
-use Rattle.tcd_base.specs.Ranges.{IsInOne}
+use Rattle.tcd_base.specs.Ranges.{IsInOneRange}
 use Rattle.tcd_plan.specs.PlanData.{PlanData, IsPlan}
 use Rattle.tc_machine.specs.declared.events.End.TheVariants.{Running}
 use Rattle.tc_machine.specs.PlanAreas.{first_link}
@@ -42,16 +42,16 @@ EveryPlanFits =
     → r.at ≤ block → block + (4 * length list + 4) ≤ r.at + r.len → length plan.devices + length plan.ram ≤ 15 → plan.start_is ≡ false
     → FitPlan plan (record { switch = switch; block = block; list = list })
 
--- A machine with these fields starts the tasks. All other registers, bits of PSW and bytes are any.
--- FCX is the link of area 2 (n - 1), or 0 if there is no such area.
+-- Guard law of a premise: a machine with these fields starts the tasks. All other registers, bits
+-- of PSW and bytes are any. FCX is the link of area 2 (n - 1), or 0 if there is none.
 abbrev pub EveryTasksStart : Type 0
 EveryTasksStart =
     (image : ImageData) (plan : PlanData) (switch block : ℕ) (t : Task) (ts : List Task) (d a : List ℕ) (psw fcx : ℕ) (mem : Memory) → IsPlan plan
     → AreTasks (record { switch = switch; block = block; list = t ∷ ts })
     → length d ≡ 16 → All (λ w. w < 2 ^ 32) d → length a ≡ 16 → All (λ w. w < 2 ^ 32) a → psw < 2 ^ 32
     → ((x b : ℕ) → bytes.get mem x ≡ Some b → b < 2 ^ 8)
-    → ((x : ℕ) → (is_mapped mem x ≡ true) ↔ (IsInOne x 1 plan.rom ⊎ IsInOne x 1 plan.ram ⊎ ((plan.csa_at ≤ x) × (x < plan.csa_at + 64 * plan.areas))))
-    → ((x b : ℕ) → IsInOne x 1 plan.rom → image_byte image x ≡ Some b → bytes.get mem x ≡ Some b)
+    → ((x : ℕ) → (is_mapped mem x ≡ true) ↔ (IsInOneRange x 1 plan.rom ⊎ IsInOneRange x 1 plan.ram ⊎ ((plan.csa_at ≤ x) × (x < plan.csa_at + 64 * plan.areas))))
+    → ((x b : ℕ) → IsInOneRange x 1 plan.rom → image_byte image x ≡ Some b → bytes.get mem x ≡ Some b)
     → 2 * length ts ≤ plan.areas → word_at mem (block + 4 * (length ts + 1)) ≡ 0
     → ((i : ℕ) → i < length ts → IsReady plan.core plan (record { switch = switch; block = block; list = t ∷ ts }) mem (i + 1))
     → ((i : ℕ) → 2 * length ts ≤ i → i + 1 < plan.areas → area_word mem (first_link plan + i) 0 ≡ first_link plan + (i + 1))

@@ -4,8 +4,8 @@ use Rattle.std.specs.Bool.{then_some}
 use Rattle.std.specs.Option.{option_and_then, option_map}
 use Rattle.std.specs.Str.{bytes_eq}
 use Rattle.tcd_plan.specs.PlanData.{PlanData}
-use Rattle.tcd_base.specs.Ranges.{IsInOne}
-use Rattle.tcd_text.specs.Lines.{words_of, is_written}
+use Rattle.tcd_base.specs.Ranges.{IsInOneRange}
+use Rattle.tcd_text.specs.Lines.{line_words, is_nonempty_line}
 use Rattle.tcd_text.specs.HexNumbers.{hex_number_of}
 use Rattle.task_chains.specs.declared.lines.Places.{Places}
 use Rattle.task_chains.specs.declared.drafts.Draft.{Draft}
@@ -17,10 +17,10 @@ use Rattle.task_chains.specs.Views.{view_devices, FitPlan}
 
 -- ---- lines; the grammar is the project's own
 -- the two numbers of the words `NAME X Y`, each of eight upper-case hex digits
-unfoldable pub pair_of_words : List ℕ → List (List ℕ) → Option (ℕ × ℕ)
-pair_of_words name (word ∷ x ∷ y ∷ []) =
+unfoldable pub task_pair_of_words : List ℕ → List (List ℕ) → Option (ℕ × ℕ)
+task_pair_of_words name (word ∷ x ∷ y ∷ []) =
     if bytes_eq word name then option_and_then (λ a. option_map (λ b. (a, b)) (hex_number_of y)) (hex_number_of x) else None
-pair_of_words name words = None
+task_pair_of_words name words = None
 
 -- the addresses of the routine and of the block, if the one is even and the other a multiple of 4
 abbrev pub places_of_pair : ℕ × ℕ → Option Places
@@ -28,7 +28,7 @@ places_of_pair p = then_some (p.0 % 2 == 0 && p.1 % 4 == 0) (record { switch = p
 
 -- the addresses of a line `switch Y B`
 abbrev pub places_of : List ℕ → Option Places
-places_of line = option_and_then places_of_pair (pair_of_words (codes "switch") (words_of line))
+places_of line = option_and_then places_of_pair (task_pair_of_words (codes "switch") (line_words line))
 
 -- the task of a line's two numbers: its entry and its stack pointer
 abbrev pub task_of_pair : ℕ × ℕ → Task
@@ -36,44 +36,44 @@ task_of_pair p = record { entry = p.0; sp = p.1 }
 
 -- the task of a line `task ENTRY SP`
 abbrev pub task_of : List ℕ → Option Task
-task_of line = option_map task_of_pair (pair_of_words (codes "task") (words_of line))
+task_of line = option_map task_of_pair (task_pair_of_words (codes "task") (line_words line))
 
 -- ---- texts
 
 -- the lines of a text that aren't empty
-abbrev pub written : List (List ℕ) → List (List ℕ)
-written lines = filter is_written lines
+abbrev pub written_task_lines : List (List ℕ) → List (List ℕ)
+written_task_lines lines = filter is_nonempty_line lines
 
 -- the first line that isn't empty names the addresses, and the later ones name the tasks
 pub record AreSaid (lines : List (List ℕ)) (tasks : TasksData) : Type 0 where
   pub first : List ℕ
   pub behind : List (List ℕ)
-  pub split : written lines ≡ first ∷ behind
+  pub split : written_task_lines lines ≡ first ∷ behind
   pub places : places_of first ≡ Some (record { switch = tasks.switch; block = tasks.block })
   pub named : map task_of behind ≡ map (λ t. Some t) tasks.list
 
 -- ---- what may be against a text
 -- a line of another form after these: the first line that isn't empty and names no addresses, or a
 -- later one that names no task
-abbrev pub BreaksForm : List (List ℕ) → List ℕ → Type 0
-BreaksForm before line =
-    (line ≢ []) × (((written before ≡ []) × (places_of line ≡ None)) ⊎ (((tasks : TasksData) × AreSaid before tasks) × (task_of line ≡ None)))
+abbrev pub BreaksTaskForm : List (List ℕ) → List ℕ → Type 0
+BreaksTaskForm before line =
+    (line ≢ []) × (((written_task_lines before ≡ []) × (places_of line ≡ None)) ⊎ (((tasks : TasksData) × AreSaid before tasks) × (task_of line ≡ None)))
 
 -- line n, counted from 1, is the first of another form
-pub record IsFirstBad (lines : List (List ℕ)) (n : ℕ) : Type 0 where
+pub record FirstBadTaskLine (lines : List (List ℕ)) (n : ℕ) : Type 0 where
   pub before : List (List ℕ)
   pub line : List ℕ
   pub behind : List (List ℕ)
   pub split : lines ≡ before ++ line ∷ behind
   pub at : n ≡ length before + 1
-  pub breaks : BreaksForm before line
+  pub breaks : BreaksTaskForm before line
 
 -- if all lines are empty, line 1 is of another form
-abbrev pub IsBadLine : List (List ℕ) → ℕ → Type 0
-IsBadLine lines n = ((written lines ≡ []) × (n ≡ 1)) ⊎ IsFirstBad lines n
+abbrev pub IsBadTaskLine : List (List ℕ) → ℕ → Type 0
+IsBadTaskLine lines n = ((written_task_lines lines ≡ []) × (n ≡ 1)) ⊎ FirstBadTaskLine lines n
 
 -- line n names an eighth task
-pub record IsEighth (lines : List (List ℕ)) (n : ℕ) : Type 0 where
+pub record IsEighthTaskLine (lines : List (List ℕ)) (n : ℕ) : Type 0 where
   pub before : List (List ℕ)
   pub line : List ℕ
   pub behind : List (List ℕ)
@@ -84,15 +84,16 @@ pub record IsEighth (lines : List (List ℕ)) (n : ℕ) : Type 0 where
   pub said : AreSaid before seven
   pub many : count seven ≡ 7
 
--- two to seven tasks
-abbrev pub AreFew : TasksData → Type 0
-AreFew tasks = (2 ≤ count tasks) × (count tasks ≤ 7)
+-- for the errors of a text of tasks: it names two to seven tasks
+abbrev pub AreTasksFew : TasksData → Type 0
+AreTasksFew tasks = (2 ≤ count tasks) × (count tasks ≤ 7)
 
--- the block is inside one ram range of the plan
+-- for the errors of a text of tasks: the block that it names is inside one ram range of the plan
 abbrev pub IsBlockInRam : PlanData → TasksData → Type 0
-IsBlockInRam plan tasks = IsInOne tasks.block (block_size tasks) plan.ram
+IsBlockInRam plan tasks = IsInOneRange tasks.block (block_size tasks) plan.ram
 
--- the plan of a task's view has at most 16 devices, a plan's limit
+-- for the errors of a text of tasks: the plan of a task's view has at most 16 devices, a plan's
+-- limit
 abbrev pub HaveViewsRoom : PlanData → TasksData → Type 0
 HaveViewsRoom plan tasks = length (view_devices plan tasks) ≤ 16
 
@@ -100,17 +101,17 @@ HaveViewsRoom plan tasks = length (view_devices plan tasks) ≤ 16
 -- another form comes before all of them.
 abbrev pub IsAgainst : PlanData → List (List ℕ) → TasksData → TasksErr → Type 0
 IsAgainst plan lines tasks (BadLine n) = ⊥
-IsAgainst plan lines tasks (TooMany n) = IsEighth lines n
+IsAgainst plan lines tasks (TooMany n) = IsEighthTaskLine lines n
 IsAgainst plan lines tasks TooFew = count tasks < 2
-IsAgainst plan lines tasks NotRam = AreFew tasks × (IsBlockInRam plan tasks → ⊥)
-IsAgainst plan lines tasks NoRoom = AreFew tasks × IsBlockInRam plan tasks × (HaveViewsRoom plan tasks → ⊥)
-IsAgainst plan lines tasks OnIsp = AreFew tasks × IsBlockInRam plan tasks × HaveViewsRoom plan tasks × (plan.start_is ≡ true)
+IsAgainst plan lines tasks NotRam = AreTasksFew tasks × (IsBlockInRam plan tasks → ⊥)
+IsAgainst plan lines tasks NoRoom = AreTasksFew tasks × IsBlockInRam plan tasks × (HaveViewsRoom plan tasks → ⊥)
+IsAgainst plan lines tasks OnIsp = AreTasksFew tasks × IsBlockInRam plan tasks × HaveViewsRoom plan tasks × (plan.start_is ≡ true)
 IsAgainst plan lines tasks Count = ⊥
 
 -- the error of lines: that of the first line of another form, or that of the tasks that all of them
 -- name
 abbrev pub IsRefused : PlanData → List (List ℕ) → TasksErr → Type 0
-IsRefused plan lines (BadLine n) = IsBadLine lines n
+IsRefused plan lines (BadLine n) = IsBadTaskLine lines n
 IsRefused plan lines e = (tasks : TasksData) × AreSaid lines tasks × IsAgainst plan lines tasks e
 
 -- the lines name these tasks, and they fit the plan
@@ -132,7 +133,7 @@ tasks_with places list = record { switch = places.switch; block = places.block; 
 -- at most seven tasks, or the line of an eighth
 abbrev pub TellsEighth : List (List ℕ) → TasksData → Option ℕ → Type 0
 TellsEighth lines tasks None = count tasks ≤ 7
-TellsEighth lines tasks (Some n) = IsEighth lines n
+TellsEighth lines tasks (Some n) = IsEighthTaskLine lines n
 
 -- what the lines say: the draft has the first seven tasks and the line of an eighth
 pub record IsKept (lines : List (List ℕ)) (places : Places) (list : List Task) (eighth : Option ℕ) : Type 0 where
@@ -143,22 +144,22 @@ pub record IsKept (lines : List (List ℕ)) (places : Places) (list : List Task)
 
 -- the draft of the lines so far, which can all be empty
 abbrev pub IsDraftBy : List (List ℕ) → Option Places → List Task → Option ℕ → Type 0
-IsDraftBy lines None list eighth = (written lines ≡ []) × (list ≡ []) × (eighth ≡ None)
+IsDraftBy lines None list eighth = (written_task_lines lines ≡ []) × (list ≡ []) × (eighth ≡ None)
 IsDraftBy lines (Some places) list eighth = IsKept lines places list eighth
 
--- the draft of these lines
-abbrev pub IsDraft : List (List ℕ) → Draft → Type 0
-IsDraft lines d = IsDraftBy lines d.places d.list.items d.eighth
+-- the draft of these lines of a text of tasks
+abbrev pub IsTasksDraft : List (List ℕ) → Draft → Type 0
+IsTasksDraft lines d = IsDraftBy lines d.places d.list.items d.eighth
 
--- the draft after one line more, whose number this is
-abbrev pub TakesLine : Draft → ℕ → List ℕ → Draft → Type 0
-TakesLine old n line new = (before : List (List ℕ)) → IsDraft before old → n ≡ length before + 1 → IsDraft (before ++ line ∷ []) new
+-- the draft of a text of tasks after one line more, whose number this is
+abbrev pub TakesTaskLine : Draft → ℕ → List ℕ → Draft → Type 0
+TakesTaskLine old n line new = (before : List (List ℕ)) → IsTasksDraft before old → n ≡ length before + 1 → IsTasksDraft (before ++ line ∷ []) new
 
 -- the line of this number is of another form
 abbrev pub IsLineBad : Draft → ℕ → List ℕ → TasksErr → Type 0
-IsLineBad old n line e = (e ≡ BadLine n) × ((before : List (List ℕ)) → IsDraft before old → BreaksForm before line)
+IsLineBad old n line e = (e ≡ BadLine n) × ((before : List (List ℕ)) → IsTasksDraft before old → BreaksTaskForm before line)
 
 -- ---- the law
--- For each plan lines have one answer.
-abbrev pub ReadsOne : Type 0
-ReadsOne = (plan : PlanData) (lines : List (List ℕ)) (r s : Result TasksData TasksErr) → Reads plan lines r → Reads plan lines s → r ≡ s
+-- For each plan the lines of a text of tasks have one answer: one list of tasks, or one error.
+abbrev pub TaskTextReadsOne : Type 0
+TaskTextReadsOne = (plan : PlanData) (lines : List (List ℕ)) (r s : Result TasksData TasksErr) → Reads plan lines r → Reads plan lines s → r ≡ s

@@ -8,29 +8,29 @@ use Rattle.tcd_base.specs.declared.core_version.Core.{Core}
 use Rattle.tcd_plan.specs.PlanData.{PlanData}
 use Rattle.tc_machine.specs.declared.events.End.TheVariants.{Running}
 use Rattle.tc_machine.specs.declared.state.Machine.{Machine}
-use Rattle.tc_machine.specs.Machine.{is_of}
+use Rattle.tc_machine.specs.Machine.{is_interrupt_stack_used, IsMachine}
 use Rattle.tc_machine.specs.PlanAreas.{first_link, link_or_end}
-use Rattle.tc_machine.specs.Safe.{IsMachine, HasGlobals}
+use Rattle.tc_machine.specs.Safe.{HasGlobals}
 use Rattle.tc_mem.specs.PlanMemory.{HoldsRom, IsPlanMemory}
 use Rattle.task_chains.specs.Tasks.{TasksData, count, task_at}
 
 -- ---- the block
--- the word of task u
+-- the word of task u in the block; that of a task that is ready to start names its contexts
 abbrev pub block_word : TasksData → Memory → ℕ → ℕ
 block_word tasks mem u = word_at mem (tasks.block + 4 * u)
 
--- the number of the current task
-abbrev pub current : TasksData → Memory → ℕ
-current tasks mem = block_word tasks mem (count tasks)
+-- the number of the current task, the block's last word: 0 in each state that starts the tasks
+abbrev pub current_task : TasksData → Memory → ℕ
+current_task tasks mem = block_word tasks mem (count tasks)
 
 -- ---- contexts of the tasks that didn't start yet
 -- the link of the area of the upper context of a task other than the first
-abbrev pub upper_area : PlanData → ℕ → ℕ
-upper_area plan u = first_link plan + 2 * (u - 1)
+abbrev pub task_upper_area : PlanData → ℕ → ℕ
+task_upper_area plan u = first_link plan + 2 * (u - 1)
 
 -- the link of the area of its lower context
-abbrev pub lower_area : PlanData → ℕ → ℕ
-lower_area plan u = first_link plan + (2 * (u - 1) + 1)
+abbrev pub task_lower_area : PlanData → ℕ → ℕ
+task_lower_area plan u = first_link plan + (2 * (u - 1) + 1)
 
 -- the number of areas of all these contexts
 abbrev pub held_at_start : TasksData → ℕ
@@ -40,14 +40,14 @@ held_at_start tasks = 2 * (count tasks - 1)
 -- one, which links to the upper, has the task's entry as A11. The block's word names the lower one.
 -- All other words are any.
 pub record IsReady (core : Core) (plan : PlanData) (tasks : TasksData) (mem : Memory) (u : ℕ) : Type 0 where
-  pub ends : area_word mem (upper_area plan u) 0 ≡ 0
-  pub io : area_word mem (upper_area plan u) 1 / 2 ^ 10 % 4 ≡ 2
-  pub is : is_of (area_word mem (upper_area plan u) 1) ≡ false
-  pub sp : area_word mem (upper_area plan u) 2 ≡ (task_at tasks u).sp
-  pub above : link_in (area_word mem (lower_area plan u) 0) ≡ upper_area plan u
-  pub ul : ul_of core (area_word mem (lower_area plan u) 0) ≡ true
-  pub entry : area_word mem (lower_area plan u) 1 ≡ (task_at tasks u).entry
-  pub word : block_word tasks mem u ≡ pcxi_word_of core 0 false false (lower_area plan u)
+  pub ends : area_word mem (task_upper_area plan u) 0 ≡ 0
+  pub io : area_word mem (task_upper_area plan u) 1 / 2 ^ 10 % 4 ≡ 2
+  pub is : is_interrupt_stack_used (area_word mem (task_upper_area plan u) 1) ≡ false
+  pub sp : area_word mem (task_upper_area plan u) 2 ≡ (task_at tasks u).sp
+  pub above : link_in (area_word mem (task_lower_area plan u) 0) ≡ task_upper_area plan u
+  pub ul : ul_of core (area_word mem (task_lower_area plan u) 0) ≡ true
+  pub entry : area_word mem (task_lower_area plan u) 1 ≡ (task_at tasks u).entry
+  pub word : block_word tasks mem u ≡ pcxi_word_of core 0 false false (task_lower_area plan u)
 
 -- A state that starts the tasks: the first one runs, the others are ready, and all other areas are
 -- free, in ascending order. All other bytes and registers are any.
@@ -56,7 +56,7 @@ pub record TasksStart (image : ImageData) (plan : PlanData) (tasks : TasksData) 
   pub memory : IsPlanMemory plan m.mem
   pub rom : HoldsRom image plan m.mem
   pub room : held_at_start tasks ≤ plan.areas
-  pub first : current tasks m.mem ≡ 0
+  pub first : current_task tasks m.mem ≡ 0
   pub ready : (u : ℕ) → 1 ≤ u → u < count tasks → IsReady plan.core plan tasks m.mem u
   pub linked : (i : ℕ) → held_at_start tasks ≤ i → i < plan.areas → area_word m.mem (first_link plan + i) 0 ≡ link_or_end plan (i + 1)
   pub fcx : m.fcx ≡ link_or_end plan (held_at_start tasks)
@@ -70,7 +70,7 @@ pub record TasksStart (image : ImageData) (plan : PlanData) (tasks : TasksData) 
   pub isp : m.isp ≡ plan.isp
   pub ie : m.ie ≡ plan.start_ie
   pub ccpn : m.ccpn ≡ plan.start_ccpn
-  pub is : is_of m.psw ≡ plan.start_is
+  pub is : is_interrupt_stack_used m.psw ≡ plan.start_is
   pub io : m.psw / 2 ^ 10 % 4 ≡ 2
   pub end : m.end ≡ Running
   pub core : m.core ≡ plan.core

@@ -4,10 +4,10 @@ use Rattle.elf_image.specs.Images.{ImageData, SegmentData}
 use Rattle.tcd_base.specs.declared.range.Range.{Range}
 use Rattle.tcd_plan.specs.declared.plans.Device.{Device}
 use Rattle.tcd_plan.specs.PlanData.{PlanData}
-use Rattle.tcd_plan.specs.Cutting.{ranges_without}
-use Rattle.tcd_base.specs.Ranges.{IsInOne}
-use Rattle.task_chains.specs.Tasks.{TasksData, task_at, block_size, routine_size}
-use Rattle.task_chains.specs.SwitchRoutine.{view_routine_bytes}
+use Rattle.tcd_plan.specs.Cutting.{cut_plan_ranges}
+use Rattle.tcd_base.specs.Ranges.{IsInOneRange}
+use Rattle.task_chains.specs.Tasks.{TasksData, task_at, block_size}
+use Rattle.task_chains.specs.SwitchRoutine.{routine_size, view_routine_bytes}
 
 -- ---- the image
 -- the address is in the routine
@@ -30,12 +30,12 @@ view_image_of image tasks u = record { entry = (task_at tasks u).entry; segments
 
 -- ---- the plan
 -- a range that answers with any word
-abbrev pub any_device : Range → Device
-any_device r = record { range = r; lo = 0; hi = 2 ^ 32 - 1 }
+abbrev pub any_view_device : Range → Device
+any_view_device r = record { range = r; lo = 0; hi = 2 ^ 32 - 1 }
 
 -- the plan's devices, and then what is left of each ram range without the block
 abbrev pub view_devices : PlanData → TasksData → List Device
-view_devices plan tasks = plan.devices ++ map any_device (ranges_without tasks.block (block_size tasks) plan.ram)
+view_devices plan tasks = plan.devices ++ map any_view_device (cut_plan_ranges tasks.block (block_size tasks) plan.ram)
 
 -- the plan with the task's stack pointer, without ram, and with interrupts off at the start of all
 -- tasks but the first
@@ -47,9 +47,9 @@ view_plan_of plan tasks u = record plan {
   start_ie = if u == 0 then plan.start_ie else false;
 }
 
--- the tasks fit the plan: the block is inside one ram range, the views have at most 16 devices, and
--- the start isn't on the interrupt stack
+-- what the views of the tasks need: the block is inside one ram range of the plan, the views have
+-- at most 16 devices, and the start isn't on the interrupt stack
 pub record FitPlan (plan : PlanData) (tasks : TasksData) : Type 0 where
-  pub in_ram : IsInOne tasks.block (block_size tasks) plan.ram
+  pub in_ram : IsInOneRange tasks.block (block_size tasks) plan.ram
   pub room : length (view_devices plan tasks) ≤ 16
   pub own_stack : plan.start_is ≡ false

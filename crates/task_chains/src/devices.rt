@@ -1,18 +1,18 @@
 // The devices of a task's view: the plan's, and the ram that isn't the block.
 ghost use Rattle.std.specs.Prelude.{◌≡◌, ◌≤◌, length};
-ghost use Rattle.task_chains.specs.Devices.{devices_beside};
+ghost use Rattle.task_chains.specs.Devices.{devices_beside_block};
 
 use arrayvec::ArrayVec;
-use tcd_plan::{Device, Plan, ranges_without};
+use tcd_plan::{Device, Plan, cut_plan_ranges};
 
 /// Returns the plan's devices, and after them what is left of each ram range without the `n` bytes
 /// from `x` on, as devices that answer with any word.
-pub(crate) fn devices_without(plan: &Plan, x: u32, n: u32) -> ArrayVec<Device, 16>
-    requires { length (devices_beside plan.now x n) ≤ 16 }
-    ensures { result.items ≡ devices_beside plan.now x n }
+pub(crate) fn devices_beside_block(plan: &Plan, x: u32, n: u32) -> ArrayVec<Device, 16>
+    requires { length (devices_beside_block plan.now x n) ≤ 16 }
+    ensures { result.items ≡ devices_beside_block plan.now x n }
 {
     let _areas = plan.areas;
-    let left = ranges_without(plan.ram.as_slice(), x, n);
+    let left = cut_plan_ranges(plan.ram.as_slice(), x, n);
     let mut devices = ArrayVec::new();
     devices
         .try_extend_from_slice(plan.devices.as_slice())
@@ -28,9 +28,9 @@ pub(crate) fn devices_without(plan: &Plan, x: u32, n: u32) -> ArrayVec<Device, 1
 }
 
 /// Returns the number of the plan's devices and of the parts that are left of ram.
-pub(crate) fn count_devices(plan: &Plan, x: u32, n: u32) -> usize
-    ensures { result ≡ length (devices_beside plan.now x n) }
+pub(crate) fn count_devices_beside_block(plan: &Plan, x: u32, n: u32) -> usize
+    ensures { result ≡ length (devices_beside_block plan.now x n) }
 {
     let _areas = plan.areas;
-    plan.devices.len() + ranges_without(plan.ram.as_slice(), x, n).len()
+    plan.devices.len() + cut_plan_ranges(plan.ram.as_slice(), x, n).len()
 }

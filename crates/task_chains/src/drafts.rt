@@ -1,11 +1,11 @@
 // The lines of a text of tasks, read one after another.
 ghost use Rattle.std.specs.Prelude.{◌≡◌, ◌≤◌, ◌<◌, ◌+◌, ◌^◌, [], ◌∷◌, ◌++◌, ℕ, Some, None, IsSome, length, IfOk, OnOk, IfErr};
 ghost use Rattle.std.specs.Option.{option_or};
-ghost use Rattle.tcd_text.specs.Lines.{lines_of};
+ghost use Rattle.tcd_text.specs.Lines.{text_lines};
 ghost use Rattle.task_chains.specs.declared.task_lists.TasksErr.TheVariants.{BadLine};
-ghost use Rattle.task_chains.specs.TaskListText.{IsFirstBad, IsDraft, TakesLine, IsLineBad};
+ghost use Rattle.task_chains.specs.TaskListText.{FirstBadTaskLine, IsTasksDraft, TakesTaskLine, IsLineBad};
 
-use crate::lines::{Places, places_in, task_in};
+use crate::lines::{Places, switch_places_in, task_in};
 use crate::{Task, TasksErr};
 use arrayvec::ArrayVec;
 use tcd_text::cut_line;
@@ -25,8 +25,8 @@ pub struct Draft {
 }
 
 /// Returns the draft before the first line.
-fn new_draft() -> Draft
-    ensures { IsDraft [] result }
+fn new_tasks_draft() -> Draft
+    ensures { IsTasksDraft [] result }
 {
     Draft {
         places: None,
@@ -56,10 +56,10 @@ fn add_task(draft: &mut Draft, number: u32, task: Task)
 fn add_first(draft: &mut Draft, number: u32, line: &[u8]) -> Result<(), TasksErr>
     requires none { draft.old.places ≡ None }
     requires some { 0 < length line.now }
-    ensures ok { OnOk result (TakesLine draft.old number line.now draft.new) }
+    ensures ok { OnOk result (TakesTaskLine draft.old number line.now draft.new) }
     ensures err { IfErr result (IsLineBad draft.old number line.now) }
 {
-    match places_in(line) {
+    match switch_places_in(line) {
         Some(places) => {
             draft.places = Some(places);
             Ok(())
@@ -72,7 +72,7 @@ fn add_first(draft: &mut Draft, number: u32, line: &[u8]) -> Result<(), TasksErr
 fn add_other(draft: &mut Draft, number: u32, line: &[u8]) -> Result<(), TasksErr>
     requires places { IsSome draft.old.places }
     requires some { 0 < length line.now }
-    ensures ok { OnOk result (TakesLine draft.old number line.now draft.new) }
+    ensures ok { OnOk result (TakesTaskLine draft.old number line.now draft.new) }
     ensures err { IfErr result (IsLineBad draft.old number line.now) }
 {
     match task_in(line) {
@@ -86,7 +86,7 @@ fn add_other(draft: &mut Draft, number: u32, line: &[u8]) -> Result<(), TasksErr
 
 /// Adds what line `number` says, or returns the error of its form.
 fn add_line(draft: &mut Draft, number: u32, line: &[u8]) -> Result<(), TasksErr>
-    ensures ok { OnOk result (TakesLine draft.old number line.now draft.new) }
+    ensures ok { OnOk result (TakesTaskLine draft.old number line.now draft.new) }
     ensures err { IfErr result (IsLineBad draft.old number line.now) }
 {
     if line.is_empty() {
@@ -101,11 +101,11 @@ fn add_line(draft: &mut Draft, number: u32, line: &[u8]) -> Result<(), TasksErr>
 /// Returns what all lines of a text say, or the error of the first line that has another form.
 pub(crate) fn draft_of(bytes: &[u8]) -> Result<Draft, TasksErr>
     requires { length bytes.now ≤ 2 ^ 30 }
-    ensures ok { IfOk result (IsDraft (lines_of bytes.now)) }
-    ensures err { let lines = lines_of bytes.now in
-        IfErr result (λ e. (n : ℕ) × (e ≡ BadLine n) × IsFirstBad lines n) }
+    ensures ok { IfOk result (IsTasksDraft (text_lines bytes.now)) }
+    ensures err { let lines = text_lines bytes.now in
+        IfErr result (λ e. (n : ℕ) × (e ≡ BadLine n) × FirstBadTaskLine lines n) }
 {
-    let mut draft = new_draft();
+    let mut draft = new_tasks_draft();
     let mut number = 0u32;
     let mut rest = bytes;
     'lines: while !rest.is_empty() {

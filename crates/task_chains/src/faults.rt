@@ -13,7 +13,7 @@ use tcd_plan::Plan;
 use value_domain::Bounds;
 
 /// Returns the first address of a node's points at which rule 17 fails.
-fn node_fault(rule: &Rule, codes: &mut KnownCodes, node: &Node) -> Option<u32>
+fn node_task_fault(rule: &Rule, codes: &mut KnownCodes, node: &Node) -> Option<u32>
     requires { All (λ p. AreValues rule.now.bounds.now p.state.regs) node.now.points }
     ensures none { let r = rule.now in
         IfNone result
@@ -47,7 +47,7 @@ pub fn task_fault(view: &Image, plan: &Plan, tasks: &Tasks, cert: &Cert) -> Opti
     };
     let mut codes = KnownCodes::new();
     for node in &cert.nodes {
-        if let Some(addr) = node_fault(&rule, &mut codes, node) {
+        if let Some(addr) = node_task_fault(&rule, &mut codes, node) {
             return Some((node.key, addr));
         }
     }

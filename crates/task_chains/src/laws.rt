@@ -1,9 +1,9 @@
 // Laws of the views of tasks, and of all tasks together.
 ghost use Rattle.task_chains.specs.Rule17Growth.{TaskFaultsGrow, TaskFaultsRefute};
 ghost use Rattle.task_chains.specs.TaskGuardLaws.{EveryTaskIsReady, EveryPlanFits, EveryTasksStart};
-ghost use Rattle.task_chains.specs.TaskListText.{ReadsOne};
+ghost use Rattle.task_chains.specs.TaskListText.{TaskTextReadsOne};
 ghost use Rattle.task_chains.specs.SafeTasks.{TasksAreSafe};
-ghost use Rattle.task_chains.specs.SafeTasksInWords.{SafeTasksSay, PartsAreSafe};
+ghost use Rattle.task_chains.specs.SafeTasksInWords.{SafeTasksSay, TaskPartsAreSafe};
 ghost use Rattle.task_chains.specs.ViewLaws.{ViewStoresMiss, ViewsArePlans, ViewsKeepBytes};
 
 /// The plan of a view is a plan. Its stores are in range of the tasks' plan, and miss the block.
@@ -28,14 +28,14 @@ pub fn tasks_in_words()
     ensures ready { EveryTaskIsReady }
     ensures fits { EveryPlanFits }
     ensures starts { EveryTasksStart }
-    ensures one { ReadsOne }
+    ensures one { TaskTextReadsOne }
 {}
 
 /// What safe runs of tasks means, in plain equations: each state of a run has these parts, and they
 /// are all that is promised.
 pub fn safe_tasks_in_words()
     ensures says { SafeTasksSay }
-    ensures parts { PartsAreSafe }
+    ensures parts { TaskPartsAreSafe }
 {}
 
 /// Each fault of rule 17 in a lesser certificate is one in a greater one. One fault is enough to

@@ -14,7 +14,7 @@ use tcd_plan::Plan;
 use value_domain::Bounds;
 
 /// Returns the first address of a node's points at which rule 17 fails.
-fn node_fault<'a>(
+fn node_task_fault_packed<'a>(
     rule: &Rule,
     codes: &mut KnownCodes,
     node: &PackedNode<'a>,
@@ -62,7 +62,7 @@ pub fn task_fault_packed(
         let Some(node) = cert.get(i) else {
             unreachable!()
         };
-        if let Some(addr) = node_fault(&rule, &mut codes, &node, &mut walk) {
+        if let Some(addr) = node_task_fault_packed(&rule, &mut codes, &node, &mut walk) {
             return Some((node.key, addr));
         }
     }

@@ -2,21 +2,21 @@
 ghost use Rattle.std.specs.Prelude.{◌≡◌, ◌≤◌, ◌<◌, ◌+◌, ◌*◌, ◌/◌, ◌%◌, ◌^◌, ◌↔◌, IsTrue, IfNone, IfSome, slice_index, ◌-◌, ℕ};
 ghost use Rattle.std.specs.List.{flat_map};
 ghost use Rattle.tcd_base.specs.Bytes.{four_bytes};
-ghost use Rattle.task_chains.specs.SwitchRoutine.{routine_of, bytes_of, routine_bytes, HasRoutineByte, HasRoutine, IsRoutineFault};
-ghost use Rattle.tcd_base.specs.Ranges.{IsInOne};
+ghost use Rattle.task_chains.specs.SwitchRoutine.{routine_of, bytes_of_routine, routine_bytes, HasRoutineByte, HasRoutine, IsRoutineFault};
+ghost use Rattle.tcd_base.specs.Ranges.{IsInOneRange};
 
 use crate::Tasks;
 use arrayvec::ArrayVec;
 use elf_image::Image;
 use tc_isa::{lower_half, upper_half};
-use tcd_base::any_holds;
+use tcd_base::is_in_any_range;
 use tcd_plan::Plan;
 
 /// The number of bytes of the routine: 18 instructions of four bytes.
 pub(crate) const ROUTINE_BYTES: u32 = 72;
 
 /// Returns the bits of a 16-bit offset in the word of an instruction `lea.l`, `ld.w.l` or `st.w.l`.
-pub(crate) fn offset_bits(k: u32) -> u32
+pub(crate) fn routine_offset_bits(k: u32) -> u32
     requires { k < 2 ^ 16 }
     ensures { result ≡ k / 64 % 16 * 2 ^ 28 + k / 1024 * 2 ^ 22 + k % 64 * 2 ^ 16 }
 {
@@ -26,11 +26,11 @@ pub(crate) fn offset_bits(k: u32) -> u32
 /// Returns the words of the routine of `n` tasks whose block is at `b`.
 fn routine_words(n: u32, b: u32) -> [u32; 18]
     requires { n ≤ 7 }
-    ensures { flat_map four_bytes result ≡ bytes_of (routine_of n b) }
+    ensures { flat_map four_bytes result ≡ bytes_of_routine (routine_of n b) }
 {
     let upper = upper_half(b);
-    let lower = offset_bits(lower_half(b));
-    let count = offset_bits(4 * n);
+    let lower = routine_offset_bits(lower_half(b));
+    let count = routine_offset_bits(4 * n);
     [
         0x0340_000D, // disable
         0x0200_000D, // svlcx
@@ -54,7 +54,7 @@ fn routine_words(n: u32, b: u32) -> [u32; 18]
 }
 
 /// Returns the bytes of a word, the lowest first.
-fn bytes_of_word(w: u32) -> [u8; 4]
+fn routine_word_bytes(w: u32) -> [u8; 4]
     ensures { result ≡ four_bytes w }
 {
     [
@@ -66,12 +66,14 @@ fn bytes_of_word(w: u32) -> [u8; 4]
 }
 
 /// Returns the bytes of the words, one word after another.
-pub(crate) fn bytes_of_words(words: &[u32; 18]) -> [u8; 72]
+pub(crate) fn routine_bytes_of_words(words: &[u32; 18]) -> [u8; 72]
     ensures { result ≡ flat_map four_bytes words.now }
 {
     let mut bytes = ArrayVec::new();
     for w in words {
-        bytes.try_extend_from_slice(&bytes_of_word(*w)).unwrap();
+        bytes
+            .try_extend_from_slice(&routine_word_bytes(*w))
+            .unwrap();
     }
     match bytes.into_inner() {
         Ok(all) => all,
@@ -80,18 +82,18 @@ pub(crate) fn bytes_of_words(words: &[u32; 18]) -> [u8; 72]
 }
 
 /// Returns the bytes of the routine of these tasks.
-pub(crate) fn routine(tasks: &Tasks) -> [u8; 72]
+pub(crate) fn switch_routine_bytes(tasks: &Tasks) -> [u8; 72]
     ensures { result ≡ routine_bytes tasks.now }
 {
-    bytes_of_words(&routine_words(tasks.list.len() as u32, tasks.block))
+    routine_bytes_of_words(&routine_words(tasks.list.len() as u32, tasks.block))
 }
 
 /// Returns whether the `n` addresses from `x` on are inside one rom range.
-fn is_in_rom(plan: &Plan, x: u32, n: u32) -> bool
-    ensures decides { IsTrue result ↔ IsInOne x n plan.now.rom }
+fn is_routine_in_rom(plan: &Plan, x: u32, n: u32) -> bool
+    ensures decides { IsTrue result ↔ IsInOneRange x n plan.now.rom }
     ensures fits { IsTrue result → x + n ≤ 2 ^ 32 }
 {
-    any_holds(plan.rom.as_slice(), x, n)
+    is_in_any_range(plan.rom.as_slice(), x, n)
 }
 
 /// Returns whether the image has byte `i` of the routine, `byte`, at its address. The bytes up to
@@ -101,7 +103,7 @@ fn has_byte(image: &Image, plan: &Plan, tasks: &Tasks, i: u32, byte: u8) -> bool
     requires byte { slice_index (routine_bytes tasks.now) i ≡ byte }
     ensures { IsTrue result ↔ HasRoutineByte image.now plan.now tasks.now i }
 {
-    if !is_in_rom(plan, tasks.switch, i + 1) {
+    if !is_routine_in_rom(plan, tasks.switch, i + 1) {
         return false;
     }
     image.has_byte(tasks.switch + i, byte)
@@ -113,7 +115,7 @@ pub fn routine_fault(image: &Image, plan: &Plan, tasks: &Tasks) -> Option<u32>
     ensures none { IfNone result (HasRoutine image.now plan.now tasks.now) }
     ensures some { IfSome result (IsRoutineFault image.now plan.now tasks.now) }
 {
-    let bytes = routine(tasks);
+    let bytes = switch_routine_bytes(tasks);
     let mut i = 0u32;
     while i < ROUTINE_BYTES {
         if !has_byte(image, plan, tasks, i, bytes[i as usize]) {

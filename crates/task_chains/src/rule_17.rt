@@ -1,11 +1,11 @@
 // Rule 17: the test at a point of a view's certificate.
 ghost use Rattle.std.specs.Prelude.{◌↔◌, IsTrue, ◌≡◌, ◌≤◌, ◌<◌, ◌+◌, ◌-◌, ◌*◌, ◌/◌, ◌^◌, ℕ};
 ghost use Rattle.value_domain.specs.State.{AreValues};
-ghost use Rattle.task_chains.specs.Rule17.{HoldsApartIn, AllMiss, LoadsElsewhere, ReadsNoLink, IsNoBisr, StaysApart, HasBetween, IsPlaceApart};
+ghost use Rattle.task_chains.specs.Rule17.{HoldsApartIn, AreAccessesApart, LoadsElsewhere, ReadsNoLink, IsNoBisr, StaysApart, HasAccessBetween, IsPlaceApart};
 ghost use Rattle.tc_isa.specs.InBounds.{IsShape};
 ghost use Rattle.value_domain.specs.Sets.{Among};
 ghost use Rattle.value_domain.specs.Values.{IsWell};
-ghost use Rattle.store_ranges.specs.Accesses.{IsSize};
+ghost use Rattle.store_ranges.specs.Accesses.{IsAccessSize};
 ghost use Rattle.task_chains.specs.SwitchRoutine.{switch_key};
 
 use crate::Tasks;
@@ -47,13 +47,14 @@ pub(crate) fn holds_apart(
     }
 }
 
+/// Returns whether a word is in `low..=high`, for the test of rule 17 on accesses.
 fn is_between(x: u32, low: u32, high: u32) -> bool
     ensures { IsTrue result ↔ (low ≤ x) × (x ≤ high) }
 {
     low <= x && x <= high
 }
 
-/// Returns whether one of the words is in `low..=high`.
+/// Returns whether one of the words is in `low..=high`, for the test of rule 17 on accesses.
 fn has_word_between(words: &[u32], low: u32, high: u32) -> bool
     ensures { IsTrue result ↔ ((x : ℕ) × Among x words.now × (low ≤ x) × (x ≤ high)) }
 {
@@ -65,7 +66,7 @@ fn has_word_between(words: &[u32], low: u32, high: u32) -> bool
     false
 }
 
-/// Returns the least multiple of `2 ^ step` that is at least `x`.
+/// Returns the least multiple of `2 ^ step` from `x` on, for the test of rule 17 on accesses.
 fn multiple_from(x: u64, step: u8) -> u64
     requires step { step ≤ 2 }
     requires small { x ≤ 2 ^ 32 }
@@ -75,10 +76,11 @@ fn multiple_from(x: u64, step: u8) -> u64
     (x + (unit - 1)) / unit * unit
 }
 
-/// Returns whether a word of the value is in `low..=high`.
-fn has_between(v: &Val, low: u32, high: u32) -> bool
+/// Returns whether some word of the value, at which an access begins, is in `low..=high`, for the
+/// test of rule 17.
+fn has_access_between(v: &Val, low: u32, high: u32) -> bool
     requires { IsWell v.now }
-    ensures { IsTrue result ↔ HasBetween v.now low high }
+    ensures { IsTrue result ↔ HasAccessBetween v.now low high }
 {
     match v {
         Val::Set(words) => has_word_between(words.as_slice(), low, high),
@@ -90,21 +92,21 @@ fn has_between(v: &Val, low: u32, high: u32) -> bool
 
 /// Returns whether no access of 1, 2 or 4 bytes (`size`), at an address that is a word of the
 /// value, shares a byte with the `len` bytes from `from` on.
-pub(crate) fn misses(at: &Val, size: u8, from: u32, len: u32) -> bool
+pub(crate) fn are_accesses_apart(at: &Val, size: u8, from: u32, len: u32) -> bool
     requires at { IsWell at.now }
-    requires size { IsSize size }
+    requires size { IsAccessSize size }
     requires some { 0 < len }
-    ensures { IsTrue result ↔ AllMiss at.now size from len }
+    ensures { IsTrue result ↔ AreAccessesApart at.now size from len }
 {
     let below = u32::from(size) - 1;
     let last = from.saturating_add(len - 1);
-    if has_between(at, from.saturating_sub(below), last) {
+    if has_access_between(at, from.saturating_sub(below), last) {
         return false;
     }
     if below <= from {
         return true;
     }
-    !has_between(at, from.wrapping_sub(below), 0xFFFF_FFFF)
+    !has_access_between(at, from.wrapping_sub(below), 0xFFFF_FFFF)
 }
 
 /// Returns whether the instruction is no load, or each of its possible accesses misses the save
@@ -117,14 +119,14 @@ fn loads_elsewhere(b: &Bounds, plan: &Plan, tasks: &Tasks, s: &State, shape: Sha
     match shape {
         Shape::Load { size, .. } => {
             let at = address_by(b, plan, shape, s);
-            misses(&at, size, plan.csa_at, 64 * plan.areas)
-                && misses(&at, size, tasks.switch, ROUTINE_BYTES)
+            are_accesses_apart(&at, size, plan.csa_at, 64 * plan.areas)
+                && are_accesses_apart(&at, size, tasks.switch, ROUTINE_BYTES)
         }
         _ => true,
     }
 }
 
-/// Returns whether the instruction doesn't read PCXI, FCX or LCX.
+/// Returns whether the instruction reads none of PCXI, FCX and LCX, as rule 17 asks.
 fn reads_no_link(shape: Shape) -> bool
     ensures { IsTrue result ↔ ReadsNoLink shape }
 {
@@ -134,6 +136,7 @@ fn reads_no_link(shape: Shape) -> bool
     }
 }
 
+/// Returns whether the instruction is no BISR; rule 17 asks it outside of all interrupts.
 fn is_no_bisr(shape: Shape) -> bool
     ensures { IsTrue result ↔ IsNoBisr shape }
 {

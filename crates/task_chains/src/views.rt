@@ -5,11 +5,11 @@ ghost use Rattle.task_chains.specs.Tasks.{count};
 ghost use Rattle.task_chains.specs.Views.{FitPlan, with_routine_from, view_segment, view_image_of, view_plan_of};
 ghost use Rattle.std.specs.List.{flat_map};
 ghost use Rattle.tcd_base.specs.Bytes.{four_bytes};
-ghost use Rattle.task_chains.specs.SwitchRoutine.{view_routine_of, bytes_of, view_routine_bytes};
+ghost use Rattle.task_chains.specs.SwitchRoutine.{view_routine_of, bytes_of_routine, view_routine_bytes};
 
 use crate::Tasks;
-use crate::devices::devices_without;
-use crate::routine::{bytes_of_words, offset_bits};
+use crate::devices::devices_beside_block;
+use crate::routine::{routine_bytes_of_words, routine_offset_bits};
 use arrayvec::ArrayVec;
 use elf_image::{Image, Segment, read_segments};
 use std::alloc::Global;
@@ -18,7 +18,7 @@ use tcd_base::{NoMemory, Range};
 use tcd_plan::Plan;
 
 /// Writes the byte of address `x` into bytes that begin at `at`, if they reach that address.
-fn put_at(bytes: &mut [u8], at: u32, x: u64, byte: u8)
+fn put_view_byte(bytes: &mut [u8], at: u32, x: u64, byte: u8)
     ensures { bytes.new ≡ (if nat_le at x && nat_lt (x - at) (length bytes.old)
         then set bytes.old (x - at) byte else bytes.old) }
 {
@@ -29,12 +29,12 @@ fn put_at(bytes: &mut [u8], at: u32, x: u64, byte: u8)
 }
 
 /// Writes the view's routine over the bytes of a segment that are in the routine.
-fn write_routine(bytes: &mut [u8], at: u32, tasks: &Tasks)
+fn write_view_routine(bytes: &mut [u8], at: u32, tasks: &Tasks)
     ensures { bytes.new ≡ with_routine_from tasks.now at bytes.old }
 {
     let routine = view_routine(tasks);
     for (i, byte) in routine.iter().enumerate() {
-        put_at(bytes, at, u64::from(tasks.switch) + i as u64, *byte);
+        put_view_byte(bytes, at, u64::from(tasks.switch) + i as u64, *byte);
     }
 }
 
@@ -44,7 +44,7 @@ fn segment_of_view(alloc: Global, segment: &Segment, tasks: &Tasks) -> Result<Se
         ≡ view_segment tasks.now (segment_data segment.now)) }
 {
     let mut bytes = Vec::from_slice(alloc, &segment.bytes)?;
-    write_routine(&mut bytes, segment.at, tasks);
+    write_view_routine(&mut bytes, segment.at, tasks);
     Ok(Segment {
         at: segment.at,
         bytes,
@@ -70,7 +70,7 @@ pub fn view_image(alloc: Global, image: &Image, tasks: &Tasks, u: usize) -> Resu
 
 /// Returns whether interrupts are on at the start of a task: as the plan says for the first, off
 /// for each other.
-fn starts_enabled(plan: &Plan, u: usize) -> bool
+fn is_task_start_enabled(plan: &Plan, u: usize) -> bool
     ensures { result ≡ (if u == 0 then plan.now.start_ie else false) }
 {
     if u == 0 { plan.start_ie } else { false }
@@ -87,7 +87,7 @@ pub fn view_plan(plan: &Plan, tasks: &Tasks, u: usize) -> Plan
     Plan {
         rom: ArrayVec::try_from(plan.rom.as_slice()).unwrap(),
         ram: ArrayVec::new(),
-        devices: devices_without(plan, tasks.block, tasks.block_size()),
+        devices: devices_beside_block(plan, tasks.block, tasks.block_size()),
         csa_at: plan.csa_at,
         areas: plan.areas,
         reserve: plan.reserve,
@@ -98,7 +98,7 @@ pub fn view_plan(plan: &Plan, tasks: &Tasks, u: usize) -> Plan
         irqs: ArrayVec::try_from(plan.irqs.as_slice()).unwrap(),
         sys: plan.sys,
         aln: plan.aln,
-        start_ie: starts_enabled(plan, u),
+        start_ie: is_task_start_enabled(plan, u),
         start_ccpn: plan.start_ccpn,
         start_is: plan.start_is,
         globals: plan.globals,
@@ -106,13 +106,13 @@ pub fn view_plan(plan: &Plan, tasks: &Tasks, u: usize) -> Plan
     }
 }
 
-/// Returns the words that a view has instead.
-fn view_words(n: u32, b: u32) -> [u32; 18]
+/// Returns the words that the view of a task has instead of those of the switch routine.
+fn view_routine_words(n: u32, b: u32) -> [u32; 18]
     requires { n ≤ 7 }
-    ensures { flat_map four_bytes result ≡ bytes_of (view_routine_of n b) }
+    ensures { flat_map four_bytes result ≡ bytes_of_routine (view_routine_of n b) }
 {
     let upper = upper_half(b);
-    let lower = offset_bits(lower_half(b));
+    let lower = routine_offset_bits(lower_half(b));
     [
         0x0340_000D, // disable
         0x0200_000D, // svlcx
@@ -135,9 +135,9 @@ fn view_words(n: u32, b: u32) -> [u32; 18]
     ]
 }
 
-/// Returns the bytes that their views have instead of the routine.
+/// Returns the bytes that the image of a task's view has instead of those of the switch routine.
 pub(crate) fn view_routine(tasks: &Tasks) -> [u8; 72]
     ensures { result ≡ view_routine_bytes tasks.now }
 {
-    bytes_of_words(&view_words(tasks.list.len() as u32, tasks.block))
+    routine_bytes_of_words(&view_routine_words(tasks.list.len() as u32, tasks.block))
 }

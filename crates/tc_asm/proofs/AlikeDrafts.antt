@@ -8,18 +8,18 @@ use Rattle.std.proofs.lemmas.List.Sums.{fold_more}
 use Rattle.tc_isa.specs.declared.fields.Fields.{Fields}
 use Rattle.tc_isa.specs.Rows.{RowData, listed, is_long}
 use Rattle.tc_isa.specs.Relocations.{is_reloc}
-use Rattle.tc_stmt.specs.Names.{is_name}
+use Rattle.tc_stmt.specs.Names.{is_source_name}
 use Rattle.tc_stmt.specs.Items.{ReferenceData, ItemData, item_of, label, section, global, code, bytes, zeros}
 use Rattle.tc_lex.proofs.Mapped.{position-map}
 use Rattle.tc_asm.specs.declared.symbols.Place.{Place}
 use Rattle.tc_stmt.specs.declared.item.Item.{Item}
 use Rattle.tc_stmt.specs.Lines.{lines_in, items_in}
 use Rattle.tc_asm.specs.Symbols.{SymbolData, seen, labelled, made_global}
-use Rattle.tc_asm.specs.Drafts.{PartData, DraftData, part, start, place_of, has_section, has_room, here, with_label, number_of_part, entered, with_global, extended, with_bytes, used, with_use, with_reference, with_content, code_bytes, stepped}
+use Rattle.tc_asm.specs.Drafts.{PartData, DraftData, part, start, draft_place, has_section, has_room, here, with_label, number_of_part, with_current_section, with_global, with_part_bytes, with_bytes, with_part_use, with_use, with_reference, with_content, code_bytes, draft_after_item, part_size_at}
 use Rattle.tc_asm.specs.DraftedSources.{symbols_of, symbols_in}
-use Rattle.tc_asm.specs.AddedItems.{IsCode, IsItem}
-use Rattle.tc_asm.specs.AlikeDrafts.{SizeData, size_of, Alike, code_size}
-use Rattle.tc_asm.specs.DraftInvariants.{Each, size_at}
+use Rattle.tc_asm.specs.AddedItems.{IsAddedCode, IsAddedItem}
+use Rattle.tc_asm.specs.AlikeDrafts.{PartSizeData, draft_part_size, Alike, assembled_code_size}
+use Rattle.tc_asm.specs.DraftInvariants.{EachInDraft}
 use Rattle.tc_stmt.proofs.Cases.{by_test}
 use Rattle.tc_asm.proofs.ListLaws.{changed, changed-set, size_at-get}
 use Rattle.tc_asm.proofs.SourceItems.{source_are}
@@ -49,33 +49,33 @@ heads x y xs ys e = cc
 tails : {A : Type 0} (x y : A) (xs ys : List A) → (x ∷ xs) ≡ (y ∷ ys) → xs ≡ ys
 tails x y xs ys e = cc
 
-same_size : (ps qs : List PartData) (n : ℕ) → map size_of ps ≡ map size_of qs → size_at ps n ≡ size_at qs n
+same_size : (ps qs : List PartData) (n : ℕ) → map draft_part_size ps ≡ map draft_part_size qs → part_size_at ps n ≡ part_size_at qs n
 same_size [] [] n e = refl
 same_size [] (q ∷ qs) n e = cc
 same_size (p ∷ ps) [] n e = cc
-same_size (p ∷ ps) (q ∷ qs) zero e = ap (λ (s : SizeData). s.size) (heads (size_of p) (size_of q) (map size_of ps) (map size_of qs) e)
-same_size (p ∷ ps) (q ∷ qs) (suc n) e = same_size ps qs n (tails (size_of p) (size_of q) (map size_of ps) (map size_of qs) e)
+same_size (p ∷ ps) (q ∷ qs) zero e = ap (λ (s : PartSizeData). s.size) (heads (draft_part_size p) (draft_part_size q) (map draft_part_size ps) (map draft_part_size qs) e)
+same_size (p ∷ ps) (q ∷ qs) (suc n) e = same_size ps qs n (tails (draft_part_size p) (draft_part_size q) (map draft_part_size ps) (map draft_part_size qs) e)
 
-same_grown : (f g : PartData → PartData) → ((p q : PartData) → size_of p ≡ size_of q → size_of (f p) ≡ size_of (g q)) → (ps qs : List PartData) (n : ℕ) → map size_of ps ≡ map size_of qs →
-    map size_of (changed f ps n) ≡ map size_of (changed g qs n)
+same_grown : (f g : PartData → PartData) → ((p q : PartData) → draft_part_size p ≡ draft_part_size q → draft_part_size (f p) ≡ draft_part_size (g q)) → (ps qs : List PartData) (n : ℕ) → map draft_part_size ps ≡ map draft_part_size qs →
+    map draft_part_size (changed f ps n) ≡ map draft_part_size (changed g qs n)
 same_grown f g h [] [] n e = refl
 same_grown f g h [] (q ∷ qs) n e = cc
 same_grown f g h (p ∷ ps) [] n e = cc
 same_grown f g h (p ∷ ps) (q ∷ qs) zero e =
-    ap (λ (s : SizeData). s ∷ map size_of ps) (h p q (heads (size_of p) (size_of q) (map size_of ps) (map size_of qs) e))
-    ∙ ap (λ (ss : List SizeData). size_of (g q) ∷ ss) (tails (size_of p) (size_of q) (map size_of ps) (map size_of qs) e)
+    ap (λ (s : PartSizeData). s ∷ map draft_part_size ps) (h p q (heads (draft_part_size p) (draft_part_size q) (map draft_part_size ps) (map draft_part_size qs) e))
+    ∙ ap (λ (ss : List PartSizeData). draft_part_size (g q) ∷ ss) (tails (draft_part_size p) (draft_part_size q) (map draft_part_size ps) (map draft_part_size qs) e)
 same_grown f g h (p ∷ ps) (q ∷ qs) (suc n) e =
-    ap (λ (s : SizeData). s ∷ map size_of (changed f ps n)) (heads (size_of p) (size_of q) (map size_of ps) (map size_of qs) e)
-    ∙ ap (λ (ss : List SizeData). size_of q ∷ ss) (same_grown f g h ps qs n (tails (size_of p) (size_of q) (map size_of ps) (map size_of qs) e))
+    ap (λ (s : PartSizeData). s ∷ map draft_part_size (changed f ps n)) (heads (draft_part_size p) (draft_part_size q) (map draft_part_size ps) (map draft_part_size qs) e)
+    ∙ ap (λ (ss : List PartSizeData). draft_part_size q ∷ ss) (same_grown f g h ps qs n (tails (draft_part_size p) (draft_part_size q) (map draft_part_size ps) (map draft_part_size qs) e))
 
-same_kept : (f : PartData → PartData) → ((p : PartData) → size_of (f p) ≡ size_of p) → (ps : List PartData) (n : ℕ) → map size_of (changed f ps n) ≡ map size_of ps
+same_kept : (f : PartData → PartData) → ((p : PartData) → draft_part_size (f p) ≡ draft_part_size p) → (ps : List PartData) (n : ℕ) → map draft_part_size (changed f ps n) ≡ map draft_part_size ps
 same_kept f h [] n = refl
-same_kept f h (p ∷ ps) zero = ap (λ (s : SizeData). s ∷ map size_of ps) (h p)
-same_kept f h (p ∷ ps) (suc n) = ap (λ (ss : List SizeData). size_of p ∷ ss) (same_kept f h ps n)
+same_kept f h (p ∷ ps) zero = ap (λ (s : PartSizeData). s ∷ map draft_part_size ps) (h p)
+same_kept f h (p ∷ ps) (suc n) = ap (λ (ss : List PartSizeData). draft_part_size p ∷ ss) (same_kept f h ps n)
 
 module _ (d e : DraftData) (h : Alike d e) where
   long : length d.parts ≡ length e.parts
-  long = sym (length-map d.parts size_of) ∙ ap length h.sizes ∙ length-map e.parts size_of
+  long = sym (length-map d.parts draft_part_size) ∙ ap length h.sizes ∙ length-map e.parts draft_part_size
 
   there : has_section d ≡ has_section e
   there = ap (λ n. nat_lt n (length d.parts)) h.section ∙ ap (nat_lt e.section) long
@@ -83,19 +83,19 @@ module _ (d e : DraftData) (h : Alike d e) where
   room : (m n : ℕ) → m ≡ n → has_room d m ≡ has_room e n
   room m n same = ap (λ k. nat_le (k + m) (2 ^ 24)) h.total ∙ ap (λ k. nat_le (e.total + k) (2 ^ 24)) same
 
-  place : place_of d ≡ place_of e
-  unfolding place_of
-  place = size_at-get d.parts d.section ∙ ap (size_at d.parts) h.section ∙ same_size d.parts e.parts e.section h.sizes ∙ sym (size_at-get e.parts e.section)
+  place : draft_place d ≡ draft_place e
+  unfolding draft_place
+  place = size_at-get d.parts d.section ∙ ap (part_size_at d.parts) h.section ∙ same_size d.parts e.parts e.section h.sizes ∙ sym (size_at-get e.parts e.section)
 
   same_here : here d ≡ here e
-  same_here = ap (λ n. at n (place_of d)) h.section ∙ ap (at e.section) place
+  same_here = ap (λ n. at n (draft_place d)) h.section ∙ ap (at e.section) place
     where
       at : ℕ → ℕ → Place
       at s n = record { section = s; offset = n }
 
   number : (name : List ℕ) → number_of_part d.parts name ≡ number_of_part e.parts name
   number name =
-      ap (λ o. unwrap_or o (length d.parts)) (position-map (λ (s : SizeData). bytes_eq name s.name) size_of d.parts ∙ ap (position (λ (s : SizeData). bytes_eq name s.name)) h.sizes ∙ sym (position-map (λ (s : SizeData). bytes_eq name s.name) size_of e.parts))
+      ap (λ o. unwrap_or o (length d.parts)) (position-map (λ (s : PartSizeData). bytes_eq name s.name) draft_part_size d.parts ∙ ap (position (λ (s : PartSizeData). bytes_eq name s.name)) h.sizes ∙ sym (position-map (λ (s : PartSizeData). bytes_eq name s.name) draft_part_size e.parts))
       ∙ ap (unwrap_or (position (λ (p : PartData). bytes_eq name p.name) e.parts)) long
 
   -- ---- a single step
@@ -110,16 +110,16 @@ module _ (d e : DraftData) (h : Alike d e) where
         total = h.total;
       }) h
 
-  entered_alike : (name : List ℕ) → Alike (entered d name) (entered e name)
-  unfolding entered
+  entered_alike : (name : List ℕ) → Alike (with_current_section d name) (with_current_section e name)
+  unfolding with_current_section
   entered_alike name =
-      alike_cond (not (is_name name)) (not (is_name name)) _ _ d e refl h
+      alike_cond (not (is_source_name name)) (not (is_source_name name)) _ _ d e refl h
       (alike_cond _ _ _ _ _ _ (ap (λ n. nat_lt n (length d.parts)) (number name) ∙ ap (nat_lt (number_of_part e.parts name)) long)
       (record { section = number name; sizes = h.sizes; symbols = h.symbols; total = h.total })
       (alike_cond _ _ d e _ _ (ap (λ n. nat_lt n 64) long)
       (record {
         section = long;
-        sizes = map-append size_of d.parts (part name [] [] ∷ []) ∙ ap (λ (ss : List SizeData). ss ++ size_of (part name [] []) ∷ []) h.sizes ∙ sym (map-append size_of e.parts (part name [] [] ∷ []));
+        sizes = map-append draft_part_size d.parts (part name [] [] ∷ []) ∙ ap (λ (ss : List PartSizeData). ss ++ draft_part_size (part name [] []) ∷ []) h.sizes ∙ sym (map-append draft_part_size e.parts (part name [] [] ∷ []));
         symbols = h.symbols;
         total = h.total;
       }) h))
@@ -129,35 +129,35 @@ module _ (d e : DraftData) (h : Alike d e) where
   global_alike name = alike_cond _ _ d e _ _ refl (record { section = h.section; sizes = h.sizes; symbols = ap (λ (ss : List SymbolData). made_global ss name) h.symbols; total = h.total }) h
 
   bytes_alike : (bs cs : List ℕ) → length bs ≡ length cs → Alike (with_bytes d bs) (with_bytes e cs)
-  unfolding with_bytes extended
+  unfolding with_bytes with_part_bytes
   bytes_alike bs cs same =
       alike_cond _ _ d e _ _ (ap (λ b. b && has_room d (length bs)) there ∙ ap (λ b. has_section e && b) (room (length bs) (length cs) same))
       (record {
         section = h.section;
-        sizes = ap (map size_of) (changed-set (λ (p : PartData). record p { bytes = p.bytes ++ bs }) d.parts d.section)
-            ∙ ap (λ n. map size_of (changed (λ (p : PartData). record p { bytes = p.bytes ++ bs }) d.parts n)) h.section
+        sizes = ap (map draft_part_size) (changed-set (λ (p : PartData). record p { bytes = p.bytes ++ bs }) d.parts d.section)
+            ∙ ap (λ n. map draft_part_size (changed (λ (p : PartData). record p { bytes = p.bytes ++ bs }) d.parts n)) h.section
             ∙ same_grown (λ (p : PartData). record p { bytes = p.bytes ++ bs }) (λ (p : PartData). record p { bytes = p.bytes ++ cs }) longer d.parts e.parts e.section h.sizes
-            ∙ sym (ap (map size_of) (changed-set (λ (p : PartData). record p { bytes = p.bytes ++ cs }) e.parts e.section));
+            ∙ sym (ap (map draft_part_size) (changed-set (λ (p : PartData). record p { bytes = p.bytes ++ cs }) e.parts e.section));
         symbols = h.symbols;
         total = ap (λ n. n + length bs) h.total ∙ ap (λ n. e.total + n) same;
       }) h
     where
-      sized : List ℕ → ℕ → SizeData
+      sized : List ℕ → ℕ → PartSizeData
       sized name n = record { name = name; size = n }
 
-      longer : (p q : PartData) → size_of p ≡ size_of q → size_of (record p { bytes = p.bytes ++ bs }) ≡ size_of (record q { bytes = q.bytes ++ cs })
+      longer : (p q : PartData) → draft_part_size p ≡ draft_part_size q → draft_part_size (record p { bytes = p.bytes ++ bs }) ≡ draft_part_size (record q { bytes = q.bytes ++ cs })
       longer p q e =
-          let size : length (p.bytes ++ bs) ≡ length (q.bytes ++ cs) = omega (arith, length-append p.bytes bs, length-append q.bytes cs, ap (λ (s : SizeData). s.size) e) in
-          ap (λ (name : List ℕ). sized name (length (p.bytes ++ bs))) (ap (λ (s : SizeData). s.name) e) ∙ ap (sized q.name) size
+          let size : length (p.bytes ++ bs) ≡ length (q.bytes ++ cs) = omega (arith, length-append p.bytes bs, length-append q.bytes cs, ap (λ (s : PartSizeData). s.size) e) in
+          ap (λ (name : List ℕ). sized name (length (p.bytes ++ bs))) (ap (λ (s : PartSizeData). s.name) e) ∙ ap (sized q.name) size
 
 -- uses of symbols don't change symbols and sizes
 use_alike : (d : DraftData) (n : ℕ) (r : ReferenceData) → Alike (with_use d n r) d
-unfolding with_use used
+unfolding with_use with_part_use
 use_alike d n r =
     by_test (λ (x : DraftData). Alike x d) _ _ _
     (λ b. record {
       section = refl;
-      sizes = ap (map size_of) (changed-set (λ (p : PartData). record p { uses = p.uses ++ record { offset = place_of d; reference = r } ∷ [] }) d.parts d.section) ∙ same_kept (λ (p : PartData). record p { uses = p.uses ++ record { offset = place_of d; reference = r } ∷ [] }) (λ p. refl) d.parts d.section;
+      sizes = ap (map draft_part_size) (changed-set (λ (p : PartData). record p { uses = p.uses ++ record { offset = draft_place d; reference = r } ∷ [] }) d.parts d.section) ∙ same_kept (λ (p : PartData). record p { uses = p.uses ++ record { offset = draft_place d; reference = r } ∷ [] }) (λ p. refl) d.parts d.section;
       symbols = refl;
       total = refl;
     })
@@ -172,14 +172,14 @@ reference_alike d e m n None h = h
 reference_alike d e m n (Some r) h =
     let x : DraftData = record d { symbols = seen d.symbols r.name } in
     let y : DraftData = record e { symbols = seen e.symbols r.name } in
-    alike_cond (is_name r.name) (is_name r.name) d e _ _ refl
+    alike_cond (is_source_name r.name) (is_source_name r.name) d e _ _ refl
     (alike_then (with_use x m r) x (with_use y n r) (use_alike x m r) (alike_then x y (with_use y n r) (seen_alike d e r.name h) (alike_back (with_use y n r) y (use_alike y n r)))) h
 
 content_alike : (d e : DraftData) (bs cs : List ℕ) (o : Option ReferenceData) → length bs ≡ length cs → Alike d e → Alike (with_content d bs o) (with_content e cs o)
 content_alike d e bs cs o same h = bytes_alike (with_reference d (length bs) o) (with_reference e (length cs) o) (reference_alike d e (length bs) (length cs) o h) bs cs same
 
-pub step_alike : (labels others : List SymbolData) (d e : DraftData) (i : ItemData) → IsItem i → Alike d e → Alike (stepped labels d i) (stepped others e i)
-unfolding stepped
+pub step_alike : (labels others : List SymbolData) (d e : DraftData) (i : ItemData) → IsAddedItem i → Alike d e → Alike (draft_after_item labels d i) (draft_after_item others e i)
+unfolding draft_after_item
 step_alike labels others d e (label name) good h = label_alike d e h name
 step_alike labels others d e (section name) good h = entered_alike d e h name
 step_alike labels others d e (global name) good h = global_alike d e h name
@@ -188,9 +188,9 @@ step_alike labels others d e (code k f o) good h =
 step_alike labels others d e (bytes bs o) good h = content_alike d e bs bs o refl h
 step_alike labels others d e (zeros n) good h = bytes_alike d e h (replicate n 0) (replicate n 0) refl
 
-items_alike : (labels others : List SymbolData) (is : List ItemData) (d e : DraftData) → Each IsItem is → Alike d e → Alike (fold (stepped labels) d is) (fold (stepped others) e is)
+items_alike : (labels others : List SymbolData) (is : List ItemData) (d e : DraftData) → EachInDraft IsAddedItem is → Alike d e → Alike (fold (draft_after_item labels) d is) (fold (draft_after_item others) e is)
 items_alike labels others [] d e good h = h
-items_alike labels others (i ∷ is) d e good h = items_alike labels others is (stepped labels d i) (stepped others e i) good.1 (step_alike labels others d e i good.0 h)
+items_alike labels others (i ∷ is) d e good h = items_alike labels others is (draft_after_item labels d i) (draft_after_item others e i) good.1 (step_alike labels others d e i good.0 h)
 
 -- the symbols that resolve jumps of 16 bits are those of the source
 pub passes_agree : (source : List ℕ) → symbols_in source ≡ symbols_of (lines_in source)
@@ -201,8 +201,8 @@ passes_agree source =
     ∙ sym (ap (λ (d : DraftData). d.symbols) (lines-items [] (lines_in source) start))
 
 -- ---- the first pass
-pub sized : (k : ℕ) → option_map_or (λ (row : RowData). cond (is_long row) 4 2) (slice_get listed k) 0 ≡ code_size k
-unfolding code_size
+pub sized : (k : ℕ) → option_map_or (λ (row : RowData). cond (is_long row) 4 2) (slice_get listed k) 0 ≡ assembled_code_size k
+unfolding assembled_code_size
 sized k = refl
 
 -- zeros instead of bytes
@@ -213,12 +213,12 @@ zeros_alike d e next bs o n made same h =
     (bytes_alike (with_reference d 0 o) (with_reference e (length bs) o) (reference_alike d e 0 (length bs) o h) (replicate n 0) bs (length-replicate n 0 ∙ same))
 
 -- a label
-pub label_counted : (d e next : DraftData) (name : List ℕ) → next ≡ with_label d name → Alike d e → Alike next (stepped [] e (label name))
-unfolding stepped
-label_counted d e next name made h = subst (λ (x : DraftData). Alike x (stepped [] e (label name))) (sym made) (label_alike d e h name)
+pub label_counted : (d e next : DraftData) (name : List ℕ) → next ≡ with_label d name → Alike d e → Alike next (draft_after_item [] e (label name))
+unfolding draft_after_item
+label_counted d e next name made h = subst (λ (x : DraftData). Alike x (draft_after_item [] e (label name))) (sym made) (label_alike d e h name)
 
 -- a symbol of the first pass, which has no use
-pub see_named : (d next : DraftData) (r : ReferenceData) → is_name r.name ≡ true → next ≡ record d { symbols = seen d.symbols r.name } → next ≡ with_reference d 0 (Some r)
+pub see_named : (d next : DraftData) (r : ReferenceData) → is_source_name r.name ≡ true → next ≡ record d { symbols = seen d.symbols r.name } → next ≡ with_reference d 0 (Some r)
 unfolding with_reference with_use
 see_named d next r named made =
     let x : DraftData = record d { symbols = seen d.symbols r.name } in
@@ -230,42 +230,42 @@ see_named d next r named made =
     unused false b e f x y = refl
 
 -- zeros instead of an instruction's bytes
-pub code_alike : (d e next : DraftData) (k : ℕ) (f : Fields) (o : Option ReferenceData) (n : ℕ) → IsCode k f o
-    → next ≡ with_bytes (with_reference d 0 o) (replicate n 0) → n ≡ code_size k → Alike d e → Alike next (stepped [] e (code k f o))
-unfolding stepped code_size
+pub code_alike : (d e next : DraftData) (k : ℕ) (f : Fields) (o : Option ReferenceData) (n : ℕ) → IsAddedCode k f o
+    → next ≡ with_bytes (with_reference d 0 o) (replicate n 0) → n ≡ assembled_code_size k → Alike d e → Alike next (draft_after_item [] e (code k f o))
+unfolding draft_after_item assembled_code_size
 code_alike d e next k f o n is made size h = zeros_alike d e next (code_bytes [] e k f o) o n made (size ∙ as_many) h
   where
-    as_many : code_size k ≡ length (code_bytes [] e k f o)
+    as_many : assembled_code_size k ≡ length (code_bytes [] e k f o)
     as_many = ap (λ (q : Option RowData). option_map_or (λ row. cond (is_long row) 4 2) q 0) is.at ∙ sym (code_length [] e k f o is)
 
 -- zeros instead of data
 pub data_alike : (d e next : DraftData) (bs : List ℕ) (o : Option ReferenceData) (n : ℕ)
-    → next ≡ with_bytes (with_reference d 0 o) (replicate n 0) → n ≡ length bs → Alike d e → Alike next (stepped [] e (bytes bs o))
-unfolding stepped
+    → next ≡ with_bytes (with_reference d 0 o) (replicate n 0) → n ≡ length bs → Alike d e → Alike next (draft_after_item [] e (bytes bs o))
+unfolding draft_after_item
 data_alike d e next bs o n made same h = zeros_alike d e next bs o n made same h
 
 -- the step of any other item
-pub step_counted : (d e next : DraftData) (labels : List SymbolData) (i : ItemData) → IsItem i → labels ≡ [] → next ≡ stepped labels d i → Alike d e → Alike next (stepped [] e i)
+pub step_counted : (d e next : DraftData) (labels : List SymbolData) (i : ItemData) → IsAddedItem i → labels ≡ [] → next ≡ draft_after_item labels d i → Alike d e → Alike next (draft_after_item [] e i)
 step_counted d e next labels i good none made h =
-    subst (λ (x : DraftData). Alike x (stepped [] e i)) (sym (made ∙ ap (λ (ls : List SymbolData). stepped ls d i) none)) (step_alike [] [] d e i good h)
+    subst (λ (x : DraftData). Alike x (draft_after_item [] e i)) (sym (made ∙ ap (λ (ls : List SymbolData). draft_after_item ls d i) none)) (step_alike [] [] d e i good h)
 
 -- a further item
-module _ (items : List Item) (i : ℕ) (draft first : DraftData) (so_far : Alike draft (fold (stepped []) first (take i (map item_of items)))) where
-  pub alike_next : (d : Item) (next : DraftData) → i < length items → ((e : DraftData) → Alike draft e → Alike next (stepped [] e (item_of (get_or items i d)))) → Alike next (fold (stepped []) first (take (i + 1) (map item_of items)))
+module _ (items : List Item) (i : ℕ) (draft first : DraftData) (so_far : Alike draft (fold (draft_after_item []) first (take i (map item_of items)))) where
+  pub alike_next : (d : Item) (next : DraftData) → i < length items → ((e : DraftData) → Alike draft e → Alike next (draft_after_item [] e (item_of (get_or items i d)))) → Alike next (fold (draft_after_item []) first (take (i + 1) (map item_of items)))
   alike_next d next within step =
       let there : get_or (map item_of items) i (item_of d) ≡ item_of (get_or items i d) = get_or-map item_of items i d (item_of d) within in
       subst (λ (e : DraftData). Alike next e)
-      (ap (stepped [] (fold (stepped []) first (take i (map item_of items)))) (sym there) ∙ sym (fold_more (stepped []) first (map item_of items) i (item_of d) (rw (length-map items item_of) within)))
-      (step (fold (stepped []) first (take i (map item_of items))) so_far)
+      (ap (draft_after_item [] (fold (draft_after_item []) first (take i (map item_of items)))) (sym there) ∙ sym (fold_more (draft_after_item []) first (map item_of items) i (item_of d) (rw (length-map items item_of) within)))
+      (step (fold (draft_after_item []) first (take i (map item_of items))) so_far)
 
-  pub alike_end : length items ≤ i → draft.symbols ≡ (fold (stepped []) first (map item_of items)).symbols
-  alike_end past = so_far.symbols ∙ ap (λ (is : List ItemData). (fold (stepped []) first is).symbols) (take_all i (map item_of items) (rw (length-map items item_of) past))
+  pub alike_end : length items ≤ i → draft.symbols ≡ (fold (draft_after_item []) first (map item_of items)).symbols
+  alike_end past = so_far.symbols ∙ ap (λ (is : List ItemData). (fold (draft_after_item []) first is).symbols) (take_all i (map item_of items) (rw (length-map items item_of) past))
 
 -- all items of a source
-each_all : (items : List Item) → Each IsItem (map item_of items) → (k : ℕ) (d : Item) → k < length items → IsItem (item_of (get_or items k d))
+each_all : (items : List Item) → EachInDraft IsAddedItem (map item_of items) → (k : ℕ) (d : Item) → k < length items → IsAddedItem (item_of (get_or items k d))
 each_all [] h k d within = absurd (omega arith)
 each_all (x ∷ xs) h zero d within = h.0
 each_all (x ∷ xs) h (suc k) d within = each_all xs h.1 k d (omega arith)
 
-pub items_all : (source : List ℕ) (items : List Item) → map item_of items ≡ items_in (lines_in source) → All (λ (x : Item). IsItem (item_of x)) items
-items_all source items e = λ k d within. each_all items (subst (Each IsItem) (sym e) (source_are source)) k d within
+pub items_all : (source : List ℕ) (items : List Item) → map item_of items ≡ items_in (lines_in source) → All (λ (x : Item). IsAddedItem (item_of x)) items
+items_all source items e = λ k d within. each_all items (subst (EachInDraft IsAddedItem) (sym e) (source_are source)) k d within

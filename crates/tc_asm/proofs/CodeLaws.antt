@@ -12,13 +12,13 @@ use Rattle.tc_isa.specs.Spelling.{spelling, Spells}
 use Rattle.tc_isa.specs.Insts.{InstData, IsInst}
 use Rattle.tc_stmt.specs.Items.{ReferenceData}
 use Rattle.tc_asm.specs.Symbols.{SymbolData}
-use Rattle.tc_encode.specs.Decoding.{do_fit}
+use Rattle.tc_encode.specs.Decoding.{are_fitting_fields}
 use Rattle.tc_encode.proofs.Spelled.{fits_from, fits_true}
-use Rattle.tc_asm.specs.Drafts.{DraftData, spelled_code, bytes_of, found, targeted, resolved}
+use Rattle.tc_asm.specs.Drafts.{DraftData, assembled_row_code, assembled_code, drafted_fields, fields_with_target, row_fields_with_target}
 
 -- the spelling of an instruction is the bytes of its row and fields
-pub spells-bytes_of : (k : ℕ) (f : Fields) (i : InstData) (bs : List ℕ) → i ≡ record { row = k; c = f.c; s1 = f.s1; s2 = f.s2; n = f.n; k = f.k } → Spells bs i → bs ≡ bytes_of k f
-unfolding spelled_code
+pub spells-bytes_of : (k : ℕ) (f : Fields) (i : InstData) (bs : List ℕ) → i ≡ record { row = k; c = f.c; s1 = f.s1; s2 = f.s2; n = f.n; k = f.k } → Spells bs i → bs ≡ assembled_code k f
+unfolding assembled_row_code
 spells-bytes_of k f i bs e s =
     let at : slice_get listed k ≡ Some s.inst.row = ap (λ (j : InstData). slice_get listed j.row) (sym e) ∙ s.inst.at in
     let same : Fields → Fields = λ g. g in
@@ -26,20 +26,20 @@ spells-bytes_of k f i bs e s =
     s.is
     ∙ ap (λ (j : InstData). spelling s.inst.row (record { c = j.c; s1 = j.s1; s2 = j.s2; n = j.n; k = j.k })) e
     ∙ sym (ap (λ b. cond b (spelling s.inst.row f) []) (fits_true s.inst.row f fits))
-    ∙ sym (ap (λ o. option_map_or (λ row. spelled_code row f) o []) at)
+    ∙ sym (ap (λ o. option_map_or (λ row. assembled_row_code row f) o []) at)
 
 -- fields that are no instruction have no bytes
-pub unlisted-bytes_of : (k : ℕ) (f : Fields) → ¬ IsInst (record { row = k; c = f.c; s1 = f.s1; s2 = f.s2; n = f.n; k = f.k }) → [] ≡ bytes_of k f
-unfolding spelled_code
+pub unlisted-bytes_of : (k : ℕ) (f : Fields) → ¬ IsInst (record { row = k; c = f.c; s1 = f.s1; s2 = f.s2; n = f.n; k = f.k }) → [] ≡ assembled_code k f
+unfolding assembled_row_code
 unlisted-bytes_of k f none = by (slice_get listed k) refl
   where
-    by_test : (row : RowData) (b : Bool) → slice_get listed k ≡ Some row → do_fit row f ≡ b → [] ≡ cond b (spelling row f) []
+    by_test : (row : RowData) (b : Bool) → slice_get listed k ≡ Some row → are_fitting_fields row f ≡ b → [] ≡ cond b (spelling row f) []
     by_test row true at e = absurd (none (record { row = row; at = at; fits = fits_from row f e }))
     by_test row false at e = refl
 
-    by : (o : Option RowData) → slice_get listed k ≡ o → [] ≡ option_map_or (λ row. spelled_code row f) o []
+    by : (o : Option RowData) → slice_get listed k ≡ o → [] ≡ option_map_or (λ row. assembled_row_code row f) o []
     by None e = refl
-    by (Some row) e = by_test row (do_fit row f) e refl
+    by (Some row) e = by_test row (are_fitting_fields row f) e refl
 
 -- ---- rows by number
 pub row_listed : (rows : List Row) (k : ℕ) (d : Row) → map row_of rows ≡ listed → k < length rows → slice_get listed k ≡ Some (row_of (get_or rows k d))
@@ -56,13 +56,13 @@ row_unlisted rows k e h = ap (λ (ls : List RowData). slice_get ls k) (sym e) �
 
 -- ---- instructions without a target that is resolved at once
 pub found_far : (labels : List SymbolData) (d : DraftData) (k : ℕ) (f : Fields) (o : Option ReferenceData) → option_map_or (λ (q : ReferenceData). q.kind == 0) o false ≡ false
-    → resolved labels d k f o ≡ found f
+    → row_fields_with_target labels d k f o ≡ drafted_fields f
 found_far labels d k f o far = by (slice_get listed k)
   where
-    plain : (row : RowData) (p : Option ReferenceData) → option_map_or (λ (q : ReferenceData). q.kind == 0) p false ≡ false → targeted labels d row f p ≡ found f
+    plain : (row : RowData) (p : Option ReferenceData) → option_map_or (λ (q : ReferenceData). q.kind == 0) p false ≡ false → fields_with_target labels d row f p ≡ drafted_fields f
     plain row None h = refl
     plain row (Some q) h = rw h refl
 
-    by : (q : Option RowData) → option_map_or (λ row. targeted labels d row f o) q (found f) ≡ found f
+    by : (q : Option RowData) → option_map_or (λ row. fields_with_target labels d row f o) q (drafted_fields f) ≡ drafted_fields f
     by None = refl
     by (Some row) = plain row o far

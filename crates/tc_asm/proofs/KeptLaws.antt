@@ -8,31 +8,32 @@ use Rattle.std.specs.Str.{bytes_eq}
 use Rattle.std.proofs.lemmas.List.{length-map, map-append}
 use Rattle.std.proofs.lemmas.Bool.{and_parts, ltb-true, leb-true, lt-ltb}
 use Rattle.std.proofs.lemmas.Bool.Decides.{Decides-eqb}
-use Rattle.tc_object.specs.Names.{name_of, is_length}
+use Rattle.tc_object.specs.Names.{object_name_of, is_name_length}
 use Rattle.tc_object.specs.Names as object
-use Rattle.tc_stmt.specs.Names.{is_name}
+use Rattle.tc_stmt.specs.Names.{is_source_name}
 use Rattle.tc_stmt.specs.Items.{ReferenceData, ItemData, label, section, global, code, bytes, zeros}
 use Rattle.tc_asm.specs.declared.symbols.Place.{Place}
 use Rattle.tc_asm.specs.declared.symbols.Entry.{Entry}
 use Rattle.tc_stmt.specs.Lines.{LineData}
-use Rattle.tc_asm.specs.Symbols.{SymbolData, unseen, entry_in, entry_of, put_entry, place_in, seen, labelled, made_global}
+use Rattle.tc_asm.specs.Symbols.{SymbolData, unseen, entry_in, entry_of, put_entry, place_in, seen, labelled, made_global, symbol_names}
 use Rattle.tc_isa.specs.Relocations.{is_reloc}
-use Rattle.tc_asm.specs.Drafts.{UseData, PartData, DraftData, part, start, place_of, has_section, has_room, here, with_label, number_of_part, entered, with_global, extended, with_bytes, used, with_use, with_reference, with_content, resolved, code_bytes, stepped, part_names, with_line}
+use Rattle.tc_asm.specs.Drafts.{UseData, PartData, DraftData, part, start, draft_place, has_section, has_room, here, with_label, number_of_part, with_current_section, with_global, with_part_bytes, with_bytes, with_part_use, with_use, with_reference, with_content, row_fields_with_target, code_bytes, draft_after_item, part_names, part_size_at}
+use Rattle.tc_asm.specs.DraftedSources.{with_line}
 use Rattle.tc_asm.specs.Rules.{label_rule, section_rule, name_rule, symbol_room, reloc_room, bytes_room, defined_rule, reference_rule, content_rule, item_rule, items_rule, line_rule}
-use Rattle.tc_asm.specs.DraftInvariants.{is_among, IsNew, AreNames, symbol_names, size_at, IsPlace, IsPlaced, IsUse, IsPart, IsDraft}
+use Rattle.tc_asm.specs.DraftInvariants.{is_drafted_name, IsNewDraftName, AreDistinctDraftNames, IsLabelPlace, IsPlaced, IsUse, IsPart, IsDraft}
 use Rattle.tc_stmt.proofs.Cases.{by_test}
 use Rattle.tc_asm.proofs.ListLaws.{each_weaker, each_push, in_turn_push, among_push, among_last, names_put, each_put, entry_has, known_among, among_known, changed, changed-set, changed-changed, length-changed, names-changed, size-changed, each_changed, count-changed, size-push, size_at-get, spaced_longer, spaced_push, any_first}
 
 -- ---- names
-name_is : (bs : List ℕ) → is_name bs ≡ true → (is_length (length bs) && object.is_name bs) ≡ true
-unfolding is_name
-name_is bs h = by (is_length (length bs) && object.is_name bs) (and_parts (is_some (name_of bs)) (not (bytes_eq bs (codes "."))) h).0
+name_is : (bs : List ℕ) → is_source_name bs ≡ true → (is_name_length (length bs) && object.is_object_name bs) ≡ true
+unfolding is_source_name
+name_is bs h = by (is_name_length (length bs) && object.is_object_name bs) (and_parts (is_some (object_name_of bs)) (not (bytes_eq bs (codes "."))) h).0
   where
     by : (b : Bool) → is_some (then_some b bs) ≡ true → b ≡ true
     by true e = refl
     by false e = cc
 
-is_new : (before : List (List ℕ)) (bs : List ℕ) → is_name bs ≡ true → is_among before bs ≡ false → IsNew before bs
+is_new : (before : List (List ℕ)) (bs : List ℕ) → is_source_name bs ≡ true → is_drafted_name before bs ≡ false → IsNewDraftName before bs
 is_new before bs h none =
     let p = and_parts _ _ (name_is bs h) in
     let q = and_parts _ _ p.0 in
@@ -46,7 +47,7 @@ same_name (b ∷ bs) = rw ((Decides-eqb b b).1 refl) (same_name bs)
 put_length : (ss : List SymbolData) (name : List ℕ) (e : Entry) → (is_some (entry_in ss name) || nat_lt (length ss) 65535) ≡ true → length ss < 2 ^ 16 → length (put_entry ss name e) < 2 ^ 16
 put_length ss name e room few = by (find (λ (s : SymbolData). bytes_eq name s.name) ss) refl room
   where
-    names_length : length (put_entry ss name e) ≡ length (cond (is_among (symbol_names ss) name) (symbol_names ss) (symbol_names ss ++ name ∷ []))
+    names_length : length (put_entry ss name e) ≡ length (cond (is_drafted_name (symbol_names ss) name) (symbol_names ss) (symbol_names ss ++ name ∷ []))
     names_length = sym (length-map (put_entry ss name e) (λ (s : SymbolData). s.name)) ∙ ap length (names_put ss name e)
 
     old_length : length (symbol_names ss) ≡ length ss
@@ -61,31 +62,31 @@ put_length ss name e room few = by (find (λ (s : SymbolData). bytes_eq name s.n
         let more : length (put_entry ss name e) ≡ length (symbol_names ss ++ name ∷ []) = names_length ∙ ap (λ b. length (cond b (symbol_names ss) (symbol_names ss ++ name ∷ []))) (known_among ss name is) in
         omega (arith, more, old_length, length-append (symbol_names ss) (name ∷ []))
 
-put_names : (ss : List SymbolData) (name : List ℕ) (e : Entry) → is_name name ≡ true → AreNames (symbol_names ss) → AreNames (symbol_names (put_entry ss name e))
+put_names : (ss : List SymbolData) (name : List ℕ) (e : Entry) → is_source_name name ≡ true → AreDistinctDraftNames (symbol_names ss) → AreDistinctDraftNames (symbol_names (put_entry ss name e))
 put_names ss name e h names =
-    subst (λ (ns : List (List ℕ)). AreNames ns) (sym (names_put ss name e))
-    (by_test (λ (ns : List (List ℕ)). AreNames ns) (is_among (symbol_names ss) name) (symbol_names ss) (symbol_names ss ++ name ∷ [])
-    (λ a. names) (λ a. in_turn_push IsNew [] (symbol_names ss) name names (is_new (symbol_names ss) name h a)))
+    subst (λ (ns : List (List ℕ)). AreDistinctDraftNames ns) (sym (names_put ss name e))
+    (by_test (λ (ns : List (List ℕ)). AreDistinctDraftNames ns) (is_drafted_name (symbol_names ss) name) (symbol_names ss) (symbol_names ss ++ name ∷ [])
+    (λ a. names) (λ a. in_turn_push IsNewDraftName [] (symbol_names ss) name names (is_new (symbol_names ss) name h a)))
 
-put_mono : (ss : List SymbolData) (name : List ℕ) (e : Entry) (n : List ℕ) → is_among (symbol_names ss) n ≡ true → is_among (symbol_names (put_entry ss name e)) n ≡ true
+put_mono : (ss : List SymbolData) (name : List ℕ) (e : Entry) (n : List ℕ) → is_drafted_name (symbol_names ss) n ≡ true → is_drafted_name (symbol_names (put_entry ss name e)) n ≡ true
 put_mono ss name e n h =
-    ap (λ ns. is_among ns n) (names_put ss name e)
-    ∙ by_test (λ (ns : List (List ℕ)). is_among ns n ≡ true) (is_among (symbol_names ss) name) (symbol_names ss) (symbol_names ss ++ name ∷ []) (λ a. h) (λ a. among_push (symbol_names ss) name n h)
+    ap (λ ns. is_drafted_name ns n) (names_put ss name e)
+    ∙ by_test (λ (ns : List (List ℕ)). is_drafted_name ns n ≡ true) (is_drafted_name (symbol_names ss) name) (symbol_names ss) (symbol_names ss ++ name ∷ []) (λ a. h) (λ a. among_push (symbol_names ss) name n h)
 
-pub put_known : (ss : List SymbolData) (name : List ℕ) (e : Entry) → is_among (symbol_names (put_entry ss name e)) name ≡ true
+pub put_known : (ss : List SymbolData) (name : List ℕ) (e : Entry) → is_drafted_name (symbol_names (put_entry ss name e)) name ≡ true
 put_known ss name e =
-    ap (λ ns. is_among ns name) (names_put ss name e)
-    ∙ by_test (λ (ns : List (List ℕ)). is_among ns name ≡ true) (is_among (symbol_names ss) name) (symbol_names ss) (symbol_names ss ++ name ∷ []) (λ a. a) (λ a. among_last (symbol_names ss) name (same_name name))
+    ap (λ ns. is_drafted_name ns name) (names_put ss name e)
+    ∙ by_test (λ (ns : List (List ℕ)). is_drafted_name ns name ≡ true) (is_drafted_name (symbol_names ss) name) (symbol_names ss) (symbol_names ss ++ name ∷ []) (λ a. a) (λ a. among_last (symbol_names ss) name (same_name name))
 
 -- a part remains valid with more symbols and more bytes in all sections
-IsPart-more : (names more : List (List ℕ)) (total most : ℕ) → ((n : List ℕ) → is_among names n ≡ true → is_among more n ≡ true) → total ≤ most → (p : PartData) → IsPart names total p → IsPart more most p
+IsPart-more : (names more : List (List ℕ)) (total most : ℕ) → ((n : List ℕ) → is_drafted_name names n ≡ true → is_drafted_name more n ≡ true) → total ≤ most → (p : PartData) → IsPart names total p → IsPart more most p
 IsPart-more names more total most mono le p h = record {
   small = let s = h.small in omega arith;
   spaced = h.spaced;
   uses = each_weaker (IsUse names) (IsUse more) (λ u k. record { kind = k.kind; known = mono u.reference.name k.known }) p.uses h.uses;
 }
 
-pub IsDraft-put : (d : DraftData) (name : List ℕ) (e : Entry) → IsDraft d → is_name name ≡ true → (is_some (entry_in d.symbols name) || nat_lt (length d.symbols) 65535) ≡ true → IsPlaced d.parts e.place
+pub IsDraft-put : (d : DraftData) (name : List ℕ) (e : Entry) → IsDraft d → is_source_name name ≡ true → (is_some (entry_in d.symbols name) || nat_lt (length d.symbols) 65535) ≡ true → IsPlaced d.parts e.place
     → IsDraft (record d { symbols = put_entry d.symbols name e })
 IsDraft-put d name e h good room placed = record {
   few_parts = h.few_parts;
@@ -118,16 +119,16 @@ min_right : (a b : ℕ) → 15 ≤ min a b → 15 ≤ b
 min_right a b h = omega arith
 
 -- ---- labels, sections, global names
-place_is : (d : DraftData) → place_of d ≡ size_at d.parts d.section
-unfolding place_of
+place_is : (d : DraftData) → draft_place d ≡ part_size_at d.parts d.section
+unfolding draft_place
 place_is d = size_at-get d.parts d.section
 
 IsDraft-label : (d : DraftData) (name : List ℕ) → IsDraft d → has_section d ≡ true → 15 ≤ symbol_room d name → IsDraft (with_label d name)
 unfolding with_label labelled
 IsDraft-label d name h there room =
-    by_test IsDraft (is_name name) _ d
+    by_test IsDraft (is_source_name name) _ d
     (λ b.
-    let stands : IsPlace d.parts (here d) = record { section = ltb-true d.section (length d.parts) there; offset = let e = place_is d in omega arith } in
+    let stands : IsLabelPlace d.parts (here d) = record { section = ltb-true d.section (length d.parts) there; offset = let e = place_is d in omega arith } in
     IsDraft-put d name (if is_some (place_in d.symbols name) then entry_of d.symbols name else record (entry_of d.symbols name) { place = Some (here d) }) h b (room_from _ room)
     (by_test (λ (x : Entry). IsPlaced d.parts x.place) (is_some (place_in d.symbols name)) (entry_of d.symbols name) (record (entry_of d.symbols name) { place = Some (here d) })
     (λ _. old_placed d name h) (λ _. stands)))
@@ -136,10 +137,10 @@ IsDraft-label d name h there room =
 IsDraft-global : (d : DraftData) (name : List ℕ) → IsDraft d → 15 ≤ symbol_room d name → IsDraft (with_global d name)
 unfolding with_global made_global
 IsDraft-global d name h room =
-    by_test IsDraft (is_name name) _ d (λ b. IsDraft-put d name (record (entry_of d.symbols name) { is_global = true }) h b (room_from _ room) (old_placed d name h)) (λ b. h)
+    by_test IsDraft (is_source_name name) _ d (λ b. IsDraft-put d name (record (entry_of d.symbols name) { is_global = true }) h b (room_from _ room) (old_placed d name h)) (λ b. h)
 
 -- labels remain within their sections if sections grow
-IsPlace-more : (parts more : List PartData) → length parts ≤ length more → ((n : ℕ) → size_at parts n ≤ size_at more n) → (o : Option Place) → IsPlaced parts o → IsPlaced more o
+IsPlace-more : (parts more : List PartData) → length parts ≤ length more → ((n : ℕ) → part_size_at parts n ≤ part_size_at more n) → (o : Option Place) → IsPlaced parts o → IsPlaced more o
 IsPlace-more parts more long big None h = tt
 IsPlace-more parts more long big (Some p) h = record {
   section = let s = h.section in omega arith;
@@ -147,11 +148,11 @@ IsPlace-more parts more long big (Some p) h = record {
 }
 
 -- a name that no section has
-among_names : (parts : List PartData) (name : List ℕ) → is_among (part_names parts) name ≡ list_any (λ (p : PartData). bytes_eq name p.name) parts
+among_names : (parts : List PartData) (name : List ℕ) → is_drafted_name (part_names parts) name ≡ list_any (λ (p : PartData). bytes_eq name p.name) parts
 among_names [] name = refl
 among_names (p ∷ ps) name = ap (λ b. bytes_eq name p.name || b) (among_names ps name)
 
-new_part : (parts : List PartData) (name : List ℕ) → nat_lt (number_of_part parts name) (length parts) ≡ false → is_among (part_names parts) name ≡ false
+new_part : (parts : List PartData) (name : List ℕ) → nat_lt (number_of_part parts name) (length parts) ≡ false → is_drafted_name (part_names parts) name ≡ false
 new_part parts name past = among_names parts name ∙ by (list_any (λ (p : PartData). bytes_eq name p.name) parts) refl
   where
     first : ℕ
@@ -163,15 +164,15 @@ new_part parts name past = among_names parts name ∙ by (list_any (λ (p : Part
         let less : nat_lt (position_or_len (λ (p : PartData). bytes_eq name p.name) parts) (length parts) ≡ true = lt-ltb _ _ (any_first (λ (p : PartData). bytes_eq name p.name) parts e) in
         sym less ∙ ap (λ b. nat_lt (unwrap_or (cond b (Some (position_or_len (λ (p : PartData). bytes_eq name p.name) parts)) None) (length parts)) (length parts)) (sym less) ∙ past
 
-IsDraft-section : (d : DraftData) (name : List ℕ) → IsDraft d → IsDraft (entered d name)
-unfolding entered
+IsDraft-section : (d : DraftData) (name : List ℕ) → IsDraft d → IsDraft (with_current_section d name)
+unfolding with_current_section
 IsDraft-section d name h =
-    by_test IsDraft (not (is_name name)) d _ (λ b. h) (λ b.
+    by_test IsDraft (not (is_source_name name)) d _ (λ b. h) (λ b.
     by_test IsDraft (nat_lt (number_of_part d.parts name) (length d.parts)) _ _ (λ old. moved (number_of_part d.parts name)) (λ past.
     by_test IsDraft (nat_lt (length d.parts) 64) _ d (λ room. more (named b) past (ltb-true (length d.parts) 64 room)) (λ full. h)))
   where
-    named : not (is_name name) ≡ false → is_name name ≡ true
-    named e = by (is_name name) e
+    named : not (is_source_name name) ≡ false → is_source_name name ≡ true
+    named e = by (is_source_name name) e
       where
         by : (b : Bool) → not b ≡ false → b ≡ true
         by true e = refl
@@ -183,15 +184,15 @@ IsDraft-section d name h =
     empty : IsPart (symbol_names d.symbols) d.total (part name [] [])
     empty = record { small = omega arith; spaced = omega arith; uses = tt }
 
-    more : is_name name ≡ true → nat_lt (number_of_part d.parts name) (length d.parts) ≡ false → length d.parts < 64 → IsDraft (record d { section = length d.parts; parts = d.parts ++ part name [] [] ∷ [] })
+    more : is_source_name name ≡ true → nat_lt (number_of_part d.parts name) (length d.parts) ≡ false → length d.parts < 64 → IsDraft (record d { section = length d.parts; parts = d.parts ++ part name [] [] ∷ [] })
     more good past room = record {
       few_parts = omega (arith, length-append d.parts (part name [] [] ∷ []));
       few_symbols = h.few_symbols;
       few_relocs = h.few_relocs;
       count = sum_by_push (λ (p : PartData). length p.uses) d.parts (part name [] []) ∙ (let c = h.count in omega arith);
       total = h.total;
-      parts_named = subst (λ (ns : List (List ℕ)). AreNames ns) (sym (map-append (λ (p : PartData). p.name) d.parts (part name [] [] ∷ [])))
-          (in_turn_push IsNew [] (part_names d.parts) name h.parts_named (is_new (part_names d.parts) name good (new_part d.parts name past)));
+      parts_named = subst (λ (ns : List (List ℕ)). AreDistinctDraftNames ns) (sym (map-append (λ (p : PartData). p.name) d.parts (part name [] [] ∷ [])))
+          (in_turn_push IsNewDraftName [] (part_names d.parts) name h.parts_named (is_new (part_names d.parts) name good (new_part d.parts name past)));
       symbols_named = h.symbols_named;
       places = each_weaker _ _ (λ (s : SymbolData). IsPlace-more d.parts (d.parts ++ part name [] [] ∷ []) (omega (arith, length-append d.parts (part name [] [] ∷ []))) (size-push d.parts (part name [] [])) s.entry.place) d.symbols h.places;
       parts = each_push (IsPart (symbol_names d.symbols) d.total) d.parts (part name [] []) h.parts empty;
@@ -202,7 +203,7 @@ IsDraft-section d name h =
 IsDraft-changed : (d : DraftData) (f : PartData → PartData) (total count k : ℕ) → IsDraft d → d.section < length d.parts
     → ((p : PartData) → (f p).name ≡ p.name) → ((p : PartData) → length p.bytes ≤ length (f p).bytes) → ((p : PartData) → length (f p).uses ≡ length p.uses + k)
     → d.total ≤ total → total ≤ 2 ^ 24 → count ≡ d.count + k → count < 2 ^ 16
-    → ((p : PartData) → length p.bytes ≡ size_at d.parts d.section → IsPart (symbol_names d.symbols) d.total p → IsPart (symbol_names d.symbols) total (f p))
+    → ((p : PartData) → length p.bytes ≡ part_size_at d.parts d.section → IsPart (symbol_names d.symbols) d.total p → IsPart (symbol_names d.symbols) total (f p))
     → IsDraft (record d { parts = changed f d.parts d.section; total = total; count = count })
 IsDraft-changed d f total count k h less named longer counted grows fits count_is few good = record {
   few_parts = let n = h.few_parts in omega (arith, length-changed f d.parts d.section);
@@ -210,7 +211,7 @@ IsDraft-changed d f total count k h less named longer counted grows fits count_i
   few_relocs = few;
   count = count-changed f k counted d.parts d.section less ∙ (let c = h.count in omega arith);
   total = fits;
-  parts_named = subst (λ (ns : List (List ℕ)). AreNames ns) (sym (names-changed f named d.parts d.section)) h.parts_named;
+  parts_named = subst (λ (ns : List (List ℕ)). AreDistinctDraftNames ns) (sym (names-changed f named d.parts d.section)) h.parts_named;
   symbols_named = h.symbols_named;
   places = each_weaker _ _ (λ (s : SymbolData). IsPlace-more d.parts (changed f d.parts d.section) (omega (arith, length-changed f d.parts d.section)) (size-changed f longer d.parts d.section) s.entry.place) d.symbols h.places;
   parts = each_changed (IsPart (symbol_names d.symbols) d.total) (IsPart (symbol_names d.symbols) total) f d.parts d.section
@@ -218,7 +219,7 @@ IsDraft-changed d f total count k h less named longer counted grows fits count_i
 }
 
 IsDraft-bytes : (d : DraftData) (bs : List ℕ) → IsDraft d → IsDraft (with_bytes d bs)
-unfolding with_bytes extended
+unfolding with_bytes with_part_bytes
 IsDraft-bytes d bs h =
     by_test IsDraft (has_section d && has_room d (length bs)) _ d (λ b.
     let p = and_parts _ _ b in
@@ -239,22 +240,22 @@ IsDraft-bytes d bs h =
 -- a relocation and its four bytes
 with_bytes-is : (e : DraftData) (bs : List ℕ) → has_section e ≡ true → has_room e (length bs) ≡ true
     → with_bytes e bs ≡ record e { parts = changed (λ q. record q { bytes = q.bytes ++ bs }) e.parts e.section; total = e.total + length bs }
-unfolding with_bytes extended
+unfolding with_bytes with_part_bytes
 with_bytes-is e bs there room =
     rw (there, room) (ap (λ (ps : List PartData). with_parts ps) (changed-set (λ q. record q { bytes = q.bytes ++ bs }) e.parts e.section))
   where
     with_parts : List PartData → DraftData
     with_parts ps = record e { parts = ps; total = e.total + length bs }
 
-module _ (d : DraftData) (bs : List ℕ) (r : ReferenceData) (h : IsDraft d) (known : is_among (symbol_names d.symbols) r.name ≡ true) where
+module _ (d : DraftData) (bs : List ℕ) (r : ReferenceData) (h : IsDraft d) (known : is_drafted_name (symbol_names d.symbols) r.name ≡ true) where
   abbrev added : UseData
-  added = record { offset = place_of d; reference = r }
+  added = record { offset = draft_place d; reference = r }
 
   abbrev both : PartData → PartData
-  both q = record q { bytes = q.bytes ++ bs; uses = q.uses ++ record { offset = place_of d; reference = r } ∷ [] }
+  both q = record q { bytes = q.bytes ++ bs; uses = q.uses ++ record { offset = draft_place d; reference = r } ∷ [] }
 
   abbrev add : PartData → PartData
-  add q = record q { uses = q.uses ++ record { offset = place_of d; reference = r } ∷ [] }
+  add q = record q { uses = q.uses ++ record { offset = draft_place d; reference = r } ∷ [] }
 
   abbrev grow : PartData → PartData
   grow q = record q { bytes = q.bytes ++ bs }
@@ -262,12 +263,12 @@ module _ (d : DraftData) (bs : List ℕ) (r : ReferenceData) (h : IsDraft d) (kn
   abbrev with_parts : List PartData → DraftData
   with_parts ps = record d { parts = ps; total = d.total + length bs; count = d.count + 1 }
 
-  used-changed : used d.parts d.section added ≡ changed add d.parts d.section
-  unfolding used
+  used-changed : with_part_use d.parts d.section added ≡ changed add d.parts d.section
+  unfolding with_part_use
   used-changed = changed-set add d.parts d.section
 
   used_bytes-is : has_section d ≡ true → has_room d (length bs) ≡ true
-      → with_bytes (record d { parts = used d.parts d.section added; count = d.count + 1 }) bs ≡ with_parts (changed both d.parts d.section)
+      → with_bytes (record d { parts = with_part_use d.parts d.section added; count = d.count + 1 }) bs ≡ with_parts (changed both d.parts d.section)
   used_bytes-is there room =
       ap (λ (ps : List PartData). with_bytes (record d { parts = ps; count = d.count + 1 }) bs) used-changed
       ∙ with_bytes-is (record d { parts = changed add d.parts d.section; count = d.count + 1 }) bs (ap (λ n. nat_lt d.section n) (length-changed add d.parts d.section) ∙ there) room
@@ -285,7 +286,7 @@ module _ (d : DraftData) (bs : List ℕ) (r : ReferenceData) (h : IsDraft d) (kn
       more : (q : PartData) → length (q.uses ++ added ∷ []) ≡ length q.uses + 1
       more q = length-append q.uses (added ∷ [])
 
-      good : (q : PartData) → length q.bytes ≡ size_at d.parts d.section → IsPart (symbol_names d.symbols) d.total q → IsPart (symbol_names d.symbols) (d.total + length bs) (both q)
+      good : (q : PartData) → length q.bytes ≡ part_size_at d.parts d.section → IsPart (symbol_names d.symbols) d.total q → IsPart (symbol_names d.symbols) (d.total + length bs) (both q)
       good q size k =
           let place = place_is d in
           let long = length-append q.bytes bs in
@@ -300,7 +301,7 @@ module _ (d : DraftData) (bs : List ℕ) (r : ReferenceData) (h : IsDraft d) (kn
   unfolding with_use
   IsDraft-use =
       by_test (λ (e : DraftData). IsDraft (with_bytes e bs)) (has_section d && has_room d (length bs) && length bs == 4 && is_reloc r.kind && nat_lt d.count 65535)
-      (record d { parts = used d.parts d.section added; count = d.count + 1 }) d
+      (record d { parts = with_part_use d.parts d.section added; count = d.count + 1 }) d
       (λ b.
       let p4 = and_parts _ _ b in let p3 = and_parts _ _ p4.0 in let p2 = and_parts _ _ p3.0 in let p1 = and_parts _ _ p2.0 in
       subst IsDraft (sym (used_bytes-is p1.0 p1.1)) (use_kept p1.0 p1.1 ((Decides-eqb (length bs) 4).0 p2.1) p3.1 (ltb-true d.count 65535 p4.1)))
@@ -311,7 +312,7 @@ IsDraft-content : (d : DraftData) (bs : List ℕ) (o : Option ReferenceData) →
 unfolding with_reference seen
 IsDraft-content d bs None h room = IsDraft-bytes d bs h
 IsDraft-content d bs (Some r) h room =
-    by_test (λ (e : DraftData). IsDraft (with_bytes e bs)) (is_name r.name) (with_use (record d { symbols = put_entry d.symbols r.name (entry_of d.symbols r.name) }) (length bs) r) d
+    by_test (λ (e : DraftData). IsDraft (with_bytes e bs)) (is_source_name r.name) (with_use (record d { symbols = put_entry d.symbols r.name (entry_of d.symbols r.name) }) (length bs) r) d
     (λ b. IsDraft-use (record d { symbols = put_entry d.symbols r.name (entry_of d.symbols r.name) }) bs r
     (IsDraft-put d r.name (entry_of d.symbols r.name) h b (room_from _ (min_left (symbol_room d r.name) (reloc_room d r) room)) (old_placed d r.name h))
     (put_known d.symbols r.name (entry_of d.symbols r.name)))
@@ -320,24 +321,24 @@ IsDraft-content d bs (Some r) h room =
 content_room : (d : DraftData) (n : ℕ) (o : Option ReferenceData) → 15 ≤ content_rule d n o → 15 ≤ reference_rule d o
 content_room d n o h = min_right (bytes_room d n) (reference_rule d o) (min_right (section_rule d) (min (bytes_room d n) (reference_rule d o)) h)
 
-pub IsDraft-stepped : (labels : List SymbolData) (d : DraftData) (i : ItemData) → IsDraft d → 15 ≤ item_rule labels d i → IsDraft (stepped labels d i)
-unfolding stepped item_rule
+pub IsDraft-stepped : (labels : List SymbolData) (d : DraftData) (i : ItemData) → IsDraft d → 15 ≤ item_rule labels d i → IsDraft (draft_after_item labels d i)
+unfolding draft_after_item item_rule
 IsDraft-stepped labels d (label name) h rule =
     IsDraft-label d name h (section_from (has_section d) (min_right (label_rule d name) (section_rule d) (min_left (min (label_rule d name) (section_rule d)) (min (name_rule name) (symbol_room d name)) rule))) (min_right (name_rule name) (symbol_room d name) (min_right (min (label_rule d name) (section_rule d)) (min (name_rule name) (symbol_room d name)) rule))
 IsDraft-stepped labels d (section name) h rule = IsDraft-section d name h
 IsDraft-stepped labels d (global name) h rule =
     IsDraft-global d name h (min_left (symbol_room d name) (defined_rule labels name) (min_right (name_rule name) (min (symbol_room d name) (defined_rule labels name)) rule))
 IsDraft-stepped labels d (code k f r) h rule =
-    IsDraft-content d (code_bytes labels d k f r) r h (content_room d (length (code_bytes labels d k f r)) r (min_right (resolved labels d k f r).rule (content_rule d (length (code_bytes labels d k f r)) r) rule))
+    IsDraft-content d (code_bytes labels d k f r) r h (content_room d (length (code_bytes labels d k f r)) r (min_right (row_fields_with_target labels d k f r).rule (content_rule d (length (code_bytes labels d k f r)) r) rule))
 IsDraft-stepped labels d (bytes bs r) h rule = IsDraft-content d bs r h (content_room d (length bs) r rule)
 IsDraft-stepped labels d (zeros n) h rule = IsDraft-bytes d (replicate n 0) h
 
-IsDraft-items : (labels : List SymbolData) (d : DraftData) (is : List ItemData) → IsDraft d → 15 ≤ items_rule labels d is → IsDraft (fold (stepped labels) d is)
+IsDraft-items : (labels : List SymbolData) (d : DraftData) (is : List ItemData) → IsDraft d → 15 ≤ items_rule labels d is → IsDraft (fold (draft_after_item labels) d is)
 IsDraft-items labels d [] h rule = h
 IsDraft-items labels d (i ∷ is) h rule =
-    IsDraft-items labels (stepped labels d i) is
-    (IsDraft-stepped labels d i h (min_left (item_rule labels d i) (items_rule labels (stepped labels d i) is) rule))
-    (min_right (item_rule labels d i) (items_rule labels (stepped labels d i) is) rule)
+    IsDraft-items labels (draft_after_item labels d i) is
+    (IsDraft-stepped labels d i h (min_left (item_rule labels d i) (items_rule labels (draft_after_item labels d i) is) rule))
+    (min_right (item_rule labels d i) (items_rule labels (draft_after_item labels d i) is) rule)
 
 pub IsDraft-line : (labels : List SymbolData) (d : DraftData) (l : LineData) → IsDraft d → line_rule labels d l ≡ 15 → IsDraft (with_line labels d l)
 unfolding with_line line_rule

@@ -6,7 +6,7 @@ use Rattle.std.proofs.lemmas.List.{length-map, get_or-map, drop_all, take_all, d
 use Rattle.std.proofs.lemmas.List.Sums.{fold_more}
 use Rattle.tc_isa.specs.declared.fields.Fields.{Fields}
 use Rattle.tc_isa.specs.Relocations.{is_reloc}
-use Rattle.tc_stmt.specs.Names.{is_name}
+use Rattle.tc_stmt.specs.Names.{is_source_name}
 use Rattle.tc_stmt.specs.RowFields.{RowFieldsData}
 use Rattle.tc_stmt.specs.Items.{ReferenceData, ItemData, item_of, label, section, global, code, bytes, zeros}
 use Rattle.tc_stmt.specs.declared.item.Item.{Item}
@@ -15,13 +15,13 @@ use Rattle.tc_stmt.specs.LinesRead.{lines_of}
 use Rattle.tc_stmt.specs.declared.source.Line.{Line}
 use Rattle.tc_stmt.specs.declared.source.Source.{Source}
 use Rattle.tc_stmt.proofs.ReadLines.{length-lines_read}
-use Rattle.tc_asm.specs.AddedItems.{IsItem}
+use Rattle.tc_asm.specs.AddedItems.{IsAddedItem}
 use Rattle.tc_asm.specs.AlikeDrafts.{Alike}
-use Rattle.tc_asm.specs.DraftInvariants.{Each}
+use Rattle.tc_asm.specs.DraftInvariants.{EachInDraft}
 use Rattle.tc_asm.specs.Symbols.{SymbolData, entry_in, place_in, seen, labelled, made_global}
-use Rattle.tc_asm.specs.Drafts.{UseData, DraftData, part, start, place_of, has_section, has_room, here, with_label, number_of_part, entered, with_global, extended, with_bytes, used, with_use, with_reference, with_content, distance, jumped, resolved, bytes_of, code_bytes, stepped, with_line, drafted}
+use Rattle.tc_asm.specs.Drafts.{UseData, DraftData, part, start, draft_place, has_section, has_room, here, with_label, number_of_part, with_current_section, with_global, with_part_bytes, with_bytes, with_part_use, with_use, with_reference, with_content, label_distance, fields_with_label_distance, row_fields_with_target, assembled_code, code_bytes, draft_after_item}
+use Rattle.tc_asm.specs.DraftedSources.{draft_from_lines, with_line, symbols_of, symbols_in}
 use Rattle.tc_asm.specs.Rules.{has_symbol_room, label_rule, section_rule, name_rule, symbol_room, reloc_room, bytes_room, defined_rule, content_rule, item_rule, items_rule, line_rule}
-use Rattle.tc_asm.specs.DraftedSources.{symbols_of, symbols_in}
 use Rattle.tc_asm.specs.KnownSymbols.{nameless, kept, is_new, are_new, kept_rule}
 use Rattle.tc_asm.proofs.CodeLaws.{found_far}
 use Rattle.tc_asm.proofs.AlikeDrafts.{alike_same, step_alike, passes_agree}
@@ -37,22 +37,22 @@ bytes_nameless : (d : DraftData) (bs : List ℕ) → nameless (with_bytes d bs) 
 unfolding with_bytes
 bytes_nameless d bs =
     same_cond (has_section d && has_room d (length bs))
-    (record d { parts = extended d.parts d.section bs; total = d.total + length bs }) d
-    (record (nameless d) { parts = extended d.parts d.section bs; total = d.total + length bs }) (nameless d) refl refl
+    (record d { parts = with_part_bytes d.parts d.section bs; total = d.total + length bs }) d
+    (record (nameless d) { parts = with_part_bytes d.parts d.section bs; total = d.total + length bs }) (nameless d) refl refl
 
 use_nameless : (d : DraftData) (n : ℕ) (r : ReferenceData) → nameless (with_use d n r) ≡ nameless (with_use (nameless d) n r)
-unfolding with_use place_of
+unfolding with_use draft_place
 use_nameless d n r =
-    let u : UseData = record { offset = place_of d; reference = r } in
+    let u : UseData = record { offset = draft_place d; reference = r } in
     same_cond (has_section d && has_room d n && n == 4 && is_reloc r.kind && nat_lt d.count 65535)
-    (record d { parts = used d.parts d.section u; count = d.count + 1 }) d
-    (record (nameless d) { parts = used d.parts d.section u; count = d.count + 1 }) (nameless d) refl refl
+    (record d { parts = with_part_use d.parts d.section u; count = d.count + 1 }) d
+    (record (nameless d) { parts = with_part_use d.parts d.section u; count = d.count + 1 }) (nameless d) refl refl
 
 reference_nameless : (d : DraftData) (n : ℕ) (o : Option ReferenceData) → nameless (with_reference d n o) ≡ nameless (with_reference (nameless d) n o)
 unfolding with_reference
 reference_nameless d n None = refl
 reference_nameless d n (Some r) =
-    same_cond (is_name r.name)
+    same_cond (is_source_name r.name)
     (with_use (record d { symbols = seen d.symbols r.name }) n r) d
     (with_use (record d { symbols = seen [] r.name }) n r) (nameless d)
     (use_nameless (record d { symbols = seen d.symbols r.name }) n r ∙ sym (use_nameless (record d { symbols = seen [] r.name }) n r))
@@ -64,33 +64,33 @@ content_nameless d bs o =
     ∙ ap (λ (x : DraftData). nameless (with_bytes x bs)) (reference_nameless d (length bs) o)
     ∙ sym (bytes_nameless (with_reference (nameless d) (length bs) o) bs)
 
-entered_nameless : (d : DraftData) (name : List ℕ) → nameless (entered d name) ≡ nameless (entered (nameless d) name)
-unfolding entered
+entered_nameless : (d : DraftData) (name : List ℕ) → nameless (with_current_section d name) ≡ nameless (with_current_section (nameless d) name)
+unfolding with_current_section
 entered_nameless d name =
     let old : DraftData → DraftData = λ e. record e { section = number_of_part d.parts name } in
     let new : DraftData → DraftData = λ e. record e { section = length d.parts; parts = d.parts ++ part name [] [] ∷ [] } in
     let full : DraftData → DraftData = λ e. cond (nat_lt (length d.parts) 64) (new e) e in
-    same_cond (not (is_name name)) d (cond (nat_lt (number_of_part d.parts name) (length d.parts)) (old d) (full d))
+    same_cond (not (is_source_name name)) d (cond (nat_lt (number_of_part d.parts name) (length d.parts)) (old d) (full d))
     (nameless d) (cond (nat_lt (number_of_part d.parts name) (length d.parts)) (old (nameless d)) (full (nameless d))) refl
     (same_cond (nat_lt (number_of_part d.parts name) (length d.parts)) (old d) (full d) (old (nameless d)) (full (nameless d)) refl
     (same_cond (nat_lt (length d.parts) 64) (new d) d (new (nameless d)) (nameless d) refl refl))
 
-resolved_nameless : (labels : List SymbolData) (d : DraftData) (k : ℕ) (f : Fields) (o : Option ReferenceData) → resolved labels d k f o ≡ resolved labels (nameless d) k f o
-unfolding jumped distance place_of
+resolved_nameless : (labels : List SymbolData) (d : DraftData) (k : ℕ) (f : Fields) (o : Option ReferenceData) → row_fields_with_target labels d k f o ≡ row_fields_with_target labels (nameless d) k f o
+unfolding fields_with_label_distance label_distance draft_place
 resolved_nameless labels d k f None = refl
 resolved_nameless labels d k f (Some r) = refl
 
 code_nameless : (labels : List SymbolData) (d : DraftData) (k : ℕ) (f : Fields) (o : Option ReferenceData) → code_bytes labels d k f o ≡ code_bytes labels (nameless d) k f o
 unfolding code_bytes
-code_nameless labels d k f o = ap (λ (x : RowFieldsData). bytes_of k x.fields) (resolved_nameless labels d k f o)
+code_nameless labels d k f o = ap (λ (x : RowFieldsData). assembled_code k x.fields) (resolved_nameless labels d k f o)
 
-step_nameless : (labels : List SymbolData) (d : DraftData) (i : ItemData) → nameless (stepped labels d i) ≡ nameless (stepped labels (nameless d) i)
-unfolding stepped with_label with_global
+step_nameless : (labels : List SymbolData) (d : DraftData) (i : ItemData) → nameless (draft_after_item labels d i) ≡ nameless (draft_after_item labels (nameless d) i)
+unfolding draft_after_item with_label with_global
 step_nameless labels d (label name) =
-    same_cond (is_name name) (record d { symbols = labelled d.symbols name (here d) }) d (record d { symbols = labelled [] name (here (nameless d)) }) (nameless d) refl refl
+    same_cond (is_source_name name) (record d { symbols = labelled d.symbols name (here d) }) d (record d { symbols = labelled [] name (here (nameless d)) }) (nameless d) refl refl
 step_nameless labels d (section name) = entered_nameless d name
 step_nameless labels d (global name) =
-    same_cond (is_name name) (record d { symbols = made_global d.symbols name }) d (record d { symbols = made_global [] name }) (nameless d) refl refl
+    same_cond (is_source_name name) (record d { symbols = made_global d.symbols name }) d (record d { symbols = made_global [] name }) (nameless d) refl refl
 step_nameless labels d (code k f o) =
     content_nameless d (code_bytes labels d k f o) o ∙ ap (λ (bs : List ℕ). nameless (with_content (nameless d) bs o)) (code_nameless labels d k f o)
 step_nameless labels d (bytes bs o) = content_nameless d bs o
@@ -101,16 +101,16 @@ unchanged : (b : Bool) (d : DraftData) (ss : List SymbolData) → nameless d ≡
 unchanged true d ss = refl
 unchanged false d ss = refl
 
-pub label_unchanged : (labels : List SymbolData) (d : DraftData) (name : List ℕ) → nameless d ≡ nameless (stepped labels d (label name))
-unfolding stepped with_label
-label_unchanged labels d name = unchanged (is_name name) d (labelled d.symbols name (here d))
+pub label_unchanged : (labels : List SymbolData) (d : DraftData) (name : List ℕ) → nameless d ≡ nameless (draft_after_item labels d (label name))
+unfolding draft_after_item with_label
+label_unchanged labels d name = unchanged (is_source_name name) d (labelled d.symbols name (here d))
 
-pub global_unchanged : (labels : List SymbolData) (d : DraftData) (name : List ℕ) → nameless d ≡ nameless (stepped labels d (global name))
-unfolding stepped with_global
-global_unchanged labels d name = unchanged (is_name name) d (made_global d.symbols name)
+pub global_unchanged : (labels : List SymbolData) (d : DraftData) (name : List ℕ) → nameless d ≡ nameless (draft_after_item labels d (global name))
+unfolding draft_after_item with_global
+global_unchanged labels d name = unchanged (is_source_name name) d (made_global d.symbols name)
 
 -- the use of a symbol that is known
-pub use_named : (d next : DraftData) (n : ℕ) (r : ReferenceData) (b : Bool) → b ≡ is_name r.name → b ≡ true → next ≡ with_use d n r → nameless next ≡ nameless (with_reference d n (Some r))
+pub use_named : (d next : DraftData) (n : ℕ) (r : ReferenceData) (b : Bool) → b ≡ is_source_name r.name → b ≡ true → next ≡ with_use d n r → nameless next ≡ nameless (with_reference d n (Some r))
 unfolding with_reference
 use_named d next n r b is so used =
     ap nameless used
@@ -118,7 +118,7 @@ use_named d next n r b is so used =
     ∙ sym (use_nameless (record d { symbols = seen d.symbols r.name }) n r)
     ∙ ap (λ c. nameless (cond c (with_use (record d { symbols = seen d.symbols r.name }) n r) d)) (sym so ∙ is)
 
-pub use_unnamed : (d : DraftData) (n : ℕ) (r : ReferenceData) (b : Bool) → b ≡ is_name r.name → b ≡ false → nameless d ≡ nameless (with_reference d n (Some r))
+pub use_unnamed : (d : DraftData) (n : ℕ) (r : ReferenceData) (b : Bool) → b ≡ is_source_name r.name → b ≡ false → nameless d ≡ nameless (with_reference d n (Some r))
 unfolding with_reference
 use_unnamed d n r b is unset = ap (λ c. nameless (cond c (with_use (record d { symbols = seen d.symbols r.name }) n r) d)) (sym unset ∙ is)
 
@@ -132,20 +132,20 @@ use_bytes d mid next bs o used added =
     ∙ sym (bytes_nameless (with_reference d (length bs) o) bs)
 
 -- ---- what is kept of drafts
-pub kept_step : (known : Bool) (labels : List SymbolData) (d e : DraftData) (i : ItemData) → kept known d ≡ kept known e → kept known (stepped labels d i) ≡ kept known (stepped labels e i)
-kept_step true labels d e i h = step_nameless labels d i ∙ ap (λ (x : DraftData). nameless (stepped labels x i)) h ∙ sym (step_nameless labels e i)
-kept_step false labels d e i h = ap (λ (x : DraftData). stepped labels x i) h
+pub kept_step : (known : Bool) (labels : List SymbolData) (d e : DraftData) (i : ItemData) → kept known d ≡ kept known e → kept known (draft_after_item labels d i) ≡ kept known (draft_after_item labels e i)
+kept_step true labels d e i h = step_nameless labels d i ∙ ap (λ (x : DraftData). nameless (draft_after_item labels x i)) h ∙ sym (step_nameless labels e i)
+kept_step false labels d e i h = ap (λ (x : DraftData). draft_after_item labels x i) h
 
 pub kept_fold : (known : Bool) (labels : List SymbolData) (is : List ItemData) (d e : DraftData) → kept known d ≡ kept known e
-    → kept known (fold (stepped labels) d is) ≡ kept known (fold (stepped labels) e is)
+    → kept known (fold (draft_after_item labels) d is) ≡ kept known (fold (draft_after_item labels) e is)
 kept_fold known labels [] d e h = h
-kept_fold known labels (i ∷ is) d e h = kept_fold known labels is (stepped labels d i) (stepped labels e i) (kept_step known labels d e i h)
+kept_fold known labels (i ∷ is) d e h = kept_fold known labels is (draft_after_item labels d i) (draft_after_item labels e i) (kept_step known labels d e i h)
 
 pub rule_same : (known : Bool) (labels : List SymbolData) (is : List ItemData) (d e : DraftData) → kept known d ≡ kept known e → kept_rule known labels d is ≡ kept_rule known labels e is
 rule_same known labels [] d e h = refl
 rule_same known labels (i ∷ is) d e h =
-    ap (λ (x : DraftData). min (item_rule labels x i) (kept_rule known labels (stepped labels d i) is)) h
-    ∙ ap (min (item_rule labels (kept known e) i)) (rule_same known labels is (stepped labels d i) (stepped labels e i) (kept_step known labels d e i h))
+    ap (λ (x : DraftData). min (item_rule labels x i) (kept_rule known labels (draft_after_item labels d i) is)) h
+    ∙ ap (min (item_rule labels (kept known e) i)) (rule_same known labels is (draft_after_item labels d i) (draft_after_item labels e i) (kept_step known labels d e i h))
 
 -- ---- rules of symbols that are known
 chosen : (a b : Bool) (x y : ℕ) → b ≡ true → cond (a || b) x y ≡ x
@@ -174,8 +174,8 @@ item_same labels d (section name) room new = refl
 item_same labels d (global name) room new =
     ap (λ k. min (name_rule name) (min k (defined_rule labels name))) (room_is (nameless d) name refl ∙ sym (room_is d name room))
 item_same labels d (code k f o) room new =
-    ap (λ (x : RowFieldsData). min x.rule (content_rule (nameless d) (length (bytes_of k x.fields)) o)) (sym (resolved_nameless labels d k f o))
-    ∙ ap (min (resolved labels d k f o).rule) (content_same d (length (code_bytes labels d k f o)) o room)
+    ap (λ (x : RowFieldsData). min x.rule (content_rule (nameless d) (length (assembled_code k x.fields)) o)) (sym (resolved_nameless labels d k f o))
+    ∙ ap (min (row_fields_with_target labels d k f o).rule) (content_same d (length (code_bytes labels d k f o)) o room)
 item_same labels d (bytes bs o) room new = content_same d (length bs) o room
 item_same labels d (zeros n) room new = refl
 
@@ -184,12 +184,12 @@ never b e = cc
 
 rules_kept : (known : Bool) (labels : List SymbolData) (is : List ItemData) (d : DraftData) → (known ≡ true → are_new labels d is ≡ true) → kept_rule known labels d is ≡ items_rule labels d is
 rules_kept known labels [] d new = refl
-rules_kept false labels (i ∷ is) d new = ap (min (item_rule labels d i)) (rules_kept false labels is (stepped labels d i) (never (are_new labels (stepped labels d i) is)))
+rules_kept false labels (i ∷ is) d new = ap (min (item_rule labels d i)) (rules_kept false labels is (draft_after_item labels d i) (never (are_new labels (draft_after_item labels d i) is)))
 rules_kept true labels (i ∷ is) d new =
-    let p = and_parts (has_symbol_room d.symbols && is_new d.symbols i) (are_new labels (stepped labels d i) is) (new refl) in
+    let p = and_parts (has_symbol_room d.symbols && is_new d.symbols i) (are_new labels (draft_after_item labels d i) is) (new refl) in
     let q = and_parts (has_symbol_room d.symbols) (is_new d.symbols i) p.0 in
-    ap (λ k. min k (kept_rule true labels (stepped labels d i) is)) (item_same labels d i q.0 q.1)
-    ∙ ap (min (item_rule labels d i)) (rules_kept true labels is (stepped labels d i) (λ e. p.1))
+    ap (λ k. min k (kept_rule true labels (draft_after_item labels d i) is)) (item_same labels d i q.0 q.1)
+    ∙ ap (min (item_rule labels d i)) (rules_kept true labels is (draft_after_item labels d i) (λ e. p.1))
 
 -- the rules of labels and global names that are known
 pub label_rule_known : (labels : List SymbolData) (d : DraftData) (name : List ℕ) → min (min 15 (section_rule d)) (min (name_rule name) 15) ≡ item_rule labels (nameless d) (label name)
@@ -203,20 +203,20 @@ global_rule_known labels d name = refl
 -- the rules of an item that are the same with and without symbols
 pub plain_rule : (labels : List SymbolData) (d : DraftData) (k : ℕ) (f : Fields) → item_rule labels d (code k f None) ≡ item_rule labels (nameless d) (code k f None)
 unfolding item_rule code_bytes
-plain_rule labels d k f = ap (λ (x : RowFieldsData). min x.rule (content_rule (nameless d) (length (bytes_of k x.fields)) None)) (resolved_nameless labels d k f None)
+plain_rule labels d k f = ap (λ (x : RowFieldsData). min x.rule (content_rule (nameless d) (length (assembled_code k x.fields)) None)) (resolved_nameless labels d k f None)
 
 -- an instruction without a symbol
-pub alone_step : (labels : List SymbolData) (d next : DraftData) (k : ℕ) (f : Fields) (bs : List ℕ) → bs ≡ bytes_of k f → next ≡ with_bytes d bs → next ≡ stepped labels d (code k f None)
-unfolding stepped code_bytes with_reference
-alone_step labels d next k f bs is e = e ∙ ap (with_bytes d) (is ∙ sym (ap (λ (x : RowFieldsData). bytes_of k x.fields) (found_far labels d k f None refl)))
+pub alone_step : (labels : List SymbolData) (d next : DraftData) (k : ℕ) (f : Fields) (bs : List ℕ) → bs ≡ assembled_code k f → next ≡ with_bytes d bs → next ≡ draft_after_item labels d (code k f None)
+unfolding draft_after_item code_bytes with_reference
+alone_step labels d next k f bs is e = e ∙ ap (with_bytes d) (is ∙ sym (ap (λ (x : RowFieldsData). assembled_code k x.fields) (found_far labels d k f None refl)))
 
-pub alone_rule : (labels : List SymbolData) (d : DraftData) (k : ℕ) (f : Fields) (bs : List ℕ) (a rule : ℕ) → bs ≡ bytes_of k f → a ≡ content_rule d (length bs) None → rule ≡ min 15 a
+pub alone_rule : (labels : List SymbolData) (d : DraftData) (k : ℕ) (f : Fields) (bs : List ℕ) (a rule : ℕ) → bs ≡ assembled_code k f → a ≡ content_rule d (length bs) None → rule ≡ min 15 a
     → rule ≡ item_rule labels d (code k f None)
 unfolding item_rule code_bytes
 alone_rule labels d k f bs a rule is e m =
     m
     ∙ ap (min 15) (e ∙ ap (λ (ys : List ℕ). content_rule d (length ys) None) is)
-    ∙ ap (λ (x : RowFieldsData). min x.rule (content_rule d (length (bytes_of k x.fields)) None)) (sym (found_far labels d k f None refl))
+    ∙ ap (λ (x : RowFieldsData). min x.rule (content_rule d (length (assembled_code k x.fields)) None)) (sym (found_far labels d k f None refl))
 
 pub section_rule_same : (labels : List SymbolData) (d : DraftData) (name : List ℕ) → item_rule labels d (section name) ≡ item_rule labels (nameless d) (section name)
 unfolding item_rule
@@ -234,33 +234,33 @@ pub data_rule : (labels : List SymbolData) (d : DraftData) (bs : List ℕ) (o : 
 unfolding item_rule
 data_rule labels d bs o = refl
 
-pub data_step : (labels : List SymbolData) (d : DraftData) (bs : List ℕ) (o : Option ReferenceData) → with_content d bs o ≡ stepped labels d (bytes bs o)
-unfolding stepped
+pub data_step : (labels : List SymbolData) (d : DraftData) (bs : List ℕ) (o : Option ReferenceData) → with_content d bs o ≡ draft_after_item labels d (bytes bs o)
+unfolding draft_after_item
 data_step labels d bs o = refl
 
 pub linked_rule : (labels : List SymbolData) (d : DraftData) (k : ℕ) (f : Fields) (r : ReferenceData) (x : RowFieldsData) (bs : List ℕ) (b rule : ℕ)
-    → x ≡ resolved labels d k f (Some r) → bs ≡ bytes_of k x.fields → b ≡ content_rule (nameless d) (length bs) (Some r) → rule ≡ min x.rule b
+    → x ≡ row_fields_with_target labels d k f (Some r) → bs ≡ assembled_code k x.fields → b ≡ content_rule (nameless d) (length bs) (Some r) → rule ≡ min x.rule b
     → rule ≡ item_rule labels (nameless d) (code k f (Some r))
 unfolding item_rule code_bytes
 linked_rule labels d k f r x bs b rule e g h is =
     is
     ∙ ap (min x.rule) (h ∙ ap (λ (ys : List ℕ). content_rule (nameless d) (length ys) (Some r)) g)
-    ∙ ap (λ (z : RowFieldsData). min z.rule (content_rule (nameless d) (length (bytes_of k z.fields)) (Some r))) (e ∙ resolved_nameless labels d k f (Some r))
+    ∙ ap (λ (z : RowFieldsData). min z.rule (content_rule (nameless d) (length (assembled_code k z.fields)) (Some r))) (e ∙ resolved_nameless labels d k f (Some r))
 
 -- ---- items that are new
 are_new-append : (labels : List SymbolData) (d : DraftData) (xs ys : List ItemData) → are_new labels d (xs ++ ys) ≡ true
-    → (are_new labels d xs ≡ true) × (are_new labels (fold (stepped labels) d xs) ys ≡ true)
+    → (are_new labels d xs ≡ true) × (are_new labels (fold (draft_after_item labels) d xs) ys ≡ true)
 are_new-append labels d [] ys h = (refl, h)
 are_new-append labels d (x ∷ xs) ys h =
-    let p = and_parts (has_symbol_room d.symbols && is_new d.symbols x) (are_new labels (stepped labels d x) (xs ++ ys)) h in
-    let r = are_new-append labels (stepped labels d x) xs ys p.1 in
-    (and_from (has_symbol_room d.symbols && is_new d.symbols x) (are_new labels (stepped labels d x) xs) p.0 r.0, r.1)
+    let p = and_parts (has_symbol_room d.symbols && is_new d.symbols x) (are_new labels (draft_after_item labels d x) (xs ++ ys)) h in
+    let r = are_new-append labels (draft_after_item labels d x) xs ys p.1 in
+    (and_from (has_symbol_room d.symbols && is_new d.symbols x) (are_new labels (draft_after_item labels d x) xs) p.0 r.0, r.1)
 
-new_alike : (labels others : List SymbolData) (is : List ItemData) (d e : DraftData) → Each IsItem is → Alike d e → are_new labels d is ≡ are_new others e is
+new_alike : (labels others : List SymbolData) (is : List ItemData) (d e : DraftData) → EachInDraft IsAddedItem is → Alike d e → are_new labels d is ≡ are_new others e is
 new_alike labels others [] d e good h = refl
 new_alike labels others (i ∷ is) d e good h =
-    ap (λ (ss : List SymbolData). (has_symbol_room ss && is_new ss i) && are_new labels (stepped labels d i) is) h.symbols
-    ∙ ap (λ b. (has_symbol_room e.symbols && is_new e.symbols i) && b) (new_alike labels others is (stepped labels d i) (stepped others e i) good.1 (step_alike labels others d e i good.0 h))
+    ap (λ (ss : List SymbolData). (has_symbol_room ss && is_new ss i) && are_new labels (draft_after_item labels d i) is) h.symbols
+    ∙ ap (λ b. (has_symbol_room e.symbols && is_new e.symbols i) && b) (new_alike labels others is (draft_after_item labels d i) (draft_after_item others e i) good.1 (step_alike labels others d e i good.0 h))
 
 -- ---- the first pass
 module _ (items : List Item) (i : ℕ) (d : Item) (within : i < length items) (draft all : DraftData) where
@@ -268,22 +268,22 @@ module _ (items : List Item) (i : ℕ) (d : Item) (within : i < length items) (d
   item = item_of (get_or items i d)
 
   abbrev so_far : DraftData
-  so_far = fold (stepped []) all (take i (map item_of items))
+  so_far = fold (draft_after_item []) all (take i (map item_of items))
 
-  pub new_more : (before room_here new_here after whole : Bool) → Alike draft (fold (stepped []) all (take i (map item_of items)))
+  pub new_more : (before room_here new_here after whole : Bool) → Alike draft (fold (draft_after_item []) all (take i (map item_of items)))
       → room_here ≡ has_symbol_room draft.symbols → new_here ≡ is_new draft.symbols (item_of (get_or items i d)) → after ≡ (before && (room_here && new_here))
-      → (before && are_new [] (fold (stepped []) all (take i (map item_of items))) (drop i (map item_of items))) ≡ whole
-      → (after && are_new [] (fold (stepped []) all (take (i + 1) (map item_of items))) (drop (i + 1) (map item_of items))) ≡ whole
+      → (before && are_new [] (fold (draft_after_item []) all (take i (map item_of items))) (drop i (map item_of items))) ≡ whole
+      → (after && are_new [] (fold (draft_after_item []) all (take (i + 1) (map item_of items))) (drop (i + 1) (map item_of items))) ≡ whole
   new_more before room_here new_here after whole h room new both is =
       let at : get_or (map item_of items) i (item_of d) ≡ item_of (get_or items i d) = get_or-map item_of items i d (item_of d) within in
-      let next : fold (stepped []) all (take (i + 1) (map item_of items)) ≡ stepped [] so_far item
-      = fold_more (stepped []) all (map item_of items) i (item_of d) (rw (length-map items item_of) within) ∙ ap (stepped [] so_far) at in
-      ap (λ b. b && are_new [] (fold (stepped []) all (take (i + 1) (map item_of items))) (drop (i + 1) (map item_of items))) both
+      let next : fold (draft_after_item []) all (take (i + 1) (map item_of items)) ≡ draft_after_item [] so_far item
+      = fold_more (draft_after_item []) all (map item_of items) i (item_of d) (rw (length-map items item_of) within) ∙ ap (draft_after_item [] so_far) at in
+      ap (λ b. b && are_new [] (fold (draft_after_item []) all (take (i + 1) (map item_of items))) (drop (i + 1) (map item_of items))) both
       ∙ ap (λ (x : DraftData). (before && (room_here && new_here)) && are_new [] x (drop (i + 1) (map item_of items))) next
-      ∙ ap (λ b. (before && (b && new_here)) && are_new [] (stepped [] so_far item) (drop (i + 1) (map item_of items))) room
-      ∙ ap (λ b. (before && (has_symbol_room draft.symbols && b)) && are_new [] (stepped [] so_far item) (drop (i + 1) (map item_of items))) new
-      ∙ ap (λ (ss : List SymbolData). (before && (has_symbol_room ss && is_new ss item)) && are_new [] (stepped [] so_far item) (drop (i + 1) (map item_of items))) h.symbols
-      ∙ joined before (has_symbol_room so_far.symbols && is_new so_far.symbols item) (are_new [] (stepped [] so_far item) (drop (i + 1) (map item_of items)))
+      ∙ ap (λ b. (before && (b && new_here)) && are_new [] (draft_after_item [] so_far item) (drop (i + 1) (map item_of items))) room
+      ∙ ap (λ b. (before && (has_symbol_room draft.symbols && b)) && are_new [] (draft_after_item [] so_far item) (drop (i + 1) (map item_of items))) new
+      ∙ ap (λ (ss : List SymbolData). (before && (has_symbol_room ss && is_new ss item)) && are_new [] (draft_after_item [] so_far item) (drop (i + 1) (map item_of items))) h.symbols
+      ∙ joined before (has_symbol_room so_far.symbols && is_new so_far.symbols item) (are_new [] (draft_after_item [] so_far item) (drop (i + 1) (map item_of items)))
       ∙ ap (λ (xs : List ItemData). before && are_new [] so_far xs) (sym (item_here items i d within))
       ∙ is
     where
@@ -301,20 +301,20 @@ new_end items i d b whole past is =
 
 -- ---- the items of a line
 module _ (known : Bool) (labels : List SymbolData) (items : List Item) (i : ℕ) (d : Item) (within : i < length items) where
-  pub kept_items : (draft next all : DraftData) → kept known next ≡ kept known (stepped labels draft (item_of (get_or items i d)))
-      → kept known (fold (stepped labels) draft (drop i (map item_of items))) ≡ all → kept known (fold (stepped labels) next (drop (i + 1) (map item_of items))) ≡ all
+  pub kept_items : (draft next all : DraftData) → kept known next ≡ kept known (draft_after_item labels draft (item_of (get_or items i d)))
+      → kept known (fold (draft_after_item labels) draft (drop i (map item_of items))) ≡ all → kept known (fold (draft_after_item labels) next (drop (i + 1) (map item_of items))) ≡ all
   kept_items draft next all e so_far =
-      kept_fold known labels (drop (i + 1) (map item_of items)) next (stepped labels draft (item_of (get_or items i d))) e
-      ∙ sym (ap (λ (is : List ItemData). kept known (fold (stepped labels) draft is)) (item_here items i d within))
+      kept_fold known labels (drop (i + 1) (map item_of items)) next (draft_after_item labels draft (item_of (get_or items i d))) e
+      ∙ sym (ap (λ (is : List ItemData). kept known (fold (draft_after_item labels) draft is)) (item_here items i d within))
       ∙ so_far
 
-  pub kept_rules : (draft next : DraftData) (a rule more all : ℕ) → kept known next ≡ kept known (stepped labels draft (item_of (get_or items i d)))
+  pub kept_rules : (draft next : DraftData) (a rule more all : ℕ) → kept known next ≡ kept known (draft_after_item labels draft (item_of (get_or items i d)))
       → a ≡ item_rule labels (kept known draft) (item_of (get_or items i d)) → more ≡ min a rule
       → min rule (kept_rule known labels draft (drop i (map item_of items))) ≡ all → min more (kept_rule known labels next (drop (i + 1) (map item_of items))) ≡ all
   kept_rules draft next a rule more all e is m so_far =
       ap (λ k. min k (kept_rule known labels next (drop (i + 1) (map item_of items)))) (m ∙ ap (λ k. min k rule) is)
-      ∙ ap (min (min (item_rule labels (kept known draft) (item_of (get_or items i d))) rule)) (rule_same known labels (drop (i + 1) (map item_of items)) next (stepped labels draft (item_of (get_or items i d))) e)
-      ∙ joined (item_rule labels (kept known draft) (item_of (get_or items i d))) rule (kept_rule known labels (stepped labels draft (item_of (get_or items i d))) (drop (i + 1) (map item_of items)))
+      ∙ ap (min (min (item_rule labels (kept known draft) (item_of (get_or items i d))) rule)) (rule_same known labels (drop (i + 1) (map item_of items)) next (draft_after_item labels draft (item_of (get_or items i d))) e)
+      ∙ joined (item_rule labels (kept known draft) (item_of (get_or items i d))) rule (kept_rule known labels (draft_after_item labels draft (item_of (get_or items i d))) (drop (i + 1) (map item_of items)))
       ∙ sym (ap (λ (xs : List ItemData). min rule (kept_rule known labels draft xs)) (item_here items i d within))
       ∙ so_far
     where
@@ -323,15 +323,15 @@ module _ (known : Bool) (labels : List SymbolData) (items : List Item) (i : ℕ)
 
 kept_rule-le : (known : Bool) (labels : List SymbolData) (d : DraftData) (is : List ItemData) → kept_rule known labels d is ≤ 15
 kept_rule-le known labels d [] = omega arith
-kept_rule-le known labels d (i ∷ is) = let rest : kept_rule known labels (stepped labels d i) is ≤ 15 = kept_rule-le known labels (stepped labels d i) is in omega arith
+kept_rule-le known labels d (i ∷ is) = let rest : kept_rule known labels (draft_after_item labels d i) is ≤ 15 = kept_rule-le known labels (draft_after_item labels d i) is in omega arith
 
 pub kept_none : (known : Bool) (labels : List SymbolData) (d : DraftData) (is : List ItemData) → min 15 (kept_rule known labels d is) ≡ kept_rule known labels d is
 kept_none known labels d is = let h : kept_rule known labels d is ≤ 15 = kept_rule-le known labels d is in omega arith
 
 pub kept_end : (known : Bool) (labels : List SymbolData) (items : List Item) (i : ℕ) (draft all : DraftData) → length items ≤ i
-    → kept known (fold (stepped labels) draft (drop i (map item_of items))) ≡ all → kept known draft ≡ all
+    → kept known (fold (draft_after_item labels) draft (drop i (map item_of items))) ≡ all → kept known draft ≡ all
 kept_end known labels items i draft all past e =
-    sym (ap (λ (is : List ItemData). kept known (fold (stepped labels) draft is)) (drop_all i (map item_of items) (rw (length-map items item_of) past))) ∙ e
+    sym (ap (λ (is : List ItemData). kept known (fold (draft_after_item labels) draft is)) (drop_all i (map item_of items) (rw (length-map items item_of) past))) ∙ e
 
 pub kept_rules_end : (known : Bool) (labels : List SymbolData) (items : List Item) (i : ℕ) (draft : DraftData) (rule all : ℕ) → length items ≤ i → rule ≤ 15
     → min rule (kept_rule known labels draft (drop i (map item_of items))) ≡ all → rule ≡ all
@@ -340,31 +340,31 @@ kept_rules_end known labels items i draft rule all past small e =
     whole ∙ sym (ap (λ (is : List ItemData). min rule (kept_rule known labels draft is)) (drop_all i (map item_of items) (rw (length-map items item_of) past))) ∙ e
 
 -- ---- a further line
-module _ (known : Bool) (labels : List SymbolData) (ls : List LineData) (i : ℕ) (x : LineData) (zs : List LineData) (here : drop i ls ≡ x ∷ zs) (draft : DraftData) (so_far : kept known draft ≡ kept known (drafted labels (take i ls))) where
-  pub kept_more : (next : DraftData) → kept known next ≡ kept known (with_line labels draft x) → kept known next ≡ kept known (drafted labels (take (i + 1) ls))
+module _ (known : Bool) (labels : List SymbolData) (ls : List LineData) (i : ℕ) (x : LineData) (zs : List LineData) (here : drop i ls ≡ x ∷ zs) (draft : DraftData) (so_far : kept known draft ≡ kept known (draft_from_lines labels (take i ls))) where
+  pub kept_more : (next : DraftData) → kept known next ≡ kept known (with_line labels draft x) → kept known next ≡ kept known (draft_from_lines labels (take (i + 1) ls))
   unfolding with_line
   kept_more next e =
       e
-      ∙ kept_fold known labels x.items draft (drafted labels (take i ls)) so_far
-      ∙ ap (kept known) (drafted_more ls i x zs here labels (drafted labels (take i ls)) (with_line labels (drafted labels (take i ls)) x) refl refl)
+      ∙ kept_fold known labels x.items draft (draft_from_lines labels (take i ls)) so_far
+      ∙ ap (kept known) (drafted_more ls i x zs here labels (draft_from_lines labels (take i ls)) (with_line labels (draft_from_lines labels (take i ls)) x) refl refl)
 
-  module _ (new : known ≡ true → are_new labels (drafted labels (take i ls)) (items_in (drop i ls)) ≡ true) where
-    news : known ≡ true → (are_new labels (drafted labels (take i ls)) x.items ≡ true) × (are_new labels (fold (stepped labels) (drafted labels (take i ls)) x.items) (items_in zs) ≡ true)
+  module _ (new : known ≡ true → are_new labels (draft_from_lines labels (take i ls)) (items_in (drop i ls)) ≡ true) where
+    news : known ≡ true → (are_new labels (draft_from_lines labels (take i ls)) x.items ≡ true) × (are_new labels (fold (draft_after_item labels) (draft_from_lines labels (take i ls)) x.items) (items_in zs) ≡ true)
     news k =
-        are_new-append labels (drafted labels (take i ls)) x.items (items_in zs)
-        (sym (ap (λ (xs : List LineData). are_new labels (drafted labels (take i ls)) (items_in xs)) here) ∙ new k)
+        are_new-append labels (draft_from_lines labels (take i ls)) x.items (items_in zs)
+        (sym (ap (λ (xs : List LineData). are_new labels (draft_from_lines labels (take i ls)) (items_in xs)) here) ∙ new k)
 
-    pub new_lines : known ≡ true → are_new labels (drafted labels (take (i + 1) ls)) (items_in (drop (i + 1) ls)) ≡ true
+    pub new_lines : known ≡ true → are_new labels (draft_from_lines labels (take (i + 1) ls)) (items_in (drop (i + 1) ls)) ≡ true
     unfolding with_line
     new_lines k =
-        ap (λ (d : DraftData). are_new labels d (items_in (drop (i + 1) ls))) (sym (drafted_more ls i x zs here labels (drafted labels (take i ls)) (with_line labels (drafted labels (take i ls)) x) refl refl))
-        ∙ ap (λ (xs : List LineData). are_new labels (with_line labels (drafted labels (take i ls)) x) (items_in xs)) (behind_here ls i x zs here)
+        ap (λ (d : DraftData). are_new labels d (items_in (drop (i + 1) ls))) (sym (drafted_more ls i x zs here labels (draft_from_lines labels (take i ls)) (with_line labels (draft_from_lines labels (take i ls)) x) refl refl))
+        ∙ ap (λ (xs : List LineData). are_new labels (with_line labels (draft_from_lines labels (take i ls)) x) (items_in xs)) (behind_here ls i x zs here)
         ∙ (news k).1
 
-    pub kept_line : (rule : ℕ) → rule ≡ min x.rule (kept_rule known labels draft x.items) → rule ≡ line_rule labels (drafted labels (take i ls)) x
+    pub kept_line : (rule : ℕ) → rule ≡ min x.rule (kept_rule known labels draft x.items) → rule ≡ line_rule labels (draft_from_lines labels (take i ls)) x
     unfolding line_rule
     kept_line rule e =
-        e ∙ ap (min x.rule) (rule_same known labels x.items draft (drafted labels (take i ls)) so_far ∙ rules_kept known labels x.items (drafted labels (take i ls)) (λ k. (news k).0))
+        e ∙ ap (min x.rule) (rule_same known labels x.items draft (draft_from_lines labels (take i ls)) so_far ∙ rules_kept known labels x.items (draft_from_lines labels (take i ls)) (λ k. (news k).0))
 
 -- ---- a line without items that breaks no rule by itself
 module _ (known : Bool) (labels : List SymbolData) (draft : DraftData) (rule count : ℕ) (is : List ItemData) (none : count ≡ 0) where
@@ -384,8 +384,8 @@ past read lines i e h =
     omega arith
 
 pub lines_end : (known : Bool) (labels : List SymbolData) (ls : List LineData) (i : ℕ) (draft : DraftData) → length ls ≤ i
-    → kept known draft ≡ kept known (drafted labels (take i ls)) → kept known draft ≡ kept known (drafted labels ls)
-lines_end known labels ls i draft far h = h ∙ ap (λ (ks : List LineData). kept known (drafted labels ks)) (take_all i ls far)
+    → kept known draft ≡ kept known (draft_from_lines labels (take i ls)) → kept known draft ≡ kept known (draft_from_lines labels ls)
+lines_end known labels ls i draft far h = h ∙ ap (λ (ks : List LineData). kept known (draft_from_lines labels ks)) (take_all i ls far)
 
 -- the draft of all lines, with its own symbols or with those that are known
 pub whole_draft : (known : Bool) (d e draft : DraftData) (ss : List SymbolData) → kept known d ≡ kept known e → e.symbols ≡ ss
@@ -396,10 +396,10 @@ whole_draft false d e draft ss h same is = is ∙ h
 
 module _ (source : List ℕ) (read : Source) (same : lines_of read ≡ lines_in source) (labels : List SymbolData) (is : labels ≡ symbols_of (lines_of read)) where
   -- the second pass finds these symbols again
-  pub symbols_again : (drafted labels (lines_of read)).symbols ≡ labels
+  pub symbols_again : (draft_from_lines labels (lines_of read)).symbols ≡ labels
   symbols_again =
-      ap (λ (ss : List SymbolData). (drafted ss (lines_of read)).symbols) is
-      ∙ ap (λ (ls : List LineData). (drafted (symbols_of ls) ls).symbols) same
+      ap (λ (ss : List SymbolData). (draft_from_lines ss (lines_of read)).symbols) is
+      ∙ ap (λ (ls : List LineData). (draft_from_lines (symbols_of ls) ls).symbols) same
       ∙ passes_agree source
       ∙ ap symbols_of (sym same)
       ∙ sym is

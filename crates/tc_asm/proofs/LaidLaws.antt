@@ -6,12 +6,13 @@ use Rattle.std.proofs.lemmas.Bool.{ltb-true, and_parts}
 use Rattle.std.proofs.lemmas.Bool.Decides.{Decides-eqb}
 use Rattle.std.proofs.lemmas.List.Concat.{flat_map-append}
 use Rattle.std.proofs.lemmas.List.Sums.{fold-append}
-use Rattle.tc_stmt.specs.Names.{is_name}
+use Rattle.tc_stmt.specs.Names.{is_source_name}
 use Rattle.tc_stmt.specs.Items.{ReferenceData, ItemData, label, section, global, code, bytes, zeros}
 use Rattle.tc_stmt.specs.Lines.{LineData, items_in}
 use Rattle.tc_asm.specs.Symbols.{SymbolData, seen}
-use Rattle.tc_asm.specs.Drafts.{PartData, DraftData, part, start, place_of, has_section, has_room, with_label, number_of_part, entered, with_global, extended, with_bytes, used, with_use, with_reference, code_bytes, stepped, with_line, drafted}
-use Rattle.tc_asm.specs.Statements.{StatementData, statement, content_of, standing, statements_from, statements, section_bytes, offset_of, bytes_at}
+use Rattle.tc_asm.specs.Drafts.{PartData, DraftData, part, start, draft_place, has_section, has_room, with_label, number_of_part, with_current_section, with_global, with_part_bytes, with_bytes, with_part_use, with_use, with_reference, code_bytes, draft_after_item, bytes_at}
+use Rattle.tc_asm.specs.DraftedSources.{draft_from_lines, with_line}
+use Rattle.tc_asm.specs.Statements.{StatementData, statement, content_of, standing_statement, statements_from, statements, section_bytes, offset_of}
 use Rattle.tc_stmt.proofs.Cases.{by_test}
 use Rattle.tc_asm.proofs.ListLaws.{changed, changed-set, length-changed}
 
@@ -43,7 +44,7 @@ record Keeps (d e : DraftData) : Type 0 where
   same_bytes : (s : ℕ) → bytes_at e.parts s ≡ bytes_at d.parts s
 
 Keeps-use : (d : DraftData) (n : ℕ) (r : ReferenceData) → Keeps d (with_use d n r)
-unfolding with_use used
+unfolding with_use with_part_use
 Keeps-use d n r =
     by_test (λ (e : DraftData). Keeps d e) _ _ d
     (λ b. record {
@@ -55,20 +56,20 @@ Keeps-use d n r =
     (λ b. record { same_section = refl; same_count = refl; same_total = refl; same_bytes = λ s. refl })
   where
     add : PartData → PartData
-    add p = record p { uses = p.uses ++ record { offset = place_of d; reference = r } ∷ [] }
+    add p = record p { uses = p.uses ++ record { offset = draft_place d; reference = r } ∷ [] }
 
 Keeps-reference : (d : DraftData) (n : ℕ) (o : Option ReferenceData) → Keeps d (with_reference d n o)
 unfolding with_reference
 Keeps-reference d n None = record { same_section = refl; same_count = refl; same_total = refl; same_bytes = λ s. refl }
 Keeps-reference d n (Some r) =
-    by_test (λ (e : DraftData). Keeps d e) (is_name r.name) (with_use (record d { symbols = seen d.symbols r.name }) n r) d
+    by_test (λ (e : DraftData). Keeps d e) (is_source_name r.name) (with_use (record d { symbols = seen d.symbols r.name }) n r) d
     (λ b. let k = Keeps-use (record d { symbols = seen d.symbols r.name }) n r in record { same_section = k.same_section; same_count = k.same_count; same_total = k.same_total; same_bytes = k.same_bytes })
     (λ b. record { same_section = refl; same_count = refl; same_total = refl; same_bytes = λ s. refl })
 
 module _ (s : ℕ) where
   grown_bytes : (d e : DraftData) (bs : List ℕ) (r : Option ReferenceData) → Keeps d e
-      → bytes_at (with_bytes e bs).parts s ≡ bytes_at d.parts s ++ section_bytes s (standing d (Some (statement d.section bs r)))
-  unfolding with_bytes extended
+      → bytes_at (with_bytes e bs).parts s ≡ bytes_at d.parts s ++ section_bytes s (standing_statement d (Some (statement d.section bs r)))
+  unfolding with_bytes with_part_bytes
   grown_bytes d e bs r k =
       let same : (has_section e && has_room e (length bs)) ≡ (has_section d && has_room d (length bs))
       = ap (λ n. nat_lt n (length e.parts) && has_room e (length bs)) k.same_section ∙ ap (λ n. nat_lt d.section n && has_room e (length bs)) k.same_count
@@ -97,18 +98,18 @@ module _ (s : ℕ) where
   unfolding with_global
   global-bytes d name = by_test (λ (e : DraftData). bytes_at e.parts s ≡ bytes_at d.parts s ++ []) _ _ d (λ b. sym (append-nil (bytes_at d.parts s))) (λ b. sym (append-nil (bytes_at d.parts s)))
 
-  entered-bytes : (d : DraftData) (name : List ℕ) → bytes_at (entered d name).parts s ≡ bytes_at d.parts s ++ []
-  unfolding entered
+  entered-bytes : (d : DraftData) (name : List ℕ) → bytes_at (with_current_section d name).parts s ≡ bytes_at d.parts s ++ []
+  unfolding with_current_section
   entered-bytes d name =
-      by_test (λ (e : DraftData). bytes_at e.parts s ≡ bytes_at d.parts s ++ []) (not (is_name name)) d (cond (nat_lt (number_of_part d.parts name) (length d.parts)) (record d { section = number_of_part d.parts name }) (cond (nat_lt (length d.parts) 64) (record d { section = length d.parts; parts = d.parts ++ part name [] [] ∷ [] }) d)) (λ b. same) (λ b.
+      by_test (λ (e : DraftData). bytes_at e.parts s ≡ bytes_at d.parts s ++ []) (not (is_source_name name)) d (cond (nat_lt (number_of_part d.parts name) (length d.parts)) (record d { section = number_of_part d.parts name }) (cond (nat_lt (length d.parts) 64) (record d { section = length d.parts; parts = d.parts ++ part name [] [] ∷ [] }) d)) (λ b. same) (λ b.
       by_test (λ (e : DraftData). bytes_at e.parts s ≡ bytes_at d.parts s ++ []) (nat_lt (number_of_part d.parts name) (length d.parts)) (record d { section = number_of_part d.parts name }) (cond (nat_lt (length d.parts) 64) (record d { section = length d.parts; parts = d.parts ++ part name [] [] ∷ [] }) d) (λ c. same) (λ c.
       by_test (λ (e : DraftData). bytes_at e.parts s ≡ bytes_at d.parts s ++ []) (nat_lt (length d.parts) 64) (record d { section = length d.parts; parts = d.parts ++ part name [] [] ∷ [] }) d (λ f. bytes_at-push d.parts (part name [] []) s refl ∙ same) (λ f. same)))
     where
       same : bytes_at d.parts s ≡ bytes_at d.parts s ++ []
       same = sym (append-nil (bytes_at d.parts s))
 
-  stepped-bytes : (labels : List SymbolData) (d : DraftData) (i : ItemData) → bytes_at (stepped labels d i).parts s ≡ bytes_at d.parts s ++ section_bytes s (standing d (content_of labels d i))
-  unfolding stepped
+  stepped-bytes : (labels : List SymbolData) (d : DraftData) (i : ItemData) → bytes_at (draft_after_item labels d i).parts s ≡ bytes_at d.parts s ++ section_bytes s (standing_statement d (content_of labels d i))
+  unfolding draft_after_item
   stepped-bytes labels d (label name) = label-bytes d name
   stepped-bytes labels d (section name) = entered-bytes d name
   stepped-bytes labels d (global name) = global-bytes d name
@@ -116,22 +117,22 @@ module _ (s : ℕ) where
   stepped-bytes labels d (bytes bs r) = grown_bytes d (with_reference d (length bs) r) bs r (Keeps-reference d (length bs) r)
   stepped-bytes labels d (zeros n) = grown_bytes d d (replicate n 0) None (keeps_same d)
 
-  from-bytes : (labels : List SymbolData) (is : List ItemData) (d : DraftData) → bytes_at (fold (stepped labels) d is).parts s ≡ bytes_at d.parts s ++ section_bytes s (statements_from labels d is)
+  from-bytes : (labels : List SymbolData) (is : List ItemData) (d : DraftData) → bytes_at (fold (draft_after_item labels) d is).parts s ≡ bytes_at d.parts s ++ section_bytes s (statements_from labels d is)
   from-bytes labels [] d = sym (append-nil (bytes_at d.parts s))
   from-bytes labels (i ∷ is) d =
-      from-bytes labels is (stepped labels d i)
-      ∙ ap (λ bs. bs ++ section_bytes s (statements_from labels (stepped labels d i) is)) (stepped-bytes labels d i)
-      ∙ append_assoc (bytes_at d.parts s) (section_bytes s (standing d (content_of labels d i))) (section_bytes s (statements_from labels (stepped labels d i) is))
-      ∙ ap (λ bs. bytes_at d.parts s ++ bs) (sym (flat_map-append (λ (t : StatementData). cond (t.section == s) t.bytes []) (standing d (content_of labels d i)) (statements_from labels (stepped labels d i) is)))
+      from-bytes labels is (draft_after_item labels d i)
+      ∙ ap (λ bs. bs ++ section_bytes s (statements_from labels (draft_after_item labels d i) is)) (stepped-bytes labels d i)
+      ∙ append_assoc (bytes_at d.parts s) (section_bytes s (standing_statement d (content_of labels d i))) (section_bytes s (statements_from labels (draft_after_item labels d i) is))
+      ∙ ap (λ bs. bytes_at d.parts s ++ bs) (sym (flat_map-append (λ (t : StatementData). cond (t.section == s) t.bytes []) (standing_statement d (content_of labels d i)) (statements_from labels (draft_after_item labels d i) is)))
 
 -- the items of all lines, in order
-pub lines-items : (labels : List SymbolData) (lines : List LineData) (d : DraftData) → fold (with_line labels) d lines ≡ fold (stepped labels) d (items_in lines)
+pub lines-items : (labels : List SymbolData) (lines : List LineData) (d : DraftData) → fold (with_line labels) d lines ≡ fold (draft_after_item labels) d (items_in lines)
 unfolding with_line
 lines-items labels [] d = refl
-lines-items labels (l ∷ ls) d = lines-items labels ls (fold (stepped labels) d l.items) ∙ sym (fold-append (stepped labels) d l.items (items_in ls))
+lines-items labels (l ∷ ls) d = lines-items labels ls (fold (draft_after_item labels) d l.items) ∙ sym (fold-append (draft_after_item labels) d l.items (items_in ls))
 
 -- a section of a draft is the bytes of its statements in order
-pub drafted-bytes : (labels : List SymbolData) (lines : List LineData) (s : ℕ) → bytes_at (drafted labels lines).parts s ≡ section_bytes s (statements labels lines)
+pub drafted-bytes : (labels : List SymbolData) (lines : List LineData) (s : ℕ) → bytes_at (draft_from_lines labels lines).parts s ≡ section_bytes s (statements labels lines)
 drafted-bytes labels lines s = ap (λ (d : DraftData). bytes_at d.parts s) (lines-items labels lines start) ∙ from-bytes s labels (items_in lines) start
 
 -- ---- offsets

@@ -10,15 +10,15 @@ use Rattle.std.specs.Str.{bytes_eq}
 use Rattle.tc_object.specs.Objects.{InTurn}
 use Rattle.tc_stmt.proofs.Cases.{by_test}
 use Rattle.tc_asm.specs.declared.symbols.Entry.{Entry}
-use Rattle.tc_asm.specs.Symbols.{SymbolData, symbol, put_entry}
-use Rattle.tc_asm.specs.Drafts.{UseData, PartData, part_names, count_of}
-use Rattle.tc_asm.specs.DraftInvariants.{Each, is_among, symbol_names, size_at, Spaced}
+use Rattle.tc_asm.specs.Symbols.{SymbolData, symbol, put_entry, symbol_names}
+use Rattle.tc_asm.specs.Drafts.{UseData, PartData, part_names, count_of_uses, part_size_at}
+use Rattle.tc_asm.specs.DraftInvariants.{EachInDraft, is_drafted_name, Spaced}
 
-pub each_weaker : {A : Type 0} (P Q : A → Type 0) → ((x : A) → P x → Q x) → (xs : List A) → Each P xs → Each Q xs
+pub each_weaker : {A : Type 0} (P Q : A → Type 0) → ((x : A) → P x → Q x) → (xs : List A) → EachInDraft P xs → EachInDraft Q xs
 each_weaker P Q f [] h = h
 each_weaker P Q f (x ∷ xs) h = (f x h.0, each_weaker P Q f xs h.1)
 
-pub each_push : {A : Type 0} (P : A → Type 0) (xs : List A) (y : A) → Each P xs → P y → Each P (xs ++ y ∷ [])
+pub each_push : {A : Type 0} (P : A → Type 0) (xs : List A) (y : A) → EachInDraft P xs → P y → EachInDraft P (xs ++ y ∷ [])
 each_push P [] y h p = (p, tt)
 each_push P (x ∷ xs) y h p = (h.0, each_push P xs y h.1 p)
 
@@ -29,27 +29,27 @@ in_turn_push {A} good before (x ∷ xs) y h g =
     (h.0, in_turn_push good (before ++ x ∷ []) xs y h.1 (subst (λ (bs : List A). good bs y) moved g))
 
 -- ---- names
-pub among_push : (names : List (List ℕ)) (m n : List ℕ) → is_among names n ≡ true → is_among (names ++ m ∷ []) n ≡ true
+pub among_push : (names : List (List ℕ)) (m n : List ℕ) → is_drafted_name names n ≡ true → is_drafted_name (names ++ m ∷ []) n ≡ true
 among_push [] m n h = cc
 among_push (x ∷ xs) m n h = by (bytes_eq n x) h (among_push xs m n)
   where
-    by : (b : Bool) → (b || is_among xs n) ≡ true → (is_among xs n ≡ true → is_among (xs ++ m ∷ []) n ≡ true) → (b || is_among (xs ++ m ∷ []) n) ≡ true
+    by : (b : Bool) → (b || is_drafted_name xs n) ≡ true → (is_drafted_name xs n ≡ true → is_drafted_name (xs ++ m ∷ []) n ≡ true) → (b || is_drafted_name (xs ++ m ∷ []) n) ≡ true
     by true e rest = refl
     by false e rest = rest e
 
-pub among_last : (names : List (List ℕ)) (n : List ℕ) → bytes_eq n n ≡ true → is_among (names ++ n ∷ []) n ≡ true
+pub among_last : (names : List (List ℕ)) (n : List ℕ) → bytes_eq n n ≡ true → is_drafted_name (names ++ n ∷ []) n ≡ true
 among_last [] n same = rw same refl
 among_last (x ∷ xs) n same = by (bytes_eq n x) (among_last xs n same)
   where
-    by : (b : Bool) → is_among (xs ++ n ∷ []) n ≡ true → (b || is_among (xs ++ n ∷ []) n) ≡ true
+    by : (b : Bool) → is_drafted_name (xs ++ n ∷ []) n ≡ true → (b || is_drafted_name (xs ++ n ∷ []) n) ≡ true
     by true rest = refl
     by false rest = rest
 
 -- the names after a symbol is put
 pub names_put : (ss : List SymbolData) (name : List ℕ) (e : Entry)
-    → symbol_names (put_entry ss name e) ≡ cond (is_among (symbol_names ss) name) (symbol_names ss) (symbol_names ss ++ name ∷ [])
+    → symbol_names (put_entry ss name e) ≡ cond (is_drafted_name (symbol_names ss) name) (symbol_names ss) (symbol_names ss ++ name ∷ [])
 names_put [] name e = refl
-names_put (s ∷ ss) name e = by (bytes_eq name s.name) (is_among (symbol_names ss) name) (names_put ss name e)
+names_put (s ∷ ss) name e = by (bytes_eq name s.name) (is_drafted_name (symbol_names ss) name) (names_put ss name e)
   where
     by : (b a : Bool) → symbol_names (put_entry ss name e) ≡ cond a (symbol_names ss) (symbol_names ss ++ name ∷ [])
         → symbol_names (cond b (symbol s.name e ∷ ss) (s ∷ put_entry ss name e)) ≡ cond (b || a) (s.name ∷ symbol_names ss) (s.name ∷ (symbol_names ss ++ name ∷ []))
@@ -57,15 +57,15 @@ names_put (s ∷ ss) name e = by (bytes_eq name s.name) (is_among (symbol_names 
     by false true h = ap (λ (ns : List (List ℕ)). s.name ∷ ns) h
     by false false h = ap (λ (ns : List (List ℕ)). s.name ∷ ns) h
 
-pub each_put : (P : Entry → Type 0) (ss : List SymbolData) (name : List ℕ) (e : Entry) → Each (λ (s : SymbolData). P s.entry) ss → P e
-    → Each (λ (s : SymbolData). P s.entry) (put_entry ss name e)
+pub each_put : (P : Entry → Type 0) (ss : List SymbolData) (name : List ℕ) (e : Entry) → EachInDraft (λ (s : SymbolData). P s.entry) ss → P e
+    → EachInDraft (λ (s : SymbolData). P s.entry) (put_entry ss name e)
 each_put P [] name e h p = (p, tt)
 each_put P (s ∷ ss) name e h p =
-    by_test (λ (us : List SymbolData). Each (λ (t : SymbolData). P t.entry) us) (bytes_eq name s.name) (symbol s.name e ∷ ss) (s ∷ put_entry ss name e)
+    by_test (λ (us : List SymbolData). EachInDraft (λ (t : SymbolData). P t.entry) us) (bytes_eq name s.name) (symbol s.name e ∷ ss) (s ∷ put_entry ss name e)
     (λ b. (p, h.1)) (λ b. (h.0, each_put P ss name e h.1 p))
 
 -- a property of each entry holds of the entry of a name
-pub entry_has : (P : Entry → Type 0) (ss : List SymbolData) (name : List ℕ) (none : Entry) → Each (λ (s : SymbolData). P s.entry) ss → P none
+pub entry_has : (P : Entry → Type 0) (ss : List SymbolData) (name : List ℕ) (none : Entry) → EachInDraft (λ (s : SymbolData). P s.entry) ss → P none
     → P (unwrap_or (option_map (λ (s : SymbolData). s.entry) (find (λ s. bytes_eq name s.name) ss)) none)
 entry_has P [] name none h p = p
 entry_has P (s ∷ ss) name none h p = by (bytes_eq name s.name) (entry_has P ss name none h.1 p)
@@ -74,21 +74,21 @@ entry_has P (s ∷ ss) name none h p = by (bytes_eq name s.name) (entry_has P ss
     by true rest = h.0
     by false rest = rest
 
-pub known_among : (ss : List SymbolData) (name : List ℕ) → find (λ (s : SymbolData). bytes_eq name s.name) ss ≡ None → is_among (symbol_names ss) name ≡ false
+pub known_among : (ss : List SymbolData) (name : List ℕ) → find (λ (s : SymbolData). bytes_eq name s.name) ss ≡ None → is_drafted_name (symbol_names ss) name ≡ false
 known_among [] name h = refl
 known_among (s ∷ ss) name h = by (bytes_eq name s.name) h (known_among ss name)
   where
     by : (b : Bool) → cond b (Some s) (find (λ (t : SymbolData). bytes_eq name t.name) ss) ≡ None
-        → (find (λ (t : SymbolData). bytes_eq name t.name) ss ≡ None → is_among (symbol_names ss) name ≡ false) → (b || is_among (symbol_names ss) name) ≡ false
+        → (find (λ (t : SymbolData). bytes_eq name t.name) ss ≡ None → is_drafted_name (symbol_names ss) name ≡ false) → (b || is_drafted_name (symbol_names ss) name) ≡ false
     by true e rest = cc
     by false e rest = rest e
 
-pub among_known : (ss : List SymbolData) (name : List ℕ) (s : SymbolData) → find (λ (t : SymbolData). bytes_eq name t.name) ss ≡ Some s → is_among (symbol_names ss) name ≡ true
+pub among_known : (ss : List SymbolData) (name : List ℕ) (s : SymbolData) → find (λ (t : SymbolData). bytes_eq name t.name) ss ≡ Some s → is_drafted_name (symbol_names ss) name ≡ true
 among_known [] name s h = cc
 among_known (x ∷ ss) name s h = by (bytes_eq name x.name) h (among_known ss name s)
   where
     by : (b : Bool) → cond b (Some x) (find (λ (t : SymbolData). bytes_eq name t.name) ss) ≡ Some s
-        → (find (λ (t : SymbolData). bytes_eq name t.name) ss ≡ Some s → is_among (symbol_names ss) name ≡ true) → (b || is_among (symbol_names ss) name) ≡ true
+        → (find (λ (t : SymbolData). bytes_eq name t.name) ss ≡ Some s → is_drafted_name (symbol_names ss) name ≡ true) → (b || is_drafted_name (symbol_names ss) name) ≡ true
     by true e rest = refl
     by false e rest = rest e
 
@@ -122,36 +122,36 @@ names-changed f h [] i = refl
 names-changed f h (p ∷ ps) zero = ap (λ (n : List ℕ). n ∷ part_names ps) (h p)
 names-changed f h (p ∷ ps) (suc i) = ap (λ (ns : List (List ℕ)). p.name ∷ ns) (names-changed f h ps i)
 
-pub size-changed : (f : PartData → PartData) → ((p : PartData) → length p.bytes ≤ length (f p).bytes) → (parts : List PartData) (i n : ℕ) → size_at parts n ≤ size_at (changed f parts i) n
+pub size-changed : (f : PartData → PartData) → ((p : PartData) → length p.bytes ≤ length (f p).bytes) → (parts : List PartData) (i n : ℕ) → part_size_at parts n ≤ part_size_at (changed f parts i) n
 size-changed f h [] i n = omega arith
 size-changed f h (p ∷ ps) zero zero = h p
 size-changed f h (p ∷ ps) zero (suc n) = omega arith
 size-changed f h (p ∷ ps) (suc i) zero = omega arith
 size-changed f h (p ∷ ps) (suc i) (suc n) = size-changed f h ps i n
 
-pub each_changed : (P Q : PartData → Type 0) (f : PartData → PartData) (parts : List PartData) (i : ℕ) → ((p : PartData) → P p → Q p) → ((p : PartData) → length p.bytes ≡ size_at parts i → P p → Q (f p))
-    → Each P parts → Each Q (changed f parts i)
+pub each_changed : (P Q : PartData → Type 0) (f : PartData → PartData) (parts : List PartData) (i : ℕ) → ((p : PartData) → P p → Q p) → ((p : PartData) → length p.bytes ≡ part_size_at parts i → P p → Q (f p))
+    → EachInDraft P parts → EachInDraft Q (changed f parts i)
 each_changed P Q f [] i other here h = tt
 each_changed P Q f (p ∷ ps) zero other here h = (here p refl h.0, each_weaker P Q other ps h.1)
 each_changed P Q f (p ∷ ps) (suc i) other here h = (other p h.0, each_changed P Q f ps i other here h.1)
 
-pub count-changed : (f : PartData → PartData) (k : ℕ) → ((p : PartData) → length (f p).uses ≡ length p.uses + k) → (parts : List PartData) (i : ℕ) → i < length parts → count_of (changed f parts i) ≡ count_of parts + k
+pub count-changed : (f : PartData → PartData) (k : ℕ) → ((p : PartData) → length (f p).uses ≡ length p.uses + k) → (parts : List PartData) (i : ℕ) → i < length parts → count_of_uses (changed f parts i) ≡ count_of_uses parts + k
 count-changed f k h [] i less = absurd (omega arith)
 count-changed f k h (p ∷ ps) zero less = let here = h p in count_cons (f p) ps ∙ omega (arith, here, count_cons p ps)
   where
-    count_cons : (q : PartData) (qs : List PartData) → count_of (q ∷ qs) ≡ length q.uses + count_of qs
+    count_cons : (q : PartData) (qs : List PartData) → count_of_uses (q ∷ qs) ≡ length q.uses + count_of_uses qs
     count_cons q qs = sum_by-cons (λ (r : PartData). length r.uses) q qs
 count-changed f k h (p ∷ ps) (suc i) less =
-    let rest : count_of (changed f ps i) ≡ count_of ps + k = count-changed f k h ps i (omega arith) in
+    let rest : count_of_uses (changed f ps i) ≡ count_of_uses ps + k = count-changed f k h ps i (omega arith) in
     sum_by-cons (λ (r : PartData). length r.uses) p (changed f ps i) ∙ omega (arith, rest, sum_by-cons (λ (r : PartData). length r.uses) p ps)
 
 -- ---- a further section
-pub size-push : (parts : List PartData) (p : PartData) (n : ℕ) → size_at parts n ≤ size_at (parts ++ p ∷ []) n
+pub size-push : (parts : List PartData) (p : PartData) (n : ℕ) → part_size_at parts n ≤ part_size_at (parts ++ p ∷ []) n
 size-push [] p n = omega arith
 size-push (q ∷ qs) p zero = omega arith
 size-push (q ∷ qs) p (suc n) = size-push qs p n
 
-pub size_at-get : (parts : List PartData) (n : ℕ) → option_map_or (λ (p : PartData). length p.bytes) (slice_get parts n) 0 ≡ size_at parts n
+pub size_at-get : (parts : List PartData) (n : ℕ) → option_map_or (λ (p : PartData). length p.bytes) (slice_get parts n) 0 ≡ part_size_at parts n
 size_at-get [] n = refl
 size_at-get (p ∷ ps) zero = refl
 size_at-get (p ∷ ps) (suc n) = size_at-get ps n
@@ -169,7 +169,7 @@ pub spaced_end : (low : ℕ) (us : List UseData) (size : ℕ) → Spaced low us 
 spaced_end low [] size h = h
 spaced_end low (u ∷ us) size h = let more = spaced_end (u.offset + 4) us size h.1 in let le = h.0 in omega arith
 
-pub all_from_each : {A : Type 0} (P : A → Type 0) (xs : List A) → Each P xs → All P xs
+pub all_from_each : {A : Type 0} (P : A → Type 0) (xs : List A) → EachInDraft P xs → All P xs
 all_from_each P [] h = All-nil P
 all_from_each P (x ∷ xs) h = All-cons P x xs h.0 (all_from_each P xs h.1)
 

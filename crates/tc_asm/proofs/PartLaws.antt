@@ -5,7 +5,7 @@ use Rattle.std.specs.Option.{option_map_or}
 use Rattle.std.proofs.lemmas.List.{length-map, length-replicate, get_or-map, map-set, take_all}
 use Rattle.std.proofs.lemmas.Option.{slice_get-get_or}
 use Rattle.tc_asm.specs.declared.sections.Part.{Part}
-use Rattle.tc_asm.specs.Drafts.{PartData, UseData, extended, used}
+use Rattle.tc_asm.specs.Drafts.{PartData, UseData, with_part_bytes, with_part_use}
 use Rattle.tc_asm.specs.DraftViews.{part_of}
 
 module _ (change : PartData → PartData) where
@@ -21,14 +21,14 @@ module _ (change : PartData → PartData) where
 
 pub extended-set : (parts : List Part) (i : ℕ) (d p : Part) (bs : List ℕ) → i < length parts
     → part_of p ≡ record (part_of (get_or parts i d)) { bytes = (part_of (get_or parts i d)).bytes ++ bs }
-    → map part_of (set parts i p) ≡ extended (map part_of parts) i bs
-unfolding extended
+    → map part_of (set parts i p) ≡ with_part_bytes (map part_of parts) i bs
+unfolding with_part_bytes
 extended-set parts i d p bs h e = changed-set (λ q. record q { bytes = q.bytes ++ bs }) parts i d p h e
 
 pub used-set : (parts : List Part) (i : ℕ) (d p : Part) (u : UseData) → i < length parts
     → part_of p ≡ record (part_of (get_or parts i d)) { uses = (part_of (get_or parts i d)).uses ++ u ∷ [] }
-    → map part_of (set parts i p) ≡ used (map part_of parts) i u
-unfolding used
+    → map part_of (set parts i p) ≡ with_part_use (map part_of parts) i u
+unfolding with_part_use
 used-set parts i d p u h e = changed-set (λ q. record q { uses = q.uses ++ u ∷ [] }) parts i d p h e
 
 -- ---- zeros that are only counted

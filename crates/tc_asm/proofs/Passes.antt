@@ -17,9 +17,9 @@ use Rattle.tc_asm.specs.Errors.{IfBad}
 use Rattle.tc_asm.specs.Objects.{object_of}
 use Rattle.tc_asm.proofs.LaidLaws.{lines-items}
 use Rattle.tc_asm.specs.Symbols.{SymbolData}
-use Rattle.tc_asm.specs.Drafts.{DraftData, start, stepped, with_line, drafted}
+use Rattle.tc_asm.specs.Drafts.{DraftData, start, draft_after_item}
+use Rattle.tc_asm.specs.DraftedSources.{draft_from_lines, with_line, rule_in, symbols_of, KeepsRules, IsLeastBrokenLine}
 use Rattle.tc_asm.specs.Rules.{item_rule, items_rule, line_rule}
-use Rattle.tc_asm.specs.DraftedSources.{rule_in, symbols_of, KeepsRules, IsLeast}
 
 -- the line at a place, with the lines after it
 module _ (ls : List LineData) (i : ℕ) (x : LineData) (zs : List LineData) (here : drop i ls ≡ x ∷ zs) where
@@ -35,23 +35,23 @@ module _ (ls : List LineData) (i : ℕ) (x : LineData) (zs : List LineData) (her
   behind_here = sym (drop-drop 1 i ls) ∙ ap (λ (ks : List LineData). drop 1 ks) here
 
   pub drafted_more : (labels : List SymbolData) (draft next : DraftData)
-      → draft ≡ drafted labels (take i ls) → next ≡ with_line labels draft x → next ≡ drafted labels (take (i + 1) ls)
+      → draft ≡ draft_from_lines labels (take i ls) → next ≡ with_line labels draft x → next ≡ draft_from_lines labels (take (i + 1) ls)
   drafted_more labels draft next so_far step =
       step
       ∙ ap (λ p. with_line labels p x) so_far
-      ∙ ap (with_line labels (drafted labels (take i ls))) (sym (get_here x))
+      ∙ ap (with_line labels (draft_from_lines labels (take i ls))) (sym (get_here x))
       ∙ sym (fold_more (with_line labels) start ls i x within)
 
   pub rule_here : (labels : List SymbolData) (draft : DraftData) (rule : ℕ) (d : LineData)
-      → labels ≡ symbols_of ls → draft ≡ drafted labels (take i ls) → rule ≡ line_rule labels draft x → rule_in ls i (get_or ls i d) ≡ rule
+      → labels ≡ symbols_of ls → draft ≡ draft_from_lines labels (take i ls) → rule ≡ line_rule labels draft x → rule_in ls i (get_or ls i d) ≡ rule
   rule_here labels draft rule d same so_far is =
       sym (is
       ∙ ap (λ p. line_rule labels p x) so_far
-      ∙ ap (line_rule labels (drafted labels (take i ls))) (sym (get_here d))
-      ∙ ap (λ ss. line_rule ss (drafted ss (take i ls)) (get_or ls i d)) same)
+      ∙ ap (line_rule labels (draft_from_lines labels (take i ls))) (sym (get_here d))
+      ∙ ap (λ ss. line_rule ss (draft_from_lines ss (take i ls)) (get_or ls i d)) same)
 
   pub kept_more : (labels : List SymbolData) (draft : DraftData) (rule : ℕ)
-      → labels ≡ symbols_of ls → draft ≡ drafted labels (take i ls) → rule ≡ line_rule labels draft x → rule ≡ 15 → KeepsRules ls i → KeepsRules ls (i + 1)
+      → labels ≡ symbols_of ls → draft ≡ draft_from_lines labels (take i ls) → rule ≡ line_rule labels draft x → rule ≡ 15 → KeepsRules ls i → KeepsRules ls (i + 1)
   kept_more labels draft rule same so_far is none before = λ k e h.
       elim (cases_lt k i) [
         | inl less ↦ before k e less
@@ -61,7 +61,7 @@ module _ (ls : List LineData) (i : ℕ) (x : LineData) (zs : List LineData) (her
       ]
 
   pub least_here : (labels : List SymbolData) (draft : DraftData) (rule : ℕ)
-      → labels ≡ symbols_of ls → draft ≡ drafted labels (take i ls) → rule ≡ line_rule labels draft x → rule ≢ 15 → KeepsRules ls i → IsLeast ls (i + 1) rule
+      → labels ≡ symbols_of ls → draft ≡ draft_from_lines labels (take i ls) → rule ≡ line_rule labels draft x → rule ≢ 15 → KeepsRules ls i → IsLeastBrokenLine ls (i + 1) rule
   least_here labels draft rule same so_far is some before = record {
     place = i;
     within = within;
@@ -96,20 +96,20 @@ module _ (source : List ℕ) (read : Source) (same : lines_of read ≡ lines_in 
   pub kept_source : KeepsRules (lines_of read) (length (lines_of read)) → KeepsRules (lines_in source) (length (lines_in source))
   kept_source h = subst (λ (ls : List LineData). KeepsRules ls (length ls)) same h
 
-  pub object_source : (o : ObjectData) (d : DraftData) (labels : List SymbolData) → o ≡ object_of d → d ≡ drafted labels (lines_of read) → labels ≡ symbols_of (lines_of read)
-      → o ≡ object_of (drafted (symbols_of (lines_in source)) (lines_in source))
+  pub object_source : (o : ObjectData) (d : DraftData) (labels : List SymbolData) → o ≡ object_of d → d ≡ draft_from_lines labels (lines_of read) → labels ≡ symbols_of (lines_of read)
+      → o ≡ object_of (draft_from_lines (symbols_of (lines_in source)) (lines_in source))
   object_source o d labels e f g =
-      e ∙ ap object_of (f ∙ ap (λ ls. drafted ls (lines_of read)) g) ∙ ap (λ ls. object_of (drafted (symbols_of ls) ls)) same
+      e ∙ ap object_of (f ∙ ap (λ ls. draft_from_lines ls (lines_of read)) g) ∙ ap (λ ls. object_of (draft_from_lines (symbols_of ls) ls)) same
 
-  pub bad_source : (e : AsmErr) → IfBad (IsLeast (lines_of read)) e → IfBad (IsLeast (lines_in source)) e
-  bad_source e h = subst (λ (ls : List LineData). IfBad (IsLeast ls) e) same h
+  pub bad_source : (e : AsmErr) → IfBad (IsLeastBrokenLine (lines_of read)) e → IfBad (IsLeastBrokenLine (lines_in source)) e
+  bad_source e h = subst (λ (ls : List LineData). IfBad (IsLeastBrokenLine ls) e) same h
 
 -- the symbols of the items of all lines are those of the lines
-pub labels_source : (source : List ℕ) (read : Source) (items : List Item) (labels : List SymbolData) → labels ≡ (fold (stepped []) start (map item_of items)).symbols
+pub labels_source : (source : List ℕ) (read : Source) (items : List Item) (labels : List SymbolData) → labels ≡ (fold (draft_after_item []) start (map item_of items)).symbols
     → items ≡ read.items.items → map item_of read.items.items ≡ items_in (lines_in source) → lines_of read ≡ lines_in source → labels ≡ symbols_of (lines_of read)
 labels_source source read items labels e f g same =
     e
-    ∙ ap (λ (is : List Item). (fold (stepped []) start (map item_of is)).symbols) f
-    ∙ ap (λ (is : List ItemData). (fold (stepped []) start is).symbols) g
+    ∙ ap (λ (is : List Item). (fold (draft_after_item []) start (map item_of is)).symbols) f
+    ∙ ap (λ (is : List ItemData). (fold (draft_after_item []) start is).symbols) g
     ∙ sym (ap (λ (d : DraftData). d.symbols) (lines-items [] (lines_in source) start))
     ∙ ap symbols_of (sym same)

@@ -14,22 +14,22 @@ use Rattle.tc_isa.specs.Meanings.{doubled_displacement, ahead_only}
 use Rattle.tc_stmt.specs.declared.want.Field.TheVariants.{K}
 use Rattle.tc_stmt.specs.RowFields.{RowFieldsData, with_rule, with_value, set_field}
 use Rattle.tc_stmt.specs.Items.{ReferenceData, ItemData, label, section, code, bytes}
-use Rattle.tc_stmt.specs.Displacements.{is_far, is_odd, displacement_rule, with_displacement}
-use Rattle.tc_stmt.specs.OperandForms.{wrap}
+use Rattle.tc_stmt.specs.Displacements.{is_far_displacement, is_odd_displacement, displacement_rule, with_displacement}
+use Rattle.tc_stmt.specs.OperandForms.{wrap_into_field}
 use Rattle.tc_stmt.specs.StatedRows.{is_short_jump}
 use Rattle.tc_asm.specs.declared.symbols.Place.{Place}
 use Rattle.tc_stmt.specs.Lines.{lines_in, items_in}
 use Rattle.tc_asm.specs.Symbols.{SymbolData, place_in}
-use Rattle.tc_asm.specs.Drafts.{DraftData, start, has_section, place_of, distance, found, targeted, jumped, resolved, code_bytes, stepped}
+use Rattle.tc_asm.specs.Drafts.{DraftData, start, has_section, draft_place, label_distance, drafted_fields, fields_with_target, fields_with_label_distance, row_fields_with_target, code_bytes, draft_after_item}
 use Rattle.tc_asm.specs.Rules.{content_rule, item_rule, items_rule}
 use Rattle.tc_asm.specs.DraftedSources.{symbols_of}
-use Rattle.tc_asm.specs.DraftInvariants.{Each}
-use Rattle.tc_asm.specs.Objects.{addend_of}
+use Rattle.tc_asm.specs.DraftInvariants.{EachInDraft}
+use Rattle.tc_asm.specs.Objects.{assembled_addend}
 use Rattle.tc_asm.specs.Statements.{StatementData, statement, content_of}
-use Rattle.tc_asm.specs.InstructionLaws.{Spells}
-use Rattle.tc_asm.specs.ShortJumps.{displacement, ShortJumpsLaw}
+use Rattle.tc_asm.specs.InstructionLaws.{InstructionSpellsRow}
+use Rattle.tc_asm.specs.ShortJumps.{short_jump_displacement, ShortJumpsLaw}
 use Rattle.tc_asm.proofs.Uses.{fits}
-use Rattle.tc_asm.specs.AddedItems.{IsCode, IsItem}
+use Rattle.tc_asm.specs.AddedItems.{IsAddedCode, IsAddedItem}
 use Rattle.tc_asm.proofs.SourceItems.{source_are}
 use Rattle.tc_asm.proofs.SourceDrafts.{source_items}
 use Rattle.tc_asm.proofs.AlikeDrafts.{passes_agree}
@@ -44,11 +44,11 @@ low_twice k h = let low : nat_lt (k % 2 ^ 8) (2 ^ (8 - 1)) ≡ true = grind (ari
 high_twice : (k : ℕ) → 128 ≤ k → k < 256 → 2 * sign_extended 8 (k % 2 ^ 8) % 2 ^ 32 ≡ 2 ^ 32 - 2 * (256 - k)
 high_twice k g h = let high : nat_lt (k % 2 ^ 8) (2 ^ (8 - 1)) ≡ false = grind (arith, nat_tests) in rw high (omega arith)
 
-even : (s : ℕ) → is_odd s ≡ false → s % 2 ≡ 0
+even : (s : ℕ) → is_odd_displacement s ≡ false → s % 2 ≡ 0
 even s e = grind (arith, nat_tests)
 
 -- in form SB
-both_ways : (minus : Bool) (s : ℕ) → cond minus (nat_lt 256 s) (nat_lt (256 - 2) s) ≡ false → is_odd s ≡ false → 2 * sign_extended 8 (wrap 256 minus (s / 2) % 2 ^ 8) % 2 ^ 32 ≡ cond minus ((2 ^ 32 - s) % 2 ^ 32) s
+both_ways : (minus : Bool) (s : ℕ) → cond minus (nat_lt 256 s) (nat_lt (256 - 2) s) ≡ false → is_odd_displacement s ≡ false → 2 * sign_extended 8 (wrap_into_field 256 minus (s / 2) % 2 ^ 8) % 2 ^ 32 ≡ cond minus ((2 ^ 32 - s) % 2 ^ 32) s
 both_ways false s far odd =
     let less = ltb-false (256 - 2) s far in
     let two = even s odd in
@@ -74,7 +74,7 @@ both_ways true s far odd = by (s / 2 == 0) refl
         high_twice (256 - s / 2) big small ∙ back
 
 -- in form SBR
-forwards : (minus : Bool) (s : ℕ) → cond minus (not (s == 0)) (nat_lt (2 * (16 - 1)) s) ≡ false → is_odd s ≡ false → 2 * wrap 16 minus (s / 2) % 2 ^ 32 ≡ cond minus ((2 ^ 32 - s) % 2 ^ 32) s
+forwards : (minus : Bool) (s : ℕ) → cond minus (not (s == 0)) (nat_lt (2 * (16 - 1)) s) ≡ false → is_odd_displacement s ≡ false → 2 * wrap_into_field 16 minus (s / 2) % 2 ^ 32 ≡ cond minus ((2 ^ 32 - s) % 2 ^ 32) s
 forwards false s far odd = let less = ltb-false (2 * (16 - 1)) s far in let two = even s odd in omega arith
 forwards true s far odd = let none : s ≡ 0 = by (s == 0) refl far in rw none refl
   where
@@ -82,16 +82,16 @@ forwards true s far odd = let none : s ≡ 0 = by (s == 0) refl far in rw none r
     by true e h = (Decides-eqb s 0).0 e
     by false e h = cc
 
-displacement_is : (form : Form) (f : Fields) (minus : Bool) (s : ℕ) → is_short_jump form ≡ true → is_far form (bounds form).k minus s ≡ false → is_odd s ≡ false →
-    cond (form_index form == 13) (ahead_only (record f { k = wrap (bounds form).k minus (s / 2) })) (doubled_displacement 8 (record f { k = wrap (bounds form).k minus (s / 2) })) ≡ cond minus ((2 ^ 32 - s) % 2 ^ 32) s
+displacement_is : (form : Form) (f : Fields) (minus : Bool) (s : ℕ) → is_short_jump form ≡ true → is_far_displacement form (bounds form).k minus s ≡ false → is_odd_displacement s ≡ false →
+    cond (form_index form == 13) (ahead_only (record f { k = wrap_into_field (bounds form).k minus (s / 2) })) (doubled_displacement 8 (record f { k = wrap_into_field (bounds form).k minus (s / 2) })) ≡ cond minus ((2 ^ 32 - s) % 2 ^ 32) s
 unfolding bounds form_index
 displacement_is Sb f minus s short far odd = both_ways minus s far odd
 displacement_is Sbr f minus s short far odd = forwards minus s far odd
 displacement_is _ f minus s short far odd = cc
 
-near_even : (row : RowData) (minus : Bool) (s : ℕ) → (displacement_rule row minus s == 15) ≡ true → (is_far row.form (bounds row.form).k minus s ≡ false) × (is_odd s ≡ false)
+near_even : (row : RowData) (minus : Bool) (s : ℕ) → (displacement_rule row minus s == 15) ≡ true → (is_far_displacement row.form (bounds row.form).k minus s ≡ false) × (is_odd_displacement s ≡ false)
 unfolding displacement_rule
-near_even row minus s e = by (is_far row.form (bounds row.form).k minus s) (is_long row) (is_odd s) e
+near_even row minus s e = by (is_far_displacement row.form (bounds row.form).k minus s) (is_long row) (is_odd_displacement s) e
   where
     by : (far long odd : Bool) → (min (cond far (cond long 5 11) 15) (cond odd 6 15) == 15) ≡ true → (far ≡ false) × (odd ≡ false)
     by true true true e = cc
@@ -103,7 +103,7 @@ near_even row minus s e = by (is_far row.form (bounds row.form).k minus s) (is_l
 
 at_most : (row : RowData) (minus : Bool) (s : ℕ) → displacement_rule row minus s ≤ 15
 unfolding displacement_rule
-at_most row minus s = by (is_far row.form (bounds row.form).k minus s) (is_long row) (is_odd s)
+at_most row minus s = by (is_far_displacement row.form (bounds row.form).k minus s) (is_long row) (is_odd_displacement s)
   where
     by : (far long odd : Bool) → min (cond far (cond long 5 11) 15) (cond odd 6 15) ≤ 15
     by far long true = omega arith
@@ -113,13 +113,13 @@ at_most row minus s = by (is_far row.form (bounds row.form).k minus s) (is_long 
 not_both : (b : Bool) → b ≡ true → b ≡ false → ⊥
 not_both b e g = cc
 
-displaced_is : (row : RowData) (minus : Bool) (s : ℕ) (f : Fields) → 15 ≤ (with_displacement row minus s (found f)).rule →
-    ((displacement_rule row minus s == 15) ≡ true) × ((with_displacement row minus s (found f)).fields ≡ record f { k = wrap (bounds row.form).k minus (s / 2) })
+displaced_is : (row : RowData) (minus : Bool) (s : ℕ) (f : Fields) → 15 ≤ (with_displacement row minus s (drafted_fields f)).rule →
+    ((displacement_rule row minus s == 15) ≡ true) × ((with_displacement row minus s (drafted_fields f)).fields ≡ record f { k = wrap_into_field (bounds row.form).k minus (s / 2) })
 unfolding with_displacement set_field
 displaced_is row minus s f h = by (displacement_rule row minus s == 15) refl h
   where
-    by : (b : Bool) → (displacement_rule row minus s == 15) ≡ b → 15 ≤ (cond b (with_value K (wrap (bounds row.form).k minus (s / 2)) (found f)) (with_rule (displacement_rule row minus s) (found f))).rule
-        → (b ≡ true) × ((cond b (with_value K (wrap (bounds row.form).k minus (s / 2)) (found f)) (with_rule (displacement_rule row minus s) (found f))).fields ≡ record f { k = wrap (bounds row.form).k minus (s / 2) })
+    by : (b : Bool) → (displacement_rule row minus s == 15) ≡ b → 15 ≤ (cond b (with_value K (wrap_into_field (bounds row.form).k minus (s / 2)) (drafted_fields f)) (with_rule (displacement_rule row minus s) (drafted_fields f))).rule
+        → (b ≡ true) × ((cond b (with_value K (wrap_into_field (bounds row.form).k minus (s / 2)) (drafted_fields f)) (with_rule (displacement_rule row minus s) (drafted_fields f))).fields ≡ record f { k = wrap_into_field (bounds row.form).k minus (s / 2) })
     by true e h = (refl, refl)
     by false e h =
         let most = at_most row minus s in
@@ -129,15 +129,15 @@ displaced_is row minus s f h = by (displacement_rule row minus s == 15) refl h
 record IsJumped (labels : List SymbolData) (d : DraftData) (row : RowData) (f : Fields) (r : ReferenceData) : Type 0 where
   minus : Bool
   size : ℕ
-  is : distance labels d r ≡ Some (minus, size)
+  is : label_distance labels d r ≡ Some (minus, size)
   rule : (displacement_rule row minus size == 15) ≡ true
-  fields : (jumped labels d row f r).fields ≡ record f { k = wrap (bounds row.form).k minus (size / 2) }
+  fields : (fields_with_label_distance labels d row f r).fields ≡ record f { k = wrap_into_field (bounds row.form).k minus (size / 2) }
 
-jumped_is : (labels : List SymbolData) (d : DraftData) (row : RowData) (f : Fields) (r : ReferenceData) → 15 ≤ (jumped labels d row f r).rule → IsJumped labels d row f r
-unfolding jumped
-jumped_is labels d row f r h = by (distance labels d r) refl h
+jumped_is : (labels : List SymbolData) (d : DraftData) (row : RowData) (f : Fields) (r : ReferenceData) → 15 ≤ (fields_with_label_distance labels d row f r).rule → IsJumped labels d row f r
+unfolding fields_with_label_distance
+jumped_is labels d row f r h = by (label_distance labels d r) refl h
   where
-    by : (o : Option (Bool × ℕ)) → distance labels d r ≡ o → 15 ≤ (option_map_or (λ n. with_displacement row n.0 n.1 (found f)) o (with_rule 10 (found f))).rule → IsJumped labels d row f r
+    by : (o : Option (Bool × ℕ)) → label_distance labels d r ≡ o → 15 ≤ (option_map_or (λ n. with_displacement row n.0 n.1 (drafted_fields f)) o (with_rule 10 (drafted_fields f))).rule → IsJumped labels d row f r
     by None e h = absurd (omega arith)
     by (Some n) e h =
         let p = displaced_is row n.0 n.1 f h in
@@ -146,7 +146,7 @@ jumped_is labels d row f r h = by (distance labels d r) refl h
           size = n.1;
           is = e;
           rule = p.0;
-          fields = ap (λ (o : Option (Bool × ℕ)). (option_map_or (λ n. with_displacement row n.0 n.1 (found f)) o (with_rule 10 (found f))).fields) e ∙ p.1;
+          fields = ap (λ (o : Option (Bool × ℕ)). (option_map_or (λ n. with_displacement row n.0 n.1 (drafted_fields f)) o (with_rule 10 (drafted_fields f))).fields) e ∙ p.1;
         }
 
 -- ---- distances
@@ -154,10 +154,10 @@ record IsDistant (labels : List SymbolData) (d : DraftData) (r : ReferenceData) 
   label : Place
   is_label : place_in labels r.name ≡ Some label
   here : label.section ≡ d.section
-  apart : place_of d + cond r.minus r.size 0 + cond minus 0 size ≡ label.offset + cond r.minus 0 r.size + cond minus size 0
+  apart : draft_place d + cond r.minus r.size 0 + cond minus 0 size ≡ label.offset + cond r.minus 0 r.size + cond minus size 0
 
-distant : (labels : List SymbolData) (d : DraftData) (r : ReferenceData) (minus : Bool) (size : ℕ) → distance labels d r ≡ Some (minus, size) → IsDistant labels d r minus size
-unfolding distance
+distant : (labels : List SymbolData) (d : DraftData) (r : ReferenceData) (minus : Bool) (size : ℕ) → label_distance labels d r ≡ Some (minus, size) → IsDistant labels d r minus size
+unfolding label_distance
 distant labels d r minus size e = by (place_in labels r.name) refl e
   where
     by_order : (x y : ℕ) (b : Bool) → nat_le x y ≡ b → cond {A = Option (Bool × ℕ)} b (Some (false, y - x)) (Some (true, x - y)) ≡ Some (minus, size) → x + cond minus 0 size ≡ y + cond minus size 0
@@ -176,24 +176,24 @@ distant labels d r minus size e = by (place_in labels r.name) refl e
 
     by_section : (a : Place) (b : Bool) → (has_section d && a.section == d.section) ≡ b → place_in labels r.name ≡ Some a
         → cond {A = Option (Bool × ℕ)} b
-        (cond {A = Option (Bool × ℕ)} (nat_le (place_of d + cond r.minus r.size 0) (a.offset + cond r.minus 0 r.size))
-        (Some (false, (a.offset + cond r.minus 0 r.size) - (place_of d + cond r.minus r.size 0)))
-        (Some (true, (place_of d + cond r.minus r.size 0) - (a.offset + cond r.minus 0 r.size)))) None ≡ Some (minus, size)
+        (cond {A = Option (Bool × ℕ)} (nat_le (draft_place d + cond r.minus r.size 0) (a.offset + cond r.minus 0 r.size))
+        (Some (false, (a.offset + cond r.minus 0 r.size) - (draft_place d + cond r.minus r.size 0)))
+        (Some (true, (draft_place d + cond r.minus r.size 0) - (a.offset + cond r.minus 0 r.size)))) None ≡ Some (minus, size)
         → IsDistant labels d r minus size
     by_section a true there is g =
         record {
           label = a;
           is_label = is;
           here = (Decides-eqb a.section d.section).0 (and_parts (has_section d) (a.section == d.section) there).1;
-          apart = by_order (place_of d + cond r.minus r.size 0) (a.offset + cond r.minus 0 r.size) (nat_le (place_of d + cond r.minus r.size 0) (a.offset + cond r.minus 0 r.size)) refl g;
+          apart = by_order (draft_place d + cond r.minus r.size 0) (a.offset + cond r.minus 0 r.size) (nat_le (draft_place d + cond r.minus r.size 0) (a.offset + cond r.minus 0 r.size)) refl g;
         }
     by_section a false there is g = cc
 
     by : (o : Option Place) → place_in labels r.name ≡ o
         → option_map_or (λ (a : Place). cond {A = Option (Bool × ℕ)} (has_section d && a.section == d.section)
-        (cond {A = Option (Bool × ℕ)} (nat_le (place_of d + cond r.minus r.size 0) (a.offset + cond r.minus 0 r.size))
-        (Some (false, (a.offset + cond r.minus 0 r.size) - (place_of d + cond r.minus r.size 0)))
-        (Some (true, (place_of d + cond r.minus r.size 0) - (a.offset + cond r.minus 0 r.size)))) None) o None ≡ Some (minus, size)
+        (cond {A = Option (Bool × ℕ)} (nat_le (draft_place d + cond r.minus r.size 0) (a.offset + cond r.minus 0 r.size))
+        (Some (false, (a.offset + cond r.minus 0 r.size) - (draft_place d + cond r.minus r.size 0)))
+        (Some (true, (draft_place d + cond r.minus r.size 0) - (a.offset + cond r.minus 0 r.size)))) None) o None ≡ Some (minus, size)
         → IsDistant labels d r minus size
     by None is g = cc
     by (Some a) is g = by_section a (has_section d && a.section == d.section) refl is g
@@ -206,7 +206,7 @@ gone true false base place offset size s far e h small = omega arith
 gone false true base place offset size s far e h small = let less = small refl in omega arith
 gone false false base place offset size s far e h small = omega arith
 
-back_small : (form : Form) (s : ℕ) → is_short_jump form ≡ true → is_far form (bounds form).k true s ≡ false → s ≤ 2 ^ 32
+back_small : (form : Form) (s : ℕ) → is_short_jump form ≡ true → is_far_displacement form (bounds form).k true s ≡ false → s ≤ 2 ^ 32
 unfolding bounds form_index
 back_small Sb s short far = let less = ltb-false 256 s far in omega arith
 back_small Sbr s short far = let none : s ≡ 0 = by (s == 0) refl far in omega arith
@@ -221,30 +221,30 @@ record Jumps (labels : List SymbolData) (d : DraftData) (r : ReferenceData) (row
   label : Place
   is_label : place_in labels r.name ≡ Some label
   here : label.section ≡ d.section
-  reaches : (base : ℕ) → (base + place_of d + displacement row f) % 2 ^ 32 ≡ ((base + label.offset) % 2 ^ 32 + addend_of r) % 2 ^ 32
+  reaches : (base : ℕ) → (base + draft_place d + short_jump_displacement row f) % 2 ^ 32 ≡ ((base + label.offset) % 2 ^ 32 + assembled_addend r) % 2 ^ 32
 
-jumps_row : (labels : List SymbolData) (d : DraftData) (row : RowData) (f : Fields) (r : ReferenceData) → is_short_jump row.form ≡ true → 15 ≤ (jumped labels d row f r).rule → Jumps labels d r row (jumped labels d row f r).fields
+jumps_row : (labels : List SymbolData) (d : DraftData) (row : RowData) (f : Fields) (r : ReferenceData) → is_short_jump row.form ≡ true → 15 ≤ (fields_with_label_distance labels d row f r).rule → Jumps labels d r row (fields_with_label_distance labels d row f r).fields
 jumps_row labels d row f r short h =
     let j = jumped_is labels d row f r h in
     let n = near_even row j.minus j.size j.rule in
     let p = distant labels d r j.minus j.size j.is in
-    let F : Bool → Type 0 = λ b. is_far row.form (bounds row.form).k b j.size ≡ false in
-    let far : displacement row (jumped labels d row f r).fields ≡ cond j.minus ((2 ^ 32 - j.size) % 2 ^ 32) j.size
-    = ap (displacement row) j.fields ∙ displacement_is row.form f j.minus j.size short n.0 n.1 in
+    let F : Bool → Type 0 = λ b. is_far_displacement row.form (bounds row.form).k b j.size ≡ false in
+    let far : short_jump_displacement row (fields_with_label_distance labels d row f r).fields ≡ cond j.minus ((2 ^ 32 - j.size) % 2 ^ 32) j.size
+    = ap (short_jump_displacement row) j.fields ∙ displacement_is row.form f j.minus j.size short n.0 n.1 in
     record {
       label = p.label;
       is_label = p.is_label;
       here = p.here;
-      reaches = λ base. gone r.minus j.minus base (place_of d) p.label.offset r.size j.size (displacement row (jumped labels d row f r).fields) p.apart far
+      reaches = λ base. gone r.minus j.minus base (draft_place d) p.label.offset r.size j.size (short_jump_displacement row (fields_with_label_distance labels d row f r).fields) p.apart far
           (λ e. back_small row.form j.size short (subst F e n.0));
     }
 
-resolved_jumped : (labels : List SymbolData) (d : DraftData) (k : ℕ) (f : Fields) (r : ReferenceData) (row : RowData) → slice_get listed k ≡ Some row → r.kind ≡ 0 → resolved labels d k f (Some r) ≡ jumped labels d row f r
+resolved_jumped : (labels : List SymbolData) (d : DraftData) (k : ℕ) (f : Fields) (r : ReferenceData) (row : RowData) → slice_get listed k ≡ Some row → r.kind ≡ 0 → row_fields_with_target labels d k f (Some r) ≡ fields_with_label_distance labels d row f r
 resolved_jumped labels d k f r row at zero =
-    ap (λ (q : Option RowData). option_map_or (λ x. targeted labels d x f (Some r)) q (found f)) at
-    ∙ ap (λ b. cond b (jumped labels d row f r) (found f)) ((Decides-eqb r.kind 0).1 zero)
+    ap (λ (q : Option RowData). option_map_or (λ x. fields_with_target labels d x f (Some r)) q (drafted_fields f)) at
+    ∙ ap (λ b. cond b (fields_with_label_distance labels d row f r) (drafted_fields f)) ((Decides-eqb r.kind 0).1 zero)
 
-jumps_code : (labels : List SymbolData) (d : DraftData) (k : ℕ) (f : Fields) (r : ReferenceData) (c : IsCode k f (Some r)) → r.kind ≡ 0 → 15 ≤ (resolved labels d k f (Some r)).rule → Jumps labels d r c.row (resolved labels d k f (Some r)).fields
+jumps_code : (labels : List SymbolData) (d : DraftData) (k : ℕ) (f : Fields) (r : ReferenceData) (c : IsAddedCode k f (Some r)) → r.kind ≡ 0 → 15 ≤ (row_fields_with_target labels d k f (Some r)).rule → Jumps labels d r c.row (row_fields_with_target labels d k f (Some r)).fields
 jumps_code labels d k f r c zero h =
     let same = resolved_jumped labels d k f r c.row c.at zero in
     let R : RowFieldsData → Type 0 = λ x. 15 ≤ x.rule in
@@ -255,19 +255,19 @@ jumps_code labels d k f r c zero h =
 record StatementJumps (labels : List SymbolData) (d : DraftData) (t : StatementData) (r : ReferenceData) : Type 0 where
   section : d.section ≡ t.section
   place : ℕ
-  spells : Spells place t.bytes
+  spells : InstructionSpellsRow place t.bytes
   jumps : Jumps labels d r spells.row spells.fields
 
-statement_jumps : (labels : List SymbolData) (d : DraftData) (i : ItemData) (t : StatementData) (r : ReferenceData) → IsItem i → 15 ≤ item_rule labels d i → content_of labels d i ≡ Some t → t.reference ≡ Some r → r.kind ≡ 0 → StatementJumps labels d t r
+statement_jumps : (labels : List SymbolData) (d : DraftData) (i : ItemData) (t : StatementData) (r : ReferenceData) → IsAddedItem i → 15 ≤ item_rule labels d i → content_of labels d i ≡ Some t → t.reference ≡ Some r → r.kind ≡ 0 → StatementJumps labels d t r
 unfolding item_rule code_spells
 statement_jumps labels d (code k f o) t r h rule e is zero =
     let same : statement d.section (code_bytes labels d k f o) o ≡ t = cc in
     let given : o ≡ Some r = ap (λ (x : StatementData). x.reference) same ∙ is in
-    let P : Option ReferenceData → Type 0 = λ p. IsCode k f p → 15 ≤ (resolved labels d k f p).rule → StatementJumps labels d (statement d.section (code_bytes labels d k f p) p) r in
+    let P : Option ReferenceData → Type 0 = λ p. IsAddedCode k f p → 15 ≤ (row_fields_with_target labels d k f p).rule → StatementJumps labels d (statement d.section (code_bytes labels d k f p) p) r in
     let Q : StatementData → Type 0 = λ x. StatementJumps labels d x r in
     subst Q same
     (subst P (sym given) (λ c q. record { section = refl; place = k; spells = code_spells labels d k f (Some r) c; jumps = jumps_code labels d k f r c zero q })
-    h (fits (resolved labels d k f o).rule (content_rule d _ o) rule))
+    h (fits (row_fields_with_target labels d k f o).rule (content_rule d _ o) rule))
 statement_jumps labels d (bytes bs o) t r h rule e is zero =
     let same : statement d.section bs o ≡ t = cc in
     let given : o ≡ Some r = ap (λ (x : StatementData). x.reference) same ∙ is in
@@ -280,10 +280,10 @@ short_jumps_law source index t r keeps at is zero =
     let labels : List SymbolData = symbols_of (lines_in source) in
     let items : List ItemData = items_in (lines_in source) in
     let a = item_at labels items start index t at in
-    let d : DraftData = fold (stepped labels) start a.before in
-    let E : List ItemData → Type 0 = λ xs. Each IsItem xs in
+    let d : DraftData = fold (draft_after_item labels) start a.before in
+    let E : List ItemData → Type 0 = λ xs. EachInDraft IsAddedItem xs in
     let R : List ItemData → Type 0 = λ xs. 15 ≤ items_rule labels start xs in
-    let j = statement_jumps labels d a.item t r (each_there IsItem a.before a.after a.item (subst E a.are (source_are source)))
+    let j = statement_jumps labels d a.item t r (each_there IsAddedItem a.before a.after a.item (subst E a.are (source_are source)))
     (rule_there labels a.before a.after a.item start (subst R a.are (source_items source keeps))) a.content is zero in
     let place = offset_there labels items index t a j.section in
     record {
@@ -292,5 +292,5 @@ short_jumps_law source index t r keeps at is zero =
       label = j.jumps.label;
       is_label = ap (λ (ss : List SymbolData). place_in ss r.name) (passes_agree source) ∙ j.jumps.is_label;
       here = j.jumps.here ∙ j.section;
-      reaches = λ base. ap (λ n. (base + n + displacement j.spells.row j.spells.fields) % 2 ^ 32) place ∙ j.jumps.reaches base;
+      reaches = λ base. ap (λ n. (base + n + short_jump_displacement j.spells.row j.spells.fields) % 2 ^ 32) place ∙ j.jumps.reaches base;
     }

@@ -5,9 +5,9 @@ use Rattle.std.proofs.lemmas.List.Sums.{fold-append}
 use Rattle.tc_stmt.specs.Items.{ItemData}
 use Rattle.tc_stmt.specs.Lines.{LineData, lines_in, items_in}
 use Rattle.tc_asm.specs.Symbols.{SymbolData}
-use Rattle.tc_asm.specs.Drafts.{DraftData, start, stepped, with_line, drafted}
+use Rattle.tc_asm.specs.Drafts.{DraftData, start, draft_after_item}
+use Rattle.tc_asm.specs.DraftedSources.{draft_from_lines, with_line, symbols_of, KeepsRules, draft_in}
 use Rattle.tc_asm.specs.Rules.{item_rule, items_rule, line_rule}
-use Rattle.tc_asm.specs.DraftedSources.{symbols_of, KeepsRules, draft_in}
 use Rattle.tc_asm.specs.DraftInvariants.{IsDraft}
 use Rattle.tc_asm.proofs.KeptLaws.{IsDraft-start, IsDraft-line}
 use Rattle.tc_object.specs.Objects.{IsObject}
@@ -19,15 +19,15 @@ abbrev pub KeepsFrom : List SymbolData → DraftData → List LineData → Type 
 KeepsFrom labels d [] = Unit {0}
 KeepsFrom labels d (l ∷ ls) = (line_rule labels d l ≡ 15) × KeepsFrom labels (with_line labels d l) ls
 
-keeps_from : (labels : List SymbolData) (before rest : List LineData) → ((k : ℕ) (x : LineData) → k < length rest → line_rule labels (drafted labels (before ++ take k rest)) (get_or rest k x) ≡ 15) →
-    KeepsFrom labels (drafted labels before) rest
+keeps_from : (labels : List SymbolData) (before rest : List LineData) → ((k : ℕ) (x : LineData) → k < length rest → line_rule labels (draft_from_lines labels (before ++ take k rest)) (get_or rest k x) ≡ 15) →
+    KeepsFrom labels (draft_from_lines labels before) rest
 keeps_from labels before [] h = tt
 keeps_from labels before (l ∷ ls) h =
-    let step : drafted labels (before ++ l ∷ []) ≡ with_line labels (drafted labels before) l = fold-append (with_line labels) start before (l ∷ []) in
+    let step : draft_from_lines labels (before ++ l ∷ []) ≡ with_line labels (draft_from_lines labels before) l = fold-append (with_line labels) start before (l ∷ []) in
     let P : DraftData → Type 0 = λ d. KeepsFrom labels d ls in (
-      ap (λ (b : List LineData). line_rule labels (drafted labels b) l) (sym (append-nil before)) ∙ h 0 l (omega arith),
+      ap (λ (b : List LineData). line_rule labels (draft_from_lines labels b) l) (sym (append-nil before)) ∙ h 0 l (omega arith),
       subst P step (keeps_from labels (before ++ l ∷ []) ls (λ k x less.
-          ap (λ (b : List LineData). line_rule labels (drafted labels b) (get_or ls k x)) (append_assoc before (l ∷ []) (take k ls)) ∙ h (suc k) x (omega arith))),
+          ap (λ (b : List LineData). line_rule labels (draft_from_lines labels b) (get_or ls k x)) (append_assoc before (l ∷ []) (take k ls)) ∙ h (suc k) x (omega arith))),
     )
 
 kept_draft : (labels : List SymbolData) (ls : List LineData) (d : DraftData) → IsDraft d → KeepsFrom labels d ls → IsDraft (fold (with_line labels) d ls)
@@ -38,12 +38,12 @@ kept_draft labels (l ∷ ls) d h k = kept_draft labels ls (with_line labels d l)
 both : (a b : ℕ) → 15 ≤ a → 15 ≤ b → 15 ≤ min a b
 both a b h k = omega arith
 
-rules-append : (labels : List SymbolData) (d : DraftData) (xs ys : List ItemData) → 15 ≤ items_rule labels d xs → 15 ≤ items_rule labels (fold (stepped labels) d xs) ys → 15 ≤ items_rule labels d (xs ++ ys)
+rules-append : (labels : List SymbolData) (d : DraftData) (xs ys : List ItemData) → 15 ≤ items_rule labels d xs → 15 ≤ items_rule labels (fold (draft_after_item labels) d xs) ys → 15 ≤ items_rule labels d (xs ++ ys)
 rules-append labels d [] ys h k = k
 rules-append labels d (x ∷ xs) ys h k =
     let here : 15 ≤ item_rule labels d x = omega arith in
-    let more : 15 ≤ items_rule labels (stepped labels d x) xs = omega arith in
-    both (item_rule labels d x) (items_rule labels (stepped labels d x) (xs ++ ys)) here (rules-append labels (stepped labels d x) xs ys more k)
+    let more : 15 ≤ items_rule labels (draft_after_item labels d x) xs = omega arith in
+    both (item_rule labels d x) (items_rule labels (draft_after_item labels d x) (xs ++ ys)) here (rules-append labels (draft_after_item labels d x) xs ys more k)
 
 line_items : (l : LineData) (rule : ℕ) → min l.rule rule ≡ 15 → 15 ≤ rule
 line_items l rule e = omega arith
@@ -52,7 +52,7 @@ kept_items : (labels : List SymbolData) (ls : List LineData) (d : DraftData) →
 unfolding with_line line_rule
 kept_items labels [] d k = omega arith
 kept_items labels (l ∷ ls) d k =
-    rules-append labels d l.items (items_in ls) (line_items l (items_rule labels d l.items) k.0) (kept_items labels ls (fold (stepped labels) d l.items) k.1)
+    rules-append labels d l.items (items_in ls) (line_items l (items_rule labels d l.items) k.0) (kept_items labels ls (fold (draft_after_item labels) d l.items) k.1)
 
 -- ---- a source
 source_keeps : (source : List ℕ) → KeepsRules (lines_in source) (length (lines_in source)) → KeepsFrom (symbols_of (lines_in source)) start (lines_in source)

@@ -9,36 +9,36 @@ use Rattle.tc_lex.specs.declared.kinds.Token.{Token}
 use Rattle.tc_lex.specs.declared.kinds.TokenKind.TheVariants as kind
 use Rattle.tc_lex.specs.Cut.{tokens_of}
 use Rattle.tcd_base.specs.Bytes.{four_bytes}
-use Rattle.tc_stmt.specs.Names.{is_name}
+use Rattle.tc_stmt.specs.Names.{is_source_name}
 use Rattle.tc_lex.specs.Pieces.{PieceData, is_kind, text_at}
 use Rattle.tc_lex.specs.Operands.{OperandData, operands}
 use Rattle.tc_stmt.specs.RowFields.{RowFieldsData}
 use Rattle.tc_stmt.specs.Items.{ReferenceData, ItemData, section, global, bytes, zeros}
 use Rattle.tc_stmt.specs.Filling.{symbol_rule, reference}
-use Rattle.tc_stmt.specs.OperandForms.{shape_index, is_symbol, is_half, wrap, fits_width}
+use Rattle.tc_stmt.specs.OperandForms.{shape_index, is_symbol_operand, is_half_operand, wrap_into_field}
+use Rattle.tc_stmt.specs.DataDirectives.{is_value_within_width, value_rule, value_item, space_item}
 use Rattle.tc_stmt.specs.StatementRow.{statement}
-use Rattle.tc_stmt.specs.DataDirectives.{value_rule, value_item, space_item}
-use Rattle.tc_stmt.specs.Lines.{LineData, line_data, word_of, named_line, space_line, values_line, code_line, stated_line, line_from, pieces_line, piece_in, label_of, label_before, cut_line, line_in, lines_in, items_in}
-use Rattle.tc_asm.specs.AddedItems.{IsData, IsItem}
-use Rattle.tc_asm.specs.DraftInvariants.{Each}
+use Rattle.tc_stmt.specs.Lines.{LineData, line_data, only_operand_name, named_line, space_line, values_line, code_line, stated_line, line_from, pieces_line, line_token_with_text, label_of, label_before, cut_line, line_in, lines_in, items_in}
+use Rattle.tc_asm.specs.AddedItems.{IsAddedData, IsAddedItem}
+use Rattle.tc_asm.specs.DraftInvariants.{EachInDraft}
 use Rattle.tc_stmt.proofs.Cases.{by_test}
-use Rattle.tc_stmt.specs.StatedRows.{IsStated}
+use Rattle.tc_stmt.specs.StatedRows.{IsStatedRow}
 use Rattle.tc_stmt.proofs.StatedRows.{stated}
 
 -- ---- a line
 record Are (l : LineData) : Type 0 where
-  items : Each IsItem l.items
+  items : EachInDraft IsAddedItem l.items
 
 -- ---- values
-symbol_value : (width : ℕ) (o : OperandData) → (value_rule width o == 15) ≡ true → (shape_index o.value.shape == 1) ≡ false → (width ≡ 4) × (is_name o.value.name ≡ true)
+symbol_value : (width : ℕ) (o : OperandData) → (value_rule width o == 15) ≡ true → (shape_index o.value.shape == 1) ≡ false → (width ≡ 4) × (is_source_name o.value.name ≡ true)
 unfolding value_rule symbol_rule
 symbol_value width o e other =
-    by o.is_memory (shape_index o.value.shape == 1) (shape_index o.value.shape == 7) (is_symbol (shape_index o.value.shape)) (is_half (shape_index o.value.shape)) (width == 4) (o.value.wide || nat_le (2 ^ 32) o.value.size) (is_name o.value.name)
-    (fits_width (8 * width) o.value.minus o.value.size) refl refl other e
+    by o.is_memory (shape_index o.value.shape == 1) (shape_index o.value.shape == 7) (is_symbol_operand (shape_index o.value.shape)) (is_half_operand (shape_index o.value.shape)) (width == 4) (o.value.wide || nat_le (2 ^ 32) o.value.size) (is_source_name o.value.name)
+    (is_value_within_width (8 * width) o.value.minus o.value.size) refl refl other e
   where
-    by : (memory number huge symbol half four big name fits : Bool) → (width == 4) ≡ four → is_name o.value.name ≡ name → number ≡ false
+    by : (memory number huge symbol half four big name fits : Bool) → (width == 4) ≡ four → is_source_name o.value.name ≡ name → number ≡ false
         → (cond memory 3 (cond number (cond fits 15 5) (cond huge 5 (cond symbol (cond four (cond big 5 (cond name 15 9)) (min 10 (cond big 5 (cond name 15 9)))) (cond half (min 10 (cond big 5 (cond name 15 9))) 3)))) == 15) ≡ true
-        → (width ≡ 4) × (is_name o.value.name ≡ true)
+        → (width ≡ 4) × (is_source_name o.value.name ≡ true)
     by true number huge symbol half four big name fits w n f e = cc
     by false true huge symbol half four big name fits w n f e = cc
     by false false true symbol half four big name fits w n f e = cc
@@ -53,10 +53,10 @@ symbol_value width o e other =
     by false false false false true four false false fits w n f e = cc
     by false false false false false four big name fits w n f e = cc
 
-plain_good : (bs : List ℕ) → IsData bs None
+plain_good : (bs : List ℕ) → IsAddedData bs None
 plain_good bs = record { good = record { named = λ r e. cc; four = λ e. cc }; kind = λ r e. cc; zero = λ r e. cc }
 
-value_is : (width : ℕ) (o : OperandData) → IsItem (value_item width o)
+value_is : (width : ℕ) (o : OperandData) → IsAddedItem (value_item width o)
 unfolding value_item
 value_is width o = by (value_rule width o == 15) (shape_index o.value.shape == 1) refl refl
   where
@@ -67,29 +67,29 @@ value_is width o = by (value_rule width o == 15) (shape_index o.value.shape == 1
     given r e = cc
 
     by : (fits number : Bool) → (value_rule width o == 15) ≡ fits → (shape_index o.value.shape == 1) ≡ number
-        → IsItem (cond (not fits) (zeros width) (cond number (bytes (take width (four_bytes (wrap (2 ^ 32) o.value.minus o.value.size))) None) (bytes (take width (0 ∷ 0 ∷ 0 ∷ 0 ∷ [])) (Some (reference 7 o.value)))))
+        → IsAddedItem (cond (not fits) (zeros width) (cond number (bytes (take width (four_bytes (wrap_into_field (2 ^ 32) o.value.minus o.value.size))) None) (bytes (take width (0 ∷ 0 ∷ 0 ∷ 0 ∷ [])) (Some (reference 7 o.value)))))
     by false number e n = tt
-    by true true e n = plain_good (take width (four_bytes (wrap (2 ^ 32) o.value.minus o.value.size)))
+    by true true e n = plain_good (take width (four_bytes (wrap_into_field (2 ^ 32) o.value.minus o.value.size)))
     by true false e n =
         let p = symbol_value width o e n in
         record {
-          good = record { named = λ r g k. ap (λ (x : ReferenceData). is_name x.name) (sym (given r g)) ∙ p.1; four = λ w. four_zeros width p.0 };
+          good = record { named = λ r g k. ap (λ (x : ReferenceData). is_source_name x.name) (sym (given r g)) ∙ p.1; four = λ w. four_zeros width p.0 };
           kind = λ r g. ap (λ (x : ReferenceData). x.kind) (sym (given r g));
           zero = λ r g. ap (λ n. take n (0 ∷ 0 ∷ 0 ∷ 0 ∷ [])) p.0;
         }
 
-values_are : (width : ℕ) (os : List OperandData) → Each IsItem (map (value_item width) os)
+values_are : (width : ℕ) (os : List OperandData) → EachInDraft IsAddedItem (map (value_item width) os)
 values_are width [] = tt
 values_are width (o ∷ os) = (value_is width o, values_are width os)
 
 -- ---- lines
-word_are : (make : List ℕ → ItemData) → ((name : List ℕ) → IsItem (make name)) → (o : Option (List ℕ)) → Are (option_map_or (λ name. line_data 15 (make name ∷ [])) o (line_data 3 []))
+word_are : (make : List ℕ → ItemData) → ((name : List ℕ) → IsAddedItem (make name)) → (o : Option (List ℕ)) → Are (option_map_or (λ name. line_data 15 (make name ∷ [])) o (line_data 3 []))
 word_are make h None = record { items = tt }
 word_are make h (Some name) = record { items = (h name, tt) }
 
-named_are : (make : List ℕ → ItemData) → ((name : List ℕ) → IsItem (make name)) → (os : List OperandData) → Are (named_line make os)
+named_are : (make : List ℕ → ItemData) → ((name : List ℕ) → IsAddedItem (make name)) → (os : List OperandData) → Are (named_line make os)
 unfolding named_line
-named_are make h os = word_are make h (word_of os)
+named_are make h os = word_are make h (only_operand_name os)
 
 space_are : (os : List OperandData) → Are (space_line os)
 unfolding space_line space_item
@@ -97,7 +97,7 @@ space_are [] = record { items = (tt, tt) }
 space_are (o ∷ []) = record { items = (tt, tt) }
 space_are (o ∷ p ∷ os) = record { items = (tt, tt) }
 
-code_are : (name : List ℕ) (q : Result (ℕ × RowFieldsData) ℕ) → ((k : ℕ) (f : RowFieldsData) → q ≡ Ok (k, f) → IsStated k f) → Are (code_line name q)
+code_are : (name : List ℕ) (q : Result (ℕ × RowFieldsData) ℕ) → ((k : ℕ) (f : RowFieldsData) → q ≡ Ok (k, f) → IsStatedRow k f) → Are (code_line name q)
 code_are name (Ok found) h =
     let s = h found.0 found.1 refl in
     record { items = (record { row = s.row; at = s.at; fits = s.stated.fits; symbols = s.stated.symbols; zero = s.zero }, tt) }
@@ -133,21 +133,21 @@ unfolding label_of
 label_are ps = by_test (λ (is : List ItemData). Are (line_data 1 is)) (is_kind ps 0 kind.Word && is_kind ps 1 kind.Colon) _ _ (λ e. record { items = (tt, tt) }) (λ e. record { items = tt })
 
 before_are : (text : List ℕ) (q : Result (List Token) ℕ) → Are (line_data 1 (label_before text q))
-before_are text (Ok ts) = label_are (map (piece_in text) ts)
+before_are text (Ok ts) = label_are (map (line_token_with_text text) ts)
 before_are text (Err at) = record { items = tt }
 
 cut_are : (line : List ℕ) (q : Result (List Token) ℕ) → Are (cut_line line q)
-cut_are line (Ok ts) = pieces_are (map (piece_in line) ts)
+cut_are line (Ok ts) = pieces_are (map (line_token_with_text line) ts)
 cut_are line (Err at) = before_are (take at line) (tokens_of (take at line))
 
 -- ---- a source
-each_behind : (xs ys : List ItemData) → Each IsItem xs → Each IsItem ys → Each IsItem (xs ++ ys)
+each_behind : (xs ys : List ItemData) → EachInDraft IsAddedItem xs → EachInDraft IsAddedItem ys → EachInDraft IsAddedItem (xs ++ ys)
 each_behind [] ys h k = k
 each_behind (x ∷ xs) ys h k = (h.0, each_behind xs ys h.1 k)
 
-lines_are : (texts : List (List ℕ)) → Each IsItem (items_in (map line_in texts))
+lines_are : (texts : List (List ℕ)) → EachInDraft IsAddedItem (items_in (map line_in texts))
 lines_are [] = tt
 lines_are (t ∷ ts) = let h = cut_are t (tokens_of t) in each_behind (line_in t).items (items_in (map line_in ts)) h.items (lines_are ts)
 
-pub source_are : (source : List ℕ) → Each IsItem (items_in (lines_in source))
+pub source_are : (source : List ℕ) → EachInDraft IsAddedItem (items_in (lines_in source))
 source_are source = lines_are (slice_split (λ c. c == 10) source)

@@ -5,11 +5,11 @@ use Rattle.tc_object.specs.Objects.{SectionData}
 use Rattle.tc_stmt.specs.Items.{ItemData, code, bytes, zeros}
 use Rattle.tc_stmt.specs.Lines.{lines_in, items_in}
 use Rattle.tc_asm.specs.Symbols.{SymbolData}
-use Rattle.tc_asm.specs.Drafts.{PartData, DraftData, start, stepped, part_names}
+use Rattle.tc_asm.specs.Drafts.{PartData, DraftData, start, draft_after_item, part_names, bytes_at}
 use Rattle.tc_asm.specs.DraftedSources.{symbols_of, draft_in}
 use Rattle.tc_asm.specs.Rules.{items_rule}
 use Rattle.tc_asm.specs.Objects.{section_of}
-use Rattle.tc_asm.specs.Statements.{StatementData, content_of, standing, statements_from, section_bytes, bytes_at, statements_in, sections_from, sections_in}
+use Rattle.tc_asm.specs.Statements.{StatementData, content_of, standing_statement, statements_from, section_bytes, statements_in, sections_of_statements, sections_in}
 use Rattle.tc_asm.proofs.LaidLaws.{drafted-bytes, lines-items}
 use Rattle.tc_asm.proofs.Uses.{HasField, HaveFields, uses_from, uses_in, GoodItems, GoodItem, all_uses}
 
@@ -33,7 +33,7 @@ standing_field : (b : Bool) (t : StatementData) → HasField t → HaveFields (c
 standing_field true t h = (h, tt)
 standing_field false t h = tt
 
-good_field : (labels : List SymbolData) (d : DraftData) (i : ItemData) → GoodItem labels d i → HaveFields (standing d (content_of labels d i))
+good_field : (labels : List SymbolData) (d : DraftData) (i : ItemData) → GoodItem labels d i → HaveFields (standing_statement d (content_of labels d i))
 good_field labels d (code k f r) g = standing_field _ _ (record { four = g.four })
 good_field labels d (bytes bs r) g = standing_field _ _ (record { four = g.four })
 good_field labels d (zeros n) g = standing_field _ _ (record { four = λ e. cc })
@@ -42,7 +42,7 @@ good_field labels d _ g = tt
 good_fields : (labels : List SymbolData) (is : List ItemData) (d : DraftData) → GoodItems labels d is → HaveFields (statements_from labels d is)
 good_fields labels [] d good = tt
 good_fields labels (i ∷ is) d good =
-    fields_behind (standing d (content_of labels d i)) (statements_from labels (stepped labels d i) is) (good_field labels d i good.0) (good_fields labels is (stepped labels d i) good.1)
+    fields_behind (standing_statement d (content_of labels d i)) (statements_from labels (draft_after_item labels d i) is) (good_field labels d i good.0) (good_fields labels is (draft_after_item labels d i) good.1)
 
 -- ---- a source
 module _ (source : List ℕ) (good : GoodItems (symbols_of (lines_in source)) start (items_in (lines_in source))) (rules : 15 ≤ items_rule (symbols_of (lines_in source)) start (items_in (lines_in source))) where
@@ -58,11 +58,11 @@ module _ (source : List ℕ) (good : GoodItems (symbols_of (lines_in source)) st
   )
 
 -- ---- all sections
-from_parts : (ts : List StatementData) (number : ℕ) (parts : List PartData) → ((s : ℕ) → bytes_at parts s ≡ section_bytes (number + s) ts) → sections_from ts number (part_names parts) ≡ map section_of parts
+from_parts : (ts : List StatementData) (number : ℕ) (parts : List PartData) → ((s : ℕ) → bytes_at parts s ≡ section_bytes (number + s) ts) → sections_of_statements ts number (part_names parts) ≡ map section_of parts
 from_parts ts number [] same = refl
 from_parts ts number (p ∷ ps) same =
     let here : section_bytes number ts ≡ p.bytes = ap (λ n. section_bytes n ts) (add_none number) ∙ sym (same 0) in
-    ap (λ (bs : List ℕ). record { name = p.name; bytes = bs } ∷ sections_from ts (number + 1) (part_names ps)) here
+    ap (λ (bs : List ℕ). record { name = p.name; bytes = bs } ∷ sections_of_statements ts (number + 1) (part_names ps)) here
     ∙ ap (λ (ss : List SectionData). section_of p ∷ ss) (from_parts ts (number + 1) ps (λ s. same (suc s) ∙ ap (λ n. section_bytes n ts) (moved number s)))
   where
     add_none : (n : ℕ) → n ≡ n + 0

@@ -4,12 +4,12 @@ use Rattle.std.specs.Prelude.{slice_get}
 use Rattle.std.proofs.lemmas.List.{map-append}
 use Rattle.tc_stmt.specs.Items.{ReferenceData}
 use Rattle.tc_object.specs.declared.relocs.Reloc.{Reloc}
-use Rattle.tc_asm.specs.Symbols.{SymbolData, number_of}
+use Rattle.tc_asm.specs.Symbols.{SymbolData, symbol_number}
 use Rattle.tc_asm.specs.Drafts.{UseData, PartData, part_names}
-use Rattle.tc_asm.specs.Objects.{addend_of, reloc_of, relocs_from, reloc_at, ObjectSectionsLaw}
-use Rattle.tc_asm.specs.Statements.{StatementData, statements_in, is_open}
+use Rattle.tc_asm.specs.Objects.{assembled_addend, reloc_of, relocs_from, ObjectSectionsLaw}
+use Rattle.tc_asm.specs.RelocationLaws.{reloc_at, relocs_behind, relocs_of, RelocationsLaw}
+use Rattle.tc_asm.specs.Statements.{StatementData, statements_in, is_open_statement}
 use Rattle.tc_asm.specs.DraftedSources.{draft_in, symbols_in}
-use Rattle.tc_asm.specs.RelocationLaws.{relocs_behind, relocs_of, RelocationsLaw}
 use Rattle.tc_asm.proofs.Uses.{use_at, uses_from}
 use Rattle.tc_asm.proofs.CodeSizes.{source_good}
 use Rattle.tc_asm.proofs.SourceParts.{part_is, sections_are}
@@ -22,10 +22,10 @@ relocs_match ss s n (t ∷ ts) = by (t.section == s) (λ m. relocs_match ss s m 
   where
     one : (m : ℕ) (o : Option ReferenceData) → map (reloc_of ss s) (use_at m o) ≡ reloc_at ss s m o
     one m None = refl
-    one m (Some r) = by_open (is_open (Some r))
+    one m (Some r) = by_open (is_open_statement (Some r))
       where
         by_open : (b : Bool) → map (reloc_of ss s) (cond {A = List UseData} b (record { offset = m; reference = r } ∷ []) [])
-            ≡ cond {A = List Reloc} b (record { section = s; offset = m; kind = r.kind; symbol = number_of ss r.name; addend = addend_of r } ∷ []) []
+            ≡ cond {A = List Reloc} b (record { section = s; offset = m; kind = r.kind; symbol = symbol_number ss r.name; addend = assembled_addend r } ∷ []) []
         by_open true = refl
         by_open false = refl
 

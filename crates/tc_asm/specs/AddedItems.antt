@@ -4,40 +4,41 @@ use Rattle.tc_isa.specs.declared.fields.Fields.{Fields}
 use Rattle.tc_isa.specs.Rows.{RowData, listed}
 use Rattle.tc_isa.specs.ValidRows.{Fits}
 use Rattle.tc_isa.specs.Relocations.{is_reloc}
-use Rattle.tc_stmt.specs.Names.{is_name}
+use Rattle.tc_stmt.specs.Names.{is_source_name}
 use Rattle.tc_stmt.specs.Items.{ReferenceData, ItemData, label, section, global, code, bytes, zeros}
-use Rattle.tc_stmt.specs.StatedRows.{Symbols}
-use Rattle.tc_asm.specs.Statements.{is_open}
+use Rattle.tc_stmt.specs.StatedRows.{TakesAnySymbol}
+use Rattle.tc_asm.specs.Statements.{is_open_statement}
 
--- the symbol of these bytes has a name, and if it waits for its address, there are four bytes
-pub record IsGood (bs : List ℕ) (o : Option ReferenceData) : Type 0 where
-  pub named : (r : ReferenceData) → o ≡ Some r → is_reloc r.kind ≡ true → is_name r.name ≡ true
-  pub four : is_open o ≡ true → length bs ≡ 4
+-- bytes of an item that fit its symbol: if the symbol waits for its address, it has a name, and
+-- there are four bytes
+pub record AddedBytesFitSymbol (bs : List ℕ) (o : Option ReferenceData) : Type 0 where
+  pub named : (r : ReferenceData) → o ≡ Some r → is_reloc r.kind ≡ true → is_source_name r.name ≡ true
+  pub four : is_open_statement o ≡ true → length bs ≡ 4
 
 -- an instruction of the listed row with this number; its fields fit the row, and the row takes its
 -- symbol
-pub record IsCode (k : ℕ) (f : Fields) (o : Option ReferenceData) : Type 0 where
+pub record IsAddedCode (k : ℕ) (f : Fields) (o : Option ReferenceData) : Type 0 where
   pub row : RowData
   pub at : slice_get listed k ≡ Some row
   pub fits : Fits row f
-  pub symbols : Symbols row o
+  pub symbols : TakesAnySymbol row o
   pub zero : (r : ReferenceData) → o ≡ Some r → f.k ≡ 0
 
 -- bytes of data; if they have a symbol, they are a word of zeros
-pub record IsData (bs : List ℕ) (o : Option ReferenceData) : Type 0 where
-  pub good : IsGood bs o
+pub record IsAddedData (bs : List ℕ) (o : Option ReferenceData) : Type 0 where
+  pub good : AddedBytesFitSymbol bs o
   pub kind : (r : ReferenceData) → o ≡ Some r → r.kind ≡ 7
   pub zero : (r : ReferenceData) → o ≡ Some r → bs ≡ 0 ∷ 0 ∷ 0 ∷ 0 ∷ []
 
 -- the symbol of an item has a name
-abbrev pub IsNamed : Option ReferenceData → Type 0
-IsNamed o = (r : ReferenceData) → o ≡ Some r → is_name r.name ≡ true
+abbrev pub AddedSymbolIsNamed : Option ReferenceData → Type 0
+AddedSymbolIsNamed o = (r : ReferenceData) → o ≡ Some r → is_source_name r.name ≡ true
 
 -- an item that some line of a source adds
-abbrev pub IsItem : ItemData → Type 0
-IsItem (label name) = Unit {0}
-IsItem (section name) = Unit {0}
-IsItem (global name) = Unit {0}
-IsItem (code k f o) = IsCode k f o
-IsItem (bytes bs o) = IsData bs o
-IsItem (zeros n) = Unit {0}
+abbrev pub IsAddedItem : ItemData → Type 0
+IsAddedItem (label name) = Unit {0}
+IsAddedItem (section name) = Unit {0}
+IsAddedItem (global name) = Unit {0}
+IsAddedItem (code k f o) = IsAddedCode k f o
+IsAddedItem (bytes bs o) = IsAddedData bs o
+IsAddedItem (zeros n) = Unit {0}

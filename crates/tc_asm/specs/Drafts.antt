@@ -1,5 +1,5 @@
 -- The draft of an object, as the lines of a source build it.
-use Rattle.std.specs.Prelude.{ℕ, ◌+◌, ◌-◌, ◌^◌, ◌==◌, ◌&&◌, not, nat_lt, nat_le, Bool, true, false, if◌then◌else◌, List, ◌∷◌, ◌++◌, length, replicate, slice_get, slice_set, Option, Some, None, position, unwrap_or, map, sum_by, fold, []}
+use Rattle.std.specs.Prelude.{ℕ, ◌+◌, ◌-◌, ◌^◌, ◌==◌, ◌&&◌, not, nat_lt, nat_le, Bool, true, false, if◌then◌else◌, List, ◌∷◌, ◌++◌, length, replicate, slice_get, slice_set, Option, Some, None, position, unwrap_or, map, sum_by, zero, suc, []}
 use Rattle.std.specs.Option.{option_map_or}
 use Rattle.std.specs.Str.{bytes_eq}
 use Rattle.tc_stmt.specs.SourceRules.{no_rule, misplaced_symbol}
@@ -7,14 +7,13 @@ use Rattle.tc_isa.specs.declared.fields.Fields.{Fields}
 use Rattle.tc_isa.specs.Rows.{RowData, listed}
 use Rattle.tc_isa.specs.Spelling.{spelling}
 use Rattle.tc_isa.specs.Relocations.{is_reloc}
-use Rattle.tc_encode.specs.Decoding.{do_fit}
-use Rattle.tc_stmt.specs.Names.{is_name}
+use Rattle.tc_encode.specs.Decoding.{are_fitting_fields}
+use Rattle.tc_stmt.specs.Names.{is_source_name}
 use Rattle.tc_stmt.specs.RowFields.{RowFieldsData, with_rule}
 use Rattle.tc_stmt.specs.Items.{ReferenceData, ItemData, label, section, global, code, bytes, zeros}
 use Rattle.tc_stmt.specs.Displacements.{with_displacement}
 use Rattle.tc_asm.specs.declared.symbols.Place.{Place}
 use Rattle.tc_asm.specs.Symbols.{SymbolData, place_in, seen, labelled, made_global}
-use Rattle.tc_stmt.specs.Lines.{LineData}
 
 -- four bytes at an offset that wait for the value of a symbol
 pub record UseData : Type 0 where
@@ -46,8 +45,8 @@ abbrev pub part : List ℕ → List ℕ → List UseData → PartData
 part name bs uses = record { name = name; bytes = bs; uses = uses }
 
 -- the offset of the next byte in the current section
-unfoldable pub place_of : DraftData → ℕ
-place_of d = option_map_or (λ p. length p.bytes) (slice_get d.parts d.section) 0
+unfoldable pub draft_place : DraftData → ℕ
+draft_place d = option_map_or (λ p. length p.bytes) (slice_get d.parts d.section) 0
 
 -- there is a current section
 abbrev pub has_section : DraftData → Bool
@@ -60,111 +59,115 @@ has_room d n = nat_le (d.total + n) (2 ^ 24)
 -- ---- labels and sections
 -- the place of the next byte
 abbrev pub here : DraftData → Place
-here d = record { section = d.section; offset = place_of d }
+here d = record { section = d.section; offset = draft_place d }
 
 -- A label here, if it is a name. Before the first section its line breaks a rule, but the label
 -- still defines its name.
 unfoldable pub with_label : DraftData → List ℕ → DraftData
-with_label d name = if is_name name then record d { symbols = labelled d.symbols name (here d) } else d
+with_label d name = if is_source_name name then record d { symbols = labelled d.symbols name (here d) } else d
 
 -- the number of the section with this name, and the number of sections if none has it
 abbrev pub number_of_part : List PartData → List ℕ → ℕ
 number_of_part parts name = unwrap_or (position (λ p. bytes_eq name p.name) parts) (length parts)
 
--- the section with this name becomes the current one; a new one begins if there are fewer than 64
-unfoldable pub entered : DraftData → List ℕ → DraftData
-entered d name =
-    if not (is_name name) then d
+-- the draft after a section's name: that section becomes the current one; a new one begins if there
+-- are fewer than 64
+unfoldable pub with_current_section : DraftData → List ℕ → DraftData
+with_current_section d name =
+    if not (is_source_name name) then d
     else (if nat_lt (number_of_part d.parts name) (length d.parts) then record d { section = number_of_part d.parts name }
     else (if nat_lt (length d.parts) 64 then record d { section = length d.parts; parts = d.parts ++ part name [] [] ∷ [] }
     else d))
 
 -- a name made global, if it is a name
 unfoldable pub with_global : DraftData → List ℕ → DraftData
-with_global d name = if is_name name then record d { symbols = made_global d.symbols name } else d
+with_global d name = if is_source_name name then record d { symbols = made_global d.symbols name } else d
 
 -- ---- bytes
 -- bytes added at the end of the section of this number
-unfoldable pub extended : List PartData → ℕ → List ℕ → List PartData
-extended parts i bs = option_map_or (λ p. slice_set parts i (record p { bytes = p.bytes ++ bs })) (slice_get parts i) parts
+unfoldable pub with_part_bytes : List PartData → ℕ → List ℕ → List PartData
+with_part_bytes parts i bs = option_map_or (λ p. slice_set parts i (record p { bytes = p.bytes ++ bs })) (slice_get parts i) parts
 
 -- bytes added at the end of the current section, if they are within the limit
 unfoldable pub with_bytes : DraftData → List ℕ → DraftData
 with_bytes d bs =
-    if has_section d && has_room d (length bs) then record d { parts = extended d.parts d.section bs; total = d.total + length bs } else d
+    if has_section d && has_room d (length bs) then record d { parts = with_part_bytes d.parts d.section bs; total = d.total + length bs } else d
 
 -- a further use of a symbol in the section of this number
-unfoldable pub used : List PartData → ℕ → UseData → List PartData
-used parts i u = option_map_or (λ p. slice_set parts i (record p { uses = p.uses ++ u ∷ [] })) (slice_get parts i) parts
+unfoldable pub with_part_use : List PartData → ℕ → UseData → List PartData
+with_part_use parts i u = option_map_or (λ p. slice_set parts i (record p { uses = p.uses ++ u ∷ [] })) (slice_get parts i) parts
 
 -- a relocation for the next four bytes, if there are fewer than 65,535
 unfoldable pub with_use : DraftData → ℕ → ReferenceData → DraftData
 with_use d size r =
     if has_section d && has_room d size && size == 4 && is_reloc r.kind && nat_lt d.count 65535
-    then record d { parts = used d.parts d.section (record { offset = place_of d; reference = r }); count = d.count + 1 }
+    then record d { parts = with_part_use d.parts d.section (record { offset = draft_place d; reference = r }); count = d.count + 1 }
     else d
 
--- the symbol of the next bytes, of which there are this many
+-- the draft after it takes the symbol of the next bytes, of which there are this many
 unfoldable pub with_reference : DraftData → ℕ → Option ReferenceData → DraftData
 with_reference d size None = d
-with_reference d size (Some r) = if is_name r.name then with_use (record d { symbols = seen d.symbols r.name }) size r else d
+with_reference d size (Some r) = if is_source_name r.name then with_use (record d { symbols = seen d.symbols r.name }) size r else d
 
 -- bytes at the end of the current section, with the symbol that goes to them, if there is one
 abbrev pub with_content : DraftData → List ℕ → Option ReferenceData → DraftData
 with_content d bs r = with_bytes (with_reference d (length bs) r) bs
 
 -- ---- instructions
--- the distance from here to a symbol, and whether the symbol is before here; None if it is no label
--- of this section
-unfoldable pub distance : List SymbolData → DraftData → ReferenceData → Option (Bool × ℕ)
-distance labels d r =
+-- the distance from the current place of a draft to a symbol, and whether the symbol is before it;
+-- None if it is no label of this section
+unfoldable pub label_distance : List SymbolData → DraftData → ReferenceData → Option (Bool × ℕ)
+label_distance labels d r =
     option_map_or
     (λ (a : Place). if has_section d && a.section == d.section
-    then (if nat_le (place_of d + (if r.minus then r.size else 0)) (a.offset + (if r.minus then 0 else r.size))
-    then Some (false, (a.offset + (if r.minus then 0 else r.size)) - (place_of d + (if r.minus then r.size else 0)))
-    else Some (true, (place_of d + (if r.minus then r.size else 0)) - (a.offset + (if r.minus then 0 else r.size))))
+    then (if nat_le (draft_place d + (if r.minus then r.size else 0)) (a.offset + (if r.minus then 0 else r.size))
+    then Some (false, (a.offset + (if r.minus then 0 else r.size)) - (draft_place d + (if r.minus then r.size else 0)))
+    else Some (true, (draft_place d + (if r.minus then r.size else 0)) - (a.offset + (if r.minus then 0 else r.size))))
     else None)
     (place_in labels r.name) None
 
--- fields that break no rule and wait for no symbol
-abbrev pub found : Fields → RowFieldsData
-found f = record { fields = f; rule = no_rule; reference = None }
+-- the fields of an instruction of a draft, if they break no rule and wait for no symbol
+abbrev pub drafted_fields : Fields → RowFieldsData
+drafted_fields f = record { fields = f; rule = no_rule; reference = None }
 
--- the fields of an instruction whose target is resolved at once, and the least rule that the target
--- breaks
-unfoldable pub jumped : List SymbolData → DraftData → RowData → Fields → ReferenceData → RowFieldsData
-jumped labels d row f r = option_map_or (λ n. with_displacement row n.0 n.1 (found f)) (distance labels d r) (with_rule misplaced_symbol (found f))
+-- the fields of a draft's next instruction, whose target is resolved at once to the distance of a
+-- label, and the least rule that the target breaks
+unfoldable pub fields_with_label_distance : List SymbolData → DraftData → RowData → Fields → ReferenceData → RowFieldsData
+fields_with_label_distance labels d row f r = option_map_or (λ n. with_displacement row n.0 n.1 (drafted_fields f)) (label_distance labels d r) (with_rule misplaced_symbol (drafted_fields f))
 
--- an instruction's fields, with its target resolved if it needs no relocation
-abbrev pub targeted : List SymbolData → DraftData → RowData → Fields → Option ReferenceData → RowFieldsData
-targeted labels d row f None = found f
-targeted labels d row f (Some r) = if r.kind == 0 then jumped labels d row f r else found f
+-- the fields of a draft's next instruction, with its target resolved if it needs no relocation
+abbrev pub fields_with_target : List SymbolData → DraftData → RowData → Fields → Option ReferenceData → RowFieldsData
+fields_with_target labels d row f None = drafted_fields f
+fields_with_target labels d row f (Some r) = if r.kind == 0 then fields_with_label_distance labels d row f r else drafted_fields f
 
--- the spelling of an instruction of the row, if the fields fit it
-unfoldable pub spelled_code : RowData → Fields → List ℕ
-spelled_code row f = if do_fit row f then spelling row f else []
+-- the bytes that a draft gets from an instruction of the row: its spelling, if the fields fit it
+unfoldable pub assembled_row_code : RowData → Fields → List ℕ
+assembled_row_code row f = if are_fitting_fields row f then spelling row f else []
 
--- the fields of the row with this number, with its target resolved if it needs no relocation
-abbrev pub resolved : List SymbolData → DraftData → ℕ → Fields → Option ReferenceData → RowFieldsData
-resolved labels d k f r = option_map_or (λ row. targeted labels d row f r) (slice_get listed k) (found f)
+-- the fields of a draft's next instruction, of the row with this number, with its target resolved
+-- if it needs no relocation
+abbrev pub row_fields_with_target : List SymbolData → DraftData → ℕ → Fields → Option ReferenceData → RowFieldsData
+row_fields_with_target labels d k f r = option_map_or (λ row. fields_with_target labels d row f r) (slice_get listed k) (drafted_fields f)
 
--- the spelling of an instruction of the row with this number
-abbrev pub bytes_of : ℕ → Fields → List ℕ
-bytes_of k f = option_map_or (λ row. spelled_code row f) (slice_get listed k) []
+-- the bytes that a draft gets from an instruction: the spelling in the row with this number, and
+-- none if there is no such row
+abbrev pub assembled_code : ℕ → Fields → List ℕ
+assembled_code k f = option_map_or (λ row. assembled_row_code row f) (slice_get listed k) []
 
--- the bytes of an instruction here: its spelling with its target resolved
+-- the bytes of an instruction at the current place of a draft: its spelling with its target
+-- resolved
 unfoldable pub code_bytes : List SymbolData → DraftData → ℕ → Fields → Option ReferenceData → List ℕ
-code_bytes labels d k f r = bytes_of k (resolved labels d k f r).fields
+code_bytes labels d k f r = assembled_code k (row_fields_with_target labels d k f r).fields
 
 -- ---- a further item, given the symbols of the whole source
--- the draft after a further item
-unfoldable pub stepped : List SymbolData → DraftData → ItemData → DraftData
-stepped labels d (label name) = with_label d name
-stepped labels d (section name) = entered d name
-stepped labels d (global name) = with_global d name
-stepped labels d (code k f r) = with_content d (code_bytes labels d k f r) r
-stepped labels d (bytes bs r) = with_content d bs r
-stepped labels d (zeros n) = with_bytes d (replicate n 0)
+-- the draft after a further item, given the symbols of the whole source
+unfoldable pub draft_after_item : List SymbolData → DraftData → ItemData → DraftData
+draft_after_item labels d (label name) = with_label d name
+draft_after_item labels d (section name) = with_current_section d name
+draft_after_item labels d (global name) = with_global d name
+draft_after_item labels d (code k f r) = with_content d (code_bytes labels d k f r) r
+draft_after_item labels d (bytes bs r) = with_content d bs r
+draft_after_item labels d (zeros n) = with_bytes d (replicate n 0)
 
 -- ---- names and counts
 -- the names of sections
@@ -172,13 +175,17 @@ abbrev pub part_names : List PartData → List (List ℕ)
 part_names parts = map (λ (p : PartData). p.name) parts
 
 -- the number of uses of symbols in the sections
-abbrev pub count_of : List PartData → ℕ
-count_of parts = sum_by (λ (p : PartData). length p.uses) parts
+abbrev pub count_of_uses : List PartData → ℕ
+count_of_uses parts = sum_by (λ (p : PartData). length p.uses) parts
 
--- the draft after a further line
-unfoldable pub with_line : List SymbolData → DraftData → LineData → DraftData
-with_line labels d l = fold (stepped labels) d l.items
+-- the length of a draft's section of this number
+abbrev pub part_size_at : List PartData → ℕ → ℕ
+part_size_at [] n = 0
+part_size_at (p ∷ ps) zero = length p.bytes
+part_size_at (p ∷ ps) (suc n) = part_size_at ps n
 
--- the draft of these lines, given the symbols of the whole source
-abbrev pub drafted : List SymbolData → List LineData → DraftData
-drafted labels lines = fold (with_line labels) start lines
+-- the bytes of a draft's section of this number
+abbrev pub bytes_at : List PartData → ℕ → List ℕ
+bytes_at [] s = []
+bytes_at (p ∷ ps) zero = p.bytes
+bytes_at (p ∷ ps) (suc s) = bytes_at ps s

@@ -10,29 +10,31 @@ use Rattle.tc_asm.specs.Drafts.{start}
 use Rattle.tc_asm.specs.DraftedSources.{symbols_of, KeepsRules}
 use Rattle.tc_asm.specs.Statements.{statement, statements_from, statements_in}
 
--- the bytes spell an instruction of the listed row with this number, with fields that fit it
-pub record Spells (place : ℕ) (bytes : List ℕ) : Type 0 where
+-- what the law of instructions says of assembled bytes: they spell an instruction of the listed row
+-- with this number, with fields that fit it
+pub record InstructionSpellsRow (place : ℕ) (bytes : List ℕ) : Type 0 where
   pub row : RowData
   pub is_row : slice_get listed place ≡ Some row
   pub fields : Fields
   pub fits : Fits row fields
   pub spelled : bytes ≡ spelling row fields
 
--- the symbol of a jump of 16 bits, which is resolved at once
-abbrev pub is_resolved : Option ReferenceData → Bool
-is_resolved None = false
-is_resolved (Some r) = r.kind == 0
+-- the symbol of a jump of 16 bits, which is resolved at once, so that the law of instructions
+-- doesn't fix its fields
+abbrev pub is_resolved_jump : Option ReferenceData → Bool
+is_resolved_jump None = false
+is_resolved_jump (Some r) = r.kind == 0
 
 -- An instruction after these items of a source: it spells its row, with the fields of its operands
 -- unless its target is resolved at once. It is the statement after those of these items.
-pub record IsInstruction (source : List ℕ) (before : List ItemData) (place : ℕ) (f : Fields) (o : Option ReferenceData) : Type 0 where
+pub record IsAssembledInstruction (source : List ℕ) (before : List ItemData) (place : ℕ) (f : Fields) (o : Option ReferenceData) : Type 0 where
   pub bytes : List ℕ
-  pub spells : Spells place bytes
-  pub given : is_resolved o ≡ false → spells.fields ≡ f
+  pub spells : InstructionSpellsRow place bytes
+  pub given : is_resolved_jump o ≡ false → spells.fields ≡ f
   pub section : ℕ
   pub stands : slice_get (statements_in source) (length (statements_from (symbols_of (lines_in source)) start before)) ≡ Some (statement section bytes o)
 
 -- each instruction among the items of a source that breaks no rule spells its row
 abbrev pub InstructionsLaw : Type 0
 InstructionsLaw = (source : List ℕ) (before after : List ItemData) (place : ℕ) (f : Fields) (o : Option ReferenceData) → KeepsRules (lines_in source) (length (lines_in source))
-    → items_in (lines_in source) ≡ before ++ code place f o ∷ after → IsInstruction source before place f o
+    → items_in (lines_in source) ≡ before ++ code place f o ∷ after → IsAssembledInstruction source before place f o

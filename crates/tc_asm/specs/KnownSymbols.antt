@@ -3,10 +3,10 @@ use Rattle.std.specs.Prelude.{ℕ, ◌&&◌, not, min, Bool, true, if◌then◌e
 use Rattle.tc_stmt.specs.SourceRules.{no_rule}
 use Rattle.tc_stmt.specs.Items.{ItemData, label}
 use Rattle.tc_asm.specs.Symbols.{SymbolData, place_in}
-use Rattle.tc_asm.specs.Drafts.{DraftData, stepped}
+use Rattle.tc_asm.specs.Drafts.{DraftData, draft_after_item}
 use Rattle.tc_asm.specs.Rules.{has_symbol_room, item_rule}
 
--- a draft without its symbols
+-- a draft without its symbols, as the second pass keeps it if they are known
 abbrev pub nameless : DraftData → DraftData
 nameless d = record d { symbols = [] }
 
@@ -14,17 +14,19 @@ nameless d = record d { symbols = [] }
 abbrev pub kept : Bool → DraftData → DraftData
 kept known d = if known then nameless d else d
 
--- an item defines no label that one of these symbols has already
+-- an item that defines no label that one of these symbols has already, as the second pass needs if
+-- it knows its symbols
 abbrev pub is_new : List SymbolData → ItemData → Bool
 is_new ss (label name) = not (is_some (place_in ss name))
 is_new ss i = true
 
--- each item after a draft has room for its symbol, and defines no label twice
+-- the symbols of the second pass are known if this holds: each item after a draft has room for its
+-- symbol, and defines no label twice
 abbrev pub are_new : List SymbolData → DraftData → List ItemData → Bool
 are_new labels d [] = true
-are_new labels d (i ∷ is) = (has_symbol_room d.symbols && is_new d.symbols i) && are_new labels (stepped labels d i) is
+are_new labels d (i ∷ is) = (has_symbol_room d.symbols && is_new d.symbols i) && are_new labels (draft_after_item labels d i) is
 
 -- the least rule that items break after what is kept of a draft
 abbrev pub kept_rule : Bool → List SymbolData → DraftData → List ItemData → ℕ
 kept_rule known labels d [] = no_rule
-kept_rule known labels d (i ∷ is) = min (item_rule labels (kept known d) i) (kept_rule known labels (stepped labels d i) is)
+kept_rule known labels d (i ∷ is) = min (item_rule labels (kept known d) i) (kept_rule known labels (draft_after_item labels d i) is)

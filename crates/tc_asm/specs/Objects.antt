@@ -5,16 +5,17 @@ use Rattle.tc_object.specs.Objects as object
 use Rattle.tc_object.specs.declared.relocs.Reloc.{Reloc}
 use Rattle.tc_stmt.specs.Items.{ReferenceData}
 use Rattle.tc_asm.specs.declared.symbols.Place.{Place}
-use Rattle.tc_asm.specs.Symbols.{SymbolData, number_of}
+use Rattle.tc_asm.specs.Symbols.{SymbolData, symbol_number}
 use Rattle.tc_asm.specs.Drafts.{UseData, PartData, DraftData}
 use Rattle.tc_asm.specs.DraftedSources.{draft_in}
-use Rattle.tc_asm.specs.Statements.{sections_in, is_open}
+use Rattle.tc_asm.specs.Statements.{sections_in}
 
 -- a section of the draft as one of the object
 abbrev pub section_of : PartData → SectionData
 section_of p = record { name = p.name; bytes = p.bytes }
 
--- the symbol is undefined (0) without a label, else local (1) or global (2)
+-- the symbol of an object made from a draft: undefined (0) without a label, else local (1) or
+-- global (2)
 abbrev pub symbol_at : List ℕ → Bool → Option Place → object.SymbolData
 symbol_at name is_global None = record { name = name; kind = undefined_symbol; section = 0; offset = 0 }
 symbol_at name is_global (Some p) = record { name = name; kind = if is_global then 2 else 1; section = p.section; offset = p.offset }
@@ -24,12 +25,12 @@ abbrev pub symbol_of : SymbolData → object.SymbolData
 symbol_of s = symbol_at s.name s.entry.is_global s.entry.place
 
 -- the number added to a symbol, modulo 2^32
-abbrev pub addend_of : ReferenceData → ℕ
-addend_of r = if r.minus then (2 ^ 32 - r.size % 2 ^ 32) % 2 ^ 32 else r.size % 2 ^ 32
+abbrev pub assembled_addend : ReferenceData → ℕ
+assembled_addend r = if r.minus then (2 ^ 32 - r.size % 2 ^ 32) % 2 ^ 32 else r.size % 2 ^ 32
 
 -- the relocation for a use of a symbol in the section of this number
 abbrev pub reloc_of : List SymbolData → ℕ → UseData → Reloc
-reloc_of ss section u = record { section = section; offset = u.offset; kind = u.reference.kind; symbol = number_of ss u.reference.name; addend = addend_of u.reference }
+reloc_of ss section u = record { section = section; offset = u.offset; kind = u.reference.kind; symbol = symbol_number ss u.reference.name; addend = assembled_addend u.reference }
 
 -- the relocations of these sections, numbered from this number on
 abbrev pub relocs_from : List SymbolData → ℕ → List PartData → List Reloc
@@ -41,15 +42,6 @@ relocs_from ss section (p ∷ ps) = map (reloc_of ss section) p.uses ++ relocs_f
 abbrev pub object_of : DraftData → ObjectData
 object_of d = record { sections = map section_of d.parts; symbols = map symbol_of d.symbols; relocs = relocs_from d.symbols 0 d.parts }
 
--- the relocation of a statement in this section at this offset; none if it doesn't wait for an
--- address
-abbrev pub reloc_at : List SymbolData → ℕ → ℕ → Option ReferenceData → List Reloc
-reloc_at symbols section offset None = []
-reloc_at symbols section offset (Some r) =
-    if is_open (Some r)
-    then record { section = section; offset = offset; kind = r.kind; symbol = number_of symbols r.name; addend = addend_of r } ∷ []
-    else []
-
--- the sections of an object are those of the source
+-- the law of the object of a draft: its sections are those of the source
 abbrev pub ObjectSectionsLaw : Type 0
 ObjectSectionsLaw = (source : List ℕ) → (object_of (draft_in source)).sections ≡ sections_in source

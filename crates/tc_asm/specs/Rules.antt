@@ -1,11 +1,11 @@
 -- The rules that depend on the earlier lines or on the whole source; 15 is none.
 use Rattle.std.specs.Prelude.{ℕ, Bool, ◌&&◌, ◌||◌, not, nat_lt, min, if◌then◌else◌, List, length, Option, Some, None, is_some, ◌∷◌, []}
 use Rattle.tc_stmt.specs.SourceRules.{label_twice, no_rule, no_section, bad_name, past_limits, undefined_global}
-use Rattle.tc_stmt.specs.Names.{is_name}
+use Rattle.tc_stmt.specs.Names.{is_source_name}
 use Rattle.tc_stmt.specs.Items.{ReferenceData, ItemData, label, section, global, code, bytes, zeros}
 use Rattle.tc_asm.specs.Symbols.{SymbolData, entry_in, place_in}
 use Rattle.tc_isa.specs.Relocations.{is_reloc}
-use Rattle.tc_asm.specs.Drafts.{DraftData, has_section, has_room, number_of_part, resolved, code_bytes, stepped}
+use Rattle.tc_asm.specs.Drafts.{DraftData, has_section, has_room, number_of_part, row_fields_with_target, code_bytes, draft_after_item}
 use Rattle.tc_stmt.specs.Lines.{LineData}
 
 -- 7: a label twice
@@ -18,7 +18,7 @@ section_rule d = if has_section d then no_rule else no_section
 
 -- 9: a bad name
 abbrev pub name_rule : List ℕ → ℕ
-name_rule name = if is_name name then no_rule else bad_name
+name_rule name = if is_source_name name then no_rule else bad_name
 
 -- 13: a 65th section
 abbrev pub section_room : DraftData → List ℕ → ℕ
@@ -59,14 +59,14 @@ unfoldable pub item_rule : List SymbolData → DraftData → ItemData → ℕ
 item_rule labels d (label name) = min (min (label_rule d name) (section_rule d)) (min (name_rule name) (symbol_room d name))
 item_rule labels d (section name) = min (name_rule name) (section_room d name)
 item_rule labels d (global name) = min (name_rule name) (min (symbol_room d name) (defined_rule labels name))
-item_rule labels d (code k f r) = min (resolved labels d k f r).rule (content_rule d (length (code_bytes labels d k f r)) r)
+item_rule labels d (code k f r) = min (row_fields_with_target labels d k f r).rule (content_rule d (length (code_bytes labels d k f r)) r)
 item_rule labels d (bytes bs r) = content_rule d (length bs) r
 item_rule labels d (zeros n) = min (section_rule d) (bytes_room d n)
 
 -- the least rule that these items break, each after the one before it
 abbrev pub items_rule : List SymbolData → DraftData → List ItemData → ℕ
 items_rule labels d [] = no_rule
-items_rule labels d (i ∷ is) = min (item_rule labels d i) (items_rule labels (stepped labels d i) is)
+items_rule labels d (i ∷ is) = min (item_rule labels d i) (items_rule labels (draft_after_item labels d i) is)
 
 -- the least rule that a line breaks after this draft
 unfoldable pub line_rule : List SymbolData → DraftData → LineData → ℕ

@@ -1,4 +1,5 @@
 -- Jumps and calls of 16 bits: the distances that they take, and the law that they reach their
+-- labels.
 use Rattle.std.specs.Prelude.{◌≡◌, ◌+◌, ◌%◌, ◌^◌, ℕ, if◌then◌else◌, List, length, slice_get, Some}
 use Rattle.tc_isa.specs.declared.fields.Fields.{Fields}
 use Rattle.tc_isa.specs.Rows.{RowData}
@@ -9,27 +10,25 @@ use Rattle.tc_asm.specs.declared.symbols.Place.{Place}
 use Rattle.tc_stmt.specs.Lines.{lines_in}
 use Rattle.tc_asm.specs.Symbols.{place_in}
 use Rattle.tc_asm.specs.DraftedSources.{KeepsRules, symbols_in}
-use Rattle.tc_asm.specs.Objects.{addend_of}
+use Rattle.tc_asm.specs.Objects.{assembled_addend}
 use Rattle.tc_asm.specs.Statements.{StatementData, offset_of, statements_in}
-use Rattle.tc_asm.specs.InstructionLaws.{Spells}
-
--- labels.
+use Rattle.tc_asm.specs.InstructionLaws.{InstructionSpellsRow}
 
 -- the distance of a jump or call of 16 bits, modulo 2^32: SBR (form 13) only goes forwards, SB both
 -- ways
-abbrev pub displacement : RowData → Fields → ℕ
-displacement row f = if is_sbr row.form then ahead_only f else doubled_displacement 8 f
+abbrev pub short_jump_displacement : RowData → Fields → ℕ
+short_jump_displacement row f = if is_sbr row.form then ahead_only f else doubled_displacement 8 f
 
 -- A statement with a symbol that takes no relocation spells a row. Wherever the section begins, its
 -- displacement reaches the symbol's label plus the number that is added. The label is in the same
 -- section.
 pub record ReachesLabel (source : List ℕ) (index : ℕ) (t : StatementData) (r : ReferenceData) : Type 0 where
   pub place : ℕ
-  pub spells : Spells place t.bytes
+  pub spells : InstructionSpellsRow place t.bytes
   pub label : Place
   pub is_label : place_in (symbols_in source) r.name ≡ Some label
   pub here : label.section ≡ t.section
-  pub reaches : (base : ℕ) → (base + offset_of (statements_in source) index t.section + displacement spells.row spells.fields) % 2 ^ 32 ≡ ((base + label.offset) % 2 ^ 32 + addend_of r) % 2 ^ 32
+  pub reaches : (base : ℕ) → (base + offset_of (statements_in source) index t.section + short_jump_displacement spells.row spells.fields) % 2 ^ 32 ≡ ((base + label.offset) % 2 ^ 32 + assembled_addend r) % 2 ^ 32
 
 -- each such statement of a source that breaks no rule reaches its label
 abbrev pub ShortJumpsLaw : Type 0

@@ -1,11 +1,11 @@
 -- The statements of a source that have bytes, their offsets, and the sections that they make.
-use Rattle.std.specs.Prelude.{◌≡◌, ℕ, ◌==◌, ◌&&◌, if◌then◌else◌, zero, suc, List, ◌∷◌, ◌++◌, length, take, drop, replicate, slice_get, Option, Some, None, ◌+◌, Bool, false, []}
+use Rattle.std.specs.Prelude.{◌≡◌, ℕ, ◌==◌, ◌&&◌, if◌then◌else◌, List, ◌∷◌, ◌++◌, length, take, drop, replicate, slice_get, Option, Some, None, ◌+◌, Bool, false, []}
 use Rattle.std.specs.List.{flat_map}
 use Rattle.tc_stmt.specs.Items.{ReferenceData, ItemData, label, section, global, code, bytes, zeros}
 use Rattle.tc_stmt.specs.Lines.{LineData, items_in, lines_in}
 use Rattle.tc_asm.specs.Symbols.{SymbolData}
-use Rattle.tc_asm.specs.Drafts.{PartData, DraftData, start, has_section, has_room, code_bytes, stepped, drafted}
-use Rattle.tc_asm.specs.DraftedSources.{symbols_of, names_in}
+use Rattle.tc_asm.specs.Drafts.{DraftData, start, has_section, has_room, code_bytes, draft_after_item, bytes_at}
+use Rattle.tc_asm.specs.DraftedSources.{draft_from_lines, symbols_of, section_names_in}
 use Rattle.tc_isa.specs.Relocations.{is_reloc}
 use Rattle.tc_object.specs.Objects.{SectionData}
 
@@ -29,14 +29,14 @@ content_of labels d (bytes bs r) = Some (statement d.section bs r)
 content_of labels d (zeros n) = Some (statement d.section (replicate n 0) None)
 
 -- the statement, if there is a current section and the bytes are within the limit
-abbrev pub standing : DraftData → Option StatementData → List StatementData
-standing d None = []
-standing d (Some t) = if has_section d && has_room d (length t.bytes) then t ∷ [] else []
+abbrev pub standing_statement : DraftData → Option StatementData → List StatementData
+standing_statement d None = []
+standing_statement d (Some t) = if has_section d && has_room d (length t.bytes) then t ∷ [] else []
 
 -- the statements of these items after a draft, in order
 abbrev pub statements_from : List SymbolData → DraftData → List ItemData → List StatementData
 statements_from labels d [] = []
-statements_from labels d (i ∷ is) = standing d (content_of labels d i) ++ statements_from labels (stepped labels d i) is
+statements_from labels d (i ∷ is) = standing_statement d (content_of labels d i) ++ statements_from labels (draft_after_item labels d i) is
 
 -- the statements of a source with these symbols, in order
 abbrev pub statements : List SymbolData → List LineData → List StatementData
@@ -50,15 +50,9 @@ section_bytes s ts = flat_map (λ (t : StatementData). if t.section == s then t.
 abbrev pub offset_of : List StatementData → ℕ → ℕ → ℕ
 offset_of ts place s = length (section_bytes s (take place ts))
 
--- the bytes of the section of this number
-abbrev pub bytes_at : List PartData → ℕ → List ℕ
-bytes_at [] s = []
-bytes_at (p ∷ ps) zero = p.bytes
-bytes_at (p ∷ ps) (suc s) = bytes_at ps s
-
--- for all lines, a section is the bytes of its statements in order
+-- each section of the draft of any lines is the bytes of its statements in order
 abbrev pub SectionLaw : Type 0
-SectionLaw = (labels : List SymbolData) (lines : List LineData) (s : ℕ) → bytes_at (drafted labels lines).parts s ≡ section_bytes s (statements labels lines)
+SectionLaw = (labels : List SymbolData) (lines : List LineData) (s : ℕ) → bytes_at (draft_from_lines labels lines).parts s ≡ section_bytes s (statements labels lines)
 
 -- the bytes of a statement are in its section at its offset
 abbrev pub OffsetLaw : Type 0
@@ -69,16 +63,17 @@ OffsetLaw = (ts : List StatementData) (place : ℕ) (t : StatementData) → slic
 abbrev pub statements_in : List ℕ → List StatementData
 statements_in source = statements (symbols_of (lines_in source)) (lines_in source)
 
--- sections with these names, numbered from this number on, with the bytes of their statements
-abbrev pub sections_from : List StatementData → ℕ → List (List ℕ) → List SectionData
-sections_from ts number [] = []
-sections_from ts number (name ∷ names) = record { name = name; bytes = section_bytes number ts } ∷ sections_from ts (number + 1) names
+-- the sections that statements make: they have these names, are numbered from this number on, and
+-- hold the bytes of their statements
+abbrev pub sections_of_statements : List StatementData → ℕ → List (List ℕ) → List SectionData
+sections_of_statements ts number [] = []
+sections_of_statements ts number (name ∷ names) = record { name = name; bytes = section_bytes number ts } ∷ sections_of_statements ts (number + 1) names
 
 -- the sections of a source
 unfoldable pub sections_in : List ℕ → List SectionData
-sections_in source = sections_from (statements_in source) 0 (names_in source)
+sections_in source = sections_of_statements (statements_in source) 0 (section_names_in source)
 
 -- the symbol of a statement waits for its address
-abbrev pub is_open : Option ReferenceData → Bool
-is_open None = false
-is_open (Some r) = is_reloc r.kind
+abbrev pub is_open_statement : Option ReferenceData → Bool
+is_open_statement None = false
+is_open_statement (Some r) = is_reloc r.kind

@@ -1,5 +1,5 @@
 -- The table of symbols, in the order of first use.
-use Rattle.std.specs.Prelude.{ℕ, true, false, if◌then◌else◌, List, ◌∷◌, Option, Some, None, find, option_map, is_some, unwrap_or, position, []}
+use Rattle.std.specs.Prelude.{ℕ, true, false, if◌then◌else◌, List, ◌∷◌, Option, Some, None, find, option_map, is_some, unwrap_or, position, map, []}
 use Rattle.std.specs.Str.{bytes_eq}
 use Rattle.tc_asm.specs.declared.symbols.Place.{Place}
 use Rattle.tc_asm.specs.declared.symbols.Entry.{Entry}
@@ -25,7 +25,8 @@ entry_in ss name = option_map (λ (s : SymbolData). s.entry) (find (λ s. bytes_
 abbrev pub entry_of : List SymbolData → List ℕ → Entry
 entry_of ss name = unwrap_or (entry_in ss name) unseen
 
--- the table with this entry of a name: a known symbol keeps its number, and a new one is the last
+-- the assembler's table of symbols with this entry of a name: a known symbol keeps its number, and
+-- a new one is the last
 abbrev pub put_entry : List SymbolData → List ℕ → Entry → List SymbolData
 put_entry [] name e = symbol name e ∷ []
 put_entry (s ∷ ss) name e = if bytes_eq name s.name then symbol s.name e ∷ ss else s ∷ put_entry ss name e
@@ -54,6 +55,10 @@ labelled ss name place = put_entry ss name (with_label_at (entry_of ss name) pla
 unfoldable pub made_global : List SymbolData → List ℕ → List SymbolData
 made_global ss name = put_entry ss name (record (entry_of ss name) { is_global = true })
 
--- the number of a symbol
-abbrev pub number_of : List SymbolData → List ℕ → ℕ
-number_of ss name = unwrap_or (position (λ s. bytes_eq name s.name) ss) 0
+-- the number of a name in the assembler's table of symbols, and 0 if it isn't there
+abbrev pub symbol_number : List SymbolData → List ℕ → ℕ
+symbol_number ss name = unwrap_or (position (λ s. bytes_eq name s.name) ss) 0
+
+-- the names in the assembler's table of symbols, in the order of first use
+abbrev pub symbol_names : List SymbolData → List (List ℕ)
+symbol_names ss = map (λ (s : SymbolData). s.name) ss

@@ -2,9 +2,9 @@
 ghost use Rattle.std.specs.Prelude.{◌≡◌, ◌≤◌, ◌<◌, ◌^◌, ◌&&◌, if◌then◌else◌, All, true, map, length, min, IfOk, OnOk, IfErr, fold, take, drop, []};
 ghost use Rattle.tc_stmt.specs.Items.{item_of};
 ghost use Rattle.tc_stmt.specs.Lines.{line_data, lines_in, items_in};
-ghost use Rattle.tc_asm.specs.AddedItems.{IsItem};
-ghost use Rattle.tc_asm.specs.Drafts.{start, stepped, with_line, drafted};
-ghost use Rattle.tc_asm.specs.DraftedSources.{symbols_of as symbols_in, KeepsRules, IsLeast};
+ghost use Rattle.tc_asm.specs.AddedItems.{IsAddedItem};
+ghost use Rattle.tc_asm.specs.Drafts.{start, draft_after_item};
+ghost use Rattle.tc_asm.specs.DraftedSources.{draft_from_lines, with_line, symbols_of as symbols_in, KeepsRules, IsLeastBrokenLine};
 ghost use Rattle.tc_asm.specs.KnownSymbols.{kept, kept_rule, are_new};
 ghost use Rattle.tc_asm.specs.Objects.{object_of};
 ghost use Rattle.tc_asm.specs.Errors.{IfBad};
@@ -13,17 +13,17 @@ ghost use Rattle.tc_stmt.specs.LinesRead.{lines_of};
 
 use crate::AsmErr;
 use crate::draft::Draft;
-use crate::emit::finish;
+use crate::emit::emit_object;
 use crate::put_items::add_items;
 use crate::symbols::Symbols;
 use std::alloc::{AllocError, Global};
 use tc_object::Object;
 use tc_stmt::{Item, Line, NO_RULE, Source, read_source};
 
-// Whether items are new, if those before the last one are: there is room for its symbol, and it
-// defines no label twice.
+/// Whether items of the first pass over a source are new, if those before the last one are: there
+/// is room for its symbol, and it defines no label twice.
 #[inline(always)]
-fn and_new(before: bool, room: bool, new: bool) -> bool
+fn are_items_new(before: bool, room: bool, new: bool) -> bool
     ensures { result ≡ (before && (room && new)) }
 {
     before && (room && new)
@@ -36,9 +36,10 @@ fn count_items<'a>(
     draft: &mut Draft<'a>,
     items: &[Item<'a>],
 ) -> Result<bool, AllocError>
-    requires { All (λ i. IsItem (item_of i)) items.now }
+    requires { All (λ i. IsAddedItem (item_of i)) items.now }
     ensures symbols { OnOk result
-        (draft.new.symbols ≡ (fold (stepped []) draft.old (map item_of items.now)).symbols) }
+        (draft.new.symbols ≡ (fold (draft_after_item []) draft.old
+        (map item_of items.now)).symbols) }
     ensures new { IfOk result (λ new. new ≡ are_new [] draft.old (map item_of items.now)) }
 {
     let none = Symbols::new(alloc);
@@ -46,7 +47,7 @@ fn count_items<'a>(
     for item in items {
         let room = draft.has_symbol_room();
         let new = draft.count(alloc, &none, item)?;
-        all_new = and_new(all_new, room, new);
+        all_new = are_items_new(all_new, room, new);
     }
     Ok(all_new)
 }
@@ -54,9 +55,9 @@ fn count_items<'a>(
 // The symbols of all items, which don't depend on the targets of jumps, and whether there is room
 // for all of them and no label is there twice.
 fn symbols_of<'a>(alloc: Global, items: &[Item<'a>]) -> Result<(Symbols<'a>, bool), AllocError>
-    requires { All (λ i. IsItem (item_of i)) items.now }
+    requires { All (λ i. IsAddedItem (item_of i)) items.now }
     ensures symbols { IfOk result
-        (λ s. s.0 ≡ (fold (stepped []) start (map item_of items.now)).symbols) }
+        (λ s. s.0 ≡ (fold (draft_after_item []) start (map item_of items.now)).symbols) }
     ensures new { IfOk result (λ s. s.1 ≡ are_new [] start (map item_of items.now)) }
 {
     let mut draft = Draft::new(alloc);
@@ -64,7 +65,8 @@ fn symbols_of<'a>(alloc: Global, items: &[Item<'a>]) -> Result<(Symbols<'a>, boo
     Ok((draft.symbols, new))
 }
 
-// The first `count` items.
+/// The first `count` of the items of a source that are still to be assembled: those of the next
+/// line.
 fn first_items<'p, 'a>(items: &'p [Item<'a>], count: u8) -> &'p [Item<'a>]
     ensures { result.now ≡ take count items.now }
 {
@@ -80,7 +82,7 @@ fn later_items<'p, 'a>(items: &'p [Item<'a>], count: u8) -> &'p [Item<'a>]
 
 // Adds a line, whose items are first in `items`, and returns the least rule that it breaks.
 #[inline(always)]
-#[tactic(auto, unfolding(crate::specs::Drafts::with_line))]
+#[tactic(auto, unfolding(crate::specs::DraftedSources::with_line))]
 fn add_line<'a>(
     alloc: Global,
     draft: &mut Draft<'a>,
@@ -99,8 +101,8 @@ fn add_line<'a>(
     Ok(line.rule.min(rule))
 }
 
-// The draft with these symbols.
-fn with_symbols<'a>(draft: Draft<'a>, symbols: Symbols<'a>) -> Draft<'a>
+/// The draft of a second pass over a source, with these symbols of the first pass.
+fn draft_with_symbols<'a>(draft: Draft<'a>, symbols: Symbols<'a>) -> Draft<'a>
     ensures { result ≡ record draft.entry { symbols = symbols.entry } }
 {
     Draft {
@@ -113,12 +115,12 @@ fn with_symbols<'a>(draft: Draft<'a>, symbols: Symbols<'a>) -> Draft<'a>
 }
 
 // The draft with these symbols, if they are known.
-fn with_known<'a>(draft: Draft<'a>, known: bool, symbols: Symbols<'a>) -> Draft<'a>
+fn draft_with_known_symbols<'a>(draft: Draft<'a>, known: bool, symbols: Symbols<'a>) -> Draft<'a>
     ensures { result
         ≡ (if known then record draft.entry { symbols = symbols.entry } else draft.entry) }
 {
     if known {
-        return with_symbols(draft, symbols);
+        return draft_with_symbols(draft, symbols);
     }
     draft
 }
@@ -137,10 +139,10 @@ fn draft_of_lines<'a>(
     requires known { known ≡ true
         → are_new labels.now start (items_in (lines_of source.now)) ≡ true }
     ensures ok { IfOk result
-        (λ d. kept known d ≡ kept known (drafted labels.now (lines_of source.now))) }
+        (λ d. kept known d ≡ kept known (draft_from_lines labels.now (lines_of source.now))) }
     ensures rules { OnOk result (KeepsRules (lines_of source.now) (length (lines_of source.now))) }
-    ensures whole { OnOk result (IsDraft (drafted labels.now (lines_of source.now))) }
-    ensures bad { IfErr result (IfBad (IsLeast (lines_of source.now))) }
+    ensures whole { OnOk result (IsDraft (draft_from_lines labels.now (lines_of source.now))) }
+    ensures bad { IfErr result (IfBad (IsLeastBrokenLine (lines_of source.now))) }
 {
     let mut draft = Draft::new(alloc);
     let lines = source.lines.as_slice();
@@ -167,12 +169,13 @@ fn draft_of_lines<'a>(
 pub fn assemble(alloc: Global, source: &[u8]) -> Result<Object, AsmErr>
     requires { length source.now ≤ 2 ^ 30 }
     ensures ok { IfOk result
-        (λ o. o ≡ object_of (drafted (symbols_in (lines_in source.now)) (lines_in source.now))) }
+        (λ o. o ≡ object_of (draft_from_lines (symbols_in (lines_in source.now))
+        (lines_in source.now))) }
     ensures kept { OnOk result (KeepsRules (lines_in source.now) (length (lines_in source.now))) }
-    ensures bad { IfErr result (IfBad (IsLeast (lines_in source.now))) }
+    ensures bad { IfErr result (IfBad (IsLeastBrokenLine (lines_in source.now))) }
 {
     let read = read_source(alloc, source)?;
     let (labels, known) = symbols_of(alloc, &read.items)?;
     let draft = draft_of_lines(alloc, &labels, known, &read)?;
-    Ok(finish(alloc, with_known(draft, known, labels))?)
+    Ok(emit_object(alloc, draft_with_known_symbols(draft, known, labels))?)
 }

@@ -1,12 +1,12 @@
 // The draft of an object: the sections and symbols of the lines so far.
-use crate::encode::{code_size, first_bytes};
+use crate::encode::{assembled_code_size, first_assembled_bytes};
 use crate::rules::is_reloc;
 use crate::sections::{Part, extend_part, extend_zeros, number_of_part, part_len, use_part};
 use crate::symbols::{Place, Symbols};
 use std::alloc::{AllocError, Global};
 use std::marker::Model;
 use tc_isa::{Fields, WORD32};
-use tc_stmt::{Item, Reference, is_name, reference_to};
+use tc_stmt::{Item, Reference, is_source_name, reference_to};
 
 /// The number of the current section, all sections and symbols so far, and the numbers of bytes and
 /// relocations in all sections.
@@ -49,9 +49,9 @@ const NO_NUMBER: usize = 64;
 impl<'a> Draft<'a> {
     ghost use Rattle.std.specs.Prelude.{◌≡◌, [], OnOk, IfOk, Some, option_map, replicate};
     ghost use Rattle.tc_stmt.specs.Items.{reference_of, item_of, label, code, bytes as data_item};
-    ghost use Rattle.tc_asm.specs.AddedItems.{IsCode, IsData, IsItem, IsNamed};
+    ghost use Rattle.tc_asm.specs.AddedItems.{IsAddedCode, IsAddedData, IsAddedItem, AddedSymbolIsNamed};
     ghost use Rattle.tc_asm.specs.AlikeDrafts.{Alike};
-    ghost use Rattle.tc_asm.specs.Drafts.{DraftData, start, place_of, has_section, has_room, with_label, entered, with_global, with_bytes, with_use, with_reference, with_content, stepped};
+    ghost use Rattle.tc_asm.specs.Drafts.{DraftData, start, draft_place, has_section, has_room, with_label, with_current_section, with_global, with_bytes, with_use, with_reference, with_content, draft_after_item};
     ghost use Rattle.tc_asm.specs.Symbols.{seen};
     ghost use Rattle.tc_asm.specs.KnownSymbols.{is_new};
 
@@ -69,9 +69,9 @@ impl<'a> Draft<'a> {
     }
 
     /// The offset of the next byte in the current section, and 0 if there is no current section.
-    #[tactic(auto, unfolding(crate::specs::Drafts::place_of))]
+    #[tactic(auto, unfolding(crate::specs::Drafts::draft_place))]
     pub fn place(&self) -> usize
-        ensures { result ≡ place_of self.now }
+        ensures { result ≡ draft_place self.now }
     {
         if self.section < self.parts.len() {
             part_len(&self.parts[self.section])
@@ -101,7 +101,7 @@ impl<'a> Draft<'a> {
         ensures draft { OnOk result (self.new ≡ with_label self.old name.entry.now) }
         ensures new { IfOk result (λ new. new ≡ is_new self.old.symbols (label name.entry.now)) }
     {
-        if !is_name(name) {
+        if !is_source_name(name) {
             return Ok(self.symbols.place(name).is_none());
         }
         let place = Place {
@@ -112,12 +112,14 @@ impl<'a> Draft<'a> {
         Ok(before.is_none())
     }
 
+    /// Makes the section of this name the draft's current one. If there is none, and there are
+    /// fewer than 64, a new one begins. A bad name changes nothing.
     #[inline(never)]
-    #[tactic(auto, unfolding(crate::specs::Drafts::entered))]
+    #[tactic(auto, unfolding(crate::specs::Drafts::with_current_section))]
     fn enter(&mut self, alloc: Global, name: &'a [u8]) -> Result<(), AllocError>
-        ensures { OnOk result (self.new ≡ entered self.old name.entry.now) }
+        ensures { OnOk result (self.new ≡ with_current_section self.old name.entry.now) }
     {
-        if !is_name(name) {
+        if !is_source_name(name) {
             return Ok(());
         }
         let number = number_of_part(&self.parts, name);
@@ -139,17 +141,19 @@ impl<'a> Draft<'a> {
         Ok(())
     }
 
+    /// Makes the symbol of this name global in the draft. A bad name changes nothing.
     #[inline(never)]
     #[tactic(auto, unfolding(crate::specs::Drafts::with_global))]
     fn make_global(&mut self, name: &'a [u8]) -> Result<(), AllocError>
         ensures { OnOk result (self.new ≡ with_global self.old name.entry.now) }
     {
-        if is_name(name) {
+        if is_source_name(name) {
             self.symbols.make_global(name)?;
         }
         Ok(())
     }
 
+    /// Adds bytes at the end of the current section, if they are within the limit.
     #[inline(always)]
     #[tactic(auto, unfolding(crate::specs::Drafts::with_bytes))]
     pub(crate) fn add_bytes(&mut self, bytes: &[u8]) -> Result<(), AllocError>
@@ -162,6 +166,8 @@ impl<'a> Draft<'a> {
         Ok(())
     }
 
+    /// Notes a relocation for the next bytes, of which there are `size`, if they are four and there
+    /// is room for it.
     #[inline(always)]
     #[tactic(auto, unfolding(crate::specs::Drafts::with_use))]
     pub(crate) fn add_use(&mut self, size: usize, r: Reference<'a>) -> Result<(), AllocError>
@@ -180,20 +186,22 @@ impl<'a> Draft<'a> {
         Ok(())
     }
 
-    // Notes the symbol of the next bytes, of which there are `size`.
+    /// Notes in the draft the symbol of the next bytes, of which there are `size`.
     #[inline(never)]
     #[tactic(auto, unfolding(crate::specs::Drafts::with_reference))]
     fn add_named(&mut self, size: usize, r: &Reference<'a>) -> Result<(), AllocError>
         ensures { OnOk result
             (self.new ≡ with_reference self.old size (Some (reference_of r.now))) }
     {
-        if is_name(r.name) {
+        if is_source_name(r.name) {
             self.symbols.see(r.name)?;
             self.add_use(size, *r)?;
         }
         Ok(())
     }
 
+    /// Notes in the draft the symbol of the next bytes, of which there are `size`, if they have
+    /// one.
     #[inline(always)]
     #[tactic(auto, unfolding(crate::specs::Drafts::with_reference))]
     fn add_reference(&mut self, size: usize, r: &Option<Reference<'a>>) -> Result<(), AllocError>
@@ -206,6 +214,7 @@ impl<'a> Draft<'a> {
         }
     }
 
+    /// Adds bytes at the end of the draft's current section, with their symbol if they have one.
     pub(crate) fn add_content(
         &mut self,
         bytes: &[u8],
@@ -218,7 +227,7 @@ impl<'a> Draft<'a> {
         self.add_bytes(bytes)
     }
 
-    // Adds zeros, which are only counted.
+    /// Adds zeros at the end of the draft's current section, which are only counted.
     #[inline(always)]
     #[tactic(auto, unfolding(crate::specs::Drafts::with_bytes))]
     fn add_zeros(&mut self, n: usize) -> Result<(), AllocError>
@@ -231,8 +240,9 @@ impl<'a> Draft<'a> {
         Ok(())
     }
 
+    /// Adds an instruction to the draft, with its target resolved if it needs no relocation.
     #[inline(never)]
-    #[tactic(auto, unfolding(crate::specs::Drafts::stepped))]
+    #[tactic(auto, unfolding(crate::specs::Drafts::draft_after_item))]
     fn add_code(
         &mut self,
         labels: &Symbols<'a>,
@@ -241,22 +251,22 @@ impl<'a> Draft<'a> {
         r: &Option<Reference<'a>>,
     ) -> Result<(), AllocError>
         ensures { OnOk result
-            (self.new ≡ stepped labels.now self.old
+            (self.new ≡ draft_after_item labels.now self.old
             (code row fields.now (option_map reference_of r.now))) }
     {
         let code = self.code(labels, row, fields, r);
-        self.add_content(first_bytes(&code.bytes, code.len), r)
+        self.add_content(first_assembled_bytes(&code.bytes, code.len), r)
     }
 
     /// Adds an item. `labels` are the symbols of the whole source.
-    #[tactic(auto, unfolding(crate::specs::Drafts::stepped))]
+    #[tactic(auto, unfolding(crate::specs::Drafts::draft_after_item))]
     pub fn step(
         &mut self,
         alloc: Global,
         labels: &Symbols<'a>,
         item: &Item<'a>,
     ) -> Result<(), AllocError>
-        ensures { OnOk result (self.new ≡ stepped labels.now self.old (item_of item.now)) }
+        ensures { OnOk result (self.new ≡ draft_after_item labels.now self.old (item_of item.now)) }
     {
         match item {
             Item::Label(name) => {
@@ -270,16 +280,16 @@ impl<'a> Draft<'a> {
                 let r = Some(reference_to(*kind, *name, *minus, *size));
                 self.add_code(labels, *row, fields, &r)
             }
-            Item::Data(len, bytes) => self.add_content(first_bytes(bytes, *len), &None),
+            Item::Data(len, bytes) => self.add_content(first_assembled_bytes(bytes, *len), &None),
             Item::Word(len, minus, size, name) => {
                 let r = Some(reference_to(WORD32, *name, *minus, *size));
-                self.add_content(first_bytes(&[0; 4], *len), &r)
+                self.add_content(first_assembled_bytes(&[0; 4], *len), &r)
             }
             Item::Zeros(n) => self.add_zeros(*n as usize),
         }
     }
 
-    // Notes a name.
+    /// Notes a name among the symbols of the draft.
     #[inline(never)]
     fn see_name(&mut self, name: &'a [u8]) -> Result<(), AllocError>
         ensures { OnOk result
@@ -293,7 +303,7 @@ impl<'a> Draft<'a> {
     #[inline(always)]
     #[tactic(auto, unfolding(crate::specs::Drafts::with_reference))]
     fn see_reference(&mut self, r: &Option<Reference<'a>>) -> Result<(), AllocError>
-        requires { IsNamed (option_map reference_of r.now) }
+        requires { AddedSymbolIsNamed (option_map reference_of r.now) }
         ensures { OnOk result
             (self.new ≡ with_reference self.old 0 (option_map reference_of r.now)) }
     {
@@ -309,7 +319,7 @@ impl<'a> Draft<'a> {
     // Adds `n` zeros instead of bytes, and notes their symbol. The first pass needs no more.
     #[inline(always)]
     fn count_bytes(&mut self, n: usize, r: &Option<Reference<'a>>) -> Result<(), AllocError>
-        requires { IsNamed (option_map reference_of r.now) }
+        requires { AddedSymbolIsNamed (option_map reference_of r.now) }
         ensures { OnOk result
             (self.new ≡ with_bytes (with_reference self.old 0 (option_map reference_of r.now))
             (replicate n 0)) }
@@ -318,43 +328,46 @@ impl<'a> Draft<'a> {
         self.add_zeros(n)
     }
 
-    // Adds a label in the first pass, and returns whether its name has no label before it.
+    /// Adds a label to the first pass's draft, and returns whether its name has no label before it.
     fn count_label(&mut self, name: &'a [u8]) -> Result<bool, AllocError>
         ensures alike { OnOk result ((d : DraftData) → Alike self.old d
-            → Alike self.new (stepped [] d (label name.entry.now))) }
+            → Alike self.new (draft_after_item [] d (label name.entry.now))) }
         ensures new { IfOk result (λ new. new ≡ is_new self.old.symbols (label name.entry.now)) }
     {
         let new = self.add_label(name)?;
         Ok(new)
     }
 
-    // Adds an instruction as far as symbols depend on it.
+    /// Adds an instruction to the first pass's draft as far as symbols depend on it.
     fn count_code(
         &mut self,
         row: u8,
         fields: &Fields,
         r: &Option<Reference<'a>>,
     ) -> Result<(), AllocError>
-        requires { IsCode row fields.now (option_map reference_of r.now) }
+        requires { IsAddedCode row fields.now (option_map reference_of r.now) }
         ensures { OnOk result ((d : DraftData) → Alike self.old d
-            → Alike self.new (stepped [] d (code row fields.now (option_map reference_of r.now)))) }
+            → Alike self.new (draft_after_item [] d
+            (code row fields.now (option_map reference_of r.now)))) }
     {
-        let size = usize::from(code_size(row));
+        let size = usize::from(assembled_code_size(row));
         self.count_bytes(size, r)?;
         Ok(())
     }
 
-    // Adds data as far as symbols depend on them.
+    /// Adds data to the first pass's draft as far as symbols depend on them.
     fn count_data(&mut self, bytes: &[u8], r: &Option<Reference<'a>>) -> Result<(), AllocError>
-        requires { IsData bytes.now (option_map reference_of r.now) }
+        requires { IsAddedData bytes.now (option_map reference_of r.now) }
         ensures { OnOk result ((d : DraftData) → Alike self.old d
-            → Alike self.new (stepped [] d (data_item bytes.now (option_map reference_of r.now)))) }
+            → Alike self.new (draft_after_item [] d
+            (data_item bytes.now (option_map reference_of r.now)))) }
     {
         self.count_bytes(bytes.len(), r)?;
         Ok(())
     }
 
-    // Adds a section, a global name or zeros, with an empty table of labels.
+    /// Adds a section, a global name or zeros to the first pass's draft, with an empty table of
+    /// labels.
     fn count_other(
         &mut self,
         alloc: Global,
@@ -362,16 +375,16 @@ impl<'a> Draft<'a> {
         item: &Item<'a>,
     ) -> Result<(), AllocError>
         requires none { none.now ≡ [] }
-        requires added { IsItem (item_of item.now) }
+        requires added { IsAddedItem (item_of item.now) }
         ensures { OnOk result ((d : DraftData) → Alike self.old d
-            → Alike self.new (stepped [] d (item_of item.now))) }
+            → Alike self.new (draft_after_item [] d (item_of item.now))) }
     {
         self.step(alloc, none, item)?;
         Ok(())
     }
 
-    /// Adds an item as far as symbols depend on it, and returns whether it defines no label twice.
-    /// `none` is an empty table of labels.
+    /// Adds an item to the first pass's draft as far as symbols depend on it, and returns whether
+    /// it defines no label twice. `none` is an empty table of labels.
     pub fn count(
         &mut self,
         alloc: Global,
@@ -379,9 +392,9 @@ impl<'a> Draft<'a> {
         item: &Item<'a>,
     ) -> Result<bool, AllocError>
         requires none { none.now ≡ [] }
-        requires added { IsItem (item_of item.now) }
+        requires added { IsAddedItem (item_of item.now) }
         ensures alike { OnOk result ((d : DraftData) → Alike self.old d
-            → Alike self.new (stepped [] d (item_of item.now))) }
+            → Alike self.new (draft_after_item [] d (item_of item.now))) }
         ensures new { IfOk result (λ new. new ≡ is_new self.old.symbols (item_of item.now)) }
     {
         match item {
@@ -391,10 +404,10 @@ impl<'a> Draft<'a> {
                 let r = Some(reference_to(*kind, *name, *minus, *size));
                 self.count_code(*row, fields, &r)?
             }
-            Item::Data(len, bytes) => self.count_data(first_bytes(bytes, *len), &None)?,
+            Item::Data(len, bytes) => self.count_data(first_assembled_bytes(bytes, *len), &None)?,
             Item::Word(len, minus, size, name) => {
                 let r = Some(reference_to(WORD32, *name, *minus, *size));
-                self.count_data(first_bytes(&[0; 4], *len), &r)?
+                self.count_data(first_assembled_bytes(&[0; 4], *len), &r)?
             }
             Item::Section(_) => self.count_other(alloc, none, item)?,
             Item::Global(_) => self.count_other(alloc, none, item)?,

@@ -2,8 +2,8 @@
 ghost use Rattle.std.specs.Prelude.{◌≡◌, take, if◌then◌else◌, ◌==◌, false, option_map, ◌<◌};
 ghost use Rattle.tc_isa.specs.Rows.{is_long, row_of};
 ghost use Rattle.tc_stmt.specs.RowFields.{row_fields_of};
-ghost use Rattle.tc_asm.specs.AlikeDrafts.{code_size as size_of_code};
-ghost use Rattle.tc_asm.specs.Drafts.{bytes_of, found as found_in};
+ghost use Rattle.tc_asm.specs.AlikeDrafts.{assembled_code_size as size_of_code};
+ghost use Rattle.tc_asm.specs.Drafts.{assembled_code, drafted_fields as found_in};
 ghost use Rattle.std.specs.Option.{option_map_or};
 ghost use Rattle.tc_stmt.specs.Items.{reference_of};
 
@@ -15,8 +15,8 @@ use tc_stmt::{MISPLACED_SYMBOL, NO_RELOC, NO_RULE, Reference, RowFields, with_di
 
 /// The bytes of the row with this number and these fields, and no bytes if they are no listed
 /// instruction.
-pub(crate) fn code_of(row: u8, f: &Fields) -> Code
-    ensures { take result.len result.bytes ≡ bytes_of row f.now }
+pub(crate) fn assembled_code(row: u8, f: &Fields) -> Code
+    ensures { take result.len result.bytes ≡ assembled_code row f.now }
 {
     match inst(row, f.c, f.s1, f.s2, f.n, f.k) {
         Some(inst) => encode(&inst),
@@ -28,33 +28,34 @@ pub(crate) fn code_of(row: u8, f: &Fields) -> Code
 }
 
 /// The first `len` of four bytes.
-pub(crate) fn first_bytes(bytes: &[u8; 4], len: u8) -> &[u8]
+pub(crate) fn first_assembled_bytes(bytes: &[u8; 4], len: u8) -> &[u8]
     ensures { result.now ≡ take len bytes.now }
 {
     let len = usize::from(len).min(4);
     &bytes[..len]
 }
 
-fn row_size(row: &Row) -> u8
+/// The size in bytes of instructions of this row.
+fn assembled_row_size(row: &Row) -> u8
     ensures { result ≡ (if is_long (row_of row.now) then 4 else 2) }
 {
     if row.op1 % 2 == 1 { 4 } else { 2 }
 }
 
 /// The size in bytes of instructions of the row with this number, and 0 if there is no such row.
-pub(crate) fn code_size(row: u8) -> u8
+pub(crate) fn assembled_code_size(row: u8) -> u8
     ensures { result ≡ size_of_code row }
 {
     let rows = rows();
     let place = usize::from(row);
     if place < rows.len() {
-        row_size(&rows[place])
+        assembled_row_size(&rows[place])
     } else {
         0
     }
 }
 
-// Fields without a symbol or a broken rule.
+/// The fields of an instruction to encode, without a symbol or a broken rule.
 #[inline(always)]
 fn unbroken_fields<'a>(fields: Fields) -> RowFields<'a>
     ensures { row_fields_of result ≡ found_in fields }
@@ -70,13 +71,13 @@ impl<'a> Draft<'a> {
     ghost use Rattle.std.specs.Prelude.{option_map};
     ghost use Rattle.tc_isa.specs.Rows.{row_of};
     ghost use Rattle.tc_stmt.specs.Items.{reference_of};
-    ghost use Rattle.tc_asm.specs.Drafts.{distance, jumped, targeted, resolved, code_bytes};
+    ghost use Rattle.tc_asm.specs.Drafts.{label_distance, fields_with_label_distance, fields_with_target, row_fields_with_target, code_bytes};
 
-    // The distance in bytes from the current place to a symbol, and whether the symbol is before
-    // it. None if the symbol is no label of the current section.
-    #[tactic(auto, unfolding(crate::specs::Drafts::distance))]
-    fn distance(&self, labels: &Symbols<'a>, r: Reference<'a>) -> Option<(bool, u128)>
-        ensures { result ≡ distance labels.now self.now (reference_of r.entry) }
+    /// The distance in bytes from the draft's current place to the target of a jump, and whether
+    /// the target is before it. None if the symbol is no label of the current section.
+    #[tactic(auto, unfolding(crate::specs::Drafts::label_distance))]
+    fn label_distance(&self, labels: &Symbols<'a>, r: Reference<'a>) -> Option<(bool, u128)>
+        ensures { result ≡ label_distance labels.now self.now (reference_of r.entry) }
     {
         match labels.place(r.name) {
             None => None,
@@ -97,8 +98,9 @@ impl<'a> Draft<'a> {
         }
     }
 
+    /// The fields of a jump of 16 bits to a label, and the least rule that its target breaks.
     #[inline(never)]
-    #[tactic(auto, unfolding(crate::specs::Drafts::jumped))]
+    #[tactic(auto, unfolding(crate::specs::Drafts::fields_with_label_distance))]
     fn resolve_jump(
         &self,
         labels: &Symbols<'a>,
@@ -107,9 +109,10 @@ impl<'a> Draft<'a> {
         r: Reference<'a>,
     ) -> RowFields<'a>
         ensures { row_fields_of result
-            ≡ jumped labels.now self.now (row_of row.now) fields.now (reference_of r.entry) }
+            ≡ fields_with_label_distance labels.now self.now (row_of row.now) fields.now
+            (reference_of r.entry) }
     {
-        match self.distance(labels, r) {
+        match self.label_distance(labels, r) {
             None => RowFields {
                 fields: *fields,
                 rule: MISPLACED_SYMBOL,
@@ -119,8 +122,8 @@ impl<'a> Draft<'a> {
         }
     }
 
-    // The fields once the target is resolved, if it needs no relocation. `item_rule` calls this for
-    // each symbol, so symbols that need a relocation are handled here too.
+    /// The fields to encode once the target is resolved, if it needs no relocation. `item_rule`
+    /// calls this for each symbol, so symbols that need a relocation are handled here too.
     #[inline(always)]
     fn resolve_target(
         &self,
@@ -130,7 +133,7 @@ impl<'a> Draft<'a> {
         r: &Option<Reference<'a>>,
     ) -> RowFields<'a>
         ensures { row_fields_of result
-            ≡ targeted labels.now self.now (row_of row.now) fields.now
+            ≡ fields_with_target labels.now self.now (row_of row.now) fields.now
             (option_map reference_of r.now) }
     {
         match r {
@@ -155,7 +158,8 @@ impl<'a> Draft<'a> {
         r: &Option<Reference<'a>>,
     ) -> RowFields<'a>
         ensures { row_fields_of result
-            ≡ resolved labels.now self.now row fields.now (option_map reference_of r.now) }
+            ≡ row_fields_with_target labels.now self.now row fields.now
+            (option_map reference_of r.now) }
     {
         let rows = rows();
         let place = usize::from(row);
@@ -179,7 +183,7 @@ impl<'a> Draft<'a> {
             ≡ code_bytes labels.now self.now row fields.now (option_map reference_of r.now) }
     {
         let found = self.resolve(labels, row, fields, r);
-        code_of(row, &found.fields)
+        assembled_code(row, &found.fields)
     }
 }
 

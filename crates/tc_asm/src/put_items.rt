@@ -1,22 +1,21 @@
 // Adds items to a draft, with the least rule that each of them breaks.
 ghost use Rattle.std.specs.Prelude.{◌≡◌, option_map, ◌<◌, map, min, IfOk, OnOk, fold};
 ghost use Rattle.tc_stmt.specs.Items.{reference_of, item_of};
-ghost use Rattle.tc_asm.specs.Drafts.{stepped};
+ghost use Rattle.tc_asm.specs.Drafts.{draft_after_item};
 ghost use Rattle.tc_asm.specs.KnownSymbols.{kept, kept_rule};
-ghost use Rattle.tc_asm.specs.DraftViews.{part_of};
 
 use crate::draft::Draft;
-use crate::encode::{code_of, first_bytes, has_near_target};
-use crate::sections::{Part, extend_part, part_len};
+use crate::encode::{assembled_code, first_assembled_bytes, has_near_target};
+use crate::sections::extend_part;
 use crate::symbols::{Place, Symbols};
 use std::alloc::{AllocError, Global};
 use tc_isa::{Fields, WORD32};
-use tc_stmt::{Item, LABEL_TWICE, NO_RULE, Reference, is_name, reference_to};
+use tc_stmt::{Item, LABEL_TWICE, NO_RULE, Reference, is_source_name, reference_to};
 
 impl<'a> Draft<'a> {
     ghost use Rattle.std.specs.Prelude.{option_map, length, None, Some, OnOk, IfOk};
     ghost use Rattle.tc_stmt.specs.Items.{reference_of, item_of, label, global, code};
-    ghost use Rattle.tc_asm.specs.Drafts.{stepped, with_bytes, with_reference, with_content};
+    ghost use Rattle.tc_asm.specs.Drafts.{draft_after_item, with_bytes, with_reference, with_content};
     ghost use Rattle.tc_asm.specs.Rules.{content_rule, item_rule};
     ghost use Rattle.tc_asm.specs.KnownSymbols.{nameless, kept};
 
@@ -69,7 +68,7 @@ impl<'a> Draft<'a> {
     // Adds an instruction whose target is resolved at once, and returns the least rule that it
     // breaks.
     #[inline(never)]
-    #[tactic(auto, unfolding(crate::specs::Rules::item_rule, crate::specs::Drafts::stepped, crate::specs::Drafts::code_bytes))]
+    #[tactic(auto, unfolding(crate::specs::Rules::item_rule, crate::specs::Drafts::draft_after_item, crate::specs::Drafts::code_bytes))]
     fn put_jump(
         &mut self,
         labels: &Symbols<'a>,
@@ -78,21 +77,21 @@ impl<'a> Draft<'a> {
         r: &Option<Reference<'a>>,
     ) -> Result<u8, AllocError>
         ensures draft { OnOk result
-            (self.new ≡ stepped labels.now self.old
+            (self.new ≡ draft_after_item labels.now self.old
             (code row fields.now (option_map reference_of r.now))) }
         ensures rule { IfOk result
             (λ rule. rule
             ≡ item_rule labels.now self.old (code row fields.now (option_map reference_of r.now))) }
     {
         let found = self.resolve(labels, row, fields, r);
-        let code = code_of(row, &found.fields);
-        let rule = self.put_bytes(first_bytes(&code.bytes, code.len), r)?;
+        let code = assembled_code(row, &found.fields);
+        let rule = self.put_bytes(first_assembled_bytes(&code.bytes, code.len), r)?;
         Ok(found.rule.min(rule))
     }
 
     // Adds an instruction, and returns the least rule that it breaks.
     #[inline(always)]
-    #[tactic(auto, unfolding(crate::specs::Rules::item_rule, crate::specs::Drafts::stepped, crate::specs::Drafts::code_bytes), using(crate::proofs::CodeLaws::found_far))]
+    #[tactic(auto, unfolding(crate::specs::Rules::item_rule, crate::specs::Drafts::draft_after_item, crate::specs::Drafts::code_bytes), using(crate::proofs::CodeLaws::found_far))]
     fn put_code(
         &mut self,
         labels: &Symbols<'a>,
@@ -101,7 +100,7 @@ impl<'a> Draft<'a> {
         r: &Option<Reference<'a>>,
     ) -> Result<u8, AllocError>
         ensures draft { OnOk result
-            (self.new ≡ stepped labels.now self.old
+            (self.new ≡ draft_after_item labels.now self.old
             (code row fields.now (option_map reference_of r.now))) }
         ensures rule { IfOk result
             (λ rule. rule
@@ -110,22 +109,22 @@ impl<'a> Draft<'a> {
         if has_near_target(r) {
             return self.put_jump(labels, row, fields, r);
         }
-        let code = code_of(row, fields);
-        let rule = self.put_bytes(first_bytes(&code.bytes, code.len), r)?;
+        let code = assembled_code(row, fields);
+        let rule = self.put_bytes(first_assembled_bytes(&code.bytes, code.len), r)?;
         // The target breaks no rule.
         Ok(NO_RULE.min(rule))
     }
 
     // Adds a label, and returns the least rule that it breaks. The name is looked up once.
     #[inline(never)]
-    #[tactic(auto, unfolding(crate::specs::Rules::item_rule, crate::specs::Drafts::stepped, crate::specs::Drafts::with_label))]
+    #[tactic(auto, unfolding(crate::specs::Rules::item_rule, crate::specs::Drafts::draft_after_item, crate::specs::Drafts::with_label))]
     fn put_label(&mut self, labels: &Symbols<'a>, name: &'a [u8]) -> Result<u8, AllocError>
         ensures draft { OnOk result
-            (self.new ≡ stepped labels.now self.old (label name.entry.now)) }
+            (self.new ≡ draft_after_item labels.now self.old (label name.entry.now)) }
         ensures rule { IfOk result
             (λ rule. rule ≡ item_rule labels.now self.old (label name.entry.now)) }
     {
-        if !is_name(name) {
+        if !is_source_name(name) {
             return Ok(self.item_rule(labels, &Item::Label(name)));
         }
         let section = self.section_rule();
@@ -145,14 +144,15 @@ impl<'a> Draft<'a> {
 
     // Adds an item, and returns the least rule that it breaks, or no rule. `labels` are the symbols
     // of the whole source.
-    #[tactic(auto, unfolding(crate::specs::Rules::item_rule, crate::specs::Drafts::stepped))]
+    #[tactic(auto, unfolding(crate::specs::Rules::item_rule, crate::specs::Drafts::draft_after_item))]
     fn put(
         &mut self,
         alloc: Global,
         labels: &Symbols<'a>,
         item: &Item<'a>,
     ) -> Result<u8, AllocError>
-        ensures draft { OnOk result (self.new ≡ stepped labels.now self.old (item_of item.now)) }
+        ensures draft { OnOk result
+            (self.new ≡ draft_after_item labels.now self.old (item_of item.now)) }
         ensures rule { IfOk result
             (λ rule. rule ≡ item_rule labels.now self.old (item_of item.now)) }
     {
@@ -163,10 +163,10 @@ impl<'a> Draft<'a> {
                 let r = Some(reference_to(*kind, *name, *minus, *size));
                 self.put_code(labels, *row, fields, &r)
             }
-            Item::Data(len, bytes) => self.put_bytes(first_bytes(bytes, *len), &None),
+            Item::Data(len, bytes) => self.put_bytes(first_assembled_bytes(bytes, *len), &None),
             Item::Word(len, minus, size, name) => {
                 let r = Some(reference_to(WORD32, *name, *minus, *size));
-                self.put_bytes(first_bytes(&[0; 4], *len), &r)
+                self.put_bytes(first_assembled_bytes(&[0; 4], *len), &r)
             }
             _ => self.put_other(alloc, labels, item),
         }
@@ -179,7 +179,8 @@ impl<'a> Draft<'a> {
         labels: &Symbols<'a>,
         item: &Item<'a>,
     ) -> Result<u8, AllocError>
-        ensures draft { OnOk result (self.new ≡ stepped labels.now self.old (item_of item.now)) }
+        ensures draft { OnOk result
+            (self.new ≡ draft_after_item labels.now self.old (item_of item.now)) }
         ensures rule { IfOk result
             (λ rule. rule ≡ item_rule labels.now self.old (item_of item.now)) }
     {
@@ -188,13 +189,13 @@ impl<'a> Draft<'a> {
         Ok(rule)
     }
 
-    // Notes the use of a symbol that is known.
+    /// Notes the use of a symbol that is known, as an item is put into the draft.
     #[inline(always)]
     fn use_known(&mut self, size: usize, r: Reference<'a>) -> Result<(), AllocError>
         ensures { OnOk result (nameless self.new
             ≡ nameless (with_reference self.old size (Some (reference_of r.entry)))) }
     {
-        if is_name(r.name) {
+        if is_source_name(r.name) {
             self.add_use(size, r)?;
         }
         Ok(())
@@ -218,7 +219,7 @@ impl<'a> Draft<'a> {
     }
 
     // Adds an instruction with a symbol that is known, and returns the least rule that it breaks.
-    #[tactic(auto, unfolding(crate::specs::Rules::item_rule, crate::specs::Drafts::stepped, crate::specs::Drafts::code_bytes))]
+    #[tactic(auto, unfolding(crate::specs::Rules::item_rule, crate::specs::Drafts::draft_after_item, crate::specs::Drafts::code_bytes))]
     fn put_linked(
         &mut self,
         labels: &Symbols<'a>,
@@ -227,13 +228,14 @@ impl<'a> Draft<'a> {
         r: Reference<'a>,
     ) -> Result<u8, AllocError>
         ensures draft { OnOk result (nameless self.new ≡ nameless
-            (stepped labels.now self.old (code row fields.now (Some (reference_of r.entry))))) }
+            (draft_after_item labels.now self.old
+            (code row fields.now (Some (reference_of r.entry))))) }
         ensures rule { IfOk result (λ rule. rule ≡ item_rule labels.now (nameless self.old)
             (code row fields.now (Some (reference_of r.entry)))) }
     {
         let found = self.resolve(labels, row, fields, &Some(r));
-        let code = code_of(row, &found.fields);
-        let rule = self.put_use(first_bytes(&code.bytes, code.len), r)?;
+        let code = assembled_code(row, &found.fields);
+        let rule = self.put_use(first_assembled_bytes(&code.bytes, code.len), r)?;
         Ok(found.rule.min(rule))
     }
 
@@ -245,7 +247,8 @@ impl<'a> Draft<'a> {
         section.min(Self::name_rule(name).min(NO_RULE))
     }
 
-    // The least rule that a global name breaks, if there is room for it.
+    /// The least rule that a global name breaks when its item is put into a draft with known
+    /// symbols, if there is room for it.
     fn known_global_rule(&self, labels: &Symbols<'a>, name: &[u8]) -> u8
         ensures { result ≡ item_rule labels.now (nameless self.now) (global name.now) }
     {
@@ -262,12 +265,12 @@ impl<'a> Draft<'a> {
         fields: &Fields,
     ) -> Result<u8, AllocError>
         ensures draft { OnOk result
-            (self.new ≡ stepped labels.now self.old (code row fields.now None)) }
+            (self.new ≡ draft_after_item labels.now self.old (code row fields.now None)) }
         ensures rule { IfOk result
             (λ rule. rule ≡ item_rule labels.now self.old (code row fields.now None)) }
     {
-        let code = code_of(row, fields);
-        let rule = self.put_plain(first_bytes(&code.bytes, code.len))?;
+        let code = assembled_code(row, fields);
+        let rule = self.put_plain(first_assembled_bytes(&code.bytes, code.len))?;
         // There is no target that breaks a rule.
         Ok(NO_RULE.min(rule))
     }
@@ -281,7 +284,8 @@ impl<'a> Draft<'a> {
         item: &Item<'a>,
     ) -> Result<u8, AllocError>
         ensures draft { OnOk result
-            (nameless self.new ≡ nameless (stepped labels.now self.old (item_of item.now))) }
+            (nameless self.new ≡ nameless
+            (draft_after_item labels.now self.old (item_of item.now))) }
         ensures rule { IfOk result
             (λ rule. rule ≡ item_rule labels.now (nameless self.old) (item_of item.now)) }
     {
@@ -293,10 +297,10 @@ impl<'a> Draft<'a> {
                 let r = reference_to(*kind, *name, *minus, *size);
                 self.put_linked(labels, *row, fields, r)
             }
-            Item::Data(len, bytes) => self.put_bytes(first_bytes(bytes, *len), &None),
+            Item::Data(len, bytes) => self.put_bytes(first_assembled_bytes(bytes, *len), &None),
             Item::Word(len, minus, size, name) => {
                 let r = reference_to(WORD32, *name, *minus, *size);
-                self.put_use(first_bytes(&[0; 4], *len), r)
+                self.put_use(first_assembled_bytes(&[0; 4], *len), r)
             }
             Item::Section(_) => self.put_other(alloc, labels, item),
             Item::Zeros(_) => self.put_other(alloc, labels, item),
@@ -313,7 +317,7 @@ impl<'a> Draft<'a> {
         item: &Item<'a>,
     ) -> Result<u8, AllocError>
         ensures draft { OnOk result (kept known self.new
-            ≡ kept known (stepped labels.now self.old (item_of item.now))) }
+            ≡ kept known (draft_after_item labels.now self.old (item_of item.now))) }
         ensures rule { IfOk result
             (λ rule. rule ≡ item_rule labels.now (kept known self.old) (item_of item.now)) }
     {
@@ -334,7 +338,7 @@ pub(crate) fn add_items<'a>(
     items: &[Item<'a>],
 ) -> Result<u8, AllocError>
     ensures draft { OnOk result (kept known draft.new
-        ≡ kept known (fold (stepped labels.now) draft.old (map item_of items.now))) }
+        ≡ kept known (fold (draft_after_item labels.now) draft.old (map item_of items.now))) }
     ensures rule { IfOk result
         (λ rule. rule ≡ kept_rule known labels.now draft.old (map item_of items.now)) }
 {
@@ -343,16 +347,4 @@ pub(crate) fn add_items<'a>(
         rule = draft.put_item(alloc, labels, known, item)?.min(rule);
     }
     Ok(rule)
-}
-
-// Writes the zeros at the end of a section that are only counted.
-#[inline(never)]
-pub(crate) fn put_zeros(part: &mut Part) -> Result<(), AllocError>
-    ensures same { OnOk result (part_of part.new ≡ part_of part.old) }
-    ensures none { OnOk result (part.new.zeros ≡ 0) }
-{
-    let len = part_len(part);
-    part.bytes.resize(len, 0)?;
-    part.zeros = 0;
-    Ok(())
 }

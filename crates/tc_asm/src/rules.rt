@@ -3,19 +3,19 @@ ghost use Rattle.std.specs.Prelude.{◌≡◌};
 ghost use Rattle.tc_isa.specs.Relocations.{is_reloc as needs_reloc};
 
 use crate::draft::{Draft, MOST_RELOCS, MOST_SECTIONS};
-use crate::encode::first_bytes;
+use crate::encode::first_assembled_bytes;
 use crate::sections::number_of_part;
 use crate::symbols::Symbols;
 use tc_isa::{Fields, REL24, WORD32};
 use tc_stmt::{
     BAD_NAME, Item, LABEL_TWICE, NO_RULE, NO_SECTION, PAST_LIMITS, Reference, UNDEFINED_GLOBAL,
-    is_name, reference_to,
+    is_source_name, reference_to,
 };
 
 // The most symbols of a source.
 const MOST_SYMBOLS: usize = 65535;
 
-/// Whether this is the kind of a relocation.
+/// Whether this is the kind of a relocation. Rule 13 limits the number of relocations.
 pub(crate) fn is_reloc(kind: u8) -> bool
     ensures { result ≡ needs_reloc kind }
 {
@@ -62,7 +62,7 @@ impl<'a> Draft<'a> {
         }
     }
 
-    /// Whether there is room for one more symbol.
+    /// Whether there is room for one more symbol, as rule 13 demands.
     pub(crate) fn has_symbol_room(&self) -> bool
         ensures { result ≡ has_symbol_room self.now.symbols }
     {
@@ -124,7 +124,11 @@ impl<'a> Draft<'a> {
     pub(crate) fn name_rule(name: &[u8]) -> u8
         ensures { result ≡ name_rule name.now }
     {
-        if is_name(name) { NO_RULE } else { BAD_NAME }
+        if is_source_name(name) {
+            NO_RULE
+        } else {
+            BAD_NAME
+        }
     }
 
     /// Rule 14: a global name that no label of the source defines.
@@ -153,7 +157,7 @@ impl<'a> Draft<'a> {
     {
         let target = self.resolve(labels, row, fields, r).rule;
         let code = self.code(labels, row, fields, r);
-        let len = first_bytes(&code.bytes, code.len).len();
+        let len = first_assembled_bytes(&code.bytes, code.len).len();
         target.min(self.content_rule(len, r))
     }
 
@@ -180,10 +184,13 @@ impl<'a> Draft<'a> {
                 let r = Some(reference_to(*kind, *name, *minus, *size));
                 self.code_rule(labels, *row, fields, &r)
             }
-            Item::Data(len, bytes) => self.content_rule(first_bytes(bytes, *len).len(), &None),
+            Item::Data(len, bytes) => self.content_rule(
+                first_assembled_bytes(bytes, *len).len(),
+                &None,
+            ),
             Item::Word(len, minus, size, name) => {
                 let r = Some(reference_to(WORD32, *name, *minus, *size));
-                self.content_rule(first_bytes(&[0; 4], *len).len(), &r)
+                self.content_rule(first_assembled_bytes(&[0; 4], *len).len(), &r)
             }
             Item::Zeros(n) => self.section_rule().min(self.bytes_room(*n as usize)),
         }

@@ -1,18 +1,13 @@
 // The sections of a draft.
-ghost use Rattle.std.specs.Prelude.{◌≡◌, ◌<◌, ◌≤◌, ◌^◌, map, OnOk, length, position, replicate, All, IfOk};
+ghost use Rattle.std.specs.Prelude.{◌≡◌, ◌<◌, ◌≤◌, ◌^◌, map, OnOk, length, position, replicate};
 ghost use Rattle.std.specs.Str.{bytes_eq};
 ghost use Rattle.tc_stmt.specs.Items.{reference_of};
 ghost use Rattle.tc_asm.specs.DraftViews.{part_of};
-ghost use Rattle.tc_asm.specs.Drafts.{extended, used, number_of_part};
-ghost use Rattle.tc_asm.specs.Objects.{relocs_from};
+ghost use Rattle.tc_asm.specs.Drafts.{with_part_bytes, with_part_use, number_of_part};
 
 use crate::draft::MOST_BYTES;
-use crate::emit::{add_relocs, symbols};
-use crate::put_items::put_zeros;
-use crate::symbols::Symbols;
-use std::alloc::{AllocError, Global};
-use tc_lex::is_same;
-use tc_object::Reloc;
+use std::alloc::AllocError;
+use tc_lex::are_same_bytes;
 use tc_stmt::Reference;
 
 /// Four bytes of a section that wait for the value of a symbol.
@@ -37,10 +32,11 @@ pub struct Part<'a> {
     pub uses: Vec<Use<'a>>,
 }
 
+/// The number of the section with this name, if one has it.
 fn find_part(parts: &[Part], name: &[u8]) -> Option<usize>
     ensures { result ≡ position (λ p. bytes_eq name.now p.name.now) parts.now }
 {
-    parts.iter().position(|p| is_same(name, p.name))
+    parts.iter().position(|p| are_same_bytes(name, p.name))
 }
 
 /// The number of the section with this name, or the number of sections if none has it.
@@ -90,7 +86,7 @@ fn limit_zeros(part: &mut Part) -> Result<(), AllocError>
 pub(crate) fn extend_part(parts: &mut Vec<Part>, i: usize, bytes: &[u8]) -> Result<(), AllocError>
     requires { i < length parts.old.items }
     ensures { OnOk result
-        (map part_of parts.new.items ≡ extended (map part_of parts.old.items) i bytes.now) }
+        (map part_of parts.new.items ≡ with_part_bytes (map part_of parts.old.items) i bytes.now) }
 {
     let part = &mut parts[i];
     write_zeros(part)?;
@@ -104,7 +100,7 @@ pub(crate) fn extend_zeros(parts: &mut Vec<Part>, i: usize, n: usize) -> Result<
     requires few { n ≤ 2 ^ 24 }
     ensures { OnOk result
         (map part_of parts.new.items
-        ≡ extended (map part_of parts.old.items) i (replicate n 0)) }
+        ≡ with_part_bytes (map part_of parts.old.items) i (replicate n 0)) }
 {
     let part = &mut parts[i];
     limit_zeros(part)?;
@@ -121,7 +117,7 @@ pub(crate) fn use_part<'a>(
 ) -> Result<(), AllocError>
     requires { i < length parts.old.items }
     ensures { OnOk result (map part_of parts.new.items
-        ≡ used (map part_of parts.old.items) i
+        ≡ with_part_use (map part_of parts.old.items) i
         (record { offset = offset; reference = reference_of reference.entry })) }
 {
     let part = &mut parts[i];
@@ -129,19 +125,14 @@ pub(crate) fn use_part<'a>(
     Ok(())
 }
 
-pub(crate) fn relocs(
-    alloc: Global,
-    known: &Symbols,
-    parts: &[Part],
-) -> Result<Vec<Reloc>, AllocError>
-    requires symbols { length known.now < 2 ^ 16 }
-    requires few { length parts.now ≤ 64 }
-    requires offsets { All (λ p. All (λ u. u.offset < 2 ^ 32) p.uses.items) parts.now }
-    ensures { IfOk result (λ v. v.items ≡ relocs_from known.now 0 (map part_of parts.now)) }
+// Writes the zeros at the end of a section that are only counted.
+#[inline(never)]
+pub(crate) fn put_zeros(part: &mut Part) -> Result<(), AllocError>
+    ensures same { OnOk result (part_of part.new ≡ part_of part.old) }
+    ensures none { OnOk result (part.new.zeros ≡ 0) }
 {
-    let mut out = Vec::new(alloc);
-    for i in 0..parts.len() {
-        add_relocs(&mut out, known, i, &parts[i].uses)?;
-    }
-    Ok(out)
+    let len = part_len(part);
+    part.bytes.resize(len, 0)?;
+    part.zeros = 0;
+    Ok(())
 }

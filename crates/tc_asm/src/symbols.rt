@@ -40,7 +40,8 @@ fn label_entry(place: Place) -> Entry
     }
 }
 
-// The entry of a known name after a label at this place. An earlier label keeps its place.
+/// The entry of a known name in the assembler's table of symbols after a label at this place. An
+/// earlier label keeps its place.
 fn with_label(entry: Entry, place: Place) -> Entry
     ensures { result ≡ with_label_at entry place }
 {
@@ -72,7 +73,7 @@ impl<'a> Model for Symbols<'a> {
 
 impl<'a> Symbols<'a> {
     ghost use Rattle.std.specs.Prelude.{◌≡◌, ◌<◌, ◌≤◌, [], IfOk, OnOk, length, slice_get, Some};
-    ghost use Rattle.tc_asm.specs.Symbols.{number_of, symbol, entry_in, entry_of, put_entry, place_in, seen, labelled, made_global};
+    ghost use Rattle.tc_asm.specs.Symbols.{symbol_number, symbol, entry_in, entry_of, put_entry, place_in, seen, labelled, made_global};
 
     /// An empty table.
     pub fn new(alloc: Global) -> Symbols<'a>
@@ -99,9 +100,9 @@ impl<'a> Symbols<'a> {
         (*name, *entry)
     }
 
-    /// The number of a name, and 0 if it isn't in the table.
+    /// The number of a name in the assembler's table of symbols, and 0 if it isn't there.
     pub fn number(&self, name: &[u8]) -> usize
-        ensures value { result ≡ number_of self.now name.now }
+        ensures value { result ≡ symbol_number self.now name.now }
         ensures within { result ≤ length self.now }
     {
         self.known.get_index_of(&name).unwrap_or(0)
@@ -114,14 +115,15 @@ impl<'a> Symbols<'a> {
         self.known.get(&name).copied()
     }
 
-    // The entry of a name, or `UNSEEN` if it isn't in the table.
+    /// The entry of a name in the assembler's table of symbols, or `UNSEEN` if it isn't in the
+    /// table.
     fn entry_of(&self, name: &[u8]) -> Entry
         ensures { result ≡ entry_of self.now name.now }
     {
         self.get(name).unwrap_or(UNSEEN)
     }
 
-    /// The place of a name's label, if it has one.
+    /// The place of the label that a name has in the assembler's table of symbols, if it has one.
     pub fn place(&self, name: &[u8]) -> Option<Place>
         ensures { result ≡ place_in self.now name.now }
     {
@@ -136,7 +138,7 @@ impl<'a> Symbols<'a> {
         Ok(self.known.insert(name, entry)?)
     }
 
-    /// Adds a name, if it isn't in the table.
+    /// Adds a name to the assembler's table of symbols, if it isn't there.
     #[tactic(auto, using(crate::proofs::SymbolLaws::seen_known, crate::proofs::SymbolLaws::seen_new))]
     pub fn see(&mut self, name: &'a [u8]) -> Result<(), AllocError>
         ensures { OnOk result (self.new ≡ seen self.old name.entry.now) }

@@ -7,7 +7,7 @@ use Rattle.tcd_plan.specs.PlanData.{PlanData}
 use Rattle.store_ranges.specs.Loads.{IsLoadedRom}
 use Rattle.tc_boot.specs.declared.judging.BootErr.{BootErr}
 use Rattle.tc_boot.specs.declared.judging.BootErr.TheVariants.{Enabled, Odd, Outside, Differs}
-use Rattle.tc_boot.specs.Judging.{HasBoot, IsInside, MayBoot, IsFirstDifference, Judges}
+use Rattle.tc_boot.specs.Judging.{HasBoot, IsBootInRom, MayBoot, IsFirstDifference, JudgesBoot}
 use Rattle.tc_boot.specs.Laws.{JudgesOne}
 
 module _ (image : ImageData) (plan : PlanData) (at : ℕ) where
@@ -20,14 +20,14 @@ module _ (image : ImageData) (plan : PlanData) (at : ℕ) where
   odd_and_even (inl odd) even other = absurd (omega arith)
   odd_and_even (inr odd) even other = absurd (omega arith)
 
-  loaded : IsInside image plan at → IsLoadedRom image plan at 224
+  loaded : IsBootInRom image plan at → IsLoadedRom image plan at 224
   loaded inside = record { in_rom = inside.in_rom; held = λ i lt. subst IsSome (sym (inside.held i lt)) refl }
 
   may : HasBoot image plan at → MayBoot image plan at
   may has = record { off = has.off; even = has.even; even_entry = has.even_entry }
 
   -- the sequence is there, or there is a reason against it
-  pub not_both : (e : BootErr) → HasBoot image plan at → Judges image plan at (Err e) → ⊥
+  pub not_both : (e : BootErr) → HasBoot image plan at → JudgesBoot image plan at (Err e) → ⊥
   not_both Enabled has bad = on_and_off bad has.off
   not_both Odd has bad = odd_and_even bad.1 has.even has.even_entry
   not_both Outside has bad = bad.1 (loaded has.bytes)
@@ -40,7 +40,7 @@ module _ (image : ImageData) (plan : PlanData) (at : ℕ) where
         | inr from ↦ elim (cases_lt j i) [ inl less ↦ absurd (b.differs (a.before j less)) | inr same ↦ omega arith ]
       ]
 
-  one_error : (e f : BootErr) → Judges image plan at (Err e) → Judges image plan at (Err f) → e ≡ f
+  one_error : (e f : BootErr) → JudgesBoot image plan at (Err e) → JudgesBoot image plan at (Err f) → e ≡ f
   one_error Enabled Enabled a b = refl
   one_error Enabled Odd a b = absurd (on_and_off a b.0)
   one_error Enabled Outside a b = absurd (on_and_off a (b.0).off)

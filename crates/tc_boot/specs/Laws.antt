@@ -6,11 +6,12 @@ use Rattle.tc_machine.specs.declared.events.Event.{Event}
 use Rattle.tc_machine.specs.declared.events.End.TheVariants.{Running}
 use Rattle.tc_machine.specs.declared.state.Machine.{Machine}
 use Rattle.tc_machine.specs.Stepping.{run}
-use Rattle.tc_machine.specs.Safe.{IsMachine, Starts, Fits, AllFit, IsSafeAt, Safe}
+use Rattle.tc_machine.specs.Safe.{Starts, Fits, AllFit, IsSafeAt, Safe}
+use Rattle.tc_machine.specs.Machine.{IsMachine}
 use Rattle.tc_mem.specs.PlanMemory.{IsPlanMemory, HoldsRom}
 use Rattle.tc_boot.specs.declared.judging.BootErr.{BootErr}
 use Rattle.tc_boot.specs.Reset.{Reset, BootsFrom, BootsSafely}
-use Rattle.tc_boot.specs.Judging.{HasBoot, Judges}
+use Rattle.tc_boot.specs.Judging.{HasBoot, JudgesBoot}
 use Rattle.tc_boot.specs.Sequence.{boot_events}
 
 -- The project's reading of a reset. A machine is at reset if it runs at the address with interrupts
@@ -44,7 +45,7 @@ EveryBootIsSafe =
 
 -- The test of a boot sequence has one answer.
 abbrev pub JudgesOne : Type 0
-JudgesOne = (image : ImageData) (plan : PlanData) (at : ℕ) (r s : Result ℕ BootErr) → Judges image plan at r → Judges image plan at s → r ≡ s
+JudgesOne = (image : ImageData) (plan : PlanData) (at : ℕ) (r s : Result ℕ BootErr) → JudgesBoot image plan at r → JudgesBoot image plan at s → r ≡ s
 
 -- If the image holds a boot sequence that may run, then it leads from every state at reset to a
 -- start state. The events are any list of fitting events with as many events as the sequence has.

@@ -6,7 +6,8 @@ use Rattle.tc_machine.specs.declared.events.Event.{Event}
 use Rattle.tc_machine.specs.declared.events.End.TheVariants.{Running}
 use Rattle.tc_machine.specs.declared.state.Machine.{Machine}
 use Rattle.tc_machine.specs.Stepping.{run}
-use Rattle.tc_machine.specs.Safe.{IsMachine, Starts, Fits, AllFit, IsSafeAt}
+use Rattle.tc_machine.specs.Safe.{Starts, Fits, AllFit, IsSafeAt}
+use Rattle.tc_machine.specs.Machine.{IsMachine}
 use Rattle.tc_mem.specs.PlanMemory.{IsPlanMemory, HoldsRom}
 use Rattle.tc_boot.specs.Sequence.{boot_events}
 
@@ -21,7 +22,8 @@ pub record Reset (image : ImageData) (plan : PlanData) (at : ℕ) (m : Machine) 
   pub memory : IsPlanMemory plan m.mem
   pub rom : HoldsRom image plan m.mem
 
--- the machine is inside the sequence: it runs at one of the 56 instructions, with interrupts off
+-- the machine is inside the boot sequence: it runs at one of the 56 instructions, with interrupts
+-- off
 pub record IsBooting (at : ℕ) (m : Machine) : Type 0 where
   pub running : m.end ≡ Running
   pub off : m.ie ≡ false
@@ -29,14 +31,14 @@ pub record IsBooting (at : ℕ) (m : Machine) : Type 0 where
   pub within : place < 56
   pub pc : m.pc ≡ at + 4 * place
 
--- under these events the machine ends in a start state, and is inside the sequence before each of
--- them
+-- under these events the machine ends in a start state, and is inside the boot sequence before each
+-- of them
 pub record BootsFrom (image : ImageData) (plan : PlanData) (at : ℕ) (m : Machine) (es : List Event) : Type 0 where
   pub starts : Starts image plan (run m es)
   pub before : (n : ℕ) → n < length es → IsBooting at (run m (take n es))
 
--- The promise of the command for boot sequences: start in any state at reset, and take any fitting
--- events for the sequence and after it. Then each state after the sequence is safe.
+-- The promise of the command for boot sequences, from any state at reset: under fitting events, the
+-- sequence leads to a start state, and each state after it is safe.
 abbrev pub BootsSafely : ImageData → PlanData → ℕ → ℕ → Type 0
 BootsSafely image plan at most =
     (m : Machine) (boot es : List Event) (e : Event) → Reset image plan at m → AllFit plan m boot → length boot ≡ boot_events plan

@@ -10,7 +10,8 @@ use tc_disasm::listing;
 use tcd_base::NoMemory;
 use tcd_plan::Plan;
 
-/// The image whose one segment is the boot sequence of a plan and an entry, at an address.
+/// Returns the image that the source of a boot sequence is listed from: its one segment is the
+/// sequence of a plan and an entry, at an address.
 fn boot_image(alloc: Global, plan: &Plan, entry: u32, at: u32) -> Result<Image, NoMemory>
     requires { at + 224 ≤ 2 ^ 32 }
     ensures { IfOk result (λ i. i ≡ boot_image_of plan.now entry at) }

@@ -3,7 +3,7 @@ use Rattle.std.proofs.Common.{◌≡◌, ◌<◌, ◌≤◌, ◌+◌, ◌-◌, z
 use Rattle.std.specs.List.{flat_map}
 use Rattle.std.proofs.lemmas.List.{drop-drop, drop_all, take_more, flat_map_more}
 use Rattle.elf_image.specs.Images.{SegmentData}
-use Rattle.tc_disasm.specs.Listing.{size_at, line_at, lines_from, section_text, sections_from}
+use Rattle.tc_disasm.specs.Listing.{listed_size_at, line_at, lines_from, section_text, listing_sections_from}
 
 -- a further item
 pub flat_map_on : {X : Type 0} (f : X → List ℕ) (xs : List X) (i : ℕ) (d : X) (start before after : List ℕ) → i < length xs
@@ -22,17 +22,17 @@ lines-skip address (b ∷ bs) zero = rw add-zero refl
 lines-skip address (b ∷ bs) (suc n) = lines-skip (address + 1) bs n ∙ ap (λ a. lines_from a (drop n bs) 0) (omega arith)
 
 -- the line at the front, and the others
-pub lines-front : (address : ℕ) (bs : List ℕ) (n : ℕ) → 0 < length bs → 0 < n → n ≡ size_at bs → lines_from address bs 0 ≡ line_at address bs ++ lines_from (address + n) (drop n bs) 0
+pub lines-front : (address : ℕ) (bs : List ℕ) (n : ℕ) → 0 < length bs → 0 < n → n ≡ listed_size_at bs → lines_from address bs 0 ≡ line_at address bs ++ lines_from (address + n) (drop n bs) 0
 unfolding lines_from
 lines-front address [] n some more e = absurd (omega arith)
 lines-front address (b ∷ bs) zero some more e = absurd (omega arith)
 lines-front address (b ∷ bs) (suc n) some more e =
-    let one : size_at (b ∷ bs) - 1 ≡ n = omega arith in
+    let one : listed_size_at (b ∷ bs) - 1 ≡ n = omega arith in
     ap (λ m. line_at address (b ∷ bs) ++ lines_from (address + 1) bs m) one
     ∙ ap (λ ls. line_at address (b ∷ bs) ++ ls) (lines-skip (address + 1) bs n ∙ ap (λ a. lines_from a (drop n bs) 0) (omega arith))
 
 -- a further line
-pub lines_on : (address at n : ℕ) (bs start before after : List ℕ) → at < length bs → 0 < n → n ≡ size_at (drop at bs)
+pub lines_on : (address at n : ℕ) (bs start before after : List ℕ) → at < length bs → 0 < n → n ≡ listed_size_at (drop at bs)
     → before ++ lines_from (address + at) (drop at bs) 0 ≡ start
     → after ≡ before ++ line_at (address + at) (drop at bs)
     → after ++ lines_from (address + (at + n)) (drop (at + n) bs) 0 ≡ start
@@ -53,19 +53,19 @@ lines_end address at bs start text h inv =
 
 -- a further section
 pub sections_on : (ss : List SegmentData) (i : ℕ) (d : SegmentData) (start before after : List ℕ) → i < length ss
-    → before ++ sections_from i (drop i ss) ≡ start
+    → before ++ listing_sections_from i (drop i ss) ≡ start
     → after ≡ before ++ section_text i (get_or ss i d)
-    → after ++ sections_from (i + 1) (drop (i + 1) ss) ≡ start
-unfolding sections_from
+    → after ++ listing_sections_from (i + 1) (drop (i + 1) ss) ≡ start
+unfolding listing_sections_from
 sections_on ss i d start before after h inv is =
-    ap (λ a. a ++ sections_from (i + 1) (drop (i + 1) ss)) is
-    ∙ append_assoc before (section_text i (get_or ss i d)) (sections_from (i + 1) (drop (i + 1) ss))
-    ∙ ap (λ us. before ++ (section_text i (get_or ss i d) ++ sections_from (i + 1) us)) (rw add-one refl)
-    ∙ ap (λ us. before ++ sections_from i us) (sym (drop-cons ss i d h))
+    ap (λ a. a ++ listing_sections_from (i + 1) (drop (i + 1) ss)) is
+    ∙ append_assoc before (section_text i (get_or ss i d)) (listing_sections_from (i + 1) (drop (i + 1) ss))
+    ∙ ap (λ us. before ++ (section_text i (get_or ss i d) ++ listing_sections_from (i + 1) us)) (rw add-one refl)
+    ∙ ap (λ us. before ++ listing_sections_from i us) (sym (drop-cons ss i d h))
     ∙ inv
 
 -- no section is left
-pub sections_end : (ss : List SegmentData) (i : ℕ) (start text : List ℕ) → length ss ≤ i → text ++ sections_from i (drop i ss) ≡ start → text ≡ start
-unfolding sections_from
+pub sections_end : (ss : List SegmentData) (i : ℕ) (start text : List ℕ) → length ss ≤ i → text ++ listing_sections_from i (drop i ss) ≡ start → text ≡ start
+unfolding listing_sections_from
 sections_end ss i start text h inv =
-    sym (append-nil text) ∙ sym (ap (λ us. text ++ sections_from i us) (drop_all i ss h)) ∙ inv
+    sym (append-nil text) ∙ sym (ap (λ us. text ++ listing_sections_from i us) (drop_all i ss h)) ∙ inv

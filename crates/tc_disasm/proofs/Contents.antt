@@ -9,12 +9,12 @@ use Rattle.std.proofs.lemmas.List.Sums.{sum_by-cons}
 use Rattle.std.proofs.lemmas.List.{take-append-drop}
 use Rattle.std.proofs.lemmas.Slice.Eq.{bytes_eq-Decides}
 use Rattle.elf_image.specs.Images.{SegmentData}
-use Rattle.tc_lex.specs.Numbers.{number_of}
+use Rattle.tc_lex.specs.Numbers.{token_number}
 use Rattle.tc_stmt.specs.Lines.{LineData, line_data, line_in}
 use Rattle.tc_asm.specs.Symbols.{SymbolData}
 use Rattle.tc_stmt.specs.Items.{section}
 use Rattle.tc_asm.specs.Drafts.{PartData, DraftData, part}
-use Rattle.tc_disasm.specs.Listing.{line_at, lines_from, size_at, section_line, section_text, sections_from}
+use Rattle.tc_disasm.specs.Listing.{line_at, lines_from, listed_size_at, section_line, section_text, listing_sections_from}
 use Rattle.tc_disasm.proofs.Appending.{lines-front}
 use Rattle.tc_disasm.proofs.Decimals.{number_of-decimal}
 use Rattle.tc_disasm.proofs.Partings.{split_at}
@@ -77,10 +77,10 @@ all-drop p (suc n) [] e = e
 all-drop p (suc n) (b ∷ bs) e = all-drop p n bs (and_parts (p b) (list_all p bs) e).1
 
 -- a line, and then the other ones
-content-more : (address : ℕ) (bs : List ℕ) → 0 < length bs → list_all is_byte bs ≡ true → Content (address + size_at bs) (drop (size_at bs) bs) → Content address bs
+content-more : (address : ℕ) (bs : List ℕ) → 0 < length bs → list_all is_byte bs ≡ true → Content (address + listed_size_at bs) (drop (listed_size_at bs) bs) → Content address bs
 content-more address bs some small next =
     let h = here address bs some small in
-    let n = size_at bs in
+    let n = listed_size_at bs in
     record {
       ls = h.line ∷ next.ls;
       lines = subst (λ (t : List ℕ). AreLines t (h.line ∷ next.ls)) (sym (lines-front address bs n some h.some refl))
@@ -104,7 +104,7 @@ content fuel address [] few small = content-none address
 content zero address (b ∷ bs) few small = absurd (omega arith)
 content (suc fuel) address (b ∷ bs) few small =
     let h = here address (b ∷ bs) (omega arith) small in
-    let n = size_at (b ∷ bs) in
+    let n = listed_size_at (b ∷ bs) in
     let some : 0 < n = h.some in
     let less : length (drop n (b ∷ bs)) ≤ fuel = omega (arith, length-drop n (b ∷ bs)) in
     content-more address (b ∷ bs) (omega arith) small (content fuel (address + n) (drop n (b ∷ bs)) less (all-drop is_byte n (b ∷ bs) small))
@@ -136,7 +136,7 @@ other_name n k less small = by_test (bytes_eq (decimal n) (decimal k)) refl
   where
     differ : decimal n ≡ decimal k → ⊥
     differ e =
-        let same : Some n ≡ Some k = sym (number_of-decimal n (omega arith)) ∙ ap number_of e ∙ number_of-decimal k (omega arith) in
+        let same : Some n ≡ Some k = sym (number_of-decimal n (omega arith)) ∙ ap token_number e ∙ number_of-decimal k (omega arith) in
         let is : n ≡ k = cc in
         absurd (omega arith)
 
@@ -153,12 +153,12 @@ below-fresh n (p ∷ ps) small e =
 -- the lines of these segments add them after the earlier sections
 pub record Sections (n : ℕ) (ss : List SegmentData) : Type 0 where
   pub ls : List LineData
-  pub lines : AreLines (sections_from n ss) ls
+  pub lines : AreLines (listing_sections_from n ss) ls
   pub runs : (labels : List SymbolData) (number total : ℕ) (ps : List PartData) → length ps ≡ n → n + length ss ≤ 64 → AreBelow n ps → total + total_of ss ≤ 2 ^ 24
       → (last : ℕ) × Runs labels (draft number ps total) ls (draft last (ps ++ parts_from n ss) (total + total_of ss))
 
 sections-none : (n : ℕ) → Sections n []
-unfolding sections_from
+unfolding listing_sections_from
 sections-none n = record {
   ls = [];
   lines = no_lines;
@@ -185,7 +185,7 @@ pub total-more : (s : SegmentData) (ss : List SegmentData) → total_of (s ∷ s
 total-more s ss = sum_by-cons (λ (t : SegmentData). length t.bytes) s ss
 
 pub sections : (n : ℕ) (ss : List SegmentData) → n + length ss ≤ 64 → list_all are_bytes ss ≡ true → Sections n ss
-unfolding sections_from
+unfolding listing_sections_from
 sections n [] few small = sections-none n
 sections n (s ∷ ss) few small =
     let two = and_parts (are_bytes s) (list_all are_bytes ss) small in
@@ -195,7 +195,7 @@ sections n (s ∷ ss) few small =
     let sum = total-more s ss in
     record {
       ls = (line ∷ c.ls) ++ next.ls;
-      lines = more_lines (section_text n s) (sections_from (n + 1) ss) (line ∷ c.ls) next.ls (section-lines n s (omega arith) c) next.lines;
+      lines = more_lines (section_text n s) (listing_sections_from (n + 1) ss) (line ∷ c.ls) next.ls (section-lines n s (omega arith) c) next.lines;
       runs = λ labels number total ps long few_here below room.
           let first = section-runs labels number total n ps s c long (omega arith) below (omega arith) in
           let here = ps ++ section_part n s ∷ [] in

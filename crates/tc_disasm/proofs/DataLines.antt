@@ -6,19 +6,19 @@ use Rattle.std.proofs.lemmas.Bool.Decides.{nat_tests}
 use Rattle.tc_lex.specs.declared.kinds.TokenKind.TheVariants as kind
 use Rattle.tcd_base.specs.NameBytes.{is_name_byte, is_name_first}
 use Rattle.tc_lex.specs.Bytes.{is_digit}
-use Rattle.tc_lex.specs.Cut.{has_hex_front, kind_index}
+use Rattle.tc_lex.specs.Cut.{has_hex_front}
+use Rattle.tc_lex.specs.Pieces.{kind_index, PieceData, is_kind}
 use Rattle.tcd_base.specs.Bytes.{four_bytes}
 use Rattle.tc_lex.specs.declared.operand.Shape.TheVariants as shape
-use Rattle.tc_lex.specs.Pieces.{PieceData, is_kind}
-use Rattle.tc_lex.specs.Numbers.{number_of, add_digit}
-use Rattle.tc_lex.specs.Operands.{OperandData, operand, operands, value, plain, plain_number}
+use Rattle.tc_lex.specs.Numbers.{token_number, add_digit}
+use Rattle.tc_lex.specs.Operands.{OperandData, operand, operands, operand_value_data, plain_operand, plain_number}
 use Rattle.tc_stmt.specs.OperandForms.{shape_index}
 use Rattle.tc_stmt.specs.Items.{bytes, section}
 use Rattle.tc_stmt.specs.DataDirectives.{value_rule, value_item, values_rule}
-use Rattle.tc_stmt.specs.Lines.{line_data, pieces_line, stated_line, values_line, named_line, word_of, is_word_operand}
+use Rattle.tc_stmt.specs.Lines.{line_data, pieces_line, stated_line, values_line, named_line, only_operand_name, is_word_operand}
 use Rattle.tcd_text.specs.Digits.{hex_byte}
-use Rattle.tc_disasm.specs.Tokens.{piece}
-use Rattle.tc_disasm.specs.Lexed.{IsStop}
+use Rattle.tc_disasm.specs.Tokens.{printed_token}
+use Rattle.tc_disasm.specs.Lexed.{IsListingStop}
 use Rattle.tc_disasm.proofs.Decimals.{decimal_is}
 use Rattle.tc_disasm.proofs.Hexes.{is_hex-digit, added-byte, last-byte}
 use Rattle.tc_disasm.proofs.OperandLaws.{operand-word}
@@ -29,7 +29,7 @@ use Rattle.tc_disasm.proofs.RowLines.{pieces_line-word}
 
 -- a word and one operand of one token
 one_operand : (name : List ℕ) (p : PieceData) → (kind_index p.kind == 3) ≡ false → (kind_index p.kind == 2) ≡ false
-    → pieces_line (piece kind.Word name ∷ p ∷ []) ≡ stated_line name (operand (p ∷ []) ∷ [])
+    → pieces_line (printed_token kind.Word name ∷ p ∷ []) ≡ stated_line name (operand (p ∷ []) ∷ [])
 unfolding operands is_kind kind_index
 one_operand name p no_colon no_comma = pieces_line-word name (p ∷ []) no_colon ∙ ap (stated_line name) (rw no_comma refl)
 
@@ -42,23 +42,23 @@ front_byte : (a : ℕ) → a < 256 → has_hex_front (48 ∷ 120 ∷ hex_byte a)
 unfolding has_hex_front hex_byte
 front_byte a low = is_hex-digit (a / 16) (omega arith)
 
-half_number : (a b : ℕ) → a < 256 → b < 256 → number_of (48 ∷ 120 ∷ (hex_byte b ++ hex_byte a)) ≡ Some (b * 256 + a)
-unfolding number_of
+half_number : (a b : ℕ) → a < 256 → b < 256 → token_number (48 ∷ 120 ∷ (hex_byte b ++ hex_byte a)) ≡ Some (b * 256 + a)
+unfolding token_number
 half_number a b low high =
     ap (λ t. cond t (fold (add_digit 16) (Some 0) (hex_byte b ++ hex_byte a)) (fold (add_digit 10) (Some 0) (48 ∷ 120 ∷ (hex_byte b ++ hex_byte a)))) (front_half a b high)
     ∙ added-byte 0 b (hex_byte a) high (omega arith)
     ∙ ap (λ n. fold (add_digit 16) (Some n) (hex_byte a)) (omega arith)
     ∙ last-byte b a low (omega arith)
 
-byte_number : (a : ℕ) → a < 256 → number_of (48 ∷ 120 ∷ hex_byte a) ≡ Some a
-unfolding number_of
+byte_number : (a : ℕ) → a < 256 → token_number (48 ∷ 120 ∷ hex_byte a) ≡ Some a
+unfolding token_number
 byte_number a low =
     ap (λ t. cond t (fold (add_digit 16) (Some 0) (hex_byte a)) (fold (add_digit 10) (Some 0) (48 ∷ 120 ∷ hex_byte a))) (front_byte a low)
     ∙ last-byte 0 a low (omega arith)
     ∙ ap (λ n. Some n) (omega arith)
 
 -- a value that is a number which fits
-values_one : (width n : ℕ) → nat_lt n (2 ^ (8 * width)) ≡ true → values_line width (plain (value shape.Number [] false n) ∷ []) ≡ line_data 15 (bytes (take width (four_bytes n)) None ∷ [])
+values_one : (width n : ℕ) → nat_lt n (2 ^ (8 * width)) ≡ true → values_line width (plain_operand (operand_value_data shape.Number [] false n) ∷ []) ≡ line_data 15 (bytes (take width (four_bytes n)) None ∷ [])
 unfolding values_line values_rule value_rule value_item shape_index
 values_one width n small = rw small refl
 
@@ -83,62 +83,62 @@ stated-section : (os : List OperandData) → stated_line (codes ".section") os �
 unfolding stated_line
 stated-section os = refl
 
-lexes-half : (a b : ℕ) (rest : List ℕ) → a < 256 → b < 256 → IsStop rest → Lexes rest [] → Lexes ((codes ".half 0x" ++ (hex_byte b ++ hex_byte a)) ++ rest) (piece kind.Word (codes ".half") ∷ piece kind.Number (48 ∷ 120 ∷ (hex_byte b ++ hex_byte a)) ∷ [])
+lexes-half : (a b : ℕ) (rest : List ℕ) → a < 256 → b < 256 → IsListingStop rest → Lexes rest [] → Lexes ((codes ".half 0x" ++ (hex_byte b ++ hex_byte a)) ++ rest) (printed_token kind.Word (codes ".half") ∷ printed_token kind.Number (48 ∷ 120 ∷ (hex_byte b ++ hex_byte a)) ∷ [])
 unfolding is_name_first is_name_byte is_digit hex_byte
 lexes-half a b rest low high stop h =
     let digits : List ℕ = hex_byte b ++ hex_byte a in
-    let p : PieceData = piece kind.Number (48 ∷ 120 ∷ digits) in
+    let p : PieceData = printed_token kind.Number (48 ∷ 120 ∷ digits) in
     lexes-word 46 (104 ∷ 97 ∷ 108 ∷ 102 ∷ []) (32 ∷ 48 ∷ 120 ∷ (digits ++ rest)) (p ∷ []) refl refl refl
     (lexes-blank (48 ∷ 120 ∷ (digits ++ rest)) (p ∷ [])
     (lexes-hex digits rest [] (hex_byte-is b (hex_byte a) high (hex_byte-is a [] low refl)) (hex_byte-some b (hex_byte a)) stop h))
 
-pub reads-half : (a b : ℕ) (rest : List ℕ) → a < 256 → b < 256 → IsStop rest → Lexes rest [] → Reads ((codes ".half 0x" ++ (hex_byte b ++ hex_byte a)) ++ rest) (line_data 15 (bytes (a ∷ b ∷ []) None ∷ []))
+pub reads-half : (a b : ℕ) (rest : List ℕ) → a < 256 → b < 256 → IsListingStop rest → Lexes rest [] → Reads ((codes ".half 0x" ++ (hex_byte b ++ hex_byte a)) ++ rest) (line_data 15 (bytes (a ∷ b ∷ []) None ∷ []))
 reads-half a b rest low high stop h =
     let digits : List ℕ = hex_byte b ++ hex_byte a in
-    let p : PieceData = piece kind.Number (48 ∷ 120 ∷ digits) in
-    reads-tokens ((codes ".half 0x" ++ digits) ++ rest) (piece kind.Word (codes ".half") ∷ p ∷ []) _ (lexes-half a b rest low high stop h) (omega arith)
+    let p : PieceData = printed_token kind.Number (48 ∷ 120 ∷ digits) in
+    reads-tokens ((codes ".half 0x" ++ digits) ++ rest) (printed_token kind.Word (codes ".half") ∷ p ∷ []) _ (lexes-half a b rest low high stop h) (omega arith)
     (one_operand (codes ".half") p (unfold kind_index in refl) (unfold kind_index in refl)
-    ∙ ap (λ o. stated_line (codes ".half") (o ∷ [])) (operand-one (48 ∷ 120 ∷ digits) ∙ ap (λ n. plain (plain_number false n)) (half_number a b low high))
-    ∙ stated-half (plain (value shape.Number [] false (b * 256 + a)) ∷ [])
+    ∙ ap (λ o. stated_line (codes ".half") (o ∷ [])) (operand-one (48 ∷ 120 ∷ digits) ∙ ap (λ n. plain_operand (plain_number false n)) (half_number a b low high))
+    ∙ stated-half (plain_operand (operand_value_data shape.Number [] false (b * 256 + a)) ∷ [])
     ∙ values_one 2 (b * 256 + a) (grind (arith, nat_tests))
     ∙ ap (λ bs. line_data 15 (bytes bs None ∷ [])) (half_bytes a b low high))
 
-lexes-byte : (a : ℕ) (rest : List ℕ) → a < 256 → IsStop rest → Lexes rest [] → Lexes ((codes ".byte 0x" ++ hex_byte a) ++ rest) (piece kind.Word (codes ".byte") ∷ piece kind.Number (48 ∷ 120 ∷ hex_byte a) ∷ [])
+lexes-byte : (a : ℕ) (rest : List ℕ) → a < 256 → IsListingStop rest → Lexes rest [] → Lexes ((codes ".byte 0x" ++ hex_byte a) ++ rest) (printed_token kind.Word (codes ".byte") ∷ printed_token kind.Number (48 ∷ 120 ∷ hex_byte a) ∷ [])
 unfolding is_name_first is_name_byte is_digit hex_byte
 lexes-byte a rest low stop h =
-    let p : PieceData = piece kind.Number (48 ∷ 120 ∷ hex_byte a) in
+    let p : PieceData = printed_token kind.Number (48 ∷ 120 ∷ hex_byte a) in
     lexes-word 46 (98 ∷ 121 ∷ 116 ∷ 101 ∷ []) (32 ∷ 48 ∷ 120 ∷ (hex_byte a ++ rest)) (p ∷ []) refl refl refl
     (lexes-blank (48 ∷ 120 ∷ (hex_byte a ++ rest)) (p ∷ [])
     (lexes-hex (hex_byte a) rest [] (hex_byte-is a [] low refl) (hex_byte-some a []) stop h))
 
-pub reads-byte : (a : ℕ) (rest : List ℕ) → a < 256 → IsStop rest → Lexes rest [] → Reads ((codes ".byte 0x" ++ hex_byte a) ++ rest) (line_data 15 (bytes (a ∷ []) None ∷ []))
+pub reads-byte : (a : ℕ) (rest : List ℕ) → a < 256 → IsListingStop rest → Lexes rest [] → Reads ((codes ".byte 0x" ++ hex_byte a) ++ rest) (line_data 15 (bytes (a ∷ []) None ∷ []))
 reads-byte a rest low stop h =
-    let p : PieceData = piece kind.Number (48 ∷ 120 ∷ hex_byte a) in
-    reads-tokens ((codes ".byte 0x" ++ hex_byte a) ++ rest) (piece kind.Word (codes ".byte") ∷ p ∷ []) _ (lexes-byte a rest low stop h) (omega arith)
+    let p : PieceData = printed_token kind.Number (48 ∷ 120 ∷ hex_byte a) in
+    reads-tokens ((codes ".byte 0x" ++ hex_byte a) ++ rest) (printed_token kind.Word (codes ".byte") ∷ p ∷ []) _ (lexes-byte a rest low stop h) (omega arith)
     (one_operand (codes ".byte") p (unfold kind_index in refl) (unfold kind_index in refl)
-    ∙ ap (λ o. stated_line (codes ".byte") (o ∷ [])) (operand-one (48 ∷ 120 ∷ hex_byte a) ∙ ap (λ n. plain (plain_number false n)) (byte_number a low))
-    ∙ stated-byte (plain (value shape.Number [] false a) ∷ [])
+    ∙ ap (λ o. stated_line (codes ".byte") (o ∷ [])) (operand-one (48 ∷ 120 ∷ hex_byte a) ∙ ap (λ n. plain_operand (plain_number false n)) (byte_number a low))
+    ∙ stated-byte (plain_operand (operand_value_data shape.Number [] false a) ∷ [])
     ∙ values_one 1 a (grind (arith, nat_tests))
     ∙ ap (λ bs. line_data 15 (bytes bs None ∷ [])) (byte_bytes a low))
 
 -- ---- sections
-section_one : (text : List ℕ) → named_line section (plain (value shape.Word text false 0) ∷ []) ≡ line_data 15 (section text ∷ [])
-unfolding named_line word_of is_word_operand shape_index
+section_one : (text : List ℕ) → named_line section (plain_operand (operand_value_data shape.Word text false 0) ∷ []) ≡ line_data 15 (section text ∷ [])
+unfolding named_line only_operand_name is_word_operand shape_index
 section_one text = refl
 
-lexes-section : (n : ℕ) (rest : List ℕ) → n < 2 ^ 64 → IsStop rest → Lexes rest [] → Lexes (codes ".section s" ++ (decimal n ++ rest)) (piece kind.Word (codes ".section") ∷ piece kind.Word (115 ∷ decimal n) ∷ [])
+lexes-section : (n : ℕ) (rest : List ℕ) → n < 2 ^ 64 → IsListingStop rest → Lexes rest [] → Lexes (codes ".section s" ++ (decimal n ++ rest)) (printed_token kind.Word (codes ".section") ∷ printed_token kind.Word (115 ∷ decimal n) ∷ [])
 unfolding is_name_first is_name_byte is_digit
 lexes-section n rest small stop h =
-    let p : PieceData = piece kind.Word (115 ∷ decimal n) in
+    let p : PieceData = printed_token kind.Word (115 ∷ decimal n) in
     lexes-word 46 (115 ∷ 101 ∷ 99 ∷ 116 ∷ 105 ∷ 111 ∷ 110 ∷ []) (32 ∷ 115 ∷ (decimal n ++ rest)) (p ∷ []) refl refl refl
     (lexes-blank (115 ∷ (decimal n ++ rest)) (p ∷ [])
     (lexes-word 115 (decimal n) rest [] refl (digits_are_names (decimal n) (decimal_is n small).digits) stop h))
 
-pub reads-section : (n : ℕ) (rest : List ℕ) → n < 2 ^ 64 → IsStop rest → Lexes rest [] → Reads (codes ".section s" ++ (decimal n ++ rest)) (line_data 15 (section (115 ∷ decimal n) ∷ []))
+pub reads-section : (n : ℕ) (rest : List ℕ) → n < 2 ^ 64 → IsListingStop rest → Lexes rest [] → Reads (codes ".section s" ++ (decimal n ++ rest)) (line_data 15 (section (115 ∷ decimal n) ∷ []))
 reads-section n rest small stop h =
-    let p : PieceData = piece kind.Word (115 ∷ decimal n) in
-    reads-tokens (codes ".section s" ++ (decimal n ++ rest)) (piece kind.Word (codes ".section") ∷ p ∷ []) _ (lexes-section n rest small stop h) (omega arith)
+    let p : PieceData = printed_token kind.Word (115 ∷ decimal n) in
+    reads-tokens (codes ".section s" ++ (decimal n ++ rest)) (printed_token kind.Word (codes ".section") ∷ p ∷ []) _ (lexes-section n rest small stop h) (omega arith)
     (one_operand (codes ".section") p (unfold kind_index in refl) (unfold kind_index in refl)
     ∙ ap (λ o. stated_line (codes ".section") (o ∷ [])) (operand-word (115 ∷ decimal n))
-    ∙ stated-section (plain (value shape.Word (115 ∷ decimal n) false 0) ∷ [])
+    ∙ stated-section (plain_operand (operand_value_data shape.Word (115 ∷ decimal n) false 0) ∷ [])
     ∙ section_one (115 ∷ decimal n))

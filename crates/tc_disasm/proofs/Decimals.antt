@@ -10,14 +10,14 @@ use Rattle.std.proofs.lemmas.List.Folds.{list_all-append}
 use Rattle.std.proofs.lemmas.Bool.Decides.{nat_tests}
 use Rattle.tc_lex.specs.Bytes.{is_digit, is_hex}
 use Rattle.tc_lex.specs.Cut.{has_hex_front}
-use Rattle.tc_lex.specs.Numbers.{digit_of, add_digit, number_of, below_2_128}
+use Rattle.tc_lex.specs.Numbers.{token_digit_value, add_digit, token_number, below_2_128}
 
 is_digit-of : (n : ℕ) → n < 10 → is_digit (48 + n) ≡ true
 unfolding is_digit
 is_digit-of n h = grind (arith, nat_tests)
 
-digit_of-of : (n : ℕ) → n < 10 → digit_of (48 + n) ≡ n
-unfolding digit_of
+digit_of-of : (n : ℕ) → n < 10 → token_digit_value (48 + n) ≡ n
+unfolding token_digit_value
 digit_of-of n h = rw (is_digit-of n h) (omega arith)
 
 pub bounded-small : (n : ℕ) → n < 2 ^ 64 → below_2_128 n ≡ Some n
@@ -80,8 +80,8 @@ no_hex (a ∷ b ∷ c ∷ cs) e =
     let second : is_digit b ≡ true = (and_parts _ _ (and_parts _ _ e).1).0 in
     rw (not_x b second) (dead _ (a == 48) (is_hex c))
 
-pub number_of-decimal : (n : ℕ) → n < 2 ^ 64 → number_of (decimal n) ≡ Some n
-unfolding number_of
+pub number_of-decimal : (n : ℕ) → n < 2 ^ 64 → token_number (decimal n) ≡ Some n
+unfolding token_number
 number_of-decimal n h =
     let digits = decimal_is n h in
     ap (λ b. cond b (fold (add_digit 16) (Some 0) (drop 2 (decimal n))) (fold (add_digit 10) (Some 0) (decimal n))) (no_hex (decimal n) digits.digits) ∙ digits.value h

@@ -5,23 +5,22 @@ use Rattle.std.proofs.lemmas.Bool.Decides.{nat_tests}
 use Rattle.tc_lex.specs.declared.kinds.TokenKind.TheVariants as kind
 use Rattle.tc_isa.specs.Forms.{form_index, bounds}
 use Rattle.tc_isa.specs.Rows.{is_long, RowData}
-use Rattle.tc_isa.specs.Meanings.{place, code_place}
+use Rattle.tc_isa.specs.Meanings.{address_in_constant, code_address_in_constant}
 use Rattle.tc_isa.specs.declared.fields.Fields.{Fields}
 use Rattle.tc_stmt.specs.declared.want.Field.TheVariants.{K}
 use Rattle.std.specs.Fmt.{decimal}
 use Rattle.tc_lex.specs.declared.operand.Shape.TheVariants as shape
 use Rattle.tc_stmt.specs.declared.want.Field.{Field}
 use Rattle.tc_stmt.specs.declared.want.Want.TheVariants.{Reg, Number, Target}
-use Rattle.tc_lex.specs.Operands.{operand, value_at, number_at, named_at, sum_at, value, plain, plain_number, with_number}
-use Rattle.tc_lex.specs.Pieces.{is_kind, text_at}
-use Rattle.tc_lex.specs.Cut.{kind_index}
-use Rattle.tc_lex.specs.Numbers.{number_of}
+use Rattle.tc_lex.specs.Operands.{operand, operand_value_at, operand_number_at, named_at, sum_at, operand_value_data, plain_operand, plain_number, with_number}
+use Rattle.tc_lex.specs.Pieces.{is_kind, text_at, kind_index}
+use Rattle.tc_lex.specs.Numbers.{token_number}
 use Rattle.tc_stmt.specs.RowFields.{RowFieldsData, with_value, with_rule, field_of}
 use Rattle.tc_stmt.specs.Filling.{fill, fill_plain, fill_register, fill_value, fill_target, put_register, put_number}
-use Rattle.tc_stmt.specs.Displacements.{with_displacement, displacement_rule, is_odd, is_two_way}
-use Rattle.tc_stmt.specs.OperandForms.{shape_index, wrap}
-use Rattle.tc_disasm.specs.Texts.{register_text, is_minus, size_of}
-use Rattle.tc_disasm.specs.Tokens.{field_number, piece, target}
+use Rattle.tc_stmt.specs.Displacements.{with_displacement, displacement_rule, is_odd_displacement, is_two_way}
+use Rattle.tc_stmt.specs.OperandForms.{shape_index, wrap_into_field}
+use Rattle.tc_disasm.specs.Texts.{register_text, is_printed_minus, printed_size}
+use Rattle.tc_disasm.specs.Tokens.{field_number_tokens, printed_token, target_tokens}
 use Rattle.tc_disasm.proofs.Registers.{register_of-text}
 use Rattle.tc_disasm.proofs.Signs.{fits-printed, wrapped-printed}
 use Rattle.tc_disasm.proofs.Decimals.{number_of-decimal}
@@ -45,86 +44,86 @@ put_register-text bank field n acc h =
     ∙ ap (λ b. cond b (with_value field ((cond bank 16 0 + n) % 16) acc) (with_rule 4 acc)) (same_test bank)
     ∙ ap (λ m. with_value field m acc) is.1
 
-pub fill-register : (r : RowData) (bank : Bool) (field : Field) (n : ℕ) (acc : RowFieldsData) → n < 16 → fill r (Reg bank field) (plain (value shape.Word (register_text bank n) false 0)) acc ≡ Some (with_value field n acc)
+pub fill-register : (r : RowData) (bank : Bool) (field : Field) (n : ℕ) (acc : RowFieldsData) → n < 16 → fill r (Reg bank field) (plain_operand (operand_value_data shape.Word (register_text bank n) false 0)) acc ≡ Some (with_value field n acc)
 unfolding fill fill_plain fill_register shape_index
 fill-register r bank field n acc h = ap (λ f. Some f) (put_register-text bank field n acc h)
 
 pub put_number-printed : (r : RowData) (signed : Bool) (field : Field) (v : ℕ) (acc : RowFieldsData) → v < field_of field (bounds r.form) → field_of field (bounds r.form) % 2 ≡ 0
-    → put_number r.form signed field (is_minus signed (field_of field (bounds r.form)) v) (size_of signed (field_of field (bounds r.form)) v) acc ≡ with_value field v acc
+    → put_number r.form signed field (is_printed_minus signed (field_of field (bounds r.form)) v) (printed_size signed (field_of field (bounds r.form)) v) acc ≡ with_value field v acc
 unfolding put_number
 put_number-printed r signed field v acc h even =
     let bound = field_of field (bounds r.form) in
-    ap (λ b. cond b (with_value field (wrap bound (is_minus signed bound v) (size_of signed bound v)) acc) (with_rule 5 acc)) (fits-printed signed bound v h even)
+    ap (λ b. cond b (with_value field (wrap_into_field bound (is_printed_minus signed bound v) (printed_size signed bound v)) acc) (with_rule 5 acc)) (fits-printed signed bound v h even)
     ∙ ap (λ w. with_value field w acc) (wrapped-printed signed bound v h even)
 
 -- a printed constant, read and filled in
-pub fill-number : (r : RowData) (signed : Bool) (field : Field) (v : ℕ) (acc : RowFieldsData) → v < field_of field (bounds r.form) → field_of field (bounds r.form) % 2 ≡ 0 → size_of signed (field_of field (bounds r.form)) v < 2 ^ 64
-    → fill r (Number signed field) (operand (field_number signed (field_of field (bounds r.form)) v)) acc ≡ Some (with_value field v acc)
+pub fill-number : (r : RowData) (signed : Bool) (field : Field) (v : ℕ) (acc : RowFieldsData) → v < field_of field (bounds r.form) → field_of field (bounds r.form) % 2 ≡ 0 → printed_size signed (field_of field (bounds r.form)) v < 2 ^ 64
+    → fill r (Number signed field) (operand (field_number_tokens signed (field_of field (bounds r.form)) v)) acc ≡ Some (with_value field v acc)
 unfolding fill fill_plain fill_value shape_index
 fill-number r signed field v acc h even small =
     let bound = field_of field (bounds r.form) in
-    ap (λ o. fill r (Number signed field) o acc) (operand-number (is_minus signed bound v) (size_of signed bound v))
-    ∙ ap (λ n. fill r (Number signed field) (plain (plain_number (is_minus signed bound v) n)) acc) (number_of-decimal (size_of signed bound v) small)
+    ap (λ o. fill r (Number signed field) o acc) (operand-number (is_printed_minus signed bound v) (printed_size signed bound v))
+    ∙ ap (λ n. fill r (Number signed field) (plain_operand (plain_number (is_printed_minus signed bound v) n)) acc) (number_of-decimal (printed_size signed bound v) small)
     ∙ ap (λ f. Some f) (put_number-printed r signed field v acc h even)
 
 -- ---- targets
 -- a printed displacement isn't too far
 near : (one_way : Bool) (bound v : ℕ) → v < bound → bound % 2 ≡ 0
-    → cond one_way (cond (is_minus (not one_way) bound v) (not (2 * size_of (not one_way) bound v == 0)) (nat_lt (2 * (bound - 1)) (2 * size_of (not one_way) bound v)))
-    (cond (is_minus (not one_way) bound v) (nat_lt bound (2 * size_of (not one_way) bound v)) (nat_lt (bound - 2) (2 * size_of (not one_way) bound v))) ≡ false
+    → cond one_way (cond (is_printed_minus (not one_way) bound v) (not (2 * printed_size (not one_way) bound v == 0)) (nat_lt (2 * (bound - 1)) (2 * printed_size (not one_way) bound v)))
+    (cond (is_printed_minus (not one_way) bound v) (nat_lt bound (2 * printed_size (not one_way) bound v)) (nat_lt (bound - 2) (2 * printed_size (not one_way) bound v))) ≡ false
 near true bound v h even = near_unsigned bound v h
 near false bound v h even = near_signed bound v h even
 
-even_twice : (n : ℕ) → is_odd (2 * n) ≡ false
+even_twice : (n : ℕ) → is_odd_displacement (2 * n) ≡ false
 even_twice n = grind (arith, nat_tests)
 
 rule-printed : (r : RowData) (v : ℕ) → v < (bounds r.form).k → (bounds r.form).k % 2 ≡ 0
-    → displacement_rule r (is_minus (is_two_way r.form) (bounds r.form).k v) (2 * size_of (is_two_way r.form) (bounds r.form).k v) ≡ 15
+    → displacement_rule r (is_printed_minus (is_two_way r.form) (bounds r.form).k v) (2 * printed_size (is_two_way r.form) (bounds r.form).k v) ≡ 15
 unfolding displacement_rule is_two_way
 rule-printed r v h even =
-    let minus = is_minus (not (form_index r.form == 13)) (bounds r.form).k v in
-    let size = size_of (not (form_index r.form == 13)) (bounds r.form).k v in
-    ap (λ b. min (cond b (cond (is_long r) 5 11) 15) (cond (is_odd (2 * size)) 6 15)) (near (form_index r.form == 13) (bounds r.form).k v h even)
+    let minus = is_printed_minus (not (form_index r.form == 13)) (bounds r.form).k v in
+    let size = printed_size (not (form_index r.form == 13)) (bounds r.form).k v in
+    ap (λ b. min (cond b (cond (is_long r) 5 11) 15) (cond (is_odd_displacement (2 * size)) 6 15)) (near (form_index r.form == 13) (bounds r.form).k v h even)
     ∙ ap (λ b. min 15 (cond b 6 15)) (even_twice size)
 
 displaced-printed : (r : RowData) (v : ℕ) (acc : RowFieldsData) → v < (bounds r.form).k → (bounds r.form).k % 2 ≡ 0
-    → with_displacement r (is_minus (is_two_way r.form) (bounds r.form).k v) (2 * size_of (is_two_way r.form) (bounds r.form).k v) acc ≡ with_value K v acc
+    → with_displacement r (is_printed_minus (is_two_way r.form) (bounds r.form).k v) (2 * printed_size (is_two_way r.form) (bounds r.form).k v) acc ≡ with_value K v acc
 unfolding with_displacement
 displaced-printed r v acc h even =
     let bound = (bounds r.form).k in
-    let minus = is_minus (is_two_way r.form) bound v in
-    let size = size_of (is_two_way r.form) bound v in
-    ap (λ n. cond (n == 15) (with_value K (wrap bound minus (2 * size / 2)) acc) (with_rule n acc)) (rule-printed r v h even)
-    ∙ ap (λ n. with_value K (wrap bound minus n) acc) (half size)
+    let minus = is_printed_minus (is_two_way r.form) bound v in
+    let size = printed_size (is_two_way r.form) bound v in
+    ap (λ n. cond (n == 15) (with_value K (wrap_into_field bound minus (2 * size / 2)) acc) (with_rule n acc)) (rule-printed r v h even)
+    ∙ ap (λ n. with_value K (wrap_into_field bound minus n) acc) (half size)
     ∙ ap (λ n. with_value K n acc) (wrapped-printed (is_two_way r.form) bound v h even)
 
-pub fill-target : (r : RowData) (v : ℕ) (acc : RowFieldsData) → v < (bounds r.form).k → (bounds r.form).k % 2 ≡ 0 → 2 * size_of (is_two_way r.form) (bounds r.form).k v < 2 ^ 64
-    → fill r Target (operand (target (is_two_way r.form) (bounds r.form).k v)) acc ≡ Some (with_value K v acc)
+pub fill-target : (r : RowData) (v : ℕ) (acc : RowFieldsData) → v < (bounds r.form).k → (bounds r.form).k % 2 ≡ 0 → 2 * printed_size (is_two_way r.form) (bounds r.form).k v < 2 ^ 64
+    → fill r Target (operand (target_tokens (is_two_way r.form) (bounds r.form).k v)) acc ≡ Some (with_value K v acc)
 unfolding fill fill_plain fill_target shape_index
 fill-target r v acc h even small =
-    let minus = is_minus (is_two_way r.form) (bounds r.form).k v in
-    let size = size_of (is_two_way r.form) (bounds r.form).k v in
+    let minus = is_printed_minus (is_two_way r.form) (bounds r.form).k v in
+    let size = printed_size (is_two_way r.form) (bounds r.form).k v in
     ap (λ o. fill r Target o acc) (operand-target minus (codes ".") (decimal (2 * size)))
-    ∙ ap (λ n. fill r Target (plain (with_number shape.Sum (codes ".") minus n)) acc) (number_of-decimal (2 * size) small)
+    ∙ ap (λ n. fill r Target (plain_operand (with_number shape.Sum (codes ".") minus n)) acc) (number_of-decimal (2 * size) small)
     ∙ ap (λ f. Some f) (displaced-printed r v acc h even)
 
 -- ---- absolute addresses
-pub operand-one : (text : List ℕ) → operand (piece kind.Number text ∷ []) ≡ plain (plain_number false (number_of text))
-unfolding operand value_at number_at named_at sum_at is_kind text_at kind_index
+pub operand-one : (text : List ℕ) → operand (printed_token kind.Number text ∷ []) ≡ plain_operand (plain_number false (token_number text))
+unfolding operand operand_value_at operand_number_at named_at sum_at is_kind text_at kind_index
 operand-one text = refl
 
 -- the address of an ABS row, and of a B row
-pub place-put : (f : Fields) (acc : RowFieldsData) → f.k < 2 ^ 18 → cond (nat_le (2 ^ 32) (place f)) (with_rule 5 acc) (cond (place f / 2 ^ 14 % 2 ^ 14 == 0) (with_value K (place f / 2 ^ 28 * 2 ^ 14 + place f % 2 ^ 14) acc) (with_rule 5 acc)) ≡ with_value K f.k acc
+pub place-put : (f : Fields) (acc : RowFieldsData) → f.k < 2 ^ 18 → cond (nat_le (2 ^ 32) (address_in_constant f)) (with_rule 5 acc) (cond (address_in_constant f / 2 ^ 14 % 2 ^ 14 == 0) (with_value K (address_in_constant f / 2 ^ 28 * 2 ^ 14 + address_in_constant f % 2 ^ 14) acc) (with_rule 5 acc)) ≡ with_value K f.k acc
 place-put f acc h =
-    let low : nat_le (2 ^ 32) (place f) ≡ false = grind (arith, nat_tests) in
-    let gap : (place f / 2 ^ 14 % 2 ^ 14 == 0) ≡ true = grind (arith, nat_tests) in
-    let back : place f / 2 ^ 28 * 2 ^ 14 + place f % 2 ^ 14 ≡ f.k = omega arith in
+    let low : nat_le (2 ^ 32) (address_in_constant f) ≡ false = grind (arith, nat_tests) in
+    let gap : (address_in_constant f / 2 ^ 14 % 2 ^ 14 == 0) ≡ true = grind (arith, nat_tests) in
+    let back : address_in_constant f / 2 ^ 28 * 2 ^ 14 + address_in_constant f % 2 ^ 14 ≡ f.k = omega arith in
     rw (low, gap, back) refl
 
-pub code_place-put : (f : Fields) (acc : RowFieldsData) → f.k < 2 ^ 24 → cond (nat_le (2 ^ 32) (code_place f)) (with_rule 5 acc) (cond (code_place f / 2 ^ 21 % 2 ^ 7 == 0 && code_place f % 2 == 0) (with_value K (code_place f / 2 ^ 28 * 2 ^ 20 + code_place f % 2 ^ 21 / 2) acc) (with_rule 5 acc)) ≡ with_value K f.k acc
+pub code_place-put : (f : Fields) (acc : RowFieldsData) → f.k < 2 ^ 24 → cond (nat_le (2 ^ 32) (code_address_in_constant f)) (with_rule 5 acc) (cond (code_address_in_constant f / 2 ^ 21 % 2 ^ 7 == 0 && code_address_in_constant f % 2 == 0) (with_value K (code_address_in_constant f / 2 ^ 28 * 2 ^ 20 + code_address_in_constant f % 2 ^ 21 / 2) acc) (with_rule 5 acc)) ≡ with_value K f.k acc
 code_place-put f acc h =
-    let low : nat_le (2 ^ 32) (code_place f) ≡ false = grind (arith, nat_tests) in
-    let gap : (code_place f / 2 ^ 21 % 2 ^ 7 == 0) ≡ true = grind (arith, nat_tests) in
-    let even : (code_place f % 2 == 0) ≡ true = grind (arith, nat_tests) in
-    let back : code_place f / 2 ^ 28 * 2 ^ 20 + code_place f % 2 ^ 21 / 2 ≡ f.k = omega arith in
+    let low : nat_le (2 ^ 32) (code_address_in_constant f) ≡ false = grind (arith, nat_tests) in
+    let gap : (code_address_in_constant f / 2 ^ 21 % 2 ^ 7 == 0) ≡ true = grind (arith, nat_tests) in
+    let even : (code_address_in_constant f % 2 == 0) ≡ true = grind (arith, nat_tests) in
+    let back : code_address_in_constant f / 2 ^ 28 * 2 ^ 20 + code_address_in_constant f % 2 ^ 21 / 2 ≡ f.k = omega arith in
     rw (low, gap, even, back) refl

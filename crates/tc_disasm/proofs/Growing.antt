@@ -12,12 +12,13 @@ use Rattle.std.proofs.lemmas.Bool.Decides.{nat_tests}
 use Rattle.std.proofs.lemmas.Fmt.{length-decimal-le}
 use Rattle.tc_lex.specs.Bytes.{is_digit}
 use Rattle.tcd_base.specs.NameBytes.{is_name_byte, is_name_first}
-use Rattle.tc_object.specs.Names.{is_length}
-use Rattle.tc_stmt.specs.Names.{is_name}
+use Rattle.tc_object.specs.Names.{is_name_length}
+use Rattle.tc_stmt.specs.Names.{is_source_name}
 use Rattle.tc_stmt.specs.Items.{section}
 use Rattle.tc_stmt.specs.Lines.{LineData, line_data}
 use Rattle.tc_asm.specs.Symbols.{SymbolData}
-use Rattle.tc_asm.specs.Drafts.{PartData, DraftData, part, has_section, has_room, number_of_part, entered, extended, with_bytes, stepped, with_line}
+use Rattle.tc_asm.specs.Drafts.{PartData, DraftData, part, has_section, has_room, number_of_part, with_current_section, with_part_bytes, with_bytes, draft_after_item}
+use Rattle.tc_asm.specs.DraftedSources.{with_line}
 use Rattle.tc_asm.specs.Rules.{content_rule, item_rule, line_rule}
 use Rattle.tc_disasm.proofs.Decimals.{decimal_is}
 use Rattle.tc_disasm.proofs.Runs.{Runs, Adds}
@@ -49,7 +50,7 @@ module _ (ps : List PartData) (name bs more : List ℕ) (total : ℕ) (room : to
   fits_here = rw (has_last ps (part name bs []), room_for total (length more) room) refl
 
   grown : with_bytes (growing ps name bs total) more ≡ growing ps name (bs ++ more) (total + length more)
-  unfolding with_bytes extended
+  unfolding with_bytes with_part_bytes
   grown =
       let d : DraftData = growing ps name bs total in
       let add : PartData → PartData = λ p. record p { bytes = p.bytes ++ more } in
@@ -90,9 +91,9 @@ module _ (name : List ℕ) where
       ap (λ k. unwrap_or (cond (nat_lt k (length ps)) (Some k) None) (length ps)) (fresh-len ps e)
       ∙ ap (λ b. unwrap_or (cond b (Some (length ps)) None) (length ps)) (itself (length ps))
 
-  pub runs-section : (labels : List SymbolData) (number total : ℕ) (ps : List PartData) → is_name name ≡ true → is_fresh ps ≡ true → length ps < 64
+  pub runs-section : (labels : List SymbolData) (number total : ℕ) (ps : List PartData) → is_source_name name ≡ true → is_fresh ps ≡ true → length ps < 64
       → Runs labels (draft number ps total) (line_data 15 (section name ∷ []) ∷ []) (growing ps name [] total)
-  unfolding with_line line_rule stepped item_rule entered
+  unfolding with_line line_rule draft_after_item item_rule with_current_section
   runs-section labels number total ps named fresh few =
       let d : DraftData = draft number ps total in
       let less : nat_lt (length ps) 64 ≡ true = grind (arith, nat_tests) in
@@ -123,14 +124,14 @@ digits_are_further (c ∷ cs) e =
     let two = and_parts (is_digit c) (list_all is_digit cs) e in
     rw (digit_is_further c two.0) (digits_are_further cs two.1)
 
-pub section_name-is : (n : ℕ) → n < 64 → is_name (115 ∷ decimal n) ≡ true
-unfolding is_name is_name_byte is_name_first
+pub section_name-is : (n : ℕ) → n < 64 → is_source_name (115 ∷ decimal n) ≡ true
+unfolding is_source_name is_name_byte is_name_first
 section_name-is n small =
     let ds = decimal n in
     let wide : n < 2 ^ 64 = omega arith in
     let hundred : n < 10 ^ 2 = omega arith in
     let few = length-decimal-le 2 n (omega arith) hundred wide in
-    let long : is_length (length (115 ∷ ds)) ≡ true = grind (arith, nat_tests) in
+    let long : is_name_length (length (115 ∷ ds)) ≡ true = grind (arith, nat_tests) in
     let further = digits_are_further ds (decimal_is n wide).digits in
     ap (λ b. is_some (then_some (b && (not (suc (length ds) == 0) && list_all is_name_byte ds)) (115 ∷ ds)) && not (bytes_eq (115 ∷ ds) (codes "."))) long
     ∙ ap (λ b. is_some (then_some (not b && list_all is_name_byte ds) (115 ∷ ds)) && not (bytes_eq (115 ∷ ds) (codes "."))) (eqb-suc-zero (length ds))

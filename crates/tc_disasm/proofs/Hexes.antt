@@ -4,7 +4,7 @@ use Rattle.std.specs.Prelude.{fold}
 use Rattle.std.proofs.lemmas.Bool.Decides.{nat_tests}
 use Rattle.tc_lex.specs.Bytes.{is_digit, is_hex}
 use Rattle.tc_lex.specs.Cut.{has_hex_front}
-use Rattle.tc_lex.specs.Numbers.{digit_of, add_digit, number_of, below_2_128}
+use Rattle.tc_lex.specs.Numbers.{token_digit_value, add_digit, token_number, below_2_128}
 use Rattle.tcd_text.specs.Digits.{hex_digit, hex_byte, hex_word}
 use Rattle.tc_disasm.proofs.Decimals.{bounded-small}
 
@@ -12,8 +12,8 @@ pub is_hex-digit : (n : ℕ) → n < 16 → is_hex (hex_digit n) ≡ true
 unfolding is_hex is_digit hex_digit
 is_hex-digit n h = grind (arith, nat_tests)
 
-digit_of-hex : (n : ℕ) → n < 16 → digit_of (hex_digit n) ≡ n
-unfolding digit_of is_digit hex_digit
+digit_of-hex : (n : ℕ) → n < 16 → token_digit_value (hex_digit n) ≡ n
+unfolding token_digit_value is_digit hex_digit
 digit_of-hex n h = grind (arith, nat_tests)
 
 -- a further digit
@@ -41,8 +41,8 @@ front_hex : (x : ℕ) → x < 2 ^ 32 → has_hex_front (48 ∷ 120 ∷ hex_word 
 unfolding has_hex_front hex_word hex_byte
 front_hex x h = is_hex-digit (x / 2 ^ 24 / 16) (omega arith)
 
-pub number_of-hex : (x : ℕ) → x < 2 ^ 32 → number_of (48 ∷ 120 ∷ hex_word x) ≡ Some x
-unfolding number_of hex_word
+pub number_of-hex : (x : ℕ) → x < 2 ^ 32 → token_number (48 ∷ 120 ∷ hex_word x) ≡ Some x
+unfolding token_number hex_word
 number_of-hex x h =
     let a = x / 2 ^ 24 in
     let b = x / 2 ^ 16 % 256 in

@@ -11,14 +11,14 @@ use Rattle.tc_lex.specs.declared.kinds.TokenKind.TheVariants.{Word, Number}
 use Rattle.tc_lex.specs.declared.kinds.Front.TheVariants as front
 use Rattle.tcd_base.specs.NameBytes.{is_name_byte, is_name_first}
 use Rattle.tc_lex.specs.Bytes.{is_digit, is_hex}
-use Rattle.tc_lex.specs.Cut.{front_of, front_at, number_len, has_hex_front}
+use Rattle.tc_lex.specs.Cut.{token_front_of, token_front_by_byte, number_len, has_hex_front}
 use Rattle.tc_lex.specs.Pieces.{PieceData}
-use Rattle.tc_disasm.specs.Tokens.{piece}
-use Rattle.tc_disasm.specs.Lexed.{lexed, lex_follow, IsStop}
+use Rattle.tc_disasm.specs.Tokens.{printed_token}
+use Rattle.tc_disasm.specs.Lexed.{lexed_listing, lexed_listing_after, IsListingStop}
 use Rattle.tc_disasm.proofs.Decimals.{dead, not_x}
 
-lexed-skip : (n : ℕ) (text : List ℕ) (room : ℕ) → lexed text room n ≡ lexed (drop n text) room 0
-unfolding lexed
+lexed-skip : (n : ℕ) (text : List ℕ) (room : ℕ) → lexed_listing text room n ≡ lexed_listing (drop n text) room 0
+unfolding lexed_listing
 lexed-skip zero text room = refl
 lexed-skip (suc n) [] room = refl
 lexed-skip (suc n) (c ∷ cs) room = lexed-skip n cs room
@@ -27,19 +27,19 @@ room_more : (room : ℕ) (o : Option (List PieceData)) → cond (suc room == 0) 
 room_more room o = rw (eqb-suc-zero room) refl
 
 -- a token at the front, and then the rest
-pub lexed-front : (kind : TokenKind) (c : ℕ) (cs rest : List ℕ) (room : ℕ) → front_of ((c ∷ cs) ++ rest) ≡ front.Token kind (length (c ∷ cs))
-    → lexed ((c ∷ cs) ++ rest) (suc room) 0 ≡ option_map (λ ps. piece kind (c ∷ cs) ∷ ps) (lexed rest room 0)
-unfolding lexed
+pub lexed-front : (kind : TokenKind) (c : ℕ) (cs rest : List ℕ) (room : ℕ) → token_front_of ((c ∷ cs) ++ rest) ≡ front.Token kind (length (c ∷ cs))
+    → lexed_listing ((c ∷ cs) ++ rest) (suc room) 0 ≡ option_map (λ ps. printed_token kind (c ∷ cs) ∷ ps) (lexed_listing rest room 0)
+unfolding lexed_listing
 lexed-front kind c cs rest room e =
     let w : List ℕ = c ∷ cs in
     let taken : take (length w) (w ++ rest) ≡ w = take_at w rest (length w) refl in
     let dropped : drop (length cs) (cs ++ rest) ≡ rest = drop_at cs rest (length cs) refl in
-    ap (λ f. lex_follow f (w ++ rest) (suc room) (lexed (cs ++ rest))) e
+    ap (λ f. lexed_listing_after f (w ++ rest) (suc room) (lexed_listing (cs ++ rest))) e
     ∙ room_more room _
-    ∙ ap (λ t. option_map (λ ps. piece kind t ∷ ps) (lexed (cs ++ rest) (suc room - 1) (length w - 1))) taken
-    ∙ ap (λ r. option_map (λ ps. piece kind w ∷ ps) (lexed (cs ++ rest) r (length w - 1))) (omega arith)
-    ∙ ap (λ n. option_map (λ ps. piece kind w ∷ ps) (lexed (cs ++ rest) room n)) (omega arith)
-    ∙ ap (option_map (λ ps. piece kind w ∷ ps)) (lexed-skip (length cs) (cs ++ rest) room ∙ ap (λ t. lexed t room 0) dropped)
+    ∙ ap (λ t. option_map (λ ps. printed_token kind t ∷ ps) (lexed_listing (cs ++ rest) (suc room - 1) (length w - 1))) taken
+    ∙ ap (λ r. option_map (λ ps. printed_token kind w ∷ ps) (lexed_listing (cs ++ rest) r (length w - 1))) (omega arith)
+    ∙ ap (λ n. option_map (λ ps. printed_token kind w ∷ ps) (lexed_listing (cs ++ rest) room n)) (omega arith)
+    ∙ ap (option_map (λ ps. printed_token kind w ∷ ps)) (lexed-skip (length cs) (cs ++ rest) room ∙ ap (λ t. lexed_listing t room 0) dropped)
 
 pub prefix_len-front : (p : ℕ → Bool) (w rest : List ℕ) → list_all p w ≡ true → prefix_len p rest ≡ 0 → prefix_len p (w ++ rest) ≡ length w
 prefix_len-front p [] rest e stop = stop
@@ -47,7 +47,7 @@ prefix_len-front p (x ∷ xs) rest e stop =
     let here = and_parts (p x) (list_all p xs) e in
     rw here.0 (ap (λ n. 1 + n) (prefix_len-front p xs rest here.1 stop) ∙ omega arith)
 
-name_stops : (rest : List ℕ) → IsStop rest → prefix_len is_name_byte rest ≡ 0
+name_stops : (rest : List ℕ) → IsListingStop rest → prefix_len is_name_byte rest ≡ 0
 name_stops [] h = refl
 name_stops (c ∷ cs) h = rw h refl
 
@@ -59,7 +59,7 @@ digit_is_name c h = by_tests (is_name_first c) (is_digit c) h
     by_tests true b e = cc
     by_tests false b e = e
 
-digits_stop : (rest : List ℕ) → IsStop rest → prefix_len is_digit rest ≡ 0
+digits_stop : (rest : List ℕ) → IsListingStop rest → prefix_len is_digit rest ≡ 0
 digits_stop [] h = refl
 digits_stop (c ∷ cs) h = rw (digit_is_name c h) refl
 
@@ -71,8 +71,8 @@ other p c k holds fails =
     ]
 
 -- a word is read whole
-pub front_of-word : (c : ℕ) (cs rest : List ℕ) → is_name_first c ≡ true → list_all is_name_byte (c ∷ cs) ≡ true → IsStop rest → front_of ((c ∷ cs) ++ rest) ≡ front.Token Word (length (c ∷ cs))
-unfolding front_at is_name_first
+pub front_of-word : (c : ℕ) (cs rest : List ℕ) → is_name_first c ≡ true → list_all is_name_byte (c ∷ cs) ≡ true → IsListingStop rest → token_front_of ((c ∷ cs) ++ rest) ≡ front.Token Word (length (c ∷ cs))
+unfolding token_front_by_byte is_name_first
 front_of-word c cs rest first names stop =
     let o = λ (k : ℕ) (no : is_name_first k ≡ false). other is_name_first c k first no in
     rw (o 35 refl, o 32 refl, o 9 refl, o 44 refl, o 58 refl, o 91 refl, o 93 refl, o 43 refl, o 45 refl, first)
@@ -90,22 +90,22 @@ stop_no_x c e =
       | inr w ↦ w.0
     ]
 
-no_hex-front : (ds rest : List ℕ) → list_all is_digit ds ≡ true → 0 < length ds → IsStop rest → has_hex_front (ds ++ rest) ≡ false
+no_hex-front : (ds rest : List ℕ) → list_all is_digit ds ≡ true → 0 < length ds → IsListingStop rest → has_hex_front (ds ++ rest) ≡ false
 unfolding has_hex_front
 no_hex-front [] rest e some stop = absurd (omega arith)
 no_hex-front (a ∷ []) [] e some stop = refl
 no_hex-front (a ∷ []) (y ∷ ys) e some stop = rw (stop_no_x y stop) (dead (nat_lt 2 (length (a ∷ y ∷ ys))) (a == 48) (is_hex (slice_index (a ∷ y ∷ ys) 2)))
 no_hex-front (a ∷ b ∷ cs) rest e some stop = let second : is_digit b ≡ true = (and_parts _ _ (and_parts _ _ e).1).0 in rw (not_x b second) (dead (nat_lt 2 (length (a ∷ b ∷ (cs ++ rest)))) (a == 48) (is_hex (slice_index (a ∷ b ∷ (cs ++ rest)) 2)))
 
-number_len-front : (ds rest : List ℕ) → list_all is_digit ds ≡ true → 0 < length ds → IsStop rest → number_len (ds ++ rest) ≡ length ds
+number_len-front : (ds rest : List ℕ) → list_all is_digit ds ≡ true → 0 < length ds → IsListingStop rest → number_len (ds ++ rest) ≡ length ds
 unfolding number_len
 number_len-front ds rest e some stop =
     ap (λ b. cond b (2 + prefix_len is_hex (drop 2 (ds ++ rest))) (prefix_len is_digit (ds ++ rest))) (no_hex-front ds rest e some stop)
     ∙ prefix_len-front is_digit ds rest e (digits_stop rest stop)
 
 -- a decimal number is read whole
-pub front_of-digits : (c : ℕ) (cs rest : List ℕ) → list_all is_digit (c ∷ cs) ≡ true → IsStop rest → front_of ((c ∷ cs) ++ rest) ≡ front.Token Number (length (c ∷ cs))
-unfolding front_at is_digit
+pub front_of-digits : (c : ℕ) (cs rest : List ℕ) → list_all is_digit (c ∷ cs) ≡ true → IsListingStop rest → token_front_of ((c ∷ cs) ++ rest) ≡ front.Token Number (length (c ∷ cs))
+unfolding token_front_by_byte is_digit
 front_of-digits c cs rest digits stop =
     let first : is_digit c ≡ true = (and_parts _ _ digits).0 in
     let o = λ (k : ℕ) (no : is_digit k ≡ false). other is_digit c k first no in

@@ -9,17 +9,17 @@ use Rattle.std.proofs.lemmas.List.Folds.{list_all-append}
 use Rattle.tc_lex.specs.declared.kinds.Token.{Token}
 use Rattle.tc_lex.specs.declared.kinds.TokenKind.{TokenKind}
 use Rattle.tc_lex.specs.declared.kinds.Front.TheVariants as front
-use Rattle.tc_lex.specs.Cut.{cut, front_of, front_at, follow, with_front, token}
+use Rattle.tc_lex.specs.Cut.{cut, token_front_of, token_front_by_byte, cut_from_front, with_front, token}
 use Rattle.tc_lex.proofs.CutLaws.{cut-skip}
 use Rattle.tc_lex.specs.Pieces.{PieceData}
-use Rattle.tc_stmt.specs.Lines.{LineData, line_in, cut_line, pieces_line, piece_in, text_in}
-use Rattle.tc_disasm.specs.Tokens.{piece}
+use Rattle.tc_stmt.specs.Lines.{LineData, line_in, cut_line, pieces_line, line_token_with_text, line_text_between}
+use Rattle.tc_disasm.specs.Tokens.{printed_token}
 
 -- the tokens of a text after `pre` in its line, at most `room`
 pub record Cut (pre text : List ℕ) (room : ℕ) (ps : List PieceData) : Type 0 where
   pub ts : List Token
   pub is : cut text room (length pre) 0 ≡ Ok ts
-  pub pieces : map (piece_in (pre ++ text)) ts ≡ ps
+  pub pieces : map (line_token_with_text (pre ++ text)) ts ≡ ps
 
 -- no line feed
 abbrev pub is_plain : ℕ → Bool
@@ -35,7 +35,7 @@ unfolding cut
 lexes-end = record { tokens = λ pre room few. record { ts = []; is = refl; pieces = refl }; plain = refl }
 
 pub lexes-comment : (cs : List ℕ) → list_all is_plain cs ≡ true → Lexes (35 ∷ cs) []
-unfolding cut front_at
+unfolding cut token_front_by_byte
 lexes-comment cs plain = record { tokens = λ pre room few. record { ts = []; is = refl; pieces = refl }; plain = plain }
 
 -- a byte more before a text
@@ -43,7 +43,7 @@ behind : (pre : List ℕ) (c : ℕ) (rest : List ℕ) → (pre ++ c ∷ []) ++ r
 behind pre c rest = append_assoc pre (c ∷ []) rest
 
 pub lexes-blank : (rest : List ℕ) (ps : List PieceData) → Lexes rest ps → Lexes (32 ∷ rest) ps
-unfolding cut front_at
+unfolding cut token_front_by_byte
 lexes-blank rest ps h = record { tokens = after; plain = h.plain }
   where
     after : (pre : List ℕ) (room : ℕ) → length ps ≤ room → Cut pre (32 ∷ rest) room ps
@@ -53,22 +53,22 @@ lexes-blank rest ps h = record { tokens = after; plain = h.plain }
         record {
           ts = next.ts;
           is = ap (λ n. cut rest room n 0) at ∙ next.is;
-          pieces = ap (λ l. map (piece_in l) next.ts) (sym (behind pre 32 rest)) ∙ next.pieces;
+          pieces = ap (λ l. map (line_token_with_text l) next.ts) (sym (behind pre 32 rest)) ∙ next.pieces;
         }
 
 -- the text of a token
-text_here : (pre w rest : List ℕ) → text_in (pre ++ (w ++ rest)) (length pre) (length pre + length w) ≡ w
+text_here : (pre w rest : List ℕ) → line_text_between (pre ++ (w ++ rest)) (length pre) (length pre + length w) ≡ w
 text_here pre w rest =
     let low : nat_le (length pre) (length pre + length w) ≡ true = grind (arith, nat_tests) in
     let high : nat_le (length pre + length w) (length (pre ++ (w ++ rest))) ≡ true = rw (length-append pre (w ++ rest), length-append w rest) (grind (arith, nat_tests)) in
     rw (low, high) (ap (λ t. take ((length pre + length w) - length pre) t) (drop_at pre (w ++ rest) (length pre) refl) ∙ take_at w rest ((length pre + length w) - length pre) (omega arith))
 
 -- a token at the front, and then the rest
-pub lexes-token : (kind : TokenKind) (c : ℕ) (cs rest : List ℕ) (ps : List PieceData) → front_of ((c ∷ cs) ++ rest) ≡ front.Token kind (length (c ∷ cs)) → list_all is_plain (c ∷ cs) ≡ true → Lexes rest ps → Lexes ((c ∷ cs) ++ rest) (piece kind (c ∷ cs) ∷ ps)
+pub lexes-token : (kind : TokenKind) (c : ℕ) (cs rest : List ℕ) (ps : List PieceData) → token_front_of ((c ∷ cs) ++ rest) ≡ front.Token kind (length (c ∷ cs)) → list_all is_plain (c ∷ cs) ≡ true → Lexes rest ps → Lexes ((c ∷ cs) ++ rest) (printed_token kind (c ∷ cs) ∷ ps)
 unfolding cut
 lexes-token kind c cs rest ps e plain h = record { tokens = by_room; plain = list_all-append is_plain (c ∷ cs) rest ∙ rw (plain, h.plain) refl }
   where
-    by_room : (pre : List ℕ) (room : ℕ) → length (piece kind (c ∷ cs) ∷ ps) ≤ room → Cut pre ((c ∷ cs) ++ rest) room (piece kind (c ∷ cs) ∷ ps)
+    by_room : (pre : List ℕ) (room : ℕ) → length (printed_token kind (c ∷ cs) ∷ ps) ≤ room → Cut pre ((c ∷ cs) ++ rest) room (printed_token kind (c ∷ cs) ∷ ps)
     by_room pre zero few = absurd (omega arith)
     by_room pre (suc room) few =
         let next = h.tokens (pre ++ (c ∷ cs)) room (omega arith) in
@@ -78,7 +78,7 @@ lexes-token kind c cs rest ps e plain h = record { tokens = by_room; plain = lis
         let less : suc room - 1 ≡ room = omega arith in
         record {
           ts = first ∷ next.ts;
-          is = ap (λ f. follow f (suc room) (length pre) (cut (cs ++ rest))) e
+          is = ap (λ f. cut_from_front f (suc room) (length pre) (cut (cs ++ rest))) e
               ∙ ap (λ b. cond b (Err (length pre)) (with_front (first ∷ []) (cut (cs ++ rest) (suc room - 1) (length pre + 1) (length (c ∷ cs) - 1)))) (eqb-suc-zero room)
               ∙ ap (λ r. with_front (first ∷ []) (cut (cs ++ rest) r (length pre + 1) (length (c ∷ cs) - 1))) less
               ∙ ap (λ n. with_front (first ∷ []) (cut (cs ++ rest) room (length pre + 1) n)) one
@@ -86,9 +86,9 @@ lexes-token kind c cs rest ps e plain h = record { tokens = by_room; plain = lis
               ∙ ap (λ t. cut t room (length pre + 1 + length cs) 0) (drop_at cs rest (length cs) refl)
               ∙ ap (λ n. cut rest room n 0) at
               ∙ next.is);
-          pieces = ap (λ t. piece kind t ∷ map (piece_in (pre ++ ((c ∷ cs) ++ rest))) next.ts) (text_here pre (c ∷ cs) rest)
-              ∙ ap (λ l. piece kind (c ∷ cs) ∷ map (piece_in l) next.ts) (sym (append_assoc pre (c ∷ cs) rest))
-              ∙ ap (λ qs. piece kind (c ∷ cs) ∷ qs) next.pieces;
+          pieces = ap (λ t. printed_token kind t ∷ map (line_token_with_text (pre ++ ((c ∷ cs) ++ rest))) next.ts) (text_here pre (c ∷ cs) rest)
+              ∙ ap (λ l. printed_token kind (c ∷ cs) ∷ map (line_token_with_text l) next.ts) (sym (append_assoc pre (c ∷ cs) rest))
+              ∙ ap (λ qs. printed_token kind (c ∷ cs) ∷ qs) next.pieces;
         }
 
 -- a text is read as this line, and has no line feed

@@ -17,16 +17,15 @@ use Rattle.tc_stmt.specs.declared.want.Want.{Want}
 use Rattle.tc_stmt.specs.declared.want.Want.TheVariants.{Number, Target, Memory}
 use Rattle.tc_stmt.specs.Wants.{wants_of}
 use Rattle.tc_stmt.specs.RowFields.{field_of}
-use Rattle.tc_lex.specs.Pieces.{PieceData, is_kind, text_at}
-use Rattle.tc_lex.specs.Cut.{kind_index}
+use Rattle.tc_lex.specs.Pieces.{PieceData, is_kind, text_at, kind_index}
 use Rattle.tc_lex.specs.Operands.{OperandData, operand, operands, is_comma}
 use Rattle.tc_stmt.specs.StatementRow.{statement}
 use Rattle.tc_stmt.specs.Items.{code, label}
 use Rattle.tc_stmt.specs.Lines.{LineData, line_data, pieces_line, line_from, stated_line, code_line}
-use Rattle.tc_disasm.specs.Texts.{is_minus, row_text, operands_text, text_of}
+use Rattle.tc_disasm.specs.Texts.{is_printed_minus, row_text, operands_text, instruction_text}
 use Rattle.tc_stmt.specs.Displacements.{is_two_way}
-use Rattle.tc_disasm.specs.Tokens.{piece, operand_tokens, base, field_number, number}
-use Rattle.tc_disasm.specs.Lexed.{IsStop}
+use Rattle.tc_disasm.specs.Tokens.{printed_token, operand_tokens, base_tokens, field_number_tokens, number_tokens}
+use Rattle.tc_disasm.specs.Lexed.{IsListingStop}
 use Rattle.tc_disasm.proofs.Suits.{wants_suit}
 use Rattle.tc_disasm.proofs.Printing.{statement-printed}
 use Rattle.tc_disasm.proofs.LineTokens.{Lexes, Reads, reads-tokens}
@@ -42,14 +41,14 @@ record Begins (ps : List PieceData) : Type 0 where
   is : ps ≡ first ∷ others
   other : (kind_index first.kind == 3) ≡ false
 
-begins-number : (b : Bool) (n : ℕ) → Begins (number b n)
+begins-number : (b : Bool) (n : ℕ) → Begins (number_tokens b n)
 unfolding kind_index
 begins-number true n = record { first = _; others = _; is = refl; other = refl }
 begins-number false n = record { first = _; others = _; is = refl; other = refl }
 
 begins-operand : (form : Form) (f : Fields) (w : Want) → Begins (operand_tokens form f w)
 unfolding operand_tokens kind_index
-begins-operand form f (Number signed field) = begins-number (is_minus signed (field_of field (bounds form)) (field_of field f)) _
+begins-operand form f (Number signed field) = begins-number (is_printed_minus signed (field_of field (bounds form)) (field_of field f)) _
 begins-operand form f _ = record { first = _; others = _; is = refl; other = refl }
 
 -- ---- no comma inside an operand, and few tokens
@@ -60,17 +59,17 @@ record Inner (ps : List PieceData) (most : ℕ) : Type 0 where
   none : list_all is_inner ps ≡ true
   few : length ps ≤ most
 
-inner-number : (b : Bool) (n : ℕ) → Inner (number b n) 2
+inner-number : (b : Bool) (n : ℕ) → Inner (number_tokens b n) 2
 unfolding kind_index
 inner-number true n = record { none = refl; few = omega arith }
 inner-number false n = record { none = refl; few = omega arith }
 
-inner-target : (b : Bool) (name digits : List ℕ) → Inner (piece kind.Word name ∷ cond b (piece kind.Minus (45 ∷ [])) (piece kind.Plus (43 ∷ [])) ∷ piece kind.Number digits ∷ []) 6
+inner-target : (b : Bool) (name digits : List ℕ) → Inner (printed_token kind.Word name ∷ cond b (printed_token kind.Minus (45 ∷ [])) (printed_token kind.Plus (43 ∷ [])) ∷ printed_token kind.Number digits ∷ []) 6
 unfolding kind_index
 inner-target true name digits = record { none = refl; few = omega arith }
 inner-target false name digits = record { none = refl; few = omega arith }
 
-inner-base : (plus : Bool) (n : ℕ) (ps : List PieceData) → Inner ps 2 → Inner (base plus n ++ ps) 6
+inner-base : (plus : Bool) (n : ℕ) (ps : List PieceData) → Inner ps 2 → Inner (base_tokens plus n ++ ps) 6
 unfolding kind_index
 inner-base true n ps h = record { none = h.none; few = let two = h.few in omega arith }
 inner-base false n ps h = record { none = h.none; few = let two = h.few in omega arith }
@@ -80,9 +79,9 @@ wider ps h = record { none = h.none; few = let two = h.few in omega arith }
 
 inner-operand : (form : Form) (f : Fields) (w : Want) → Inner (operand_tokens form f w) 6
 unfolding operand_tokens kind_index
-inner-operand form f (Number signed field) = wider _ (inner-number (is_minus signed (field_of field (bounds form)) (field_of field f)) _)
-inner-operand form f Target = inner-target (is_minus (is_two_way form) (bounds form).k f.k) _ _
-inner-operand form f (Memory plus true) = inner-base plus f.s2 (field_number true (bounds form).k f.k) (inner-number (is_minus true (bounds form).k f.k) _)
+inner-operand form f (Number signed field) = wider _ (inner-number (is_printed_minus signed (field_of field (bounds form)) (field_of field f)) _)
+inner-operand form f Target = inner-target (is_printed_minus (is_two_way form) (bounds form).k f.k) _ _
+inner-operand form f (Memory plus true) = inner-base plus f.s2 (field_number_tokens true (bounds form).k f.k) (inner-number (is_printed_minus true (bounds form).k f.k) _)
 inner-operand form f (Memory plus false) = inner-base plus f.s2 [] (record { none = refl; few = omega arith })
 inner-operand form f _ = record { none = refl; few = omega arith }
 
@@ -109,7 +108,7 @@ parts-are : (r : RowData) (f : Fields) (w : Want) (ws : List Want) → slice_spl
 unfolding kind_index
 parts-are r f w [] = ap (slice_split is_comma) (append-nil (operand_tokens r.form f w)) ∙ split_whole is_comma (operand_tokens r.form f w) (inner-operand r.form f w).none
 parts-are r f w (v ∷ ws) =
-    split_at is_comma (operand_tokens r.form f w) (piece kind.Comma (44 ∷ [])) (operand_tokens r.form f v ++ other_tokens r f ws) (inner-operand r.form f w).none refl
+    split_at is_comma (operand_tokens r.form f w) (printed_token kind.Comma (44 ∷ [])) (operand_tokens r.form f v ++ other_tokens r f ws) (inner-operand r.form f w).none refl
     ∙ ap (λ (parts : List (List PieceData)). operand_tokens r.form f w ∷ parts) (parts-are r f v ws)
 
 map-operand : (r : RowData) (f : Fields) (ws : List Want) → map operand (map (λ v. operand_tokens r.form f v) ws) ≡ map (λ v. operand (operand_tokens r.form f v)) ws
@@ -125,23 +124,23 @@ operands-row r f (w ∷ ws) =
     ∙ map-operand r f (w ∷ ws)
 
 -- ---- a line that begins with a word and no label
-no_label : (name : List ℕ) (qs : List PieceData) → is_kind qs 0 kind.Colon ≡ false → is_kind (piece kind.Word name ∷ qs) 1 kind.Colon ≡ false
+no_label : (name : List ℕ) (qs : List PieceData) → is_kind qs 0 kind.Colon ≡ false → is_kind (printed_token kind.Word name ∷ qs) 1 kind.Colon ≡ false
 unfolding is_kind
 no_label name [] e = refl
 no_label name (q ∷ qs) e = e
 
-word_first : (name : List ℕ) (qs : List PieceData) → is_kind (piece kind.Word name ∷ qs) 0 kind.Word ≡ true
+word_first : (name : List ℕ) (qs : List PieceData) → is_kind (printed_token kind.Word name ∷ qs) 0 kind.Word ≡ true
 unfolding is_kind kind_index
 word_first name qs = refl
 
-text_first : (name : List ℕ) (qs : List PieceData) → text_at (piece kind.Word name ∷ qs) 0 ≡ name
+text_first : (name : List ℕ) (qs : List PieceData) → text_at (printed_token kind.Word name ∷ qs) 0 ≡ name
 unfolding text_at
 text_first name qs = refl
 
-pub pieces_line-word : (name : List ℕ) (qs : List PieceData) → is_kind qs 0 kind.Colon ≡ false → pieces_line (piece kind.Word name ∷ qs) ≡ stated_line name (operands qs)
+pub pieces_line-word : (name : List ℕ) (qs : List PieceData) → is_kind qs 0 kind.Colon ≡ false → pieces_line (printed_token kind.Word name ∷ qs) ≡ stated_line name (operands qs)
 unfolding pieces_line line_from
 pieces_line-word name qs e =
-    let ps : List PieceData = piece kind.Word name ∷ qs in
+    let ps : List PieceData = printed_token kind.Word name ∷ qs in
     let labelled : LineData = line_data (line_from ps 2).rule (label (text_at ps 0) ∷ (line_from ps 2).items) in
     ap (λ b. cond (b && is_kind ps 1 kind.Colon) labelled (line_from ps 0)) (word_first name qs)
     ∙ ap (λ b. cond b labelled (line_from ps 0)) (no_label name qs e)
@@ -157,21 +156,21 @@ no_colon r f (w ∷ ws) =
     subst (λ (qs : List PieceData). is_kind (qs ++ other_tokens r f ws) 0 kind.Colon ≡ false) (sym b.is) b.other
 
 -- ---- the whole line
-lexes-name : (name rest : List ℕ) (ps : List PieceData) → is_run is_name_first is_name_byte name ≡ true → IsStop rest → Lexes rest ps → Lexes (name ++ rest) (piece kind.Word name ∷ ps)
+lexes-name : (name rest : List ℕ) (ps : List PieceData) → is_run is_name_first is_name_byte name ≡ true → IsListingStop rest → Lexes rest ps → Lexes (name ++ rest) (printed_token kind.Word name ∷ ps)
 lexes-name [] rest ps e stop h = cc
 lexes-name (c ∷ cs) rest ps e stop h =
     let two = and_parts (is_name_first c) (list_all is_name_byte (c ∷ cs)) e in
     lexes-word c cs rest ps two.0 two.1 stop h
 
-pub text_is : (i : InstData) (is : IsInst i) → text_of i ≡ row_text is.row (fields_in i)
-unfolding text_of
+pub text_is : (i : InstData) (is : IsInst i) → instruction_text i ≡ row_text is.row (fields_in i)
+unfolding instruction_text
 text_is i is = ap (λ (o : Option RowData). option_map_or (λ r. row_text r (fields_in i)) o []) is.at
 
 from_row : (r : RowData) (f : Fields) (more : List ℕ) (ps : List PieceData) → Lexes (r.name ++ (operands_text r.form f (wants_of r) ++ more)) ps → Lexes (row_text r f ++ more) ps
 unfolding row_text
 from_row r f more ps w = as_parted r.name (operands_text r.form f (wants_of r)) more ps w
 
-lexes-row : (i : InstData) (is : IsInst i) (rest : List ℕ) → IsStop rest → Lexes rest [] → Lexes (text_of i ++ rest) (piece kind.Word is.row.name ∷ row_tokens is.row (fields_in i) (wants_of is.row))
+lexes-row : (i : InstData) (is : IsInst i) (rest : List ℕ) → IsListingStop rest → Lexes rest [] → Lexes (instruction_text i ++ rest) (printed_token kind.Word is.row.name ∷ row_tokens is.row (fields_in i) (wants_of is.row))
 lexes-row i is rest stop h =
     let r = is.row in
     let f = fields_in i in
@@ -179,17 +178,17 @@ lexes-row i is rest stop h =
     let operands_are = lexes-operands r f (wants_of r) rest [] (wants_suit i.row r is.at) is.fits.below stop h in
     let there = subst (λ (ps : List PieceData). Lexes (operands_text r.form f (wants_of r) ++ rest) ps) (append-nil tokens) operands_are in
     let whole = lexes-name r.name (operands_text r.form f (wants_of r) ++ rest) tokens (named_at i.row r is.at).word (operands-stop r f (wants_of r) rest stop) there in
-    subst (λ (t : List ℕ). Lexes (t ++ rest) (piece kind.Word r.name ∷ tokens)) (sym (text_is i is)) (from_row r f rest (piece kind.Word r.name ∷ tokens) whole)
+    subst (λ (t : List ℕ). Lexes (t ++ rest) (printed_token kind.Word r.name ∷ tokens)) (sym (text_is i is)) (from_row r f rest (printed_token kind.Word r.name ∷ tokens) whole)
 
 -- the line of an instruction breaks no rule, and adds the instruction
-pub reads-row : (i : InstData) (is : IsInst i) (rest : List ℕ) → IsStop rest → Lexes rest [] → Reads (text_of i ++ rest) (line_data 15 (code i.row (fields_in i) None ∷ []))
+pub reads-row : (i : InstData) (is : IsInst i) (rest : List ℕ) → IsListingStop rest → Lexes rest [] → Reads (instruction_text i ++ rest) (line_data 15 (code i.row (fields_in i) None ∷ []))
 reads-row i is rest stop h =
     let r = is.row in
     let f = fields_in i in
     let name = named_at i.row r is.at in
     let tokens = few-tokens r f (wants_of r) in
     let wants = name.few in
-    reads-tokens (text_of i ++ rest) (piece kind.Word r.name ∷ row_tokens r f (wants_of r)) (line_data 15 (code i.row (fields_in i) None ∷ [])) (lexes-row i is rest stop h) (omega arith)
+    reads-tokens (instruction_text i ++ rest) (printed_token kind.Word r.name ∷ row_tokens r f (wants_of r)) (line_data 15 (code i.row (fields_in i) None ∷ [])) (lexes-row i is rest stop h) (omega arith)
     (pieces_line-word r.name (row_tokens r f (wants_of r)) (no_colon r f (wants_of r))
     ∙ stated_line-other r.name (operands (row_tokens r f (wants_of r))) name.other
     ∙ ap (λ os. code_line r.name (statement r.name os)) (operands-row r f (wants_of r))

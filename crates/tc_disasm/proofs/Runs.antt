@@ -9,7 +9,8 @@ use Rattle.tc_encode.proofs.Spelled.{fits_true}
 use Rattle.tc_stmt.specs.Items.{ItemData, code, bytes}
 use Rattle.tc_stmt.specs.Lines.{LineData, line_data}
 use Rattle.tc_asm.specs.Symbols.{SymbolData}
-use Rattle.tc_asm.specs.Drafts.{DraftData, has_section, has_room, with_bytes, with_reference, found, targeted, spelled_code, resolved, bytes_of, code_bytes, stepped, with_line}
+use Rattle.tc_asm.specs.Drafts.{DraftData, has_section, has_room, with_bytes, with_reference, drafted_fields, fields_with_target, assembled_row_code, row_fields_with_target, assembled_code, code_bytes, draft_after_item}
+use Rattle.tc_asm.specs.DraftedSources.{with_line}
 use Rattle.tc_asm.specs.Rules.{content_rule, item_rule, line_rule}
 use Rattle.tc_asm.proofs.SourceDrafts.{KeepsFrom as Keeps}
 
@@ -43,26 +44,26 @@ module _ (labels : List SymbolData) where
 pub record Adds (l : LineData) (bs : List ℕ) : Type 0 where
   pub item : ItemData
   pub only : l ≡ line_data 15 (item ∷ [])
-  pub step : (labels : List SymbolData) (d : DraftData) → stepped labels d item ≡ with_bytes d bs
+  pub step : (labels : List SymbolData) (d : DraftData) → draft_after_item labels d item ≡ with_bytes d bs
   pub rule : (labels : List SymbolData) (d : DraftData) → item_rule labels d item ≡ content_rule d (length bs) None
 
 pub adds-bytes : (bs : List ℕ) → Adds (line_data 15 (bytes bs None ∷ [])) bs
-unfolding stepped with_reference item_rule
+unfolding draft_after_item with_reference item_rule
 adds-bytes bs = record { item = bytes bs None; only = refl; step = λ labels d. refl; rule = λ labels d. refl }
 
 module _ (i : InstData) (is : IsInst i) where
-  resolved-none : (labels : List SymbolData) (d : DraftData) → resolved labels d i.row (fields_in i) None ≡ found (fields_in i)
-  resolved-none labels d = ap (λ o. option_map_or (λ row. targeted labels d row (fields_in i) None) o (found (fields_in i))) is.at
+  resolved-none : (labels : List SymbolData) (d : DraftData) → row_fields_with_target labels d i.row (fields_in i) None ≡ drafted_fields (fields_in i)
+  resolved-none labels d = ap (λ o. option_map_or (λ row. fields_with_target labels d row (fields_in i) None) o (drafted_fields (fields_in i))) is.at
 
   code_bytes-is : (labels : List SymbolData) (d : DraftData) → code_bytes labels d i.row (fields_in i) None ≡ spelling is.row (fields_in i)
-  unfolding code_bytes spelled_code
+  unfolding code_bytes assembled_row_code
   code_bytes-is labels d =
-      ap (λ g. bytes_of i.row g.fields) (resolved-none labels d)
-      ∙ ap (λ o. option_map_or (λ row. spelled_code row (fields_in i)) o []) is.at
+      ap (λ g. assembled_code i.row g.fields) (resolved-none labels d)
+      ∙ ap (λ o. option_map_or (λ row. assembled_row_code row (fields_in i)) o []) is.at
       ∙ ap (λ b. cond b (spelling is.row (fields_in i)) []) (fits_true is.row (fields_in i) is.fits)
 
   pub adds-code : (bs : List ℕ) → bs ≡ spelling is.row (fields_in i) → Adds (line_data 15 (code i.row (fields_in i) None ∷ [])) bs
-  unfolding stepped with_reference item_rule
+  unfolding draft_after_item with_reference item_rule
   adds-code bs e = record {
     item = code i.row (fields_in i) None;
     only = refl;

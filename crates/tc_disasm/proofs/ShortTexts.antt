@@ -20,9 +20,9 @@ use Rattle.tc_stmt.specs.declared.want.Want.TheVariants.{Reg, A10, Number, Targe
 use Rattle.tc_stmt.specs.Wants.{wants_of}
 use Rattle.tc_stmt.specs.RowFields.{field_of}
 use Rattle.tcd_text.specs.Digits.{hex_byte, hex_word}
-use Rattle.tc_disasm.specs.Texts.{is_minus, register_text, number_text, target_text, absolute_text, base_text, operand_text, operands_text, row_text, text_of}
+use Rattle.tc_disasm.specs.Texts.{is_printed_minus, register_text, number_text, target_text, absolute_text, base_text, operand_text, operands_text, row_text, instruction_text}
 use Rattle.tc_stmt.specs.Displacements.{is_two_way}
-use Rattle.tc_disasm.specs.Listing.{text_at, size_at, remark, line_at, lines_from, section_line, section_text, sections_from}
+use Rattle.tc_disasm.specs.Listing.{listed_text_at, listed_size_at, listing_remark, line_at, lines_from, section_line, section_text, listing_sections_from}
 use Rattle.tc_disasm.proofs.Appending.{lines-front}
 use Rattle.tc_disasm.proofs.Bounds.{field_of-below}
 use Rattle.tc_disasm.proofs.Suits.{suits, wants_suit, is_bound}
@@ -47,7 +47,7 @@ short-register false n h = let d = decimal-2 n (omega arith) in omega arith
 
 short-number : (signed : Bool) (bound v : ℕ) → v < bound → bound ≤ 2 ^ 24 → length (number_text signed bound v) ≤ 9
 unfolding number_text
-short-number signed bound v h small = by_sign (is_minus signed bound v)
+short-number signed bound v h small = by_sign (is_printed_minus signed bound v)
   where
     by_sign : (b : Bool) → length (cond b (45 ∷ decimal (bound - v)) (decimal v)) ≤ 9
     by_sign true = let d = decimal-8 (bound - v) (omega arith) in omega arith
@@ -55,7 +55,7 @@ short-number signed bound v h small = by_sign (is_minus signed bound v)
 
 short-target : (ways : Bool) (bound k : ℕ) → k < bound → bound ≤ 2 ^ 24 → length (target_text ways bound k) ≤ 10
 unfolding target_text
-short-target ways bound k h small = by_sign (is_minus ways bound k)
+short-target ways bound k h small = by_sign (is_printed_minus ways bound k)
   where
     by_sign : (b : Bool) → length (46 ∷ cond b (45 ∷ decimal (2 * (bound - k))) (43 ∷ decimal (2 * k))) ≤ 10
     by_sign true = let d = decimal-8 (2 * (bound - k)) (omega arith) in omega arith
@@ -117,7 +117,7 @@ short-row r f name few s h =
     let operands = short-operands r f (wants_of r) s h in
     omega (arith, length-append r.name (operands_text r.form f (wants_of r)))
 
-short-inst : (i : InstData) → IsInst i → length (text_of i) ≤ 92
+short-inst : (i : InstData) → IsInst i → length (instruction_text i) ≤ 92
 short-inst i is =
     let n = named_at i.row is.row is.at in
     subst (λ (t : List ℕ). length t ≤ 92) (sym (text_is i is)) (short-row is.row (fields_in i) n.short n.few (wants_suit i.row is.row is.at) is.fits.below)
@@ -128,38 +128,38 @@ unfolding hex_byte
 length-bytes [] = omega arith
 length-bytes (b ∷ bs) = let rest = length-bytes bs in omega arith
 
-length-remark : (address : ℕ) (bs : List ℕ) → length (remark address bs) ≡ 13 + 2 * length bs
-unfolding remark
+length-remark : (address : ℕ) (bs : List ℕ) → length (listing_remark address bs) ≡ 13 + 2 * length bs
+unfolding listing_remark
 length-remark address bs =
     let word = length-hex_word address in
     let list = length-bytes bs in
     omega (arith, length-append (hex_word address) (32 ∷ (flat_map hex_byte bs ++ 10 ∷ [])), length-append (flat_map hex_byte bs) (10 ∷ []))
 
-short-line : (address : ℕ) (bs text : List ℕ) (n : ℕ) → text_at bs ≡ text → size_at bs ≡ n → n ≤ length bs → length text + 13 + 2 * n ≤ 60 * n → length (line_at address bs) ≤ 60 * size_at bs
+short-line : (address : ℕ) (bs text : List ℕ) (n : ℕ) → listed_text_at bs ≡ text → listed_size_at bs ≡ n → n ≤ length bs → length text + 13 + 2 * n ≤ 60 * n → length (line_at address bs) ≤ 60 * listed_size_at bs
 unfolding line_at
 short-line address bs text n t s within h =
-    let size = length-take-le (size_at bs) bs (omega arith) in
-    let text_size : length (text_at bs) ≡ length text = ap (λ (x : List ℕ). length x) t in
-    omega (arith, length-append (text_at bs) (remark address (take (size_at bs) bs)), length-remark address (take (size_at bs) bs))
+    let size = length-take-le (listed_size_at bs) bs (omega arith) in
+    let text_size : length (listed_text_at bs) ≡ length text = ap (λ (x : List ℕ). length x) t in
+    omega (arith, length-append (listed_text_at bs) (listing_remark address (take (listed_size_at bs) bs)), length-remark address (take (listed_size_at bs) bs))
 
 length-hex_byte : (b : ℕ) → length (hex_byte b) ≡ 2
 unfolding hex_byte
 length-hex_byte b = omega arith
 
-pub short-here : (address : ℕ) (bs : List ℕ) → 0 < length bs → length (line_at address bs) ≤ 60 * size_at bs
+pub short-here : (address : ℕ) (bs : List ℕ) → 0 < length bs → length (line_at address bs) ≤ 60 * listed_size_at bs
 short-here address bs some = by_decoded bs some (decoded_of bs) refl
   where
     big : (n : ℕ) → (n ≡ 2) ⊎ (n ≡ 4) → 92 + 13 + 2 * n ≤ 60 * n
     big n (inl two) = omega arith
     big n (inr four) = omega arith
 
-    by_decoded : (bs : List ℕ) → 0 < length bs → (d : Result (InstData × ℕ) DecodeErr) → decoded_of bs ≡ d → length (line_at address bs) ≤ 60 * size_at bs
+    by_decoded : (bs : List ℕ) → 0 < length bs → (d : Result (InstData × ℕ) DecodeErr) → decoded_of bs ≡ d → length (line_at address bs) ≤ 60 * listed_size_at bs
     by_decoded bs some (Ok found) e =
         let lengths = decode_laws.lengths bs found.0 found.1 e in
         let spells = decode_laws.decoded bs found.0 found.1 e in
         let text = short-inst found.0 spells.inst in
         let room = big found.1 lengths.2 in
-        short-line address bs (text_of found.0) found.1 (text_at-is bs (Ok found) e) (size_at-is bs (Ok found) e) lengths.0 (omega arith)
+        short-line address bs (instruction_text found.0) found.1 (text_at-is bs (Ok found) e) (size_at-is bs (Ok found) e) lengths.0 (omega arith)
     by_decoded [] some (Err x) e = absurd (omega arith)
     by_decoded (a ∷ []) some (Err x) e =
         short-line address (a ∷ []) (codes ".byte 0x" ++ hex_byte a) 1 (text_at-is (a ∷ []) (Err x) e) (size_at-is (a ∷ []) (Err x) e) (omega arith) (omega (arith, length-hex_byte a))
@@ -175,7 +175,7 @@ short-lines fuel address [] few small = omega arith
 short-lines zero address (b ∷ bs) few small = absurd (omega arith)
 short-lines (suc fuel) address (b ∷ bs) few small =
     let h = here address (b ∷ bs) (omega arith) small in
-    let n = size_at (b ∷ bs) in
+    let n = listed_size_at (b ∷ bs) in
     let some : 0 < n = h.some in
     let within : n ≤ length (b ∷ bs) = h.within in
     let left : length (drop n (b ∷ bs)) ≡ length (b ∷ bs) - n = length-drop n (b ∷ bs) in
@@ -190,8 +190,8 @@ short-section_line n address small =
     let number = decimal-2 n (omega arith) in
     omega (arith, length-append (decimal n) (codes " # " ++ (hex_word address ++ 10 ∷ [])), length-append (hex_word address) (10 ∷ []), length-hex_word address)
 
-pub short-sections : (n : ℕ) (ss : List SegmentData) → n + length ss ≤ 64 → list_all are_bytes ss ≡ true → length (sections_from n ss) ≤ 60 * total_of ss + 30 * length ss
-unfolding sections_from section_text
+pub short-sections : (n : ℕ) (ss : List SegmentData) → n + length ss ≤ 64 → list_all are_bytes ss ≡ true → length (listing_sections_from n ss) ≤ 60 * total_of ss + 30 * length ss
+unfolding listing_sections_from section_text
 short-sections n [] few small = omega arith
 short-sections n (s ∷ ss) few small =
     let two = and_parts (are_bytes s) (list_all are_bytes ss) small in
@@ -199,4 +199,4 @@ short-sections n (s ∷ ss) few small =
     let lines = short-lines (length s.bytes) s.at s.bytes (omega arith) two.0 in
     let rest = short-sections (n + 1) ss (omega arith) two.1 in
     let sum = total-more s ss in
-    omega (arith, length-append (section_line n s.at ++ lines_from s.at s.bytes 0) (sections_from (n + 1) ss), length-append (section_line n s.at) (lines_from s.at s.bytes 0))
+    omega (arith, length-append (section_line n s.at ++ lines_from s.at s.bytes 0) (listing_sections_from (n + 1) ss), length-append (section_line n s.at) (lines_from s.at s.bytes 0))

@@ -9,12 +9,12 @@ use Rattle.tc_lex.specs.declared.kinds.TokenKind.TheVariants as kind
 use Rattle.tc_lex.specs.declared.kinds.Front.TheVariants as front
 use Rattle.tcd_base.specs.NameBytes.{is_name_byte, is_name_first}
 use Rattle.tc_lex.specs.Bytes.{is_digit, is_hex}
-use Rattle.tc_lex.specs.Cut.{front_of, front_at, number_len, has_hex_front}
+use Rattle.tc_lex.specs.Cut.{token_front_of, token_front_by_byte, number_len, has_hex_front}
 use Rattle.tc_lex.specs.Pieces.{PieceData}
 use Rattle.tcd_text.specs.Digits.{hex_byte, hex_word}
 use Rattle.tc_disasm.specs.Texts.{register_text}
-use Rattle.tc_disasm.specs.Tokens.{piece}
-use Rattle.tc_disasm.specs.Lexed.{IsStop}
+use Rattle.tc_disasm.specs.Tokens.{printed_token}
+use Rattle.tc_disasm.specs.Lexed.{IsListingStop}
 use Rattle.tc_disasm.proofs.Decimals.{decimal_is}
 use Rattle.tc_disasm.proofs.Hexes.{is_hex-digit}
 use Rattle.tc_disasm.proofs.Lexing.{front_of-word, front_of-digits, prefix_len-front}
@@ -51,35 +51,35 @@ pub digits_are_names : (ds : List ℕ) → list_all is_digit ds ≡ true → lis
 digits_are_names ds e = list_all-from is_digit is_name_byte digit_is_named ds e
 
 -- ---- words
-pub lexes-word : (c : ℕ) (cs rest : List ℕ) (ps : List PieceData) → is_name_first c ≡ true → list_all is_name_byte (c ∷ cs) ≡ true → IsStop rest → Lexes rest ps
-    → Lexes ((c ∷ cs) ++ rest) (piece kind.Word (c ∷ cs) ∷ ps)
+pub lexes-word : (c : ℕ) (cs rest : List ℕ) (ps : List PieceData) → is_name_first c ≡ true → list_all is_name_byte (c ∷ cs) ≡ true → IsListingStop rest → Lexes rest ps
+    → Lexes ((c ∷ cs) ++ rest) (printed_token kind.Word (c ∷ cs) ∷ ps)
 lexes-word c cs rest ps first all stop h =
     lexes-token kind.Word c cs rest ps (front_of-word c cs rest first all stop) (list_all-from is_name_byte is_plain name_is_plain (c ∷ cs) all) h
 
-pub lexes-register : (bank : Bool) (n : ℕ) (rest : List ℕ) (ps : List PieceData) → n < 2 ^ 64 → IsStop rest → Lexes rest ps → Lexes (register_text bank n ++ rest) (piece kind.Word (register_text bank n) ∷ ps)
+pub lexes-register : (bank : Bool) (n : ℕ) (rest : List ℕ) (ps : List PieceData) → n < 2 ^ 64 → IsListingStop rest → Lexes rest ps → Lexes (register_text bank n ++ rest) (printed_token kind.Word (register_text bank n) ∷ ps)
 unfolding register_text is_name_byte is_name_first is_digit
 lexes-register true n rest ps small stop h = lexes-word 97 (decimal n) rest ps refl (digits_are_names (decimal n) (decimal_is n small).digits) stop h
 lexes-register false n rest ps small stop h = lexes-word 100 (decimal n) rest ps refl (digits_are_names (decimal n) (decimal_is n small).digits) stop h
 
 -- ---- numbers
-lexes-digits : (ds rest : List ℕ) (ps : List PieceData) → list_all is_digit ds ≡ true → 0 < length ds → IsStop rest → Lexes rest ps → Lexes (ds ++ rest) (piece kind.Number ds ∷ ps)
+lexes-digits : (ds rest : List ℕ) (ps : List PieceData) → list_all is_digit ds ≡ true → 0 < length ds → IsListingStop rest → Lexes rest ps → Lexes (ds ++ rest) (printed_token kind.Number ds ∷ ps)
 lexes-digits [] rest ps digits some stop h = absurd (omega arith)
 lexes-digits (c ∷ cs) rest ps digits some stop h =
     lexes-token kind.Number c cs rest ps (front_of-digits c cs rest digits stop) (list_all-from is_digit is_plain digit_is_plain (c ∷ cs) digits) h
 
-pub lexes-decimal : (n : ℕ) (rest : List ℕ) (ps : List PieceData) → n < 2 ^ 64 → IsStop rest → Lexes rest ps → Lexes (decimal n ++ rest) (piece kind.Number (decimal n) ∷ ps)
+pub lexes-decimal : (n : ℕ) (rest : List ℕ) (ps : List PieceData) → n < 2 ^ 64 → IsListingStop rest → Lexes rest ps → Lexes (decimal n ++ rest) (printed_token kind.Number (decimal n) ∷ ps)
 lexes-decimal n rest ps small stop h = let d = decimal_is n small in lexes-digits (decimal n) rest ps d.digits d.some stop h
 
 hex_is_named : (c : ℕ) → is_name_byte c ≡ false → is_hex c ≡ false
 unfolding is_name_byte is_name_first is_hex is_digit
 hex_is_named c e = grind (arith, nat_tests)
 
-hex_stops : (rest : List ℕ) → IsStop rest → prefix_len is_hex rest ≡ 0
+hex_stops : (rest : List ℕ) → IsListingStop rest → prefix_len is_hex rest ≡ 0
 hex_stops [] h = refl
 hex_stops (c ∷ cs) h = rw (hex_is_named c h) refl
 
-front_of-hex : (hs rest : List ℕ) → list_all is_hex hs ≡ true → 0 < length hs → IsStop rest → front_of (48 ∷ 120 ∷ (hs ++ rest)) ≡ front.Token kind.Number (length (48 ∷ 120 ∷ hs))
-unfolding front_at is_name_first is_digit number_len has_hex_front
+front_of-hex : (hs rest : List ℕ) → list_all is_hex hs ≡ true → 0 < length hs → IsListingStop rest → token_front_of (48 ∷ 120 ∷ (hs ++ rest)) ≡ front.Token kind.Number (length (48 ∷ 120 ∷ hs))
+unfolding token_front_by_byte is_name_first is_digit number_len has_hex_front
 front_of-hex [] rest hex some stop = absurd (omega arith)
 front_of-hex (x ∷ xs) rest hex some stop =
     let long : nat_lt 2 (length (48 ∷ 120 ∷ x ∷ (xs ++ rest))) ≡ true = grind (arith, nat_tests) in
@@ -90,7 +90,7 @@ front_of-hex (x ∷ xs) rest hex some stop =
     ∙ ap (λ n. front.Token kind.Number (2 + n)) run
     ∙ ap (λ n. front.Token kind.Number n) (omega arith)
 
-pub lexes-hex : (hs rest : List ℕ) (ps : List PieceData) → list_all is_hex hs ≡ true → 0 < length hs → IsStop rest → Lexes rest ps → Lexes (48 ∷ 120 ∷ (hs ++ rest)) (piece kind.Number (48 ∷ 120 ∷ hs) ∷ ps)
+pub lexes-hex : (hs rest : List ℕ) (ps : List PieceData) → list_all is_hex hs ≡ true → 0 < length hs → IsListingStop rest → Lexes rest ps → Lexes (48 ∷ 120 ∷ (hs ++ rest)) (printed_token kind.Number (48 ∷ 120 ∷ hs) ∷ ps)
 lexes-hex hs rest ps hex some stop h =
     lexes-token kind.Number 48 (120 ∷ hs) rest ps (front_of-hex hs rest hex some stop) (list_all-from is_hex is_plain hex_is_plain hs hex) h
 
@@ -122,22 +122,22 @@ unfolding hex_word hex_byte
 hex_word-some x = omega arith
 
 -- ---- signs
-pub lexes-comma : (rest : List ℕ) (ps : List PieceData) → Lexes rest ps → Lexes (44 ∷ rest) (piece kind.Comma (44 ∷ []) ∷ ps)
-unfolding front_at
+pub lexes-comma : (rest : List ℕ) (ps : List PieceData) → Lexes rest ps → Lexes (44 ∷ rest) (printed_token kind.Comma (44 ∷ []) ∷ ps)
+unfolding token_front_by_byte
 lexes-comma rest ps h = lexes-token kind.Comma 44 [] rest ps refl refl h
 
-pub lexes-open : (rest : List ℕ) (ps : List PieceData) → Lexes rest ps → Lexes (91 ∷ rest) (piece kind.Open (91 ∷ []) ∷ ps)
-unfolding front_at
+pub lexes-open : (rest : List ℕ) (ps : List PieceData) → Lexes rest ps → Lexes (91 ∷ rest) (printed_token kind.Open (91 ∷ []) ∷ ps)
+unfolding token_front_by_byte
 lexes-open rest ps h = lexes-token kind.Open 91 [] rest ps refl refl h
 
-pub lexes-close : (rest : List ℕ) (ps : List PieceData) → Lexes rest ps → Lexes (93 ∷ rest) (piece kind.Close (93 ∷ []) ∷ ps)
-unfolding front_at
+pub lexes-close : (rest : List ℕ) (ps : List PieceData) → Lexes rest ps → Lexes (93 ∷ rest) (printed_token kind.Close (93 ∷ []) ∷ ps)
+unfolding token_front_by_byte
 lexes-close rest ps h = lexes-token kind.Close 93 [] rest ps refl refl h
 
-pub lexes-plus : (rest : List ℕ) (ps : List PieceData) → Lexes rest ps → Lexes (43 ∷ rest) (piece kind.Plus (43 ∷ []) ∷ ps)
-unfolding front_at
+pub lexes-plus : (rest : List ℕ) (ps : List PieceData) → Lexes rest ps → Lexes (43 ∷ rest) (printed_token kind.Plus (43 ∷ []) ∷ ps)
+unfolding token_front_by_byte
 lexes-plus rest ps h = lexes-token kind.Plus 43 [] rest ps refl refl h
 
-pub lexes-minus : (rest : List ℕ) (ps : List PieceData) → Lexes rest ps → Lexes (45 ∷ rest) (piece kind.Minus (45 ∷ []) ∷ ps)
-unfolding front_at
+pub lexes-minus : (rest : List ℕ) (ps : List PieceData) → Lexes rest ps → Lexes (45 ∷ rest) (printed_token kind.Minus (45 ∷ []) ∷ ps)
+unfolding token_front_by_byte
 lexes-minus rest ps h = lexes-token kind.Minus 45 [] rest ps refl refl h

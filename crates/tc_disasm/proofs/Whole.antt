@@ -9,15 +9,15 @@ use Rattle.tc_object.specs.Objects.{SectionData, ObjectData}
 use Rattle.tc_lex.specs.Pieces.{is_kind}
 use Rattle.tc_stmt.specs.Lines.{LineData, line_data, line_in, lines_in, pieces_line, line_from}
 use Rattle.tc_asm.specs.Symbols.{SymbolData}
-use Rattle.tc_asm.specs.Drafts.{DraftData, start, with_line, drafted}
+use Rattle.tc_asm.specs.Drafts.{DraftData, start}
+use Rattle.tc_asm.specs.DraftedSources.{draft_from_lines, with_line, symbols_of, KeepsRules, IsLeastBrokenLine}
 use Rattle.tc_asm.specs.declared.errors.AsmErr.{AsmErr}
 use Rattle.tc_asm.specs.declared.errors.AsmErr.TheVariants.{Bad, NoMemory}
 use Rattle.tc_asm.specs.Errors.{IfBad}
 use Rattle.tc_asm.specs.Objects.{section_of, relocs_from, object_of}
-use Rattle.tc_asm.specs.DraftedSources.{symbols_of, KeepsRules, IsLeast}
 use Rattle.tc_asm.specs.Rules.{line_rule}
-use Rattle.tc_disasm.specs.Listing.{by_address, sections_from, listing_of}
-use Rattle.tc_disasm.specs.Assembled.{section_name, HoldsSegments, ReadsBack}
+use Rattle.tc_disasm.specs.Listing.{segments_in_listing_order, listing_sections_from, listing_of}
+use Rattle.tc_disasm.specs.Assembled.{listed_section_name, HoldsSegments, ReadsBack}
 use Rattle.tc_disasm.proofs.LineTokens.{reads-tokens, lexes-end}
 use Rattle.tc_disasm.proofs.LineAt.{is_byte}
 use Rattle.tc_disasm.proofs.Runs.{Runs, runs-append, keeps-at}
@@ -31,24 +31,24 @@ sections-bytes : (n : ℕ) (ss : List SegmentData) → map (λ (s : SectionData)
 sections-bytes n [] = refl
 sections-bytes n (s ∷ ss) = ap (λ xs. s.bytes ∷ xs) (sections-bytes (n + 1) ss)
 
-sections-names : (n : ℕ) (ss : List SegmentData) (k : ℕ) (d : SectionData) → k < length (map section_of (parts_from n ss)) → (get_or (map section_of (parts_from n ss)) k d).name ≡ section_name (n + k)
+sections-names : (n : ℕ) (ss : List SegmentData) (k : ℕ) (d : SectionData) → k < length (map section_of (parts_from n ss)) → (get_or (map section_of (parts_from n ss)) k d).name ≡ listed_section_name (n + k)
 sections-names n [] k d less = absurd (omega arith)
-sections-names n (s ∷ ss) zero d less = ap section_name (omega arith)
-sections-names n (s ∷ ss) (suc k) d less = sections-names (n + 1) ss k d (omega arith) ∙ ap section_name (omega arith)
+sections-names n (s ∷ ss) zero d less = ap listed_section_name (omega arith)
+sections-names n (s ∷ ss) (suc k) d less = sections-names (n + 1) ss k d (omega arith) ∙ ap listed_section_name (omega arith)
 
 no_relocs : (number n : ℕ) (ss : List SegmentData) → relocs_from [] number (parts_from n ss) ≡ []
 no_relocs number n [] = refl
 no_relocs number n (s ∷ ss) = no_relocs (number + 1) (n + 1) ss
 
-holds-sections : (ss : List SegmentData) (last total : ℕ) → HoldsSegments ss (object_of (draft last (parts_from 0 (by_address ss)) total))
+holds-sections : (ss : List SegmentData) (last total : ℕ) → HoldsSegments ss (object_of (draft last (parts_from 0 (segments_in_listing_order ss)) total))
 holds-sections ss last total = record {
-  ordered = by_address ss;
+  ordered = segments_in_listing_order ss;
   same = by_address-permutes ss;
   ascending = by_address-ascends ss;
-  bytes = sections-bytes 0 (by_address ss);
-  names = λ k d less. sections-names 0 (by_address ss) k d less ∙ ap section_name (omega arith);
+  bytes = sections-bytes 0 (segments_in_listing_order ss);
+  names = λ k d less. sections-names 0 (segments_in_listing_order ss) k d less ∙ ap listed_section_name (omega arith);
   symbols = refl;
-  relocs = no_relocs 0 0 (by_address ss);
+  relocs = no_relocs 0 0 (segments_in_listing_order ss);
 }
 
 -- ---- the whole text
@@ -69,33 +69,33 @@ bytes-pass bs all = list_all-from (λ b. b < 256) is_byte (λ b h. lt-ltb b 256 
 
 module _ (i : ImageData) (is : IsImage i) where
   ss : List SegmentData
-  ss = by_address i.segments
+  ss = segments_in_listing_order i.segments
 
-  few : 0 + length (by_address i.segments) ≤ 64
-  few = let few = is.few in omega (arith, length_permutation i.segments (by_address i.segments) (by_address-permutes i.segments))
+  few : 0 + length (segments_in_listing_order i.segments) ≤ 64
+  few = let few = is.few in omega (arith, length_permutation i.segments (segments_in_listing_order i.segments) (by_address-permutes i.segments))
 
-  all_bytes : list_all are_bytes (by_address i.segments) ≡ true
+  all_bytes : list_all are_bytes (segments_in_listing_order i.segments) ≡ true
   all_bytes =
-      list_all-from (λ (s : SegmentData). All (λ b. b < 256) s.bytes) are_bytes (λ s h. bytes-pass s.bytes h) (by_address i.segments)
-      (All-permutation (λ (s : SegmentData). All (λ b. b < 256) s.bytes) i.segments (by_address i.segments) (by_address-permutes i.segments) is.bytes)
+      list_all-from (λ (s : SegmentData). All (λ b. b < 256) s.bytes) are_bytes (λ s h. bytes-pass s.bytes h) (segments_in_listing_order i.segments)
+      (All-permutation (λ (s : SegmentData). All (λ b. b < 256) s.bytes) i.segments (segments_in_listing_order i.segments) (by_address-permutes i.segments) is.bytes)
 
-  total : total_of (by_address i.segments) ≤ 2 ^ 24
-  total = let small = is.small in let same = sum_by-IsPermutation (λ (s : SegmentData). length s.bytes) i.segments (by_address i.segments) (by_address-permutes i.segments) in omega arith
+  total : total_of (segments_in_listing_order i.segments) ≤ 2 ^ 24
+  total = let small = is.small in let same = sum_by-IsPermutation (λ (s : SegmentData). length s.bytes) i.segments (segments_in_listing_order i.segments) (by_address-permutes i.segments) in omega arith
 
-  text : Sections 0 (by_address i.segments)
-  text = sections 0 (by_address i.segments) few all_bytes
+  text : Sections 0 (segments_in_listing_order i.segments)
+  text = sections 0 (segments_in_listing_order i.segments) few all_bytes
 
   lines-are : lines_in (listing_of i) ≡ text.ls ++ (line_data 15 [] ∷ [])
   unfolding listing_of
   lines-are =
-      ap lines_in (sym (append-nil (sections_from 0 (by_address i.segments))))
+      ap lines_in (sym (append-nil (listing_sections_from 0 (segments_in_listing_order i.segments))))
       ∙ text.lines.are []
       ∙ ap (λ l. text.ls ++ (l ∷ [])) empty_line
 
-  runs : (labels : List SymbolData) → (last : ℕ) × Runs labels start (text.ls ++ (line_data 15 [] ∷ [])) (draft last (parts_from 0 (by_address i.segments)) (0 + total_of (by_address i.segments)))
+  runs : (labels : List SymbolData) → (last : ℕ) × Runs labels start (text.ls ++ (line_data 15 [] ∷ [])) (draft last (parts_from 0 (segments_in_listing_order i.segments)) (0 + total_of (segments_in_listing_order i.segments)))
   runs labels =
       let r = text.runs labels 64 0 [] refl few tt (let t = total in omega arith) in
-      let d : DraftData = draft r.0 (parts_from 0 (by_address i.segments)) (0 + total_of (by_address i.segments)) in
+      let d : DraftData = draft r.0 (parts_from 0 (segments_in_listing_order i.segments)) (0 + total_of (segments_in_listing_order i.segments)) in
       (r.0, runs-append labels start d d text.ls (line_data 15 [] ∷ []) r.1 (runs-empty labels d))
 
   -- of these lines, whatever list they are
@@ -105,20 +105,20 @@ module _ (i : ImageData) (is : IsImage i) where
         subst (λ (xs : List LineData). KeepsRules xs (length xs)) (sym same)
         (λ k d less. keeps-at (symbols_of (text.ls ++ (line_data 15 [] ∷ []))) start (text.ls ++ (line_data 15 [] ∷ [])) (runs (symbols_of (text.ls ++ (line_data 15 [] ∷ [])))).1.keeps k d less)
 
-    never-breaks : (line rule : ℕ) → IsLeast ls line rule → ⊥
+    never-breaks : (line rule : ℕ) → IsLeastBrokenLine ls line rule → ⊥
     never-breaks line rule least = least.some (sym (least.broken (line_data 15 [])) ∙ keeps-lines least.place (line_data 15 []) least.within)
 
-    holds-lines : HoldsSegments i.segments (object_of (drafted (symbols_of ls) ls))
+    holds-lines : HoldsSegments i.segments (object_of (draft_from_lines (symbols_of ls) ls))
     holds-lines =
         let r = runs (symbols_of ls) in
-        subst (λ (d : DraftData). HoldsSegments i.segments (object_of d)) (sym (ap (drafted (symbols_of ls)) same ∙ r.1.makes)) (holds-sections i.segments r.0 (0 + total_of (by_address i.segments)))
+        subst (λ (d : DraftData). HoldsSegments i.segments (object_of d)) (sym (ap (draft_from_lines (symbols_of ls)) same ∙ r.1.makes)) (holds-sections i.segments r.0 (0 + total_of (segments_in_listing_order i.segments)))
 
   short : length (listing_of i) ≤ 2 ^ 30
   unfolding listing_of
   short =
       let few_here = few in
       let total_here = total in
-      let whole = short-sections 0 (by_address i.segments) few all_bytes in
+      let whole = short-sections 0 (segments_in_listing_order i.segments) few all_bytes in
       omega arith
 
   pub reads_back : ReadsBack i
@@ -138,12 +138,12 @@ module _ (i : ImageData) (back : ReadsBack i) (source : List ℕ) (is : source �
   pub short_source : length source ≤ 2 ^ 30
   short_source = subst (λ (xs : List ℕ). length xs ≤ 2 ^ 30) (sym is) back.short
 
-  pub holds_of : (r : Result ObjectData AsmErr) → IfOk r (λ o. o ≡ object_of (drafted (symbols_of (lines_in source)) (lines_in source))) → IfOk r (λ o. HoldsSegments i.segments o)
+  pub holds_of : (r : Result ObjectData AsmErr) → IfOk r (λ o. o ≡ object_of (draft_from_lines (symbols_of (lines_in source)) (lines_in source))) → IfOk r (λ o. HoldsSegments i.segments o)
   holds_of (Ok o) e =
-      subst (HoldsSegments i.segments) (sym (e ∙ ap (λ xs. object_of (drafted (symbols_of (lines_in xs)) (lines_in xs))) is)) back.holds
+      subst (HoldsSegments i.segments) (sym (e ∙ ap (λ xs. object_of (draft_from_lines (symbols_of (lines_in xs)) (lines_in xs))) is)) back.holds
   holds_of (Err x) e = e
 
-  pub never_of : (r : Result ObjectData AsmErr) → IfErr r (IfBad (IsLeast (lines_in source))) → IfErr r (λ e. e ≡ NoMemory)
+  pub never_of : (r : Result ObjectData AsmErr) → IfErr r (IfBad (IsLeastBrokenLine (lines_in source))) → IfErr r (λ e. e ≡ NoMemory)
   never_of (Ok o) h = h
-  never_of (Err (Bad line rule)) h = absurd (back.never line rule (subst (λ (xs : List ℕ). IsLeast (lines_in xs) line rule) is h))
+  never_of (Err (Bad line rule)) h = absurd (back.never line rule (subst (λ (xs : List ℕ). IsLeastBrokenLine (lines_in xs) line rule) is h))
   never_of (Err NoMemory) h = refl

@@ -6,13 +6,13 @@ use Rattle.elf_image.specs.Images.{SegmentData, ImageData, IsImage}
 use Rattle.tc_object.specs.Objects.{SectionData, ObjectData}
 use Rattle.tc_stmt.specs.Lines.{lines_in}
 use Rattle.tc_asm.specs.Objects.{object_of}
-use Rattle.tc_asm.specs.DraftedSources.{symbols_of, KeepsRules, IsLeast}
-use Rattle.tc_asm.specs.Drafts.{drafted}
+use Rattle.tc_asm.specs.DraftedSources.{symbols_of, KeepsRules, IsLeastBrokenLine, draft_from_lines}
 use Rattle.tc_disasm.specs.Listing.{listing_of}
 
--- the name of a section by its number: `s0`, `s1` and so on
-abbrev pub section_name : ℕ → List ℕ
-section_name n = codes "s" ++ decimal n
+-- the name of a section in the object that a listing is assembled to, by its number: `s0`, `s1` and
+-- so on
+abbrev pub listed_section_name : ℕ → List ℕ
+listed_section_name n = codes "s" ++ decimal n
 
 -- the object's sections are the segments in ascending order of addresses, byte by byte, and it has
 -- nothing else
@@ -21,7 +21,7 @@ pub record HoldsSegments (segments : List SegmentData) (o : ObjectData) : Type 0
   pub same : IsPermutation segments ordered
   pub ascending : IsNonDecreasing (map (λ (s : SegmentData). s.at) ordered)
   pub bytes : map (λ (s : SectionData). s.bytes) o.sections ≡ map (λ (s : SegmentData). s.bytes) ordered
-  pub names : (k : ℕ) (d : SectionData) → k < length o.sections → (slice_index_or o.sections k d).name ≡ section_name k
+  pub names : (k : ℕ) (d : SectionData) → k < length o.sections → (slice_index_or o.sections k d).name ≡ listed_section_name k
   pub symbols : o.symbols ≡ []
   pub relocs : o.relocs ≡ []
 
@@ -30,8 +30,8 @@ pub record HoldsSegments (segments : List SegmentData) (o : ObjectData) : Type 0
 pub record ReadsBack (i : ImageData) : Type 0 where
   pub short : length (listing_of i) ≤ 2 ^ 30
   pub keeps : KeepsRules (lines_in (listing_of i)) (length (lines_in (listing_of i)))
-  pub never : (line rule : ℕ) → IsLeast (lines_in (listing_of i)) line rule → ⊥
-  pub holds : HoldsSegments i.segments (object_of (drafted (symbols_of (lines_in (listing_of i))) (lines_in (listing_of i))))
+  pub never : (line rule : ℕ) → IsLeastBrokenLine (lines_in (listing_of i)) line rule → ⊥
+  pub holds : HoldsSegments i.segments (object_of (draft_from_lines (symbols_of (lines_in (listing_of i))) (lines_in (listing_of i))))
 
 -- each image reads back
 abbrev pub ListingLaw : Type 0

@@ -1,10 +1,37 @@
 -- The fields that printed operands set, want by want.
-use Rattle.std.specs.Prelude.{List, fold}
+use Rattle.std.specs.Prelude.{List, fold, Bool, true, false}
 use Rattle.tc_isa.specs.declared.fields.Fields.{Fields}
 use Rattle.tc_isa.specs.Forms.{fields}
 use Rattle.tc_stmt.specs.declared.want.Want.{Want}
-use Rattle.tc_stmt.specs.Wants.{given}
+use Rattle.tc_stmt.specs.Wants.{with_wanted_fields}
+use Rattle.tc_isa.specs.declared.fields.Uses.{Uses}
+use Rattle.tc_stmt.specs.declared.want.Field.{Field}
+use Rattle.tc_stmt.specs.declared.want.Field.TheVariants.{C, S1, S2, N, K}
+use Rattle.tc_stmt.specs.declared.want.Want.TheVariants.{Reg, Number, Target, Absolute, Memory}
+use Rattle.std.specs.List.{list_any}
 
 -- the fields of f that some want names, and zeros elsewhere
 abbrev pub all_given : Fields → List Want → Fields
-all_given f ws = fold (given f) (fields 0 0 0 0 0) ws
+all_given f ws = fold (with_wanted_fields f) (fields 0 0 0 0 0) ws
+
+-- a printed operand for this want sets the field
+unfoldable pub is_field_named : Field → Want → Bool
+is_field_named C (Reg p C) = true
+is_field_named C (Number s C) = true
+is_field_named S1 (Reg p S1) = true
+is_field_named S1 (Number s S1) = true
+is_field_named S2 (Reg p S2) = true
+is_field_named S2 (Number s S2) = true
+is_field_named S2 (Memory p o) = true
+is_field_named N (Number s N) = true
+is_field_named N (Reg p N) = true
+is_field_named K (Number s K) = true
+is_field_named K (Reg p K) = true
+is_field_named K (Memory p o) = o
+is_field_named K Target = true
+is_field_named K Absolute = true
+is_field_named f w = false
+
+-- the fields that the printed operands of these wants set
+unfoldable pub uses_by_wants : List Want → Uses
+uses_by_wants ws = record { c = list_any (is_field_named C) ws; s1 = list_any (is_field_named S1) ws; s2 = list_any (is_field_named S2) ws; n = list_any (is_field_named N) ws; k = list_any (is_field_named K) ws }

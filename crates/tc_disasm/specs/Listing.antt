@@ -7,11 +7,11 @@ use Rattle.tc_isa.specs.Insts.{InstData}
 use Rattle.tc_encode.specs.declared.errors.DecodeErr.{DecodeErr}
 use Rattle.tc_encode.specs.Decoding.{decoded_of}
 use Rattle.tcd_text.specs.Digits.{hex_byte, hex_word}
-use Rattle.tc_disasm.specs.Texts.{text_of, data_text}
+use Rattle.tc_disasm.specs.Texts.{instruction_text, data_text}
 
 -- the instruction that was decoded from the start of the bytes, else data
 abbrev pub piece_text : Result (InstData × ℕ) DecodeErr → List ℕ → List ℕ
-piece_text (Ok found) bytes = text_of found.0
+piece_text (Ok found) bytes = instruction_text found.0
 piece_text (Err e) bytes = data_text bytes
 
 -- the number of bytes of that instruction or data
@@ -20,25 +20,25 @@ piece_size (Ok found) bytes = found.1
 piece_size (Err e) bytes = min 2 (length bytes)
 
 -- the text of the instruction or data at the start of the bytes
-unfoldable pub text_at : List ℕ → List ℕ
-text_at bytes = piece_text (decoded_of bytes) bytes
+unfoldable pub listed_text_at : List ℕ → List ℕ
+listed_text_at bytes = piece_text (decoded_of bytes) bytes
 
 -- the size in bytes of the instruction or data at the start of the bytes
-unfoldable pub size_at : List ℕ → ℕ
-size_at bytes = piece_size (decoded_of bytes) bytes
+unfoldable pub listed_size_at : List ℕ → ℕ
+listed_size_at bytes = piece_size (decoded_of bytes) bytes
 
 -- the comment of a line: an address, its bytes, and a line feed
-unfoldable pub remark : ℕ → List ℕ → List ℕ
-remark address bytes = codes " # " ++ (hex_word address ++ (32 ∷ (flat_map hex_byte bytes ++ 10 ∷ [])))
+unfoldable pub listing_remark : ℕ → List ℕ → List ℕ
+listing_remark address bytes = codes " # " ++ (hex_word address ++ (32 ∷ (flat_map hex_byte bytes ++ 10 ∷ [])))
 
 -- the line of the instruction or data at the start of the bytes, which begin at an address
 unfoldable pub line_at : ℕ → List ℕ → List ℕ
-line_at address bytes = text_at bytes ++ remark address (take (size_at bytes) bytes)
+line_at address bytes = listed_text_at bytes ++ listing_remark address (take (listed_size_at bytes) bytes)
 
 -- the lines of bytes that begin at an address, after the first `skip` bytes
 unfoldable pub lines_from : ℕ → List ℕ → ℕ → List ℕ
 lines_from address [] skip = []
-lines_from address (b ∷ bs) zero = line_at address (b ∷ bs) ++ lines_from (address + 1) bs (size_at (b ∷ bs) - 1)
+lines_from address (b ∷ bs) zero = line_at address (b ∷ bs) ++ lines_from (address + 1) bs (listed_size_at (b ∷ bs) - 1)
 lines_from address (b ∷ bs) (suc skip) = lines_from (address + 1) bs skip
 
 -- the line that begins the section of this number
@@ -50,19 +50,19 @@ unfoldable pub section_text : ℕ → SegmentData → List ℕ
 section_text number s = section_line number s.at ++ lines_from s.at s.bytes 0
 
 -- the sections, numbered from here on
-unfoldable pub sections_from : ℕ → List SegmentData → List ℕ
-sections_from number [] = []
-sections_from number (s ∷ ss) = section_text number s ++ sections_from (number + 1) ss
+unfoldable pub listing_sections_from : ℕ → List SegmentData → List ℕ
+listing_sections_from number [] = []
+listing_sections_from number (s ∷ ss) = section_text number s ++ listing_sections_from (number + 1) ss
 
--- a segment inserted into segments in ascending order of addresses
+-- a segment inserted into the segments of a listing, in ascending order of addresses
 unfoldable pub with_segment : SegmentData → List SegmentData → List SegmentData
 with_segment s [] = s ∷ []
 with_segment s (t ∷ ts) = if nat_lt s.at t.at then s ∷ t ∷ ts else t ∷ with_segment s ts
 
 -- the segments in ascending order of their addresses
-abbrev pub by_address : List SegmentData → List SegmentData
-by_address ss = fold (λ sorted s. with_segment s sorted) [] ss
+abbrev pub segments_in_listing_order : List SegmentData → List SegmentData
+segments_in_listing_order ss = fold (λ sorted s. with_segment s sorted) [] ss
 
 -- the listing: the segments in ascending order of addresses, numbered from 0
 unfoldable pub listing_of : ImageData → List ℕ
-listing_of i = sections_from 0 (by_address i.segments)
+listing_of i = listing_sections_from 0 (segments_in_listing_order i.segments)

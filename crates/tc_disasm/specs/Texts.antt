@@ -9,7 +9,7 @@ use Rattle.tc_isa.specs.declared.fields.Fields.{Fields}
 use Rattle.tc_isa.specs.Forms.{bounds, is_abs}
 use Rattle.tc_isa.specs.Rows.{RowData, listed}
 use Rattle.tc_isa.specs.Insts.{InstData, fields_in}
-use Rattle.tc_isa.specs.Meanings.{place, code_place}
+use Rattle.tc_isa.specs.Meanings.{address_in_constant, code_address_in_constant}
 use Rattle.tc_stmt.specs.declared.want.Want.{Want}
 use Rattle.tc_stmt.specs.declared.want.Want.TheVariants.{Reg, A10, Number, Target, Absolute, Memory}
 use Rattle.tc_stmt.specs.Wants.{wants_of}
@@ -20,29 +20,30 @@ use Rattle.tc_stmt.specs.Displacements.{is_two_way}
 unfoldable pub register_text : Bool → ℕ → List ℕ
 register_text bank n = (if bank then 97 else 100) ∷ decimal n
 
--- the raw value of a field below a bound is a negative number
-abbrev pub is_minus : Bool → ℕ → ℕ → Bool
-is_minus signed bound v = signed && nat_le (bound / 2) v
+-- the number in a field is printed with a minus: the field is signed, and its raw value, at least
+-- half of this bound, stands for a negative number
+abbrev pub is_printed_minus : Bool → ℕ → ℕ → Bool
+is_printed_minus signed bound v = signed && nat_le (bound / 2) v
 
 -- the absolute value of the number in a field
-abbrev pub size_of : Bool → ℕ → ℕ → ℕ
-size_of signed bound v = if is_minus signed bound v then bound - v else v
+abbrev pub printed_size : Bool → ℕ → ℕ → ℕ
+printed_size signed bound v = if is_printed_minus signed bound v then bound - v else v
 
 -- a constant, in decimal
 unfoldable pub number_text : Bool → ℕ → ℕ → List ℕ
-number_text signed bound v = if is_minus signed bound v then 45 ∷ decimal (bound - v) else decimal v
+number_text signed bound v = if is_printed_minus signed bound v then 45 ∷ decimal (bound - v) else decimal v
 
 -- a target: `.+` or `.-` and a number of bytes, twice the displacement
 unfoldable pub target_text : Bool → ℕ → ℕ → List ℕ
-target_text both bound k = 46 ∷ (if is_minus both bound k then 45 ∷ decimal (2 * (bound - k)) else 43 ∷ decimal (2 * k))
+target_text both bound k = 46 ∷ (if is_printed_minus both bound k then 45 ∷ decimal (2 * (bound - k)) else 43 ∷ decimal (2 * k))
 
 -- the address in the fields of an ABS row or of a B row
-unfoldable pub address_in : Form → Fields → ℕ
-address_in form f = if is_abs form then place f else code_place f
+unfoldable pub absolute_operand_address : Form → Fields → ℕ
+absolute_operand_address form f = if is_abs form then address_in_constant f else code_address_in_constant f
 
 -- `0x` and the address
 unfoldable pub absolute_text : Form → Fields → List ℕ
-absolute_text form f = 48 ∷ 120 ∷ hex_word (address_in form f)
+absolute_text form f = 48 ∷ 120 ∷ hex_word (absolute_operand_address form f)
 
 -- `[aN]` or `[aN+]`
 unfoldable pub base_text : Bool → ℕ → List ℕ
@@ -67,8 +68,8 @@ unfoldable pub row_text : RowData → Fields → List ℕ
 row_text r f = r.name ++ operands_text r.form f (wants_of r)
 
 -- the text of an instruction
-unfoldable pub text_of : InstData → List ℕ
-text_of i = option_map_or (λ r. row_text r (fields_in i)) (slice_get listed i.row) []
+unfoldable pub instruction_text : InstData → List ℕ
+instruction_text i = option_map_or (λ r. row_text r (fields_in i)) (slice_get listed i.row) []
 
 -- two bytes as a little-endian number, or a single last byte
 abbrev pub data_text : List ℕ → List ℕ

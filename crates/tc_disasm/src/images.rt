@@ -2,12 +2,12 @@
 ghost use Rattle.std.specs.Prelude.{◌≡◌, ◌++◌, ◌≤◌, ◌+◌, ◌^◌, length, IfOk, OnOk, string_bytes, IsTrue, map};
 ghost use Rattle.std.specs.List.{list_all};
 ghost use Rattle.elf_image.specs.Images.{segment_data, is_segment};
-ghost use Rattle.tc_disasm.specs.Listing.{section_line, section_text, sections_from, listing_of};
-ghost use Rattle.tc_disasm.specs.LentSegments.{lent_data};
+ghost use Rattle.tc_disasm.specs.Listing.{section_line, section_text, listing_sections_from, listing_of};
+ghost use Rattle.tc_disasm.specs.LentSegments.{lent_segment_data};
 
 use crate::lines::append_lines;
-use crate::ordering::by_address;
-use crate::texts::{append, append_decimal};
+use crate::ordering::segments_in_listing_order;
+use crate::texts::{append_listing_decimal, append_listing_text};
 use elf_image::{Image, Segment};
 use std::alloc::Global;
 use tcd_base::NoMemory;
@@ -19,13 +19,14 @@ fn append_section_line(text: &mut String, number: u32, address: u32) -> Result<(
     ensures { OnOk result
         (string_bytes text.new ≡ string_bytes text.old ++ section_line number address) }
 {
-    append(text, ".section s")?;
-    append_decimal(text, number)?;
-    append(text, " # ")?;
+    append_listing_text(text, ".section s")?;
+    append_listing_decimal(text, number)?;
+    append_listing_text(text, " # ")?;
     append_hex_word(text, address)?;
-    append(text, "\n")
+    append_listing_text(text, "\n")
 }
 
+/// Appends a section of the listing: its first line, and the lines of the segment's bytes.
 #[tactic(auto, unfolding(crate::specs::Listing::section_text))]
 fn append_section(text: &mut String, number: u32, segment: &Segment) -> Result<(), NoMemory>
     requires { segment.now.at + length segment.now.bytes.items ≤ 2 ^ 32 }
@@ -40,10 +41,10 @@ fn append_section(text: &mut String, number: u32, segment: &Segment) -> Result<(
 // Appends the sections, numbered from 0.
 fn append_sections(text: &mut String, segments: &[&Segment]) -> Result<(), NoMemory>
     requires few { length segments.now ≤ 64 }
-    requires segments { IsTrue (list_all is_segment (map lent_data segments.now)) }
+    requires segments { IsTrue (list_all is_segment (map lent_segment_data segments.now)) }
     ensures { OnOk result
         (string_bytes text.new
-        ≡ string_bytes text.old ++ sections_from 0 (map lent_data segments.now)) }
+        ≡ string_bytes text.old ++ listing_sections_from 0 (map lent_segment_data segments.now)) }
 {
     for i in 0..segments.len() {
         append_section(text, i as u32, segments[i])?;
@@ -64,7 +65,7 @@ pub fn listing(alloc: Global, image: &Image) -> Result<String, NoMemory>
     ensures { IfOk result (λ text. string_bytes text ≡ listing_of image.now) }
 {
     let mut text = String::new(alloc);
-    let sorted = by_address(alloc, &image.segments)?;
+    let sorted = segments_in_listing_order(alloc, &image.segments)?;
     append_sections(&mut text, &sorted)?;
     Ok(text)
 }

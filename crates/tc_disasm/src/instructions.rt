@@ -4,14 +4,15 @@ ghost use Rattle.tc_isa.specs.Forms.{bounds};
 ghost use Rattle.tc_isa.specs.InBounds.{IsBelow};
 ghost use Rattle.tc_isa.specs.Rows.{row_of};
 ghost use Rattle.tc_stmt.specs.Wants.{wants_of};
-ghost use Rattle.tc_disasm.specs.Texts.{row_text, text_of};
+ghost use Rattle.tc_disasm.specs.Texts.{row_text, instruction_text};
 
 use crate::operands::append_operands;
-use crate::texts::append;
+use crate::texts::append_listing_text;
 use tc_isa::{Fields, Form, Inst, Row, rows};
 use tc_stmt::{Want, wants};
 use tcd_base::NoMemory;
 
+/// Appends the text of an instruction of this row: its name, and its operands.
 #[tactic(auto, unfolding(crate::specs::Texts::row_text))]
 fn append_row(text: &mut String, row: &Row, wants: &[Want], f: &Fields) -> Result<(), NoMemory>
     requires wants { wants.now ≡ wants_of (row_of row.now) }
@@ -19,13 +20,14 @@ fn append_row(text: &mut String, row: &Row, wants: &[Want], f: &Fields) -> Resul
     ensures { OnOk result
         (string_bytes text.new ≡ string_bytes text.old ++ row_text (row_of row.now) f.now) }
 {
-    append(text, row.name)?;
+    append_listing_text(text, row.name)?;
     append_operands(text, row.form, f, wants)
 }
 
 /// Appends the text of an instruction.
 pub(crate) fn append_instruction(text: &mut String, inst: &Inst) -> Result<(), NoMemory>
-    ensures { OnOk result (string_bytes text.new ≡ string_bytes text.old ++ text_of inst.now) }
+    ensures { OnOk result (string_bytes text.new ≡ string_bytes text.old
+        ++ instruction_text inst.now) }
 {
     let place = usize::from(inst.row);
     let fields = Fields {

@@ -2,27 +2,27 @@
 ghost use Rattle.std.specs.Prelude.{◌≡◌, ◌<◌, ◌≤◌, ◌+◌, ◌^◌, ◌++◌, ◌∷◌, [], OnOk, IfOk, string_bytes, codes, length, min, drop};
 ghost use Rattle.std.specs.List.{flat_map};
 ghost use Rattle.tcd_text.specs.Digits.{hex_byte, hex_word};
-ghost use Rattle.tc_disasm.specs.Listing.{text_at, size_at, remark, line_at, lines_from};
+ghost use Rattle.tc_disasm.specs.Listing.{listed_text_at, listed_size_at, listing_remark, line_at, lines_from};
 ghost use Rattle.tc_disasm.specs.Texts.{data_text};
 
 use crate::instructions::append_instruction;
-use crate::texts::{append, append_address};
+use crate::texts::{append_listing_address, append_listing_text};
 use tc_encode::decode;
 use tcd_base::NoMemory;
 use tcd_text::{append_ascii, append_hex_byte, hex_byte, hex_word};
 
-// Appends the first one or two bytes as data.
+/// Appends the first one or two bytes to a listing as data, `.byte` or `.half`.
 fn append_data(text: &mut String, bytes: &[u8]) -> Result<(), NoMemory>
     ensures { OnOk result (string_bytes text.new ≡ string_bytes text.old ++ data_text bytes.now) }
 {
     match bytes {
         [] => Ok(()),
         [last] => {
-            append(text, ".byte 0x")?;
+            append_listing_text(text, ".byte 0x")?;
             append_hex_byte(text, u32::from(*last))
         }
         [low, high, ..] => {
-            append(text, ".half 0x")?;
+            append_listing_text(text, ".half 0x")?;
             append_hex_byte(text, u32::from(*high))?;
             append_hex_byte(text, u32::from(*low))
         }
@@ -30,12 +30,12 @@ fn append_data(text: &mut String, bytes: &[u8]) -> Result<(), NoMemory>
 }
 
 // Appends the first instruction, or data if there is none, and returns its size in bytes.
-#[tactic(auto, unfolding(crate::specs::Listing::text_at, crate::specs::Listing::size_at))]
+#[tactic(auto, unfolding(crate::specs::Listing::listed_text_at, crate::specs::Listing::listed_size_at))]
 fn append_text(text: &mut String, bytes: &[u8]) -> Result<usize, NoMemory>
     requires { 0 < length bytes.now }
     ensures text { OnOk result
-        (string_bytes text.new ≡ string_bytes text.old ++ text_at bytes.now) }
-    ensures size { IfOk result (λ n. n ≡ size_at bytes.now) }
+        (string_bytes text.new ≡ string_bytes text.old ++ listed_text_at bytes.now) }
+    ensures size { IfOk result (λ n. n ≡ listed_size_at bytes.now) }
     ensures some { IfOk result (λ n. 0 < n) }
     ensures within { IfOk result (λ n. n ≤ length bytes.now) }
 {
@@ -51,7 +51,7 @@ fn append_text(text: &mut String, bytes: &[u8]) -> Result<usize, NoMemory>
     }
 }
 
-// Appends an address, two bytes and a line feed.
+/// Appends the comment of a line: an address, two bytes and a line feed.
 fn append_half_remark(text: &mut String, address: u32, a: u8, b: u8) -> Result<(), NoMemory>
     ensures { OnOk result (string_bytes text.new ≡ string_bytes text.old ++ (codes " # "
         ++ (hex_word address ++ (32 ∷ (hex_byte a ++ (hex_byte b ++ (10 ∷ []))))))) }
@@ -66,7 +66,7 @@ fn append_half_remark(text: &mut String, address: u32, a: u8, b: u8) -> Result<(
     append_ascii(text, &line)
 }
 
-// Appends an address, four bytes and a line feed.
+/// Appends the comment of a line: an address, four bytes and a line feed.
 fn append_four_remark(
     text: &mut String,
     address: u32,
@@ -92,7 +92,7 @@ fn append_four_remark(
 }
 
 // Appends bytes in hex digits.
-fn append_each(text: &mut String, bytes: &[u8]) -> Result<(), NoMemory>
+fn append_remark_bytes(text: &mut String, bytes: &[u8]) -> Result<(), NoMemory>
     ensures { OnOk result (string_bytes text.new
         ≡ string_bytes text.old ++ flat_map hex_byte bytes.now) }
 {
@@ -102,22 +102,22 @@ fn append_each(text: &mut String, bytes: &[u8]) -> Result<(), NoMemory>
     Ok(())
 }
 
-// Appends an address, any number of bytes and a line feed.
-#[tactic(auto, unfolding(crate::specs::Listing::remark))]
+/// Appends the comment of a line: an address, any number of bytes and a line feed.
+#[tactic(auto, unfolding(crate::specs::Listing::listing_remark))]
 fn append_long_remark(text: &mut String, address: u32, bytes: &[u8]) -> Result<(), NoMemory>
     ensures { OnOk result
-        (string_bytes text.new ≡ string_bytes text.old ++ remark address bytes.now) }
+        (string_bytes text.new ≡ string_bytes text.old ++ listing_remark address bytes.now) }
 {
-    append_address(text, address)?;
-    append_each(text, bytes)?;
-    append(text, "\n")
+    append_listing_address(text, address)?;
+    append_remark_bytes(text, bytes)?;
+    append_listing_text(text, "\n")
 }
 
-// Appends an address, its bytes and a line feed.
-#[tactic(auto, unfolding(crate::specs::Listing::remark))]
+/// Appends the comment of a line: an address, its bytes and a line feed.
+#[tactic(auto, unfolding(crate::specs::Listing::listing_remark))]
 fn append_remark(text: &mut String, address: u32, bytes: &[u8]) -> Result<(), NoMemory>
     ensures { OnOk result
-        (string_bytes text.new ≡ string_bytes text.old ++ remark address bytes.now) }
+        (string_bytes text.new ≡ string_bytes text.old ++ listing_remark address bytes.now) }
 {
     match bytes {
         [a, b] => append_half_remark(text, address, *a, *b),
@@ -132,7 +132,7 @@ fn append_line(text: &mut String, address: u32, bytes: &[u8]) -> Result<usize, N
     requires { 0 < length bytes.now }
     ensures text { OnOk result
         (string_bytes text.new ≡ string_bytes text.old ++ line_at address bytes.now) }
-    ensures size { IfOk result (λ n. n ≡ size_at bytes.now) }
+    ensures size { IfOk result (λ n. n ≡ listed_size_at bytes.now) }
     ensures some { IfOk result (λ n. 0 < n) }
     ensures within { IfOk result (λ n. n ≤ length bytes.now) }
 {
@@ -153,7 +153,7 @@ fn append_line_at(
     ensures text { OnOk result
         (string_bytes text.new
         ≡ string_bytes text.old ++ line_at (address + at) (drop at bytes.now)) }
-    ensures size { IfOk result (λ n. n ≡ size_at (drop at bytes.now)) }
+    ensures size { IfOk result (λ n. n ≡ listed_size_at (drop at bytes.now)) }
     ensures some { IfOk result (λ n. 0 < n) }
     ensures within { IfOk result (λ n. at + n ≤ length bytes.now) }
 {

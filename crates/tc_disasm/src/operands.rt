@@ -2,28 +2,30 @@
 ghost use Rattle.std.specs.Prelude.{◌≡◌, ◌≤◌, ◌*◌, ◌++◌, OnOk, string_bytes, ◌<◌, ◌^◌, codes};
 ghost use Rattle.tc_isa.specs.Forms.{bounds};
 ghost use Rattle.tc_isa.specs.InBounds.{IsBelow};
-ghost use Rattle.tc_isa.specs.Meanings.{code_place};
+ghost use Rattle.tc_isa.specs.Meanings.{code_address_in_constant};
 ghost use Rattle.tc_stmt.specs.declared.want.Want.TheVariants.{Memory};
 ghost use Rattle.tc_stmt.specs.RowFields.{field_of};
-ghost use Rattle.tc_disasm.specs.Texts.{register_text, number_text, target_text, address_in, absolute_text, base_text, operand_text, operands_text};
+ghost use Rattle.tc_disasm.specs.Texts.{register_text, number_text, target_text, absolute_operand_address, absolute_text, base_text, operand_text, operands_text};
 ghost use Rattle.tc_stmt.specs.Displacements.{is_two_way};
 ghost use Rattle.std.specs.List.{flat_map};
 
-use crate::texts::{append, append_decimal};
+use crate::texts::{append_listing_decimal, append_listing_text};
 use tc_isa::{Fields, Form, bounds_of};
 use tc_stmt::{Field, Want, field_of, wants};
 use tcd_base::NoMemory;
 use tcd_text::append_hex_word;
 
+/// Appends a register: `d0` to `d15`, or `a0` to `a15` if it is an address register.
 #[tactic(auto, unfolding(crate::specs::Texts::register_text))]
 fn append_register(text: &mut String, is_address: bool, n: u32) -> Result<(), NoMemory>
     ensures { OnOk result
         (string_bytes text.new ≡ string_bytes text.old ++ register_text is_address n) }
 {
-    append(text, if is_address { "a" } else { "d" })?;
-    append_decimal(text, n)
+    append_listing_text(text, if is_address { "a" } else { "d" })?;
+    append_listing_decimal(text, n)
 }
 
+/// Appends the constant of an operand in decimal, with its sign.
 #[tactic(auto, unfolding(crate::specs::Texts::number_text))]
 fn append_number(text: &mut String, signed: bool, bound: u32, value: u32) -> Result<(), NoMemory>
     requires { value ≤ bound }
@@ -31,13 +33,15 @@ fn append_number(text: &mut String, signed: bool, bound: u32, value: u32) -> Res
         (string_bytes text.new ≡ string_bytes text.old ++ number_text signed bound value) }
 {
     if signed && value >= bound / 2 {
-        append(text, "-")?;
-        append_decimal(text, bound - value)
+        append_listing_text(text, "-")?;
+        append_listing_decimal(text, bound - value)
     } else {
-        append_decimal(text, value)
+        append_listing_decimal(text, value)
     }
 }
 
+/// Returns true if the text of a target operand may have a `-`: a displacement of this form can be
+/// negative.
 #[tactic(auto, unfolding(tc_stmt::specs::Displacements::is_two_way, tc_isa::specs::Forms::form_index))]
 fn is_two_way(form: Form) -> bool
     ensures { result ≡ is_two_way form }
@@ -51,6 +55,7 @@ fn is_two_way(form: Form) -> bool
     }
 }
 
+/// Appends the target of a jump: `.+` or `.-`, and a number of bytes.
 #[tactic(auto, unfolding(crate::specs::Texts::target_text))]
 fn append_target(text: &mut String, both: bool, bound: u32, k: u32) -> Result<(), NoMemory>
     requires within { k ≤ bound }
@@ -59,17 +64,19 @@ fn append_target(text: &mut String, both: bool, bound: u32, k: u32) -> Result<()
         (string_bytes text.new ≡ string_bytes text.old ++ target_text both bound k) }
 {
     if both && k >= bound / 2 {
-        append(text, ".-")?;
-        append_decimal(text, 2 * (bound - k))
+        append_listing_text(text, ".-")?;
+        append_listing_decimal(text, 2 * (bound - k))
     } else {
-        append(text, ".+")?;
-        append_decimal(text, 2 * k)
+        append_listing_text(text, ".+")?;
+        append_listing_decimal(text, 2 * k)
     }
 }
 
-#[tactic(auto, unfolding(crate::specs::Texts::address_in, tc_isa::specs::Forms::form_index))]
-fn address_in(form: Form, f: &Fields) -> u32
-    ensures { result ≡ address_in form f.now }
+/// The address that the field of an absolute operand encodes: that of data in an ABS row, else that
+/// of code.
+#[tactic(auto, unfolding(crate::specs::Texts::absolute_operand_address, tc_isa::specs::Forms::form_index))]
+fn absolute_operand_address(form: Form, f: &Fields) -> u32
+    ensures { result ≡ absolute_operand_address form f.now }
 {
     match form {
         Form::Abs => f.k / 16384 % 16 * 268_435_456 + f.k % 16384,
@@ -81,30 +88,34 @@ fn address_in(form: Form, f: &Fields) -> u32
     }
 }
 
+/// The address of code that the 24 bits of k encode, for an operand of a B row.
 fn code_address(f: &Fields) -> u32
-    ensures { result ≡ code_place f.now }
+    ensures { result ≡ code_address_in_constant f.now }
 {
     f.k / 1_048_576 % 16 * 268_435_456 + f.k % 1_048_576 * 2
 }
 
+/// Appends an absolute address as an operand: `0x` and eight hex digits.
 #[tactic(auto, unfolding(crate::specs::Texts::absolute_text))]
 fn append_absolute(text: &mut String, form: Form, f: &Fields) -> Result<(), NoMemory>
     ensures { OnOk result
         (string_bytes text.new ≡ string_bytes text.old ++ absolute_text form f.now) }
 {
-    append(text, "0x")?;
-    append_hex_word(text, address_in(form, f))
+    append_listing_text(text, "0x")?;
+    append_hex_word(text, absolute_operand_address(form, f))
 }
 
+/// Appends the base register of a memory operand: `[aN]` or `[aN+]`.
 #[tactic(auto, unfolding(crate::specs::Texts::base_text))]
 fn append_base(text: &mut String, plus: bool, n: u32) -> Result<(), NoMemory>
     ensures { OnOk result (string_bytes text.new ≡ string_bytes text.old ++ base_text plus n) }
 {
-    append(text, "[")?;
+    append_listing_text(text, "[")?;
     append_register(text, true, n)?;
-    append(text, if plus { "+]" } else { "]" })
+    append_listing_text(text, if plus { "+]" } else { "]" })
 }
 
+/// Appends a memory operand: its base register, and its offset if the row has one.
 #[tactic(auto, unfolding(crate::specs::Texts::operand_text))]
 fn append_memory(
     text: &mut String,
@@ -139,7 +150,7 @@ pub(crate) fn append_operand(
 {
     match want {
         Want::Reg(bank, field) => append_register(text, bank, field_of(field, f)),
-        Want::A10 => append(text, "a10"),
+        Want::A10 => append_listing_text(text, "a10"),
         Want::Number(signed, field) => append_field(text, signed, field, form, f),
         Want::Target => append_target(text, is_two_way(form), bounds_of(form).k, f.k),
         Want::Absolute => append_absolute(text, form, f),
@@ -147,6 +158,7 @@ pub(crate) fn append_operand(
     }
 }
 
+/// Appends the field of an operand as a constant in decimal.
 fn append_field(
     text: &mut String,
     signed: bool,
@@ -175,7 +187,7 @@ fn append_next(text: &mut String, form: Form, f: &Fields, want: Want) -> Result<
         (string_bytes text.new
         ≡ string_bytes text.old ++ (codes ", " ++ operand_text form f.now want)) }
 {
-    append(text, ", ")?;
+    append_listing_text(text, ", ")?;
     append_operand(text, form, f, want)
 }
 
@@ -193,6 +205,7 @@ fn append_others(text: &mut String, form: Form, f: &Fields, wants: &[Want]) -> R
     Ok(())
 }
 
+/// Appends the operands of a row after a blank, separated by a comma and a blank.
 #[tactic(auto, unfolding(crate::specs::Texts::operands_text))]
 pub(crate) fn append_operands(
     text: &mut String,
@@ -205,7 +218,7 @@ pub(crate) fn append_operands(
         (string_bytes text.new ≡ string_bytes text.old ++ operands_text form f.now wants.now) }
 {
     if let Some((first, others)) = wants.split_first() {
-        append(text, " ")?;
+        append_listing_text(text, " ")?;
         append_operand(text, form, f, *first)?;
         append_others(text, form, f, others)?;
     }

@@ -8,7 +8,7 @@ use tcd_base::NoMemory;
 use tcd_text::{append_ascii, hex_word};
 
 /// Appends a text.
-pub(crate) fn append(text: &mut String, more: &str) -> Result<(), NoMemory>
+pub(crate) fn append_listing_text(text: &mut String, more: &str) -> Result<(), NoMemory>
     ensures { OnOk result (string_bytes text.new ≡ string_bytes text.old ++ more.now) }
 {
     text.push_str(more)?;
@@ -16,7 +16,7 @@ pub(crate) fn append(text: &mut String, more: &str) -> Result<(), NoMemory>
 }
 
 /// Appends a decimal digit.
-pub(crate) fn append_digit(text: &mut String, n: u32) -> Result<(), NoMemory>
+pub(crate) fn append_listing_digit(text: &mut String, n: u32) -> Result<(), NoMemory>
     requires { n < 10 }
     ensures { OnOk result (string_bytes text.new ≡ string_bytes text.old ++ ((48 + n) ∷ [])) }
 {
@@ -24,8 +24,8 @@ pub(crate) fn append_digit(text: &mut String, n: u32) -> Result<(), NoMemory>
     Ok(())
 }
 
-/// Appends the mark of a comment and an address.
-pub(crate) fn append_address(text: &mut String, address: u32) -> Result<(), NoMemory>
+/// Appends the mark of a comment and an address to a listing.
+pub(crate) fn append_listing_address(text: &mut String, address: u32) -> Result<(), NoMemory>
     ensures { OnOk result (string_bytes text.new
         ≡ string_bytes text.old ++ (codes " # " ++ (hex_word address ++ (32 ∷ [])))) }
 {
@@ -38,27 +38,27 @@ pub(crate) fn append_address(text: &mut String, address: u32) -> Result<(), NoMe
 
 // Appends a number below 100, digit by digit.
 #[tactic(auto, using(crate::proofs::SmallNumbers::one_digit))]
-fn append_small(text: &mut String, n: u32) -> Result<(), NoMemory>
+fn append_small_listing_number(text: &mut String, n: u32) -> Result<(), NoMemory>
     requires { n < 100 }
     ensures { OnOk result (string_bytes text.new ≡ string_bytes text.old ++ decimal n) }
 {
     if n < 10 {
-        return append_digit(text, n);
+        return append_listing_digit(text, n);
     }
-    append_digit(text, n / 10)?;
-    append_digit(text, n % 10)
+    append_listing_digit(text, n / 10)?;
+    append_listing_digit(text, n % 10)
 }
 
 /// Appends a number in decimal.
-pub(crate) fn append_decimal(text: &mut String, n: u32) -> Result<(), NoMemory>
+pub(crate) fn append_listing_decimal(text: &mut String, n: u32) -> Result<(), NoMemory>
     ensures { OnOk result (string_bytes text.new ≡ string_bytes text.old ++ decimal n) }
 {
     if n < 100 {
-        return append_small(text, n);
+        return append_small_listing_number(text, n);
     }
     if n < 1000 {
-        append_small(text, n / 10)?;
-        return append_digit(text, n % 10);
+        append_small_listing_number(text, n / 10)?;
+        return append_listing_digit(text, n % 10);
     }
     write!(text, "{n}")?;
     Ok(())

@@ -5,16 +5,16 @@ use Rattle.tc_isa.specs.Rows.{RowData}
 use Rattle.tc_isa.specs.declared.fields.Fields.{Fields}
 use Rattle.tc_isa.specs.declared.fields.Uses.{Uses}
 use Rattle.tc_isa.specs.Forms.{fields_of}
-use Rattle.tc_encode.specs.WordSearch.{mix, span}
-use Rattle.tc_isa.specs.ValidRows.{Fits, IsRow, uses_of, rest_is_zero, is_apart, least}
+use Rattle.tc_encode.specs.WordSearch.{mix_low_bytes, word_part_span}
+use Rattle.tc_isa.specs.ValidRows.{Fits, IsRow, uses_of, rest_is_zero, are_registers_apart, least_fields}
 use Rattle.tc_isa.specs.Spelling.{word_of}
 use Rattle.tc_encode.proofs.Mixed.{Mixed, mixed1, mixed2, mixed3}
 
-mixed : (r : RowData) (n : ℕ) (f : Fields) → IsRow r → Fits r f → 1 ≤ n → n ≤ 3 → Mixed r.form r.op1 r.op2 f (least r) (mix n (word_of r f) (word_of r (least r)))
+mixed : (r : RowData) (n : ℕ) (f : Fields) → IsRow r → Fits r f → 1 ≤ n → n ≤ 3 → Mixed r.form r.op1 r.op2 f (least_fields r) (mix_low_bytes n (word_of r f) (word_of r (least_fields r)))
 mixed r zero f row fits low high = absurd (omega arith)
-mixed r (suc zero) f row fits low high = mixed1 r.form r.op1 r.op2 f (least r) row.first row.second fits.below row.has_least.below
-mixed r (suc (suc zero)) f row fits low high = mixed2 r.form r.op1 r.op2 f (least r) row.first row.second fits.below row.has_least.below
-mixed r (suc (suc (suc n))) f row fits low high = mixed3 r.form r.op1 r.op2 f (least r) row.first row.second fits.below row.has_least.below
+mixed r (suc zero) f row fits low high = mixed1 r.form r.op1 r.op2 f (least_fields r) row.first row.second fits.below row.has_least.below
+mixed r (suc (suc zero)) f row fits low high = mixed2 r.form r.op1 r.op2 f (least_fields r) row.first row.second fits.below row.has_least.below
+mixed r (suc (suc (suc n))) f row fits low high = mixed3 r.form r.op1 r.op2 f (least_fields r) row.first row.second fits.below row.has_least.below
 
 one_zero : (u : Bool) (a b x : ℕ) → (u || a == 0) ≡ true → (u || b == 0) ≡ true → (a ≡ 0 → b ≡ 0 → x ≡ 0) → (u || x == 0) ≡ true
 one_zero true a b x p q f = refl
@@ -27,19 +27,19 @@ zero_of u f g x p q c s1 s2 n k =
     and_from _ _ (and_from _ _ (and_from _ _ (and_from _ _
     (one_zero u.c f.c g.c x.c p4.0 q4.0 c) (one_zero u.s1 f.s1 g.s1 x.s1 p4.1 q4.1 s1)) (one_zero u.s2 f.s2 g.s2 x.s2 p3.1 q3.1 s2)) (one_zero u.n f.n g.n x.n p2.1 q2.1 n)) (one_zero u.k f.k g.k x.k p1.1 q1.1 k)
 
-apart_as : (r : RowData) (f x : Fields) → x.s1 ≡ f.s1 → x.s2 ≡ f.s2 → is_apart r f ≡ true → is_apart r x ≡ true
+apart_as : (r : RowData) (f x : Fields) → x.s1 ≡ f.s1 → x.s2 ≡ f.s2 → are_registers_apart r f ≡ true → are_registers_apart r x ≡ true
 apart_as r f x p q is = rw (p, q) is
 
-apart_of : (r : RowData) (f g x : Fields) → ((x.s1 ≡ g.s1) × (x.s2 ≡ g.s2)) ⊎ ((x.s1 ≡ f.s1) × (x.s2 ≡ f.s2)) → is_apart r f ≡ true → is_apart r g ≡ true → is_apart r x ≡ true
+apart_of : (r : RowData) (f g x : Fields) → ((x.s1 ≡ g.s1) × (x.s2 ≡ g.s2)) ⊎ ((x.s1 ≡ f.s1) × (x.s2 ≡ f.s2)) → are_registers_apart r f ≡ true → are_registers_apart r g ≡ true → are_registers_apart r x ≡ true
 apart_of r f g x (inl e) p q = apart_as r g x e.0 e.1 q
 apart_of r f g x (inr e) p q = apart_as r f x e.0 e.1 p
 
 -- the beginning of a spelling, completed by the least fields, is a spelling
-pub completed : (r : RowData) (n : ℕ) (f : Fields) → IsRow r → Fits r f → 1 ≤ n → n ≤ 3 → (x : Fields) × Fits r x × (word_of r x ≡ mix n (word_of r f) (word_of r (least r)))
+pub completed : (r : RowData) (n : ℕ) (f : Fields) → IsRow r → Fits r f → 1 ≤ n → n ≤ 3 → (x : Fields) × Fits r x × (word_of r x ≡ mix_low_bytes n (word_of r f) (word_of r (least_fields r)))
 completed r n f row fits low high =
     let m = mixed r n f row fits low high in
-    let x = fields_of r.form (mix n (word_of r f) (word_of r (least r))) in
-    (x, record { below = m.below; zero = zero_of (uses_of r) f (least r) x fits.zero row.has_least.zero m.c m.s1 m.s2 m.n m.k; apart = apart_of r f (least r) x m.registers fits.apart row.has_least.apart }, m.is)
+    let x = fields_of r.form (mix_low_bytes n (word_of r f) (word_of r (least_fields r))) in
+    (x, record { below = m.below; zero = zero_of (uses_of r) f (least_fields r) x fits.zero row.has_least.zero m.c m.s1 m.s2 m.n m.k; apart = apart_of r f (least_fields r) x m.registers fits.apart row.has_least.apart }, m.is)
 
-pub same_mix : (n a b part rest s : ℕ) → a % span n ≡ part → rest ≡ b → s ≡ span n → mix n a b ≡ part + rest / s * s
+pub same_mix : (n a b part rest s : ℕ) → a % word_part_span n ≡ part → rest ≡ b → s ≡ word_part_span n → mix_low_bytes n a b ≡ part + rest / s * s
 same_mix n a b part rest s low same is = rw (same, is, low) refl

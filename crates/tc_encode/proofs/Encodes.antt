@@ -7,7 +7,7 @@ use Rattle.tc_isa.specs.Spelling.{word_of, spelling_of, Spells}
 use Rattle.tcd_base.specs.Bytes.{four_bytes}
 use Rattle.tc_isa.specs.Insts.{InstData, IsInst, fields_in}
 use Rattle.tc_isa.proofs.TableFacts.{row_at}
-use Rattle.tc_encode.specs.Decoding.{need_of}
+use Rattle.tc_encode.specs.Decoding.{decoded_length}
 use Rattle.tc_encode.proofs.Bytes.{word-lt, short-lt}
 
 four_le : (w : ℕ) → w < 2 ^ 32 → to_le_bytes w32 w ≡ four_bytes w
@@ -29,7 +29,7 @@ left false w small = λ k d h. zeros k d h
     zeros (suc zero) d h = let p = small refl in omega arith
     zeros (suc (suc k)) d h = absurd (omega arith)
 
-module _ (i : InstData) (is : IsInst i) (w len : ℕ) (bytes : List ℕ) (word_is : w ≡ word_of is.row (fields_in i)) (bytes_are : bytes ≡ to_le_bytes w32 w) (len_is : len ≡ need_of is.row.op1) where
+module _ (i : InstData) (is : IsInst i) (w len : ℕ) (bytes : List ℕ) (word_is : w ≡ word_of is.row (fields_in i)) (bytes_are : bytes ≡ to_le_bytes w32 w) (len_is : len ≡ decoded_length is.row.op1) where
   below : w < 2 ^ 32
   below = let row = row_at i.row is.row is.at in rw word_is (word-lt is.row.form is.row.op1 is.row.op2 (fields_in i) row.first row.second is.fits.below)
 
@@ -40,7 +40,7 @@ module _ (i : InstData) (is : IsInst i) (w len : ℕ) (bytes : List ℕ) (word_i
   four = bytes_are ∙ four_le w below
 
   pub encoded : Spells (take len bytes) i
-  encoded = record { inst = is; is = ap (λ n. take n bytes) len_is ∙ ap (take (need_of is.row.op1)) four ∙ taken (is_long is.row) w small ∙ ap (spelling_of (is_long is.row)) word_is }
+  encoded = record { inst = is; is = ap (λ n. take n bytes) len_is ∙ ap (take (decoded_length is.row.op1)) four ∙ taken (is_long is.row) w small ∙ ap (spelling_of (is_long is.row)) word_is }
 
   pub padded : All (λ b. b ≡ 0) (drop len bytes)
-  padded = subst (λ n. All (λ b. b ≡ 0) (drop n bytes)) (sym len_is) (subst (λ bs. All (λ b. b ≡ 0) (drop (need_of is.row.op1) bs)) (sym four) (left (is_long is.row) w small))
+  padded = subst (λ n. All (λ b. b ≡ 0) (drop n bytes)) (sym len_is) (subst (λ bs. All (λ b. b ≡ 0) (drop (decoded_length is.row.op1) bs)) (sym four) (left (is_long is.row) w small))

@@ -12,12 +12,12 @@ use Rattle.tc_isa.specs.declared.table.Form.{Form}
 use Rattle.tc_isa.specs.Rows.{RowData, listed}
 use Rattle.tc_isa.specs.Forms.{bounds, fields_of, second_of, form_index, is_long_form}
 use Rattle.tc_isa.specs.InBounds.{IsBelow}
-use Rattle.tc_isa.specs.ValidRows.{Fits, uses_of, rest_is_zero, is_apart}
+use Rattle.tc_isa.specs.ValidRows.{Fits, uses_of, rest_is_zero, are_registers_apart}
 use Rattle.tc_isa.specs.Spelling.{word_of}
 use Rattle.tc_isa.specs.Insts.{InstData, IsInst, fields_in}
 use Rattle.tc_isa.proofs.TableFacts.{row_at}
-use Rattle.tc_encode.specs.Decoding.{instruction}
-use Rattle.tc_encode.specs.WordSearch.{Makes, is_between, has_form, hold_all, is_at, is_place, hold_places, has_no_gap, names_all, names_or_lacks}
+use Rattle.tc_encode.specs.Decoding.{instruction_at_row}
+use Rattle.tc_encode.specs.WordSearch.{Makes, is_in_index_range, has_same_form, are_in_index_ranges, is_at_index_place, is_index_place, are_at_index_places, has_zero_word_gaps, is_plain_row, names_or_lacks}
 use Rattle.tc_encode.proofs.Gaps.{fields_below, word_back, full_word}
 use Rattle.tc_encode.proofs.Inverse.{first-word, second-word}
 use Rattle.tc_encode.proofs.Only.{only}
@@ -31,7 +31,7 @@ pub row_is : (place : ℕ) (r : RowData) (i : InstData) (is : IsInst i) → slic
 row_is place r i is at same = some_same is.row r (sym is.at ∙ ap (slice_get listed) same ∙ at)
 
 -- the fields of the word are those of the instruction that has it
-pub makes_listed : (place w : ℕ) (r : RowData) (f : Fields) → slice_get listed place ≡ Some r → f ≡ fields_of r.form w → (i : InstData) → Makes w i → i.row ≡ place → IsInst (instruction place f) × (word_of r f ≡ w)
+pub makes_listed : (place w : ℕ) (r : RowData) (f : Fields) → slice_get listed place ≡ Some r → f ≡ fields_of r.form w → (i : InstData) → Makes w i → i.row ≡ place → IsInst (instruction_at_row place f) × (word_of r f ≡ w)
 makes_listed place w r f at is i m same =
     let row = row_is place r i m.inst at same in
     let fits : Fits r (fields_in i) = subst (λ (s : RowData). Fits s (fields_in i)) row m.inst.fits in
@@ -39,7 +39,7 @@ makes_listed place w r f at is i m same =
     let fields : fields_in i ≡ f = sym (is ∙ only r (fields_in i) w (row_at place r at) fits word) in
     (record { row = r; at = at; fits = subst (λ (g : Fields). Fits r g) fields fits }, subst (λ (g : Fields). word_of r g ≡ w) fields word)
 
-pub makes_by : (place w : ℕ) (r : RowData) (f : Fields) (i : InstData) → slice_get listed place ≡ Some r → i ≡ instruction place f → IsInst i → word_of r f ≡ w → Makes w i
+pub makes_by : (place w : ℕ) (r : RowData) (f : Fields) (i : InstData) → slice_get listed place ≡ Some r → i ≡ instruction_at_row place f → IsInst i → word_of r f ≡ w → Makes w i
 makes_by place w r f i at is inst word =
     let row = row_is place r i inst at (ap (λ (j : InstData). j.row) is) in
     record { inst = inst; is = ap (λ (s : RowData). word_of s (fields_in i)) row ∙ ap (λ (j : InstData). word_of r (fields_in j)) is ∙ word }
@@ -59,23 +59,23 @@ first_is w i m =
     ap (λ x. x % 256) (sym m.is) ∙ first-word s.form s.op1 s.op2 (fields_in i) row.first row.second m.inst.fits.below
 
 -- rows are between the start and the end of their first byte
-held : (starts ends : List ℕ) (place : ℕ) (rows : List RowData) (q : ℕ) (r : RowData) → hold_all starts ends place rows ≡ true → slice_get rows q ≡ Some r → is_between (place + q) r (slice_get starts r.op1) (slice_get ends r.op1) ≡ true
+held : (starts ends : List ℕ) (place : ℕ) (rows : List RowData) (q : ℕ) (r : RowData) → are_in_index_ranges starts ends place rows ≡ true → slice_get rows q ≡ Some r → is_in_index_range (place + q) r (slice_get starts r.op1) (slice_get ends r.op1) ≡ true
 held starts ends place [] q r all at = cc
 held starts ends place (x ∷ xs) zero r all at =
     let e = some_same x r at in
-    subst (λ (s : RowData). is_between (place + 0) s (slice_get starts s.op1) (slice_get ends s.op1) ≡ true) e
-    (let z : place ≡ place + 0 = omega arith in subst (λ p. is_between p x (slice_get starts x.op1) (slice_get ends x.op1) ≡ true) z (and_parts _ _ all).0)
+    subst (λ (s : RowData). is_in_index_range (place + 0) s (slice_get starts s.op1) (slice_get ends s.op1) ≡ true) e
+    (let z : place ≡ place + 0 = omega arith in subst (λ p. is_in_index_range p x (slice_get starts x.op1) (slice_get ends x.op1) ≡ true) z (and_parts _ _ all).0)
 held starts ends place (x ∷ xs) (suc q) r all at =
     let z : suc place + q ≡ place + suc q = omega arith in
-    subst (λ p. is_between p r (slice_get starts r.op1) (slice_get ends r.op1) ≡ true) z (held starts ends (suc place) xs q r (and_parts _ _ all).1 at)
+    subst (λ p. is_in_index_range p r (slice_get starts r.op1) (slice_get ends r.op1) ≡ true) z (held starts ends (suc place) xs q r (and_parts _ _ all).1 at)
 
 -- what the test of start and end gives
 pub record Between (place : ℕ) (r : RowData) (start end : ℕ) : Type 0 where
   pub from : start ≤ place
   pub to : place < end
-  pub form : has_form r (slice_get listed start) ≡ true
+  pub form : has_same_form r (slice_get listed start) ≡ true
 
-between_from : (place : ℕ) (r : RowData) (o p : Option ℕ) (start end : ℕ) → is_between place r o p ≡ true → o ≡ Some start → p ≡ Some end → Between place r start end
+between_from : (place : ℕ) (r : RowData) (o p : Option ℕ) (start end : ℕ) → is_in_index_range place r o p ≡ true → o ≡ Some start → p ≡ Some end → Between place r start end
 between_from place r None p start end e is iz = cc
 between_from place r (Some s) None start end e is iz = cc
 between_from place r (Some s) (Some t) start end e is iz =
@@ -84,21 +84,21 @@ between_from place r (Some s) (Some t) start end e is iz =
     record {
       from = subst (λ z. z ≤ place) x (leb-true _ _ b.0);
       to = subst (λ z. place < z) y (ltb-true _ _ b.1);
-      form = subst (λ z. has_form r (slice_get listed z) ≡ true) x a.1;
+      form = subst (λ z. has_same_form r (slice_get listed z) ≡ true) x a.1;
     }
 
-pub stands_between : (starts ends : List ℕ) (w : ℕ) (i : InstData) (m : Makes w i) → hold_all starts ends 0 listed ≡ true → length starts ≡ 256 → length ends ≡ 256 → Between i.row m.inst.row (get_or starts (w % 256) 0) (get_or ends (w % 256) 0)
+pub stands_between : (starts ends : List ℕ) (w : ℕ) (i : InstData) (m : Makes w i) → are_in_index_ranges starts ends 0 listed ≡ true → length starts ≡ 256 → length ends ≡ 256 → Between i.row m.inst.row (get_or starts (w % 256) 0) (get_or ends (w % 256) 0)
 stands_between starts ends w i m all ls le =
     let r = m.inst.row in
     let first = first_is w i m in
     let small : w % 256 < 256 = omega arith in
     between_from i.row r (slice_get starts r.op1) (slice_get ends r.op1) (get_or starts (w % 256) 0) (get_or ends (w % 256) 0)
-    (subst (λ p. is_between p r (slice_get starts r.op1) (slice_get ends r.op1) ≡ true) (zero-add i.row) (held starts ends 0 listed i.row r all m.inst.at))
+    (subst (λ p. is_in_index_range p r (slice_get starts r.op1) (slice_get ends r.op1) ≡ true) (zero-add i.row) (held starts ends 0 listed i.row r all m.inst.at))
     (ap (slice_get starts) (sym first) ∙ slice_get-get_or starts (w % 256) 0 (omega arith))
     (ap (slice_get ends) (sym first) ∙ slice_get-get_or ends (w % 256) 0 (omega arith))
 
 pub form_is : (place : ℕ) (r s : RowData) (start end : ℕ) → Between place r start end → slice_get listed start ≡ Some s → form_index r.form ≡ form_index s.form
-form_is place r s start end b at = sym (eqb-true (form_index s.form) (form_index r.form) (subst (λ o. has_form r o ≡ true) at b.form))
+form_is place r s start end b at = sym (eqb-true (form_index s.form) (form_index r.form) (subst (λ o. has_same_form r o ≡ true) at b.form))
 
 -- a bound of each number of a list
 pub bounded : (xs : List ℕ) (n k : ℕ) → list_all (λ x. nat_lt x n) xs ≡ true → k < length xs → get_or xs k 0 < n
@@ -112,7 +112,7 @@ none_map (Some x) p f = tt
 pub record Stands (w : ℕ) (r : RowData) (f : Fields) : Type 0 where
   pub first : r.op1 ≡ w % 256
   pub second : r.op2 ≡ second_of r.form w
-  pub full : has_no_gap r.form w ≡ true
+  pub full : has_zero_word_gaps r.form w ≡ true
   pub fits : Fits r f
 
 pub stands : (place w : ℕ) (r : RowData) → slice_get listed place ≡ Some r → (i : InstData) → Makes w i → i.row ≡ place → Stands w r (fields_of r.form w)
@@ -124,7 +124,7 @@ stands place w r at i m same =
     record {
       first = sym (first-word r.form r.op1 r.op2 (fields_in i) own.first own.second fits.below) ∙ ap (λ x. x % 256) word;
       second = sym (second-word r.form r.op1 r.op2 (fields_in i) own.first own.second fits.below) ∙ ap (second_of r.form) word;
-      full = ap (has_no_gap r.form) (sym word) ∙ full_word r.form r.op1 r.op2 (fields_in i) own.first own.second fits.below;
+      full = ap (has_zero_word_gaps r.form) (sym word) ∙ full_word r.form r.op1 r.op2 (fields_in i) own.first own.second fits.below;
       fits = subst (λ (g : Fields). Fits r g) (sym (only r (fields_in i) w own fits word)) fits;
     }
 
@@ -132,7 +132,7 @@ even_of : (op1 w : ℕ) → (op1 % 2 == 1) ≡ false → op1 ≡ w % 256 → w %
 even_of op1 w e is = let odd = eqb-false (op1 % 2) 1 e in elim (cases_eq (op1 % 2) 1) [ inl x ↦ absurd (odd x) | inr y ↦ omega (arith, y) ]
 
 -- a word with the row's codes and no gap is the spelling of its fields, if they fit
-pub makes_of : (place w : ℕ) (r : RowData) (f : Fields) → slice_get listed place ≡ Some r → f ≡ fields_of r.form w → w < 2 ^ 32 → (w % 2 ≡ 0 → w < 2 ^ 16) → r.op1 ≡ w % 256 → r.op2 ≡ second_of r.form w → has_no_gap r.form w ≡ true → rest_is_zero (uses_of r) f ≡ true → is_apart r f ≡ true → Makes w (instruction place f)
+pub makes_of : (place w : ℕ) (r : RowData) (f : Fields) → slice_get listed place ≡ Some r → f ≡ fields_of r.form w → w < 2 ^ 32 → (w % 2 ≡ 0 → w < 2 ^ 16) → r.op1 ≡ w % 256 → r.op2 ≡ second_of r.form w → has_zero_word_gaps r.form w ≡ true → rest_is_zero (uses_of r) f ≡ true → are_registers_apart r f ≡ true → Makes w (instruction_at_row place f)
 makes_of place w r f at is word short first second full rest apart =
     let row = row_at place r at in
     let small : is_long_form r.form ≡ false → w < 2 ^ 16 = λ e. short (even_of r.op1 w (row.size ∙ e) first) in
@@ -142,35 +142,35 @@ makes_of place w r f at is word short first second full rest apart =
     }
 
 -- rows are after the base of their first byte
-held_at : (bases places : List ℕ) (place : ℕ) (rows : List RowData) (q : ℕ) (r : RowData) → hold_places bases places place rows ≡ true → slice_get rows q ≡ Some r → is_at places (place + q) r (slice_get bases r.op1) ≡ true
+held_at : (bases places : List ℕ) (place : ℕ) (rows : List RowData) (q : ℕ) (r : RowData) → are_at_index_places bases places place rows ≡ true → slice_get rows q ≡ Some r → is_at_index_place places (place + q) r (slice_get bases r.op1) ≡ true
 held_at bases places place [] q r all at = cc
 held_at bases places place (x ∷ xs) zero r all at =
-    subst (λ (s : RowData). is_at places (place + 0) s (slice_get bases s.op1) ≡ true) (some_same x r at)
-    (let z : place ≡ place + 0 = omega arith in subst (λ p. is_at places p x (slice_get bases x.op1) ≡ true) z (and_parts _ _ all).0)
+    subst (λ (s : RowData). is_at_index_place places (place + 0) s (slice_get bases s.op1) ≡ true) (some_same x r at)
+    (let z : place ≡ place + 0 = omega arith in subst (λ p. is_at_index_place places p x (slice_get bases x.op1) ≡ true) z (and_parts _ _ all).0)
 held_at bases places place (x ∷ xs) (suc q) r all at =
     let z : suc place + q ≡ place + suc q = omega arith in
-    subst (λ p. is_at places p r (slice_get bases r.op1) ≡ true) z (held_at bases places (suc place) xs q r (and_parts _ _ all).1 at)
+    subst (λ p. is_at_index_place places p r (slice_get bases r.op1) ≡ true) z (held_at bases places (suc place) xs q r (and_parts _ _ all).1 at)
 
-at_from : (places : List ℕ) (place : ℕ) (r : RowData) (o : Option ℕ) (base : ℕ) → is_at places place r o ≡ true → o ≡ Some base → slice_get places (base + r.op2) ≡ Some place
+at_from : (places : List ℕ) (place : ℕ) (r : RowData) (o : Option ℕ) (base : ℕ) → is_at_index_place places place r o ≡ true → o ≡ Some base → slice_get places (base + r.op2) ≡ Some place
 at_from places place r None base e is = cc
-at_from places place r (Some b) base e is = place_from (slice_get places (base + r.op2)) (subst (λ z. is_at places place r (Some z) ≡ true) (some_same b base is) e)
+at_from places place r (Some b) base e is = place_from (slice_get places (base + r.op2)) (subst (λ z. is_at_index_place places place r (Some z) ≡ true) (some_same b base is) e)
   where
-    place_from : (p : Option ℕ) → is_place place p ≡ true → p ≡ Some place
+    place_from : (p : Option ℕ) → is_index_place place p ≡ true → p ≡ Some place
     place_from None e = cc
     place_from (Some p) e = ap (λ z. Some z) (eqb-true p place e)
 
-pub stands_past : (bases places : List ℕ) (w : ℕ) (i : InstData) (m : Makes w i) → hold_places bases places 0 listed ≡ true → length bases ≡ 256 → slice_get places (get_or bases (w % 256) 0 + m.inst.row.op2) ≡ Some i.row
+pub stands_past : (bases places : List ℕ) (w : ℕ) (i : InstData) (m : Makes w i) → are_at_index_places bases places 0 listed ≡ true → length bases ≡ 256 → slice_get places (get_or bases (w % 256) 0 + m.inst.row.op2) ≡ Some i.row
 stands_past bases places w i m all count =
     let r = m.inst.row in
     let first = first_is w i m in
     at_from places i.row r (slice_get bases r.op1) (get_or bases (w % 256) 0)
-    (subst (λ p. is_at places p r (slice_get bases r.op1) ≡ true) (zero-add i.row) (held_at bases places 0 listed i.row r all m.inst.at))
+    (subst (λ p. is_at_index_place places p r (slice_get bases r.op1) ≡ true) (zero-add i.row) (held_at bases places 0 listed i.row r all m.inst.at))
     (ap (slice_get bases) (sym first) ∙ slice_get-get_or bases (w % 256) 0 (omega (arith, count)))
 
-pub row_between : (starts ends : List ℕ) (first place : ℕ) (r : RowData) → hold_all starts ends 0 listed ≡ true → length starts ≡ 256 → length ends ≡ 256 → first < 256 → slice_get listed place ≡ Some r → r.op1 ≡ first → Between place r (get_or starts first 0) (get_or ends first 0)
+pub row_between : (starts ends : List ℕ) (first place : ℕ) (r : RowData) → are_in_index_ranges starts ends 0 listed ≡ true → length starts ≡ 256 → length ends ≡ 256 → first < 256 → slice_get listed place ≡ Some r → r.op1 ≡ first → Between place r (get_or starts first 0) (get_or ends first 0)
 row_between starts ends first place r all ls le small at is =
     between_from place r (slice_get starts r.op1) (slice_get ends r.op1) (get_or starts first 0) (get_or ends first 0)
-    (subst (λ p. is_between p r (slice_get starts r.op1) (slice_get ends r.op1) ≡ true) (zero-add place) (held starts ends 0 listed place r all at))
+    (subst (λ p. is_in_index_range p r (slice_get starts r.op1) (slice_get ends r.op1) ≡ true) (zero-add place) (held starts ends 0 listed place r all at))
     (ap (slice_get starts) is ∙ slice_get-get_or starts first 0 (omega (arith, ls)))
     (ap (slice_get ends) is ∙ slice_get-get_or ends first 0 (omega (arith, le)))
 
@@ -181,11 +181,11 @@ pub same_some : (x y : ℕ) → Some x ≡ Some y → x ≡ y
 same_some x y e = cc
 
 -- the row of two codes is where the index has it
-pub place_has : (bases places : List ℕ) (first a b place : ℕ) (r : RowData) → hold_places bases places 0 listed ≡ true → length bases ≡ 256 → first < 256 → a ≡ get_or bases first 0 → slice_get listed place ≡ Some r → r.op1 ≡ first → r.op2 ≡ b → slice_get places (a + b) ≡ Some place
+pub place_has : (bases places : List ℕ) (first a b place : ℕ) (r : RowData) → are_at_index_places bases places 0 listed ≡ true → length bases ≡ 256 → first < 256 → a ≡ get_or bases first 0 → slice_get listed place ≡ Some r → r.op1 ≡ first → r.op2 ≡ b → slice_get places (a + b) ≡ Some place
 place_has bases places first a b place r all count small is_a at is_first is_b =
     ap (λ x. slice_get places (x + b)) is_a ∙ ap (λ y. slice_get places (get_or bases first 0 + y)) (sym is_b)
     ∙ at_from places place r (slice_get bases r.op1) (get_or bases first 0)
-    (subst (λ p. is_at places p r (slice_get bases r.op1) ≡ true) (zero-add place) (held_at bases places 0 listed place r all at))
+    (subst (λ p. is_at_index_place places p r (slice_get bases r.op1) ≡ true) (zero-add place) (held_at bases places 0 listed place r all at))
     (ap (slice_get bases) is_first ∙ slice_get-get_or bases first 0 (omega (arith, count)))
 
 -- a row that has all fields of its form leaves none that has to be 0
@@ -200,9 +200,9 @@ plain_zero u f b e low =
     (one_plain u.c f.c b.c s.0 low.c) (one_plain u.s1 f.s1 b.s1 s.1 low.s1)) (one_plain u.s2 f.s2 b.s2 r.1 low.s2)) (one_plain u.n f.n b.n q.1 low.n)) (one_plain u.k f.k b.k p.1 low.k)
 
 -- the list of such rows is right for the row at a place
-pub plain_at : (plain : List Bool) (place : ℕ) (d : Bool) (r : RowData) → plain ≡ map names_all listed → slice_get listed place ≡ Some r → get_or plain place d ≡ names_all r
+pub plain_at : (plain : List Bool) (place : ℕ) (d : Bool) (r : RowData) → plain ≡ map is_plain_row listed → slice_get listed place ≡ Some r → get_or plain place d ≡ is_plain_row r
 plain_at plain place d r are at =
-    ap (λ bs. get_or bs place d) are ∙ get_or-map names_all listed place r d (slice_get_within listed place r at) ∙ ap names_all (get_or_from_slice_get listed place r r at)
+    ap (λ bs. get_or bs place d) are ∙ get_or-map is_plain_row listed place r d (slice_get_within listed place r at) ∙ ap is_plain_row (get_or_from_slice_get listed place r r at)
 
 pub second_at : (form : Form) (place first second w : ℕ) (r : RowData) → ((place : ℕ) (r : RowData) → slice_get listed place ≡ Some r → r.op1 ≡ first → form_index r.form ≡ form_index form) → second ≡ second_of form w → slice_get listed place ≡ Some r → r.op1 ≡ first → second ≡ second_of r.form w
 second_at form place first second w r forms is at one = is ∙ ap (λ f. second_of f w) (sym (same_form r.form form (forms place r at one)))

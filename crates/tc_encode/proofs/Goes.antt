@@ -2,12 +2,12 @@
 use Rattle.std.proofs.Common.{◌≡◌, ◌+◌, ◌*◌, ◌/◌, ◌%◌, ◌<◌, ◌≤◌, ℕ, zero, suc, true, List, length, get_or, refl, sym, ap, subst, ◌∙◌, arith, Option, Some, None}
 use Rattle.std.specs.Prelude.{slice_get, IfSome}
 use Rattle.tc_isa.specs.Rows.{RowData, listed}
-use Rattle.tc_isa.specs.ValidRows.{Fits, least}
+use Rattle.tc_isa.specs.ValidRows.{Fits, least_fields}
 use Rattle.tc_isa.specs.Spelling.{word_of}
 use Rattle.tc_isa.specs.Insts.{InstData, fields_in}
 use Rattle.tc_isa.proofs.TableFacts.{row_at}
-use Rattle.tc_encode.specs.Decoding.{instruction, size_of}
-use Rattle.tc_encode.specs.WordSearch.{Makes, GoesOn, span, hold_all}
+use Rattle.tc_encode.specs.Decoding.{instruction_at_row, decoded_row_length}
+use Rattle.tc_encode.specs.WordSearch.{Makes, GoesOn, word_part_span, are_in_index_ranges}
 use Rattle.tc_encode.proofs.Complete.{completed, same_mix}
 use Rattle.tc_encode.proofs.Finds.{row_is, first_is, Between, stands_between}
 
@@ -16,38 +16,38 @@ some_map None p f = tt
 some_map (Some x) p f = f x p
 
 -- the low bytes of a number of two parts
-low_part : (n part rest : ℕ) → part < span n → (part + rest / span n * span n) % span n ≡ part
+low_part : (n part rest : ℕ) → part < word_part_span n → (part + rest / word_part_span n * word_part_span n) % word_part_span n ≡ part
 low_part zero part rest h = omega arith
 low_part (suc zero) part rest h = omega arith
 low_part (suc (suc zero)) part rest h = omega arith
 low_part (suc (suc (suc n))) part rest h = omega arith
 
-pub goes_from : (place n part rest s : ℕ) (r : RowData) (i : InstData) → slice_get listed place ≡ Some r → n < size_of r → part < span n → s ≡ span n → i.row ≡ place → Makes (part + rest / s * s) i → GoesOn n part i
+pub goes_from : (place n part rest s : ℕ) (r : RowData) (i : InstData) → slice_get listed place ≡ Some r → n < decoded_row_length r → part < word_part_span n → s ≡ word_part_span n → i.row ≡ place → Makes (part + rest / s * s) i → GoesOn n part i
 goes_from place n part rest s r i at longer small is same m =
     let row = row_is place r i m.inst at same in
     record {
       inst = m.inst;
-      longer = subst (λ (t : RowData). n < size_of t) (sym row) longer;
-      is = ap (λ w. w % span n) (m.is ∙ ap (λ z. part + rest / z * z) is) ∙ low_part n part rest small;
+      longer = subst (λ (t : RowData). n < decoded_row_length t) (sym row) longer;
+      is = ap (λ w. w % word_part_span n) (m.is ∙ ap (λ z. part + rest / z * z) is) ∙ low_part n part rest small;
     }
 
 -- bytes that an instruction of the row begins with are completed by the row's least fields
-pub goes_least : (place n part rest s : ℕ) (r : RowData) (i : InstData) → slice_get listed place ≡ Some r → 1 ≤ n → n ≤ 3 → s ≡ span n → rest ≡ word_of r (least r) → i.row ≡ place → GoesOn n part i → (j : InstData) × (j.row ≡ place) × Makes (part + rest / s * s) j
+pub goes_least : (place n part rest s : ℕ) (r : RowData) (i : InstData) → slice_get listed place ≡ Some r → 1 ≤ n → n ≤ 3 → s ≡ word_part_span n → rest ≡ word_of r (least_fields r) → i.row ≡ place → GoesOn n part i → (j : InstData) × (j.row ≡ place) × Makes (part + rest / s * s) j
 goes_least place n part rest s r i at low high is least_is same g =
     let row = row_is place r i g.inst at same in
     let fits : Fits r (fields_in i) = subst (λ (t : RowData). Fits t (fields_in i)) row g.inst.fits in
-    let part_is : word_of r (fields_in i) % span n ≡ part = subst (λ (t : RowData). word_of t (fields_in i) % span n ≡ part) row g.is in
+    let part_is : word_of r (fields_in i) % word_part_span n ≡ part = subst (λ (t : RowData). word_of t (fields_in i) % word_part_span n ≡ part) row g.is in
     let x = completed r n (fields_in i) (row_at place r at) fits low high in
-    (instruction place x.0, refl, record { inst = record { row = r; at = at; fits = x.1 }; is = x.2 ∙ same_mix n (word_of r (fields_in i)) (word_of r (least r)) part rest s part_is least_is is })
+    (instruction_at_row place x.0, refl, record { inst = record { row = r; at = at; fits = x.1 }; is = x.2 ∙ same_mix n (word_of r (fields_in i)) (word_of r (least_fields r)) part rest s part_is least_is is })
 
 -- the first byte of an instruction
-low_byte : (n w : ℕ) → 1 ≤ n → w % span n % 256 ≡ w % 256
+low_byte : (n w : ℕ) → 1 ≤ n → w % word_part_span n % 256 ≡ w % 256
 low_byte zero w h = absurd (omega arith)
 low_byte (suc zero) w h = omega arith
 low_byte (suc (suc zero)) w h = omega arith
 low_byte (suc (suc (suc n))) w h = omega arith
 
-pub goes_between : (starts ends : List ℕ) (first n part : ℕ) (i : InstData) (g : GoesOn n part i) → hold_all starts ends 0 listed ≡ true → length starts ≡ 256 → length ends ≡ 256 → 1 ≤ n → first ≡ part % 256 → Between i.row g.inst.row (get_or starts first 0) (get_or ends first 0)
+pub goes_between : (starts ends : List ℕ) (first n part : ℕ) (i : InstData) (g : GoesOn n part i) → are_in_index_ranges starts ends 0 listed ≡ true → length starts ≡ 256 → length ends ≡ 256 → 1 ≤ n → first ≡ part % 256 → Between i.row g.inst.row (get_or starts first 0) (get_or ends first 0)
 goes_between starts ends first n part i g all ls le low is =
     let w = word_of g.inst.row (fields_in i) in
     let same : w % 256 ≡ first = sym (low_byte n w low) ∙ ap (λ p. p % 256) g.is ∙ sym is in

@@ -1,19 +1,19 @@
 // Beginnings of instructions: whether fewer bytes than an instruction has can be completed.
 ghost use Rattle.std.specs.Prelude.{◌≡◌, ◌<◌, ◌≤◌, ◌%◌, IfSome, IfNone, slice_get, Some};
 ghost use Rattle.tc_isa.specs.Rows.{row_of, listed};
-ghost use Rattle.tc_isa.specs.ValidRows.{least};
+ghost use Rattle.tc_isa.specs.ValidRows.{least_fields};
 ghost use Rattle.tc_isa.specs.Insts.{InstData};
-ghost use Rattle.tc_encode.specs.Decoding.{size_of, need_of};
-ghost use Rattle.tc_encode.specs.WordSearch.{GoesOn, span};
+ghost use Rattle.tc_encode.specs.Decoding.{decoded_row_length, decoded_length};
+ghost use Rattle.tc_encode.specs.WordSearch.{GoesOn, word_part_span};
 
-use crate::decoding::inst_by;
-use crate::forms::join;
-use crate::index::groups;
+use crate::decoding::decode_row_word;
+use crate::forms::word_of_fields;
+use crate::index::index_by_first_byte;
 use tc_isa::{Fields, Inst, ROW_COUNT, Row, rows};
 
-/// Returns the least fields that fit the row.
-fn least_of(row: &Row) -> Fields
-    ensures { result ≡ least (row_of row.now) }
+/// Returns the least fields that fit the row, which complete the low bytes of a word.
+fn least_completion_fields(row: &Row) -> Fields
+    ensures { result ≡ least_fields (row_of row.now) }
 {
     let s1 = if (row.op1 == 9 || row.op1 == 137) && row.op2 == 6 {
         1
@@ -29,11 +29,12 @@ fn least_of(row: &Row) -> Fields
     }
 }
 
-/// Returns 256 to the power of `n`: the number of values of `n` bytes.
-fn span_of(n: u8) -> u32
+/// Returns the number of values of the low `n` bytes of an instruction's word, which a completion
+/// keeps: 256 to the power of `n`.
+fn word_part_span(n: u8) -> u32
     requires low { 1 ≤ n }
     requires high { n ≤ 3 }
-    ensures span { result ≡ span n }
+    ensures span { result ≡ word_part_span n }
     ensures some { 0 < result }
 {
     match n {
@@ -48,14 +49,14 @@ fn completion_by(place: u8, row: &Row, n: u8, part: u32) -> Option<Inst>
     requires place { slice_get listed place ≡ Some (row_of row.now) }
     requires low { 1 ≤ n }
     requires high { n ≤ 3 }
-    requires part { part < span n }
-    requires longer { n < size_of (row_of row.now) }
+    requires part { part < word_part_span n }
+    requires longer { n < decoded_row_length (row_of row.now) }
     ensures some { IfSome result (GoesOn n part) }
     ensures none { IfNone result ((i : InstData) → GoesOn n part i → i.row ≡ place → ⊥) }
 {
-    let rest = join(row.form, row.op1, row.op2, &least_of(row));
-    let span = span_of(n);
-    inst_by(place, row, part + rest / span * span)
+    let rest = word_of_fields(row.form, row.op1, row.op2, &least_completion_fields(row));
+    let span = word_part_span(n);
+    decode_row_word(place, row, part + rest / span * span)
 }
 
 /// Returns an instruction of the row at this place with these `n` low bytes, if the row's first
@@ -63,8 +64,8 @@ fn completion_by(place: u8, row: &Row, n: u8, part: u32) -> Option<Inst>
 fn completion_at(place: u8, first: u8, n: u8, part: u32) -> Option<Inst>
     requires place { place < ROW_COUNT }
     requires low { 1 ≤ n }
-    requires high { n < need_of first }
-    requires part { part < span n }
+    requires high { n < decoded_length first }
+    requires part { part < word_part_span n }
     requires first { first ≡ part % 256 }
     ensures some { IfSome result (GoesOn n part) }
     ensures none { IfNone result ((i : InstData) → GoesOn n part i → i.row ≡ place → ⊥) }
@@ -80,8 +81,8 @@ fn completion_at(place: u8, first: u8, n: u8, part: u32) -> Option<Inst>
 fn completion_between(from: u8, to: u8, first: u8, n: u8, part: u32) -> Option<Inst>
     requires places { to ≤ ROW_COUNT }
     requires low { 1 ≤ n }
-    requires high { n < need_of first }
-    requires part { part < span n }
+    requires high { n < decoded_length first }
+    requires part { part < word_part_span n }
     requires first { first ≡ part % 256 }
     ensures some { IfSome result (GoesOn n part) }
     ensures none { IfNone result
@@ -98,13 +99,13 @@ fn completion_between(from: u8, to: u8, first: u8, n: u8, part: u32) -> Option<I
 /// Returns an instruction that has more than these `n` bytes and begins with them, if there is one.
 pub fn completion(first: u8, n: u8, part: u32) -> Option<Inst>
     requires low { 1 ≤ n }
-    requires high { n < need_of first }
-    requires part { part < span n }
+    requires high { n < decoded_length first }
+    requires part { part < word_part_span n }
     requires first { first ≡ part % 256 }
     ensures some { IfSome result (GoesOn n part) }
     ensures none { IfNone result ((i : InstData) → GoesOn n part i → ⊥) }
 {
-    let (starts, ends) = groups();
+    let (starts, ends) = index_by_first_byte();
     let place = usize::from(first);
     completion_between(starts[place], ends[place], first, n, part)
 }

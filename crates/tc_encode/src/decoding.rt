@@ -2,25 +2,23 @@
 ghost use Rattle.std.specs.Prelude.{◌≡◌, ◌↔◌, Ok, ◌<◌, ◌≤◌, ◌%◌, ◌^◌, ℕ, List, [], ◌∷◌, length, Err, All, slice_index, IfOk, IfSome, IfNone, slice_get, Some};
 ghost use Rattle.tc_isa.specs.Insts.{InstData};
 ghost use Rattle.tc_isa.specs.Spelling.{Begins, IsFront};
-ghost use Rattle.tc_encode.specs.Decoding.{decoded_of, need_of};
-ghost use Rattle.tcd_base.specs.Bytes.{number_of};
-ghost use Rattle.tc_isa.specs.Rows.{row_of, listed, RowData};
+ghost use Rattle.tc_encode.specs.Decoding.{decoded_of, decoded_length};
+ghost use Rattle.tcd_base.specs.Bytes.{number_of_bytes};
+ghost use Rattle.tc_isa.specs.Rows.{row_of, listed};
 ghost use Rattle.tc_encode.specs.WordSearch.{Makes};
-ghost use Rattle.tc_isa.specs.Forms.{second_of};
 
 use crate::completions::completion;
 use crate::errors::DecodeErr;
-use crate::forms::{join, split};
-use crate::index::codes;
-use crate::word_search::{find, inst_of};
-use tc_isa::{Form, Inst, ROW_COUNT, Row, inst, rows};
+use crate::forms::{fields_of_word, word_of_fields};
+use crate::word_search::find_by_word;
+use tc_isa::{Form, Inst, Row, inst};
 
 /// Decodes four bytes, the first of which is odd.
 fn long_word(a: u8, b: u8, c: u8, d: u8) -> Result<(Inst, usize), DecodeErr>
     requires { a % 2 ≡ 1 }
     ensures { (rest : List ℕ) → decoded_of (a ∷ b ∷ c ∷ d ∷ rest) ≡ result }
 {
-    match find(u32::from_le_bytes([a, b, c, d])) {
+    match find_by_word(u32::from_le_bytes([a, b, c, d])) {
         Some(found) => Ok((found, 4)),
         None => Err(DecodeErr::NotListed),
     }
@@ -31,20 +29,20 @@ fn short_word(a: u8, b: u8) -> Result<(Inst, usize), DecodeErr>
     requires { a % 2 ≡ 0 }
     ensures { (rest : List ℕ) → decoded_of (a ∷ b ∷ rest) ≡ result }
 {
-    match find(u32::from(a) + u32::from(b) * 256) {
+    match find_by_word(u32::from(a) + u32::from(b) * 256) {
         Some(found) => Ok((found, 2)),
         None => Err(DecodeErr::NotListed),
     }
 }
 
 /// Returns why these `n` bytes, as the number `part`, are no instruction: too few, or not listed.
-fn front(first: u8, n: u8, part: u32) -> DecodeErr
+fn decode_refusal(first: u8, n: u8, part: u32) -> DecodeErr
     requires low { 1 ≤ n }
-    requires high { n < need_of first }
+    requires high { n < decoded_length first }
     requires first { first ≡ part % 256 }
     requires part { part < 256 ^ n }
     ensures { (bytes : List ℕ) → length bytes ≡ n → All (λ b. b < 256) bytes
-        → number_of bytes ≡ part
+        → number_of_bytes bytes ≡ part
         → decoded_of bytes ≡ Err result }
 {
     match completion(first, n, part) {
@@ -91,9 +89,9 @@ fn decode_long(bytes: &[u8]) -> Result<(Inst, usize), DecodeErr>
 {
     match bytes {
         [] => Err(DecodeErr::Short),
-        [a] => Err(front(*a, 1, u32::from(*a))),
-        [a, b] => Err(front(*a, 2, u32::from(*a) + u32::from(*b) * 256)),
-        [a, b, c] => Err(front(
+        [a] => Err(decode_refusal(*a, 1, u32::from(*a))),
+        [a, b] => Err(decode_refusal(*a, 2, u32::from(*a) + u32::from(*b) * 256)),
+        [a, b, c] => Err(decode_refusal(
             *a,
             3,
             u32::from(*a) + u32::from(*b) * 256 + u32::from(*c) * 65536,
@@ -109,52 +107,31 @@ fn decode_short(bytes: &[u8]) -> Result<(Inst, usize), DecodeErr>
 {
     match bytes {
         [] => Err(DecodeErr::Short),
-        [a] => Err(front(*a, 1, u32::from(*a))),
+        [a] => Err(decode_refusal(*a, 1, u32::from(*a))),
         [a, b, ..] => short_word(*a, *b),
     }
 }
 
 /// Returns the instruction of this row if the word is one.
-pub(crate) fn inst_by(place: u8, row: &Row, w: u32) -> Option<Inst>
+pub(crate) fn decode_row_word(place: u8, row: &Row, w: u32) -> Option<Inst>
     requires { slice_get listed place ≡ Some (row_of row.now) }
     ensures some { IfSome result (Makes w) }
     ensures place { IfSome result (λ i. i.row ≡ place) }
     ensures none { IfNone result ((i : InstData) → Makes w i → i.row ≡ place → ⊥) }
 {
-    let f = split(row.form, w);
+    let f = fields_of_word(row.form, w);
     let Some(found) = inst(place, f.c, f.s1, f.s2, f.n, f.k) else {
         return None;
     };
-    if join(row.form, row.op1, row.op2, &f) != w {
+    if word_of_fields(row.form, row.op1, row.op2, &f) != w {
         return None;
     }
     Some(found)
 }
 
 /// Returns the length of an instruction whose first byte is this one: 4 bytes if it is odd, else 2.
-pub(crate) fn length_by(first: u8) -> u8
-    ensures { result ≡ need_of first }
+pub(crate) fn decoded_length(first: u8) -> u8
+    ensures { result ≡ decoded_length first }
 {
     if first % 2 == 1 { 4 } else { 2 }
-}
-
-/// Returns the instruction of the row at this place if it has these codes and the word.
-pub(crate) fn inst_at(place: u8, first: u8, second: u8, w: u32) -> Option<Inst>
-    requires place { place < ROW_COUNT }
-    requires first { first ≡ w % 256 }
-    requires second { (r : RowData) → slice_get listed place ≡ Some r → r.op1 ≡ first
-        → second ≡ second_of r.form w }
-    requires short { w % 2 ≡ 0 → w < 2 ^ 16 }
-    ensures some { IfSome result (Makes w) }
-    ensures none { IfNone result ((i : InstData) → Makes w i → i.row ≡ place → ⊥) }
-{
-    let at = usize::from(place);
-    let row = &rows()[at];
-    if row.op1 != first {
-        return None;
-    }
-    if row.op2 != second {
-        return None;
-    }
-    inst_of(place, row, w)
 }

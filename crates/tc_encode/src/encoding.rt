@@ -2,8 +2,8 @@
 ghost use Rattle.std.specs.Prelude.{◌≡◌, take, drop, All};
 ghost use Rattle.tc_isa.specs.Spelling.{Spells};
 
-use crate::decoding::length_by;
-use crate::forms::join;
+use crate::decoding::decoded_length;
+use crate::forms::word_of_fields;
 use tc_isa::{Fields, Inst, rows};
 
 /// The bytes of an instruction: the first `len` of the four; the others are 0.
@@ -26,9 +26,9 @@ pub fn encode(inst: &Inst) -> Code
         n: inst.n,
         k: inst.k,
     };
-    let word = join(row.form, row.op1, row.op2, &fields);
+    let word = word_of_fields(row.form, row.op1, row.op2, &fields);
     Code {
-        len: length_by(row.op1),
+        len: decoded_length(row.op1),
         bytes: word.to_le_bytes(),
     }
 }

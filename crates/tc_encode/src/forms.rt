@@ -1,7 +1,7 @@
 // The words of instructions, form by form.
 ghost use Rattle.std.specs.Prelude.{◌≡◌, ◌<◌, ◌^◌, ◌↔◌, IsTrue};
 ghost use Rattle.tc_isa.specs.Forms.{bounds, second_bound, fields_of, second_of};
-ghost use Rattle.tc_isa.specs.Spelling.{word};
+ghost use Rattle.tc_isa.specs.Spelling.{word_by_form};
 ghost use Rattle.tc_isa.specs.InBounds.{IsBelow};
 
 use tc_isa::{Fields, Form};
@@ -9,7 +9,7 @@ use tc_isa::{Fields, Form};
 /// Returns the fields of a word.
 #[tactic(auto, unfolding(tc_isa::specs::Forms::fields_of))]
 #[inline(always)]
-pub fn split(form: Form, w: u32) -> Fields
+pub fn fields_of_word(form: Form, w: u32) -> Fields
     requires { w < 2 ^ 32 }
     ensures { result ≡ fields_of form w }
 {
@@ -136,11 +136,11 @@ pub fn second_code(form: Form, w: u32) -> u8
 }
 
 /// Returns the word of these codes and fields.
-#[tactic(auto, unfolding(tc_isa::specs::Spelling::word, tc_isa::specs::Forms::bounds, tc_isa::specs::Forms::second_bound))]
-pub fn join(form: Form, op1: u8, op2: u8, f: &Fields) -> u32
+#[tactic(auto, unfolding(tc_isa::specs::Spelling::word_by_form, tc_isa::specs::Forms::bounds, tc_isa::specs::Forms::second_bound))]
+pub fn word_of_fields(form: Form, op1: u8, op2: u8, f: &Fields) -> u32
     requires second { op2 < second_bound form }
     requires below { IsBelow f.now (bounds form) }
-    ensures { result ≡ word form op1 op2 f.now }
+    ensures { result ≡ word_by_form form op1 op2 f.now }
 {
     let op1 = u32::from(op1);
     let op2 = u32::from(op2);

@@ -2,7 +2,7 @@
 ghost use Rattle.std.specs.Prelude.{◌≡◌, length, map, true, nat_le, nat_lt, ◌<◌, ℕ, IfSome, slice_get, Some};
 ghost use Rattle.std.specs.List.{list_all};
 ghost use Rattle.tc_isa.specs.Rows.{listed, RowData};
-ghost use Rattle.tc_encode.specs.WordSearch.{hold_all, hold_places, names_all};
+ghost use Rattle.tc_encode.specs.WordSearch.{are_in_index_ranges, are_at_index_places, is_plain_row};
 ghost use Rattle.tc_isa.specs.Forms.{form_index};
 
 use tc_isa::{Form, ROW_COUNT, rows};
@@ -36,11 +36,11 @@ static ENDS: [u8; 256] = [
 ];
 
 /// Returns the places of the first rows, and those after the last rows, by the first byte.
-pub fn groups() -> (&'static [u8; 256], &'static [u8; 256])
+pub fn index_by_first_byte() -> (&'static [u8; 256], &'static [u8; 256])
     ensures starts { length result.0.now ≡ 256 }
     ensures start_within { list_all (λ n. nat_lt n ROW_COUNT) result.0.now ≡ true }
     ensures ends { length result.1.now ≡ 256 }
-    ensures all { hold_all result.0.now result.1.now 0 listed ≡ true }
+    ensures all { are_in_index_ranges result.0.now result.1.now 0 listed ≡ true }
     ensures within { list_all (λ n. nat_le n ROW_COUNT) result.1.now ≡ true }
 {
     (&STARTS, &ENDS)
@@ -84,10 +84,10 @@ static PLACES: [u8; PLACE_COUNT] = [
 
 /// Returns for each first byte the place at which its rows begin in the list of places, and that
 /// list.
-pub fn codes() -> (&'static [u16; 256], &'static [u8; PLACE_COUNT])
+pub fn index_by_codes() -> (&'static [u16; 256], &'static [u8; PLACE_COUNT])
     ensures bases { length result.0.now ≡ 256 }
     ensures places { length result.1.now ≡ PLACE_COUNT }
-    ensures all { hold_places result.0.now result.1.now 0 listed ≡ true }
+    ensures all { are_at_index_places result.0.now result.1.now 0 listed ≡ true }
     ensures within { list_all (λ n. nat_lt n ROW_COUNT) result.1.now ≡ true }
 {
     (&BASES, &PLACES)
@@ -242,18 +242,18 @@ static PLAIN: [bool; ROW_COUNT] = [
 /// Returns for each row, in the order of the rows, whether it has all fields of its form.
 #[tactic(auto, unfolding(tc_isa::specs::Forms::bounds))]
 pub fn plain_rows() -> &'static [bool; ROW_COUNT]
-    ensures { result.now ≡ map names_all listed }
+    ensures { result.now ≡ map is_plain_row listed }
 {
     &PLAIN
 }
 
 /// Returns the place of the row with these codes, if there is one.
-pub(crate) fn place_by(first: u8, second: u8) -> Option<u8>
+pub(crate) fn place_in_code_index(first: u8, second: u8) -> Option<u8>
     ensures within { IfSome result (λ p. p < ROW_COUNT) }
     ensures only { (place : ℕ) (r : RowData) → slice_get listed place ≡ Some r → r.op1 ≡ first
         → r.op2 ≡ second → result ≡ Some place }
 {
-    let (bases, places) = codes();
+    let (bases, places) = index_by_codes();
     let at = usize::from(bases[usize::from(first)]) + usize::from(second);
     if at < places.len() {
         Some(places[at])
@@ -267,6 +267,6 @@ pub(crate) fn form_by(first: u8) -> Form
     ensures { (place : ℕ) (r : RowData) → slice_get listed place ≡ Some r → r.op1 ≡ first
         → form_index r.form ≡ form_index result }
 {
-    let (starts, _) = groups();
+    let (starts, _) = index_by_first_byte();
     rows()[usize::from(starts[usize::from(first)])].form
 }

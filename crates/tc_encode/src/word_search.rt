@@ -5,25 +5,26 @@ ghost use Rattle.tc_isa.specs.Forms.{second_of, bounds};
 ghost use Rattle.tc_isa.specs.InBounds.{IsBelow};
 ghost use Rattle.tc_isa.specs.ValidRows.{uses_of, rest_is_zero};
 ghost use Rattle.tc_isa.specs.Insts.{InstData};
-ghost use Rattle.tc_encode.specs.WordSearch.{Makes, has_no_gap};
+ghost use Rattle.tc_encode.specs.WordSearch.{Makes, has_zero_word_gaps};
 
-use crate::decoding::inst_at;
-use crate::forms::{second_code, split};
-use crate::index::{codes, form_by, place_by, plain_rows};
-use tc_isa::{Fields, Form, Inst, ROW_COUNT, Row, is_zero_elsewhere, parts_differ, rows, uses};
+use crate::forms::{fields_of_word, second_code};
+use crate::index::{form_by, index_by_codes, place_in_code_index, plain_rows};
+use tc_isa::{
+    Fields, Form, Inst, ROW_COUNT, Row, are_registers_apart, is_zero_elsewhere, rows, uses,
+};
 
 /// Returns the instruction of a word, which has 16 bits if its lowest byte is even.
-pub fn find(w: u32) -> Option<Inst>
+pub fn find_by_word(w: u32) -> Option<Inst>
     requires { w % 2 ≡ 0 → w < 2 ^ 16 }
     ensures some { IfSome result (Makes w) }
     ensures none { IfNone result ((i : InstData) → Makes w i → ⊥) }
 {
     let first = (w % 256) as u8;
     let second = second_by(first, w);
-    let Some(place) = place_by(first, second) else {
+    let Some(place) = place_in_code_index(first, second) else {
         return None;
     };
-    inst_at(place, first, second, w)
+    find_word_at(place, first, second, w)
 }
 
 /// Returns the second code of the word, in the form of the rows that begin with this byte.
@@ -36,7 +37,7 @@ fn second_by(first: u8, w: u32) -> u8
 
 /// Returns the instruction of this row, which has the word's codes, if the rest of the word is its
 /// spelling.
-pub(crate) fn inst_of(place: u8, row: &Row, w: u32) -> Option<Inst>
+pub(crate) fn find_word_in_row(place: u8, row: &Row, w: u32) -> Option<Inst>
     requires place { slice_get listed place ≡ Some (row_of row.now) }
     requires within { place < ROW_COUNT }
     requires first { row.now.op1 ≡ w % 256 }
@@ -45,14 +46,14 @@ pub(crate) fn inst_of(place: u8, row: &Row, w: u32) -> Option<Inst>
     ensures some { IfSome result (Makes w) }
     ensures none { IfNone result ((i : InstData) → Makes w i → i.row ≡ place → ⊥) }
 {
-    let f = split(row.form, w);
-    if !is_full(row.form, w) {
+    let f = fields_of_word(row.form, w);
+    if !has_zero_word_gaps(row.form, w) {
         return None;
     }
-    if !has_no_other(place, row, &f) {
+    if !has_zero_other_fields(place, row, &f) {
         return None;
     }
-    if !parts_differ(row, &f) {
+    if !are_registers_apart(row, &f) {
         return None;
     }
     Some(Inst {
@@ -65,10 +66,10 @@ pub(crate) fn inst_of(place: u8, row: &Row, w: u32) -> Option<Inst>
     })
 }
 
-/// Returns true if all bits that the form has for no field are 0.
-#[tactic(auto, unfolding(crate::specs::WordSearch::has_no_gap))]
-fn is_full(form: Form, w: u32) -> bool
-    ensures { result ≡ has_no_gap form w }
+/// Returns true if all bits of a word that its form has for no field are 0.
+#[tactic(auto, unfolding(crate::specs::WordSearch::has_zero_word_gaps))]
+fn has_zero_word_gaps(form: Form, w: u32) -> bool
+    ensures { result ≡ has_zero_word_gaps form w }
 {
     match form {
         Form::Rr => w / 262_144 % 4 == 0,
@@ -77,8 +78,8 @@ fn is_full(form: Form, w: u32) -> bool
     }
 }
 
-/// Returns true if the fields that the row at this place doesn't have are 0.
-fn has_no_other(place: u8, row: &Row, f: &Fields) -> bool
+/// Returns true if the fields of a word that the row at this place doesn't have are 0.
+fn has_zero_other_fields(place: u8, row: &Row, f: &Fields) -> bool
     requires place { slice_get listed place ≡ Some (row_of row.now) }
     requires within { place < ROW_COUNT }
     requires below { IsBelow f.now (bounds row.now.form) }
@@ -86,4 +87,25 @@ fn has_no_other(place: u8, row: &Row, f: &Fields) -> bool
 {
     let at = usize::from(place);
     plain_rows()[at] || is_zero_elsewhere(&uses()[at], f)
+}
+
+/// Returns the instruction of the row at this place if it has these codes and the word.
+pub(crate) fn find_word_at(place: u8, first: u8, second: u8, w: u32) -> Option<Inst>
+    requires place { place < ROW_COUNT }
+    requires first { first ≡ w % 256 }
+    requires second { (r : RowData) → slice_get listed place ≡ Some r → r.op1 ≡ first
+        → second ≡ second_of r.form w }
+    requires short { w % 2 ≡ 0 → w < 2 ^ 16 }
+    ensures some { IfSome result (Makes w) }
+    ensures none { IfNone result ((i : InstData) → Makes w i → i.row ≡ place → ⊥) }
+{
+    let at = usize::from(place);
+    let row = &rows()[at];
+    if row.op1 != first {
+        return None;
+    }
+    if row.op2 != second {
+        return None;
+    }
+    find_word_in_row(place, row, w)
 }

@@ -13,8 +13,8 @@ use Rattle.tc_isa.specs.Rows.{listed}
 use Rattle.tc_isa.specs.Forms.{bounds}
 use Rattle.tc_isa.specs.InBounds.{IsBelow, AreSmall}
 use Rattle.tc_isa.specs.Insts.{InstData, IsInst, fields_in}
-use Rattle.tc_isa.specs.Meanings.{Line, meanings, by_line, shape_of}
-use Rattle.tc_isa.specs.FromFields.{meant}
+use Rattle.tc_isa.specs.Meanings.{MeaningLine, meanings, meaning_by_line, shape_of}
+use Rattle.tc_isa.specs.FromFields.{shape_from_fields}
 
 -- bounds of the fields of a form
 small_in : (form : Form) (f : Fields) → IsBelow f (bounds form) → AreSmall f
@@ -34,18 +34,18 @@ count_meanings = refl
 pub row_below : (i : InstData) → IsInst i → i.row < ROW_COUNT
 row_below i is = subst (λ n. i.row < n) count_listed (slice_get_within listed i.row is.row is.at)
 
-pub meanings_enough : (ms : List Meaning) (p : ℕ) (i : InstData) → map meant ms ≡ map (λ l. l.shape) meanings → p ≡ i.row → IsInst i → p < length ms
+pub meanings_enough : (ms : List Meaning) (p : ℕ) (i : InstData) → map shape_from_fields ms ≡ map (λ l. l.shape) meanings → p ≡ i.row → IsInst i → p < length ms
 meanings_enough ms p i are same is =
-    let count : length ms ≡ ROW_COUNT = sym (length-map ms meant) ∙ ap length are ∙ length-map meanings (λ (l : Line). l.shape) ∙ count_meanings in
+    let count : length ms ≡ ROW_COUNT = sym (length-map ms shape_from_fields) ∙ ap length are ∙ length-map meanings (λ (l : MeaningLine). l.shape) ∙ count_meanings in
     omega (arith, count, row_below i is, same)
 
-pub shaped : (ms : List Meaning) (p : ℕ) (d : Meaning) (i : InstData) → map meant ms ≡ map (λ l. l.shape) meanings → p ≡ i.row → IsInst i → meant (get_or ms p d) (fields_in i) ≡ shape_of i
+pub shaped : (ms : List Meaning) (p : ℕ) (d : Meaning) (i : InstData) → map shape_from_fields ms ≡ map (λ l. l.shape) meanings → p ≡ i.row → IsInst i → shape_from_fields (get_or ms p d) (fields_in i) ≡ shape_of i
 unfolding shape_of
 shaped ms p d i are same is =
     let within = meanings_enough ms p i are same is in
-    let e : Line = record { name = []; shape = meant d } in
+    let e : MeaningLine = record { name = []; shape = shape_from_fields d } in
     let there : p < length meanings = omega (arith, row_below i is, same, count_meanings) in
-    let one : meant (get_or ms p d) ≡ (get_or meanings p e).shape =
-    sym (get_or-map meant ms p d (meant d) within) ∙ ap (λ (fs : List (Fields → Shape)). get_or fs p (meant d)) are ∙ get_or-map (λ (l : Line). l.shape) meanings p e (meant d) there in
-    let line : by_line (slice_get meanings i.row) ≡ (get_or meanings p e).shape = ap (λ q. by_line (slice_get meanings q)) (sym same) ∙ ap by_line (slice_get-get_or meanings p e there) in
+    let one : shape_from_fields (get_or ms p d) ≡ (get_or meanings p e).shape =
+    sym (get_or-map shape_from_fields ms p d (shape_from_fields d) within) ∙ ap (λ (fs : List (Fields → Shape)). get_or fs p (shape_from_fields d)) are ∙ get_or-map (λ (l : MeaningLine). l.shape) meanings p e (shape_from_fields d) there in
+    let line : meaning_by_line (slice_get meanings i.row) ≡ (get_or meanings p e).shape = ap (λ q. meaning_by_line (slice_get meanings q)) (sym same) ∙ ap meaning_by_line (slice_get-get_or meanings p e there) in
     ap (λ (m : Fields → Shape). m (fields_in i)) (one ∙ sym line)

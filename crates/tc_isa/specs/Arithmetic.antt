@@ -11,9 +11,9 @@ use Rattle.tc_isa.specs.declared.shapes.Cond.TheVariants as cond
 abbrev pub sign_extended : ℕ → ℕ → ℕ
 sign_extended n x = sext_of x n
 
--- a word's position in the signed order: positions compare as the signed words do
-abbrev pub signed_place : ℕ → ℕ
-signed_place x = (x + 2 ^ 31) % 2 ^ 32
+-- a word's position in the order of signed words: positions compare as the signed words do
+abbrev pub signed_order_place : ℕ → ℕ
+signed_order_place x = (x + 2 ^ 31) % 2 ^ 32
 
 -- the word with all bits inverted
 abbrev pub complement : ℕ → ℕ
@@ -23,9 +23,9 @@ complement x = 2 ^ 32 - 1 - x
 unfoldable pub taken_of : Cond → ℕ → ℕ → Bool
 taken_of cond.Eq x y = x == y
 taken_of cond.Ne x y = not (x == y)
-taken_of cond.Lt x y = nat_lt (signed_place x) (signed_place y)
+taken_of cond.Lt x y = nat_lt (signed_order_place x) (signed_order_place y)
 taken_of cond.LtU x y = nat_lt x y
-taken_of cond.Ge x y = nat_le (signed_place y) (signed_place x)
+taken_of cond.Ge x y = nat_le (signed_order_place y) (signed_order_place x)
 taken_of cond.GeU x y = nat_le y x
 
 -- 1 for true, else 0
@@ -56,13 +56,13 @@ alu_of op.Andn x y = bit_and x (complement y)
 alu_of op.Orn x y = bit_or x (complement y)
 alu_of op.Eq x y = one_if (x == y)
 alu_of op.Ne x y = one_if (not (x == y))
-alu_of op.Lt x y = one_if (nat_lt (signed_place x) (signed_place y))
+alu_of op.Lt x y = one_if (nat_lt (signed_order_place x) (signed_order_place y))
 alu_of op.LtU x y = one_if (nat_lt x y)
-alu_of op.Ge x y = one_if (nat_le (signed_place y) (signed_place x))
+alu_of op.Ge x y = one_if (nat_le (signed_order_place y) (signed_order_place x))
 alu_of op.GeU x y = one_if (nat_le y x)
 alu_of op.Sh x y = shift_by x (y % 64)
 alu_of op.Sha x y = shifted_signed x (y % 64)
 
--- the low two bytes of a, and the rest of b
-abbrev pub mix2 : ℕ → ℕ → ℕ
-mix2 a b = a % 2 ^ 16 + b / 2 ^ 16 * 2 ^ 16
+-- the word with the low two bytes of a, and the rest of b
+abbrev pub mix_two_bytes : ℕ → ℕ → ℕ
+mix_two_bytes a b = a % 2 ^ 16 + b / 2 ^ 16 * 2 ^ 16

@@ -4,11 +4,11 @@ use Rattle.tc_isa.specs.declared.fields.Fields.{Fields}
 use Rattle.tc_isa.specs.declared.table.Form.{Form}
 use Rattle.tc_isa.specs.declared.table.Form.TheVariants.{Rlc, Rr, Rc, Bol, Bo, Brr, Brc, B, Abs, Sys, Sr, Sc, Sb, Sbr, Src, Srr, Slr, Ssr}
 
--- the fields c, s1, s2, n and k
+-- the fields c, s1, s2, n and k that the forms of instructions have places for
 abbrev pub fields : ℕ → ℕ → ℕ → ℕ → ℕ → Fields
 fields c s1 s2 n k = record { c = c; s1 = s1; s2 = s2; n = n; k = k }
 
--- the bounds of a form's fields
+-- the bounds of the fields of a form; 1 for a field that it doesn't have
 unfoldable pub bounds : Form → Fields
 bounds Rlc = fields 16 16 1 1 65536
 bounds Rr = fields 16 16 16 4 1
@@ -71,7 +71,7 @@ fields_of Srr w = fields (0) (w / 2 ^ 8 % 16) (w / 2 ^ 12 % 16) (0) (0)
 fields_of Slr w = fields (0) (w / 2 ^ 8 % 16) (w / 2 ^ 12 % 16) (0) (0)
 fields_of Ssr w = fields (0) (w / 2 ^ 8 % 16) (w / 2 ^ 12 % 16) (0) (0)
 
--- the second code of the number of an instruction
+-- the second code of the number of an instruction, at the place that its form gives
 unfoldable pub second_of : Form → ℕ → ℕ
 second_of Rlc w = 0
 second_of Rr w = w / 2 ^ 20 % 256

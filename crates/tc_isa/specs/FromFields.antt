@@ -20,61 +20,61 @@ use Rattle.tc_isa.specs.declared.shapes.Target.TheVariants as target
 use Rattle.tc_isa.specs.declared.shapes.Shape.{Shape}
 use Rattle.tc_isa.specs.declared.shapes.Shape.TheVariants.{Compute, Scaled, Load, Store, Branch, Jump, Call, Bisr, Syscall, Mfcr, Mtcr}
 use Rattle.tc_isa.specs.Arithmetic.{sign_extended}
-use Rattle.tc_isa.specs.Meanings.{d, a, sk, uk, high, place, code_place, doubled_displacement, ahead_only}
+use Rattle.tc_isa.specs.Meanings.{d, a, sk, uk, high_constant, address_in_constant, code_address_in_constant, doubled_displacement, ahead_only}
 
 -- the register that a field names, or a fixed one
-abbrev pub register_of : RegField → Fields → ℕ
-register_of Dc f = d f.c
-register_of Ds1 f = d f.s1
-register_of Ds2 f = d f.s2
-register_of D15 f = d 15
-register_of Ac f = a f.c
-register_of As1 f = a f.s1
-register_of As2 f = a f.s2
-register_of A10 f = a 10
+abbrev pub shape_register : RegField → Fields → ℕ
+shape_register Dc f = d f.c
+shape_register Ds1 f = d f.s1
+shape_register Ds2 f = d f.s2
+shape_register D15 f = d 15
+shape_register Ac f = a f.c
+shape_register As1 f = a f.s1
+shape_register As2 f = a f.s2
+shape_register A10 f = a 10
 
--- the word of a constant
-abbrev pub word_at : Immediate → Fields → ℕ
-word_at Zero f = 0
-word_at Signed4 f = sk 4 f
-word_at Signed9 f = sk 9 f
-word_at Signed10 f = sk 10 f
-word_at Signed16 f = sk 16 f
-word_at Unsigned f = uk f
-word_at High f = high f
-word_at Address f = place f
-word_at SignedS2 f = sign_extended 4 (f.s2 % 2 ^ 4)
-word_at UnsignedS2 f = f.s2
+-- the word of a constant, from the fields
+abbrev pub shape_constant : Immediate → Fields → ℕ
+shape_constant Zero f = 0
+shape_constant Signed4 f = sk 4 f
+shape_constant Signed9 f = sk 9 f
+shape_constant Signed10 f = sk 10 f
+shape_constant Signed16 f = sk 16 f
+shape_constant Unsigned f = uk f
+shape_constant High f = high_constant f
+shape_constant Address f = address_in_constant f
+shape_constant SignedS2 f = sign_extended 4 (f.s2 % 2 ^ 4)
+shape_constant UnsignedS2 f = f.s2
 
--- the operand: a register, or the word of a constant
-abbrev pub operand_of : Operand → Fields → Arg
-operand_of (At p) f = Reg (register_of p f)
-operand_of (Of c) f = Word (word_at c f)
+-- an operand from the fields: a register, or the word of a constant
+abbrev pub shape_operand : Operand → Fields → Arg
+shape_operand (At p) f = Reg (shape_register p f)
+shape_operand (Of c) f = Word (shape_constant c f)
 
--- a distance in bytes
-abbrev pub distance_of : Displacement → Fields → ℕ
-distance_of Ahead8 f = doubled_displacement 8 f
-distance_of Ahead15 f = doubled_displacement 15 f
-distance_of Ahead24 f = doubled_displacement 24 f
-distance_of AheadOnly f = ahead_only f
+-- the distance in bytes of a jump or a branch, from its displacement
+abbrev pub shape_distance : Displacement → Fields → ℕ
+shape_distance Ahead8 f = doubled_displacement 8 f
+shape_distance Ahead15 f = doubled_displacement 15 f
+shape_distance Ahead24 f = doubled_displacement 24 f
+shape_distance AheadOnly f = ahead_only f
 
--- the target of a jump or a call
-abbrev pub goal_of : Destination → Fields → Target
-goal_of (By b) f = target.Rel (distance_of b f)
-goal_of Code f = target.Abs (code_place f)
-goal_of (In p) f = target.Reg (register_of p f)
+-- the target of a jump or a call, from the fields
+abbrev pub shape_target : Destination → Fields → Target
+shape_target (By b) f = target.Rel (shape_distance b f)
+shape_target Code f = target.Abs (code_address_in_constant f)
+shape_target (In p) f = target.Reg (shape_register p f)
 
 -- what the instruction does, with these fields
-abbrev pub meant : Meaning → Fields → Shape
-meant (Computes op dst x y) f = Compute op (register_of dst f) (operand_of x f) (operand_of y f)
-meant (Scales dst base index) f = Scaled (register_of dst f) (register_of base f) (register_of index f) f.n
-meant (Loads dst base offset size sign after) f = Load (register_of dst f) (operand_of base f) (word_at offset f) size sign after
-meant (Stores src base offset size after) f = Store (register_of src f) (operand_of base f) (word_at offset f) size after
-meant (Branches cond x y by lowers) f = Branch cond (register_of x f) (operand_of y f) (distance_of by f) lowers
-meant (Jumps to) f = Jump (goal_of to f)
-meant (Calls to) f = Call (goal_of to f)
-meant Masks f = Bisr (uk f % 256)
-meant Traps f = Syscall (uk f % 256)
-meant (ReadsCore dst) f = Mfcr (register_of dst f) (uk f % 2 ^ 16)
-meant (WritesCore src) f = Mtcr (register_of src f) (uk f % 2 ^ 16)
-meant (Always s) f = s
+abbrev pub shape_from_fields : Meaning → Fields → Shape
+shape_from_fields (Computes op dst x y) f = Compute op (shape_register dst f) (shape_operand x f) (shape_operand y f)
+shape_from_fields (Scales dst base index) f = Scaled (shape_register dst f) (shape_register base f) (shape_register index f) f.n
+shape_from_fields (Loads dst base offset size sign after) f = Load (shape_register dst f) (shape_operand base f) (shape_constant offset f) size sign after
+shape_from_fields (Stores src base offset size after) f = Store (shape_register src f) (shape_operand base f) (shape_constant offset f) size after
+shape_from_fields (Branches cond x y by lowers) f = Branch cond (shape_register x f) (shape_operand y f) (shape_distance by f) lowers
+shape_from_fields (Jumps to) f = Jump (shape_target to f)
+shape_from_fields (Calls to) f = Call (shape_target to f)
+shape_from_fields Masks f = Bisr (uk f % 256)
+shape_from_fields Traps f = Syscall (uk f % 256)
+shape_from_fields (ReadsCore dst) f = Mfcr (shape_register dst f) (uk f % 2 ^ 16)
+shape_from_fields (WritesCore src) f = Mtcr (shape_register src f) (uk f % 2 ^ 16)
+shape_from_fields (Always s) f = s

@@ -26,15 +26,15 @@ IsTarget (target.Abs w) = IsWord w
 IsTarget (target.Reg r) = IsRegister r
 
 -- the size of an access in bytes
-abbrev pub IsSize : ℕ → Type 0
-IsSize n = (n ≡ 1) ⊎ ((n ≡ 2) ⊎ (n ≡ 4))
+abbrev pub IsShapeAccessSize : ℕ → Type 0
+IsShapeAccessSize n = (n ≡ 1) ⊎ ((n ≡ 2) ⊎ (n ≡ 4))
 
 -- the registers, words, sizes and numbers of a shape are within their bounds
 abbrev pub IsShape : Shape → Type 0
 IsShape (Compute op dst x y) = IsRegister dst × IsArg x × IsArg y
 IsShape (Scaled dst base index n) = IsRegister dst × IsRegister base × IsRegister index × (n < 4)
-IsShape (Load dst base offset size sign after) = IsRegister dst × IsArg base × IsWord offset × IsSize size
-IsShape (Store src base offset size after) = IsRegister src × IsArg base × IsWord offset × IsSize size
+IsShape (Load dst base offset size sign after) = IsRegister dst × IsArg base × IsWord offset × IsShapeAccessSize size
+IsShape (Store src base offset size after) = IsRegister src × IsArg base × IsWord offset × IsShapeAccessSize size
 IsShape (Branch cond x y by lowers) = IsRegister x × IsArg y × IsWord by
 IsShape (Jump to) = IsTarget to
 IsShape (Call to) = IsTarget to

@@ -24,27 +24,28 @@ a n = 16 + n
 abbrev pub sk : ℕ → Fields → ℕ
 sk n f = sign_extended n (f.k % 2 ^ n)
 
--- the constant k itself
+-- the unsigned constant: k itself
 abbrev pub uk : Fields → ℕ
 uk f = f.k
 
 -- the constant k times 2 ^ 16
-abbrev pub high : Fields → ℕ
-high f = f.k * 2 ^ 16 % 2 ^ 32
+abbrev pub high_constant : Fields → ℕ
+high_constant f = f.k * 2 ^ 16 % 2 ^ 32
 
--- the address that the 18 bits of k encode: four bits of segment, and 14 of offset
-abbrev pub place : Fields → ℕ
-place f = f.k / 2 ^ 14 % 2 ^ 4 * 2 ^ 28 + f.k % 2 ^ 14
+-- the absolute address that the 18 bits of k encode: four bits of segment, and 14 of offset
+abbrev pub address_in_constant : Fields → ℕ
+address_in_constant f = f.k / 2 ^ 14 % 2 ^ 4 * 2 ^ 28 + f.k % 2 ^ 14
 
--- the address that the 24 bits of k encode: four bits of segment, and 20 of offset in halfwords
-abbrev pub code_place : Fields → ℕ
-code_place f = f.k / 2 ^ 20 % 2 ^ 4 * 2 ^ 28 + f.k % 2 ^ 20 * 2
+-- the absolute address that the 24 bits of k encode in ja and calla: four bits of segment, and 20
+-- of offset in halfwords
+abbrev pub code_address_in_constant : Fields → ℕ
+code_address_in_constant f = f.k / 2 ^ 20 % 2 ^ 4 * 2 ^ 28 + f.k % 2 ^ 20 * 2
 
--- twice the displacement k of n bits, sign-extended
+-- the distance of a jump, a call or a branch: twice the displacement k of n bits, sign-extended
 abbrev pub doubled_displacement : ℕ → Fields → ℕ
 doubled_displacement n f = 2 * sk n f % 2 ^ 32
 
--- twice the displacement k, not sign-extended
+-- the distance of a branch that only goes forwards: twice the displacement k, not sign-extended
 abbrev pub ahead_only : Fields → ℕ
 ahead_only f = 2 * f.k % 2 ^ 32
 
@@ -98,24 +99,24 @@ abbrev pub branch_unsigned : Cond → Meaning
 branch_unsigned c f = Branch c (d f.s1) (Word f.s2) (doubled_displacement 15 f) false
 
 -- a row's name, and its meaning
-pub record Line : Type 0 where
+pub record MeaningLine : Type 0 where
   pub name : List ℕ
   pub shape : Meaning
 
 -- the line of a name and a meaning
-abbrev pub line : List ℕ → Meaning → Line
+abbrev pub line : List ℕ → Meaning → MeaningLine
 line name shape = record { name = name; shape = shape }
 
 -- the meaning of each row, in the order of the rows
-abbrev pub meanings : List Line
+abbrev pub meanings : List MeaningLine
 meanings =
     line (codes "addi") (λ f. Compute Add (d f.c) (Reg (d f.s1)) (Word (sk 16 f))) ∷
-    line (codes "addih") (λ f. Compute Add (d f.c) (Reg (d f.s1)) (Word (high f))) ∷
-    line (codes "addih.a") (λ f. Compute Add (a f.c) (Reg (a f.s1)) (Word (high f))) ∷
+    line (codes "addih") (λ f. Compute Add (d f.c) (Reg (d f.s1)) (Word (high_constant f))) ∷
+    line (codes "addih.a") (λ f. Compute Add (a f.c) (Reg (a f.s1)) (Word (high_constant f))) ∷
     line (codes "mov") (λ f. Compute Second (d f.c) (Word 0) (Word (sk 16 f))) ∷
     line (codes "mov.u") (λ f. Compute Second (d f.c) (Word 0) (Word (uk f))) ∷
-    line (codes "movh") (λ f. Compute Second (d f.c) (Word 0) (Word (high f))) ∷
-    line (codes "movh.a") (λ f. Compute Second (a f.c) (Word 0) (Word (high f))) ∷
+    line (codes "movh") (λ f. Compute Second (d f.c) (Word 0) (Word (high_constant f))) ∷
+    line (codes "movh.a") (λ f. Compute Second (a f.c) (Word 0) (Word (high_constant f))) ∷
     line (codes "mfcr") (λ f. Mfcr (d f.c) (uk f % 2 ^ 16)) ∷
     line (codes "mtcr") (λ f. Mtcr (d f.s1) (uk f % 2 ^ 16)) ∷
     line (codes "add") (registers Add) ∷
@@ -194,11 +195,11 @@ meanings =
     line (codes "ld.a.l") (λ f. Load (a f.s1) (Reg (a f.s2)) (sk 16 f) 4 false false) ∷
     line (codes "st.w.l") (λ f. Store (d f.s1) (Reg (a f.s2)) (sk 16 f) 4 false) ∷
     line (codes "lea.l") (λ f. Compute Add (a f.s1) (Reg (a f.s2)) (Word (sk 16 f))) ∷
-    line (codes "ld.w") (λ f. Load (d f.s1) (Word (place f)) 0 4 false false) ∷
-    line (codes "ld.a") (λ f. Load (a f.s1) (Word (place f)) 0 4 false false) ∷
-    line (codes "st.w") (λ f. Store (d f.s1) (Word (place f)) 0 4 false) ∷
-    line (codes "st.a") (λ f. Store (a f.s1) (Word (place f)) 0 4 false) ∷
-    line (codes "lea") (λ f. Compute Second (a f.s1) (Word 0) (Word (place f))) ∷
+    line (codes "ld.w") (λ f. Load (d f.s1) (Word (address_in_constant f)) 0 4 false false) ∷
+    line (codes "ld.a") (λ f. Load (a f.s1) (Word (address_in_constant f)) 0 4 false false) ∷
+    line (codes "st.w") (λ f. Store (d f.s1) (Word (address_in_constant f)) 0 4 false) ∷
+    line (codes "st.a") (λ f. Store (a f.s1) (Word (address_in_constant f)) 0 4 false) ∷
+    line (codes "lea") (λ f. Compute Second (a f.s1) (Word 0) (Word (address_in_constant f))) ∷
     line (codes "jeq") (branch cond.Eq) ∷
     line (codes "jne") (branch cond.Ne) ∷
     line (codes "jlt") (branch cond.Lt) ∷
@@ -217,9 +218,9 @@ meanings =
     line (codes "jlt.u") (branch_unsigned cond.LtU) ∷
     line (codes "jge.u") (branch_unsigned cond.GeU) ∷
     line (codes "call") (λ f. Call (target.Rel (doubled_displacement 24 f))) ∷
-    line (codes "calla") (λ f. Call (target.Abs (code_place f))) ∷
+    line (codes "calla") (λ f. Call (target.Abs (code_address_in_constant f))) ∷
     line (codes "j") (λ f. Jump (target.Rel (doubled_displacement 24 f))) ∷
-    line (codes "ja") (λ f. Jump (target.Abs (code_place f))) ∷
+    line (codes "ja") (λ f. Jump (target.Abs (code_address_in_constant f))) ∷
     line (codes "nop16") (λ f. Nothing) ∷
     line (codes "rfe16") (λ f. Rfe) ∷
     line (codes "ret16") (λ f. Ret) ∷
@@ -254,10 +255,10 @@ meanings =
     []
 
 -- the meaning of a line with these fields; Nothing if there is no line
-abbrev pub by_line : Option Line → Fields → Shape
-by_line None f = Nothing
-by_line (Some l) f = l.shape f
+abbrev pub meaning_by_line : Option MeaningLine → Fields → Shape
+meaning_by_line None f = Nothing
+meaning_by_line (Some l) f = l.shape f
 
--- what an instruction does: the meaning of its row, with its fields
+-- what an instruction does, by the table of meanings: the meaning of its row, with its fields
 unfoldable pub shape_of : InstData → Shape
-shape_of i = by_line (slice_get meanings i.row) (fields_in i)
+shape_of i = meaning_by_line (slice_get meanings i.row) (fields_in i)

@@ -9,8 +9,8 @@ abbrev pub instruction : ℕ → ℕ → ℕ → ℕ → ℕ → ℕ → InstDat
 instruction row c s1 s2 n k = record { row = row; c = c; s1 = s1; s2 = s2; n = n; k = k }
 
 -- the instruction of a row without operands
-abbrev pub plain : ℕ → InstData
-plain row = instruction row 0 0 0 0 0
+abbrev pub bare_instruction : ℕ → InstData
+bare_instruction row = instruction row 0 0 0 0 0
 
 -- ---- constants and registers
 -- addi Dc, Ds1, k: the sum with a signed constant of 16 bits
@@ -52,11 +52,11 @@ mtcr number s1 = instruction 8 0 s1 0 0 number
 
 -- isync: what was written to core registers holds from here on
 abbrev pub isync : InstData
-isync = plain 59
+isync = bare_instruction 59
 
 -- disable: interrupts are off from here on
 abbrev pub disable : InstData
-disable = plain 57
+disable = bare_instruction 57
 
 -- ---- memory
 -- ld.w Ds1, [As2]k with an offset of 16 bits
@@ -73,16 +73,16 @@ st_w_after s2 k s1 = instruction 74 0 s1 s2 0 k
 
 -- svlcx: the lower context is saved
 abbrev pub svlcx : InstData
-svlcx = plain 54
+svlcx = bare_instruction 54
 
 -- rslcx: the lower context is restored
 abbrev pub rslcx : InstData
-rslcx = plain 55
+rslcx = bare_instruction 55
 
 -- ---- what comes next
 -- nop
 abbrev pub nop : InstData
-nop = plain 51
+nop = bare_instruction 51
 
 -- jne Ds1, constant, k: a jump by twice the signed field k unless the register is the signed
 -- constant of 4 bits
@@ -100,14 +100,14 @@ ji s1 = instruction 50 0 s1 0 0 0
 
 -- ret: a return from a call
 abbrev pub ret : InstData
-ret = plain 52
+ret = bare_instruction 52
 
 -- ---- words in halves
--- the lower half of a word
+-- the lower half of a word, for an instruction addi or lea that adds it to the upper half
 abbrev pub lower_half : ℕ → ℕ
 lower_half x = x % 2 ^ 16
 
--- The upper half of a word, plus one if the lower half is negative as a signed number. With the
--- signed lower half added, it is the word.
+-- The upper half of a word for an instruction movh or movh.a, plus one if the lower half is
+-- negative as a signed number. With the signed lower half added, it is the word.
 abbrev pub upper_half : ℕ → ℕ
 upper_half x = (x + 0x8000) / 2 ^ 16 % 2 ^ 16

@@ -37,10 +37,10 @@ is_reloc kind = nat_le rel24 kind && nat_le kind word32
 
 -- a relocation of this kind fills the constant of an instruction of this form (TriCore 1
 -- architecture manual, volume 2, instruction formats)
-unfoldable pub fills : Form → ℕ → Bool
-fills B kind = kind == rel24 || kind == abs24
-fills Brr kind = kind == rel15
-fills Brc kind = kind == rel15
-fills Rlc kind = kind == hi16 || kind == lo16
-fills Bol kind = kind == offset16
-fills form kind = false
+unfoldable pub can_relocation_fill : Form → ℕ → Bool
+can_relocation_fill B kind = kind == rel24 || kind == abs24
+can_relocation_fill Brr kind = kind == rel15
+can_relocation_fill Brc kind = kind == rel15
+can_relocation_fill Rlc kind = kind == hi16 || kind == lo16
+can_relocation_fill Bol kind = kind == offset16
+can_relocation_fill form kind = false

@@ -7,30 +7,30 @@ use Rattle.tcd_base.specs.Bytes.{four_bytes, two_bytes}
 use Rattle.tc_isa.specs.declared.table.Form.{Form}
 use Rattle.tc_isa.specs.declared.table.Form.TheVariants.{Rlc, Rr, Rc, Bol, Bo, Brr, Brc, B, Abs, Sys, Sr, Sc, Sb, Sbr, Src, Srr, Slr, Ssr}
 
--- the bytes of an instruction as one number, the first byte lowest
-unfoldable pub word : Form → ℕ → ℕ → Fields → ℕ
-word Rlc op1 op2 f = f.c * 2 ^ 28 + f.k * 2 ^ 12 + f.s1 * 2 ^ 8 + op1
-word Rr op1 op2 f = f.c * 2 ^ 28 + op2 * 2 ^ 20 + f.n * 2 ^ 16 + f.s2 * 2 ^ 12 + f.s1 * 2 ^ 8 + op1
-word Rc op1 op2 f = f.c * 2 ^ 28 + op2 * 2 ^ 21 + f.k * 2 ^ 12 + f.s1 * 2 ^ 8 + op1
-word Bol op1 op2 f = f.k / 64 % 16 * 2 ^ 28 + f.k / 1024 * 2 ^ 22 + f.k % 64 * 2 ^ 16 + f.s2 * 2 ^ 12 + f.s1 * 2 ^ 8 + op1
-word Bo op1 op2 f = f.k / 64 * 2 ^ 28 + op2 * 2 ^ 22 + f.k % 64 * 2 ^ 16 + f.s2 * 2 ^ 12 + f.s1 * 2 ^ 8 + op1
-word Brr op1 op2 f = op2 * 2 ^ 31 + f.k * 2 ^ 16 + f.s2 * 2 ^ 12 + f.s1 * 2 ^ 8 + op1
-word Brc op1 op2 f = op2 * 2 ^ 31 + f.k * 2 ^ 16 + f.s2 * 2 ^ 12 + f.s1 * 2 ^ 8 + op1
-word B op1 op2 f = f.k % 2 ^ 16 * 2 ^ 16 + f.k / 2 ^ 16 * 2 ^ 8 + op1
-word Abs op1 op2 f = f.k / 64 % 16 * 2 ^ 28 + op2 * 2 ^ 26 + f.k / 1024 % 16 * 2 ^ 22 + f.k % 64 * 2 ^ 16 + f.k / 2 ^ 14 * 2 ^ 12 + f.s1 * 2 ^ 8 + op1
-word Sys op1 op2 f = op2 * 2 ^ 22 + op1
-word Sr op1 op2 f = op2 * 2 ^ 12 + f.s1 * 2 ^ 8 + op1
-word Sc op1 op2 f = f.k * 2 ^ 8 + op1
-word Sb op1 op2 f = f.k * 2 ^ 8 + op1
-word Sbr op1 op2 f = f.s2 * 2 ^ 12 + f.k * 2 ^ 8 + op1
-word Src op1 op2 f = f.k * 2 ^ 12 + f.s1 * 2 ^ 8 + op1
-word Srr op1 op2 f = f.s2 * 2 ^ 12 + f.s1 * 2 ^ 8 + op1
-word Slr op1 op2 f = f.s2 * 2 ^ 12 + f.s1 * 2 ^ 8 + op1
-word Ssr op1 op2 f = f.s2 * 2 ^ 12 + f.s1 * 2 ^ 8 + op1
+-- the spelling of an instruction of this form as one number, the first byte lowest
+unfoldable pub word_by_form : Form → ℕ → ℕ → Fields → ℕ
+word_by_form Rlc op1 op2 f = f.c * 2 ^ 28 + f.k * 2 ^ 12 + f.s1 * 2 ^ 8 + op1
+word_by_form Rr op1 op2 f = f.c * 2 ^ 28 + op2 * 2 ^ 20 + f.n * 2 ^ 16 + f.s2 * 2 ^ 12 + f.s1 * 2 ^ 8 + op1
+word_by_form Rc op1 op2 f = f.c * 2 ^ 28 + op2 * 2 ^ 21 + f.k * 2 ^ 12 + f.s1 * 2 ^ 8 + op1
+word_by_form Bol op1 op2 f = f.k / 64 % 16 * 2 ^ 28 + f.k / 1024 * 2 ^ 22 + f.k % 64 * 2 ^ 16 + f.s2 * 2 ^ 12 + f.s1 * 2 ^ 8 + op1
+word_by_form Bo op1 op2 f = f.k / 64 * 2 ^ 28 + op2 * 2 ^ 22 + f.k % 64 * 2 ^ 16 + f.s2 * 2 ^ 12 + f.s1 * 2 ^ 8 + op1
+word_by_form Brr op1 op2 f = op2 * 2 ^ 31 + f.k * 2 ^ 16 + f.s2 * 2 ^ 12 + f.s1 * 2 ^ 8 + op1
+word_by_form Brc op1 op2 f = op2 * 2 ^ 31 + f.k * 2 ^ 16 + f.s2 * 2 ^ 12 + f.s1 * 2 ^ 8 + op1
+word_by_form B op1 op2 f = f.k % 2 ^ 16 * 2 ^ 16 + f.k / 2 ^ 16 * 2 ^ 8 + op1
+word_by_form Abs op1 op2 f = f.k / 64 % 16 * 2 ^ 28 + op2 * 2 ^ 26 + f.k / 1024 % 16 * 2 ^ 22 + f.k % 64 * 2 ^ 16 + f.k / 2 ^ 14 * 2 ^ 12 + f.s1 * 2 ^ 8 + op1
+word_by_form Sys op1 op2 f = op2 * 2 ^ 22 + op1
+word_by_form Sr op1 op2 f = op2 * 2 ^ 12 + f.s1 * 2 ^ 8 + op1
+word_by_form Sc op1 op2 f = f.k * 2 ^ 8 + op1
+word_by_form Sb op1 op2 f = f.k * 2 ^ 8 + op1
+word_by_form Sbr op1 op2 f = f.s2 * 2 ^ 12 + f.k * 2 ^ 8 + op1
+word_by_form Src op1 op2 f = f.k * 2 ^ 12 + f.s1 * 2 ^ 8 + op1
+word_by_form Srr op1 op2 f = f.s2 * 2 ^ 12 + f.s1 * 2 ^ 8 + op1
+word_by_form Slr op1 op2 f = f.s2 * 2 ^ 12 + f.s1 * 2 ^ 8 + op1
+word_by_form Ssr op1 op2 f = f.s2 * 2 ^ 12 + f.s1 * 2 ^ 8 + op1
 
 -- the instruction of a row with these fields, as one number
 abbrev pub word_of : RowData → Fields → ℕ
-word_of r f = word r.form r.op1 r.op2 f
+word_of r f = word_by_form r.form r.op1 r.op2 f
 
 -- the bytes of an instruction of 32 bits or of 16
 abbrev pub spelling_of : Bool → ℕ → List ℕ
@@ -48,12 +48,12 @@ pub record Spells (bytes : List ℕ) (i : InstData) : Type 0 where
   pub inst : IsInst i
   pub is : bytes ≡ spelling inst.row (fields_in i)
 
--- the first n bytes spell the instruction
+-- the first n bytes are the spelling of the instruction
 pub record Begins (bytes : List ℕ) (i : InstData) (n : ℕ) : Type 0 where
   pub within : n ≤ length bytes
   pub spells : Spells (take n bytes) i
 
--- the bytes are the first few of an instruction's, but not all
+-- the bytes are the first few of the spelling of an instruction, but not all
 pub record IsFront (bytes : List ℕ) : Type 0 where
   pub rest : List ℕ
   pub more : rest ≢ []

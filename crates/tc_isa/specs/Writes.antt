@@ -8,22 +8,22 @@ use Rattle.tc_isa.specs.Insts.{InstData}
 use Rattle.tc_isa.specs.Meanings.{shape_of}
 
 -- the bit of a register
-abbrev pub bit_of : ℕ → ℕ
-bit_of r = 2 ^ r
+abbrev pub register_bit : ℕ → ℕ
+register_bit r = 2 ^ r
 
 -- the bit of a base register that is increased
-abbrev pub base_bit : Bool → Arg → ℕ
-base_bit after (Reg r) = if after then bit_of r else 0
-base_bit after (Word w) = 0
+abbrev pub increased_base_bit : Bool → Arg → ℕ
+increased_base_bit after (Reg r) = if after then register_bit r else 0
+increased_base_bit after (Word w) = 0
 
 -- the bits of the registers that a shape writes, except what saving and restoring contexts writes
 -- and A11 of calls
 abbrev pub written_by : Shape → ℕ
-written_by (Compute op dst x y) = bit_of dst
-written_by (Scaled dst base index n) = bit_of dst
-written_by (Load dst base offset size sign after) = bit_or (bit_of dst) (base_bit after base)
-written_by (Store src base offset size after) = base_bit after base
-written_by (Branch cond x y by lowers) = if lowers then bit_of x else 0
+written_by (Compute op dst x y) = register_bit dst
+written_by (Scaled dst base index n) = register_bit dst
+written_by (Load dst base offset size sign after) = bit_or (register_bit dst) (increased_base_bit after base)
+written_by (Store src base offset size after) = increased_base_bit after base
+written_by (Branch cond x y by lowers) = if lowers then register_bit x else 0
 written_by (Jump to) = 0
 written_by (Call to) = 0
 written_by Ret = 0
@@ -34,7 +34,7 @@ written_by (Bisr c) = 0
 written_by Enable = 0
 written_by Disable = 0
 written_by (Syscall tin) = 0
-written_by (Mfcr dst number) = bit_of dst
+written_by (Mfcr dst number) = register_bit dst
 written_by (Mtcr src number) = 0
 written_by Nothing = 0
 

@@ -1,6 +1,6 @@
 // Arithmetic and comparisons of 32-bit words.
 ghost use Rattle.std.specs.Prelude.{◌≡◌, ◌<◌};
-ghost use Rattle.tc_isa.specs.Arithmetic.{alu_of, taken_of, shift_by, shifted_signed, signed_place, complement, one_if};
+ghost use Rattle.tc_isa.specs.Arithmetic.{alu_of, taken_of, shift_by, shifted_signed, signed_order_place, complement, one_if};
 
 use crate::{Cond, Op};
 
@@ -25,9 +25,9 @@ pub fn alu(op: Op, x: u32, y: u32) -> u32
         Op::Orn => x | complement(y),
         Op::Eq => word_of_truth(x == y),
         Op::Ne => word_of_truth(x != y),
-        Op::Lt => word_of_truth(place_of(x) < place_of(y)),
+        Op::Lt => word_of_truth(signed_order_place(x) < signed_order_place(y)),
         Op::LtU => word_of_truth(x < y),
-        Op::Ge => word_of_truth(place_of(x) >= place_of(y)),
+        Op::Ge => word_of_truth(signed_order_place(x) >= signed_order_place(y)),
         Op::GeU => word_of_truth(x >= y),
         Op::Sh => shift(x, (y % 64) as u8),
         Op::Sha => shift_signed(x, (y % 64) as u8),
@@ -42,9 +42,9 @@ pub fn taken(cond: Cond, x: u32, y: u32) -> bool
     match cond {
         Cond::Eq => x == y,
         Cond::Ne => x != y,
-        Cond::Lt => place_of(x) < place_of(y),
+        Cond::Lt => signed_order_place(x) < signed_order_place(y),
         Cond::LtU => x < y,
-        Cond::Ge => place_of(x) >= place_of(y),
+        Cond::Ge => signed_order_place(x) >= signed_order_place(y),
         Cond::GeU => x >= y,
     }
 }
@@ -63,10 +63,10 @@ fn word_of_truth(b: bool) -> u32
     if b { 1 } else { 0 }
 }
 
-/// Returns a word's position in the signed order: unsigned comparisons of positions are signed
-/// comparisons of words.
-fn place_of(x: u32) -> u32
-    ensures { result ≡ signed_place x }
+/// Returns a word's position in the signed order, for the signed comparisons of instructions:
+/// unsigned comparisons of positions are signed comparisons of words.
+fn signed_order_place(x: u32) -> u32
+    ensures { result ≡ signed_order_place x }
 {
     x.wrapping_add(0x8000_0000)
 }

@@ -114,7 +114,7 @@ pub fn bounds_of(form: Form) -> Fields
 }
 
 /// Returns true if each field is below its bound.
-pub fn is_below(f: &Fields, bounds: &Fields) -> bool
+pub fn are_below_bounds(f: &Fields, bounds: &Fields) -> bool
     ensures { IsTrue result ↔ IsBelow f.now bounds.now }
 {
     f.c < bounds.c && f.s1 < bounds.s1 && f.s2 < bounds.s2 && f.n < bounds.n && f.k < bounds.k

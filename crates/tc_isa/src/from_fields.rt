@@ -1,15 +1,12 @@
 // Builds instructions from the number of a row and the row's fields.
 ghost use Rattle.std.specs.Prelude.{◌≡◌, ◌↔◌, IsTrue, IsSome, IfSome};
 ghost use Rattle.tc_isa.specs.Rows.{row_of};
-ghost use Rattle.tc_isa.specs.ValidRows.{Fits, uses_of, is_apart};
+ghost use Rattle.tc_isa.specs.ValidRows.{Fits, uses_of, are_registers_apart};
 ghost use Rattle.tc_isa.specs.Insts.{IsInst};
-ghost use Rattle.tc_isa.specs.FromFields.{word_at};
 
-use crate::bounds::{bounds_of, is_below};
-use crate::meaning::Immediate;
+use crate::bounds::{are_below_bounds, bounds_of};
 use crate::row_uses::{is_zero_elsewhere, uses};
 use crate::{Fields, Inst, Row, Uses, rows};
-use tcd_base::sext;
 
 /// The first code of loads with a base and an offset of 10 bits, post-increment among them.
 const LOAD_AFTER: u8 = 0x09;
@@ -35,7 +32,7 @@ pub fn inst(row: u8, c: u8, s1: u8, s2: u8, n: u8, k: u32) -> Option<Inst>
         return None;
     }
     let fields = Fields { c, s1, s2, n, k };
-    if !do_fit(&rows[place], &uses()[place], &fields) {
+    if !are_fitting_fields(&rows[place], &uses()[place], &fields) {
         return None;
     }
     Some(Inst {
@@ -48,38 +45,21 @@ pub fn inst(row: u8, c: u8, s1: u8, s2: u8, n: u8, k: u32) -> Option<Inst>
     })
 }
 
-/// Returns true if the fields fit the row.
-fn do_fit(row: &Row, uses: &Uses, fields: &Fields) -> bool
+/// Returns true if the fields fit the row, so that an instruction can be built from them.
+fn are_fitting_fields(row: &Row, uses: &Uses, fields: &Fields) -> bool
     requires { uses.now ≡ uses_of (row_of row.now) }
     ensures { IsTrue result ↔ Fits (row_of row.now) fields.now }
 {
-    is_below(fields, &bounds_of(row.form))
+    are_below_bounds(fields, &bounds_of(row.form))
         && is_zero_elsewhere(uses, fields)
-        && parts_differ(row, fields)
+        && are_registers_apart(row, fields)
 }
 
 /// Returns true if the row allows these registers: an address register that is loaded or stored
 /// with post-increment can't be the base too.
 #[inline(always)]
-pub fn parts_differ(row: &Row, f: &Fields) -> bool
-    ensures { result ≡ is_apart (row_of row.now) f.now }
+pub fn are_registers_apart(row: &Row, f: &Fields) -> bool
+    ensures { result ≡ are_registers_apart (row_of row.now) f.now }
 {
     !((row.op1 == LOAD_AFTER || row.op1 == STORE_AFTER) && row.op2 == OF_ADDRESS) || f.s1 != f.s2
-}
-
-pub(crate) fn constant(constant: Immediate, f: &Fields) -> u32
-    ensures { result ≡ word_at constant f.now }
-{
-    match constant {
-        Immediate::Zero => 0,
-        Immediate::Signed4 => sext(f.k % 16, 4),
-        Immediate::Signed9 => sext(f.k % 512, 9),
-        Immediate::Signed10 => sext(f.k % 1024, 10),
-        Immediate::Signed16 => sext(f.k % 65536, 16),
-        Immediate::Unsigned => f.k,
-        Immediate::High => f.k.wrapping_mul(65536),
-        Immediate::Address => f.k / 16384 % 16 * 268_435_456 + f.k % 16384,
-        Immediate::SignedS2 => sext(u32::from(f.s2 % 16), 4),
-        Immediate::UnsignedS2 => u32::from(f.s2),
-    }
 }

@@ -21,7 +21,7 @@ pub use arithmetic::{alu, taken};
 pub use bounds::bounds_of;
 pub use core_registers::{BIV, BTV, FCX, ICR, ISP, LCX, PCXI, PSW};
 pub use fields::{Fields, Uses};
-pub use from_fields::{inst, parts_differ};
+pub use from_fields::{are_registers_apart, inst};
 pub use halves::{lower_half, upper_half};
 pub use instruction::Inst;
 pub use relocation_kinds::{ABS24, HI16, LO16, OFFSET16, REL15, REL24, WORD32};

@@ -1,7 +1,7 @@
 // What each row of the instruction table does.
 ghost use Rattle.std.specs.Prelude.{◌≡◌, map};
 ghost use Rattle.tc_isa.specs.Meanings.{meanings};
-ghost use Rattle.tc_isa.specs.FromFields.{meant};
+ghost use Rattle.tc_isa.specs.FromFields.{shape_from_fields};
 
 use crate::meaning::Destination::{By, Code, In};
 use crate::meaning::Displacement::{Ahead8, Ahead15, Ahead24, AheadOnly};
@@ -165,7 +165,7 @@ static MEANINGS: [Meaning; ROW_COUNT] = [
 
 /// Returns the meanings of the rows, in the order of the rows.
 pub fn row_meanings() -> &'static [Meaning]
-    ensures { map meant result.now ≡ map (λ l. l.shape) meanings }
+    ensures { map shape_from_fields result.now ≡ map (λ l. l.shape) meanings }
 {
     &MEANINGS
 }

@@ -253,7 +253,7 @@ pub fn uses() -> &'static [Uses]
     &USES
 }
 
-/// Returns true if the fields that the row doesn't have are 0.
+/// Returns true if the fields that the row doesn't have, by its uses, are 0.
 #[inline(always)]
 pub fn is_zero_elsewhere(uses: &Uses, f: &Fields) -> bool
     ensures { result ≡ rest_is_zero uses.now f.now }

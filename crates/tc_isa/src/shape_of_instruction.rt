@@ -4,10 +4,9 @@ ghost use Rattle.tc_isa.specs.Insts.{InstData, IsInst};
 ghost use Rattle.tc_isa.specs.Rows.{listed};
 ghost use Rattle.tc_isa.specs.Meanings.{shape_of, meanings};
 ghost use Rattle.tc_isa.specs.InBounds.{IsShape, AreSmall};
-ghost use Rattle.tc_isa.specs.FromFields.{register_of, operand_of, distance_of, goal_of, meant};
+ghost use Rattle.tc_isa.specs.FromFields.{shape_register, shape_operand, shape_distance, shape_target, shape_from_fields, shape_constant};
 
-use crate::from_fields::constant;
-use crate::meaning::{Destination, Displacement, Meaning, Operand, RegField};
+use crate::meaning::{Destination, Displacement, Immediate, Meaning, Operand, RegField};
 use crate::row_meanings::row_meanings;
 use crate::{Arg, Fields, Inst, Shape, Target};
 use tcd_base::sext;
@@ -24,50 +23,55 @@ pub fn shape(inst: &Inst) -> Shape
         n: inst.n,
         k: inst.k,
     };
-    shape_by(&row_meanings()[usize::from(inst.row)], &fields)
+    shape_from_fields(&row_meanings()[usize::from(inst.row)], &fields)
 }
 
-fn shape_by(meaning: &Meaning, f: &Fields) -> Shape
+/// Returns what an instruction of this meaning does with these fields.
+fn shape_from_fields(meaning: &Meaning, f: &Fields) -> Shape
     requires { AreSmall f.now }
-    ensures { result ≡ meant meaning.now f.now }
+    ensures { result ≡ shape_from_fields meaning.now f.now }
 {
     match *meaning {
         Meaning::Computes(op, dst, x, y) => Shape::Compute {
             op,
-            dst: register(dst, f),
-            x: operand(x, f),
-            y: operand(y, f),
+            dst: shape_register(dst, f),
+            x: shape_operand(x, f),
+            y: shape_operand(y, f),
         },
         Meaning::Scales(dst, base, index) => Shape::Scaled {
-            dst: register(dst, f),
-            base: register(base, f),
-            index: register(index, f),
+            dst: shape_register(dst, f),
+            base: shape_register(base, f),
+            index: shape_register(index, f),
             n: f.n,
         },
         Meaning::Loads(dst, base, offset, size, signed, after) => Shape::Load {
-            dst: register(dst, f),
-            base: operand(base, f),
-            offset: constant(offset, f),
+            dst: shape_register(dst, f),
+            base: shape_operand(base, f),
+            offset: shape_constant(offset, f),
             size,
             signed,
             after,
         },
         Meaning::Stores(src, base, offset, size, after) => Shape::Store {
-            src: register(src, f),
-            base: operand(base, f),
-            offset: constant(offset, f),
+            src: shape_register(src, f),
+            base: shape_operand(base, f),
+            offset: shape_constant(offset, f),
             size,
             after,
         },
         Meaning::Branches(cond, x, y, by, lowers) => Shape::Branch {
             cond,
-            x: register(x, f),
-            y: operand(y, f),
-            by: distance(by, f),
+            x: shape_register(x, f),
+            y: shape_operand(y, f),
+            by: shape_distance(by, f),
             lowers,
         },
-        Meaning::Jumps(to) => Shape::Jump { to: target(to, f) },
-        Meaning::Calls(to) => Shape::Call { to: target(to, f) },
+        Meaning::Jumps(to) => Shape::Jump {
+            to: shape_target(to, f),
+        },
+        Meaning::Calls(to) => Shape::Call {
+            to: shape_target(to, f),
+        },
         Meaning::Masks => Shape::Bisr {
             c: (f.k % 256) as u8,
         },
@@ -75,20 +79,22 @@ fn shape_by(meaning: &Meaning, f: &Fields) -> Shape
             tin: (f.k % 256) as u8,
         },
         Meaning::ReadsCore(dst) => Shape::Mfcr {
-            dst: register(dst, f),
+            dst: shape_register(dst, f),
             number: (f.k % 65536) as u16,
         },
         Meaning::WritesCore(src) => Shape::Mtcr {
-            src: register(src, f),
+            src: shape_register(src, f),
             number: (f.k % 65536) as u16,
         },
         Meaning::Always(shape) => shape,
     }
 }
 
-fn register(place: RegField, f: &Fields) -> u8
+/// Returns the register in the shape of an instruction, as the meaning of its row names it: that of
+/// a field, or a fixed one.
+fn shape_register(place: RegField, f: &Fields) -> u8
     requires { AreSmall f.now }
-    ensures { result ≡ register_of place f.now }
+    ensures { result ≡ shape_register place f.now }
 {
     match place {
         RegField::Dc => f.c,
@@ -102,18 +108,20 @@ fn register(place: RegField, f: &Fields) -> u8
     }
 }
 
-fn operand(operand: Operand, f: &Fields) -> Arg
+/// Returns an operand of an instruction's shape: a register, or the word of a constant.
+fn shape_operand(operand: Operand, f: &Fields) -> Arg
     requires { AreSmall f.now }
-    ensures { result ≡ operand_of operand f.now }
+    ensures { result ≡ shape_operand operand f.now }
 {
     match operand {
-        Operand::At(place) => Arg::Reg(register(place, f)),
-        Operand::Of(word) => Arg::Word(constant(word, f)),
+        Operand::At(place) => Arg::Reg(shape_register(place, f)),
+        Operand::Of(word) => Arg::Word(shape_constant(word, f)),
     }
 }
 
-fn distance(distance: Displacement, f: &Fields) -> u32
-    ensures { result ≡ distance_of distance f.now }
+/// Returns the distance in bytes of a jump or a branch, from its displacement.
+fn shape_distance(distance: Displacement, f: &Fields) -> u32
+    ensures { result ≡ shape_distance distance f.now }
 {
     match distance {
         Displacement::Ahead8 => sext(f.k % 256, 8).wrapping_mul(2),
@@ -123,20 +131,40 @@ fn distance(distance: Displacement, f: &Fields) -> u32
     }
 }
 
-fn target(goal: Destination, f: &Fields) -> Target
+/// Returns the target of a jump or a call, from the fields.
+fn shape_target(goal: Destination, f: &Fields) -> Target
     requires { AreSmall f.now }
-    ensures { result ≡ goal_of goal f.now }
+    ensures { result ≡ shape_target goal f.now }
 {
     match goal {
-        Destination::By(by) => Target::Rel(distance(by, f)),
+        Destination::By(by) => Target::Rel(shape_distance(by, f)),
         Destination::Code => Target::Abs(f.k / 1_048_576 % 16 * 268_435_456 + f.k % 1_048_576 * 2),
-        Destination::In(place) => Target::Reg(register(place, f)),
+        Destination::In(place) => Target::Reg(shape_register(place, f)),
     }
 }
 
-/// A law of `shape`: registers are below 32, words below 2^32, and sizes 1, 2 or 4; and the table
-/// of meanings has the names of the rows.
+/// A law of `shape`, what an instruction does: registers are below 32, words below 2^32, and sizes
+/// 1, 2 or 4; and the table of meanings has the names of the rows.
 pub fn shape_laws()
     ensures bounded { (i : InstData) → IsInst i → IsShape (shape_of i) }
     ensures names { map (λ l. l.name) meanings ≡ map (λ r. r.name) listed }
 {}
+
+/// Returns the word of a constant in the shape of an instruction, as the meaning of its row names
+/// it.
+pub(crate) fn shape_constant(constant: Immediate, f: &Fields) -> u32
+    ensures { result ≡ shape_constant constant f.now }
+{
+    match constant {
+        Immediate::Zero => 0,
+        Immediate::Signed4 => sext(f.k % 16, 4),
+        Immediate::Signed9 => sext(f.k % 512, 9),
+        Immediate::Signed10 => sext(f.k % 1024, 10),
+        Immediate::Signed16 => sext(f.k % 65536, 16),
+        Immediate::Unsigned => f.k,
+        Immediate::High => f.k.wrapping_mul(65536),
+        Immediate::Address => f.k / 16384 % 16 * 268_435_456 + f.k % 16384,
+        Immediate::SignedS2 => sext(u32::from(f.s2 % 16), 4),
+        Immediate::UnsignedS2 => u32::from(f.s2),
+    }
+}

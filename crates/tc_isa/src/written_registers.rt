@@ -1,7 +1,7 @@
 // The registers that an instruction writes by itself.
 ghost use Rattle.std.specs.Prelude.{◌≡◌, ◌<◌, ◌^◌, ℕ, ◌↔◌};
 ghost use Rattle.tc_isa.specs.InBounds.{IsArg};
-ghost use Rattle.tc_isa.specs.Writes.{written_registers, written_by, base_bit, bit_of};
+ghost use Rattle.tc_isa.specs.Writes.{written_registers, written_by, increased_base_bit, register_bit};
 
 use crate::shape_of_instruction::shape;
 use crate::{Arg, Inst, Shape};
@@ -12,34 +12,35 @@ pub fn writes(inst: &Inst) -> u32
     ensures { result ≡ written_registers inst.now }
 {
     match shape(inst) {
-        Shape::Compute { dst, .. } | Shape::Scaled { dst, .. } | Shape::Mfcr { dst, .. } => bit(
-            dst,
-        ),
+        Shape::Compute { dst, .. } | Shape::Scaled { dst, .. } | Shape::Mfcr { dst, .. } =>
+            register_bit(dst),
         Shape::Load {
             dst,
             base,
             after,
             ..
-        } => bit(dst) | bit_if(after, base),
-        Shape::Store { base, after, .. } => bit_if(after, base),
-        Shape::Branch { x, lowers, .. } => { if lowers { bit(x) } else { 0 } }
+        } => register_bit(dst) | increased_base_bit(after, base),
+        Shape::Store { base, after, .. } => increased_base_bit(after, base),
+        Shape::Branch { x, lowers, .. } => { if lowers { register_bit(x) } else { 0 } }
         _ => 0,
     }
 }
 
-fn bit(register: u8) -> u32
+/// Returns the bit of a written register in the mask.
+fn register_bit(register: u8) -> u32
     requires { register < 32 }
-    ensures { result ≡ bit_of register }
+    ensures { result ≡ register_bit register }
 {
     1u32 << register
 }
 
-fn bit_if(after: bool, base: Arg) -> u32
+/// Returns the bit of a base register that an access increases, or 0.
+fn increased_base_bit(after: bool, base: Arg) -> u32
     requires { IsArg base }
-    ensures { result ≡ base_bit after base }
+    ensures { result ≡ increased_base_bit after base }
 {
     match base {
-        Arg::Reg(register) => { if after { bit(register) } else { 0 } }
+        Arg::Reg(register) => { if after { register_bit(register) } else { 0 } }
         Arg::Word(_) => 0,
     }
 }

@@ -13,7 +13,7 @@ use Rattle.tc_lex.specs.declared.kinds.Front.{Front}
 use Rattle.tc_lex.specs.declared.kinds.Front.TheVariants as front
 use Rattle.tcd_base.specs.NameBytes.{is_name_first}
 use Rattle.tc_lex.specs.Bytes.{is_digit, is_blank}
-use Rattle.tc_lex.specs.Cut.{cut, front_at, follow, with_front, token, tokens_of, IsLongest, BeginsNone, AreBlanks, IsNext, AreTokens, IsCut, IsStray, IsPast, IsFault}
+use Rattle.tc_lex.specs.Cut.{cut, token_front_by_byte, cut_from_front, with_front, token, tokens_of, IsLongest, BeginsNoToken, AreBlanks, IsNext, AreTokens, IsCut, IsStray, IsTokenPastLimit, IsCutFault}
 use Rattle.tc_lex.proofs.TextLaws.{empty_none}
 use Rattle.tc_lex.proofs.LongestLaws.{comma_longest, colon_longest, open_longest, close_longest, plus_longest, minus_longest, word_longest, number_longest, begins_none}
 
@@ -21,7 +21,7 @@ use Rattle.tc_lex.proofs.LongestLaws.{comma_longest, colon_longest, open_longest
 data Says (c : ℕ) (cs : List ℕ) : Front → Type 0 where
   ended : c ≡ 35 → Says c cs front.End
   blank : is_blank c ≡ true → Says c cs front.Blank
-  bad : (is_blank c || c == 35) ≡ false → BeginsNone (c ∷ cs) → Says c cs front.Bad
+  bad : (is_blank c || c == 35) ≡ false → BeginsNoToken (c ∷ cs) → Says c cs front.Bad
   told : {kind : TokenKind} {len : ℕ} → IsLongest kind len (c ∷ cs) → Says c cs (front.Token kind len)
 
 says_if : (c : ℕ) (cs : List ℕ) (b : Bool) (x y : Front) → (b ≡ true → Says c cs x) → (b ≡ false → Says c cs y) → Says c cs (cond b x y)
@@ -40,8 +40,8 @@ alone c k cs kind longest e = told (rw ((Decides-eqb c k).0 e) longest)
 not_passed : (c : ℕ) → (c == 35) ≡ false → (c == 32) ≡ false → (c == 9) ≡ false → (is_blank c || c == 35) ≡ false
 not_passed c h b t = rw (b, t, h) refl
 
-front_says : (c : ℕ) (cs : List ℕ) → Says c cs (front_at c (c ∷ cs))
-unfolding front_at
+front_says : (c : ℕ) (cs : List ℕ) → Says c cs (token_front_by_byte c (c ∷ cs))
+unfolding token_front_by_byte
 front_says c cs =
     says_if c cs (c == 35) _ _ (λ e. ended ((Decides-eqb c 35).0 e)) (λ hash.
     says_if c cs (c == 32) _ _ (λ e. blank (rw e refl)) (λ space.
@@ -60,7 +60,7 @@ front_says c cs =
 module _ (line : List ℕ) where
   abbrev Meaning : ℕ → ℕ → Result (List Token) ℕ → Type 0
   Meaning low most (Ok ts) = IsCut line low most ts
-  Meaning low most (Err at) = IsFault line low most at
+  Meaning low most (Err at) = IsCutFault line low most at
 
   -- no blanks from a place on
   none_from : (at : ℕ) → at ≤ length line → AreBlanks line at at
@@ -86,7 +86,7 @@ module _ (line : List ℕ) where
   in_front at most t (Ok ts) next more = record { stop = more.stop; ends = more.ends; tokens = (next, more.tokens); few = omega (arith, more.few) }
   in_front at most t (Err e) next more = record { before = t ∷ more.before; tokens = (next, more.tokens); fault = by more.fault }
     where
-      by : IsStray line e ⊎ IsPast line e (length more.before) most → IsStray line e ⊎ IsPast line e (length (t ∷ more.before)) (suc most)
+      by : IsStray line e ⊎ IsTokenPastLimit line e (length more.before) most → IsStray line e ⊎ IsTokenPastLimit line e (length (t ∷ more.before)) (suc most)
       by (inl stray) = inl stray
       by (inr past) = inr (record { full = ap suc past.full; kind = past.kind; len = past.len; some = past.some; longest = past.longest })
 
@@ -106,7 +106,7 @@ module _ (line : List ℕ) where
         record { blanks = none_from at (omega (arith, inside)); some = omega arith; longest = rw (bytes, text_is) longest }
 
     follow_means : (f : Front) (room : ℕ) (next : ℕ → ℕ → ℕ → Result (List Token) ℕ) → Says c cs f
-        → ((r s : ℕ) → at + 1 + s ≤ length line → Meaning (at + 1 + s) r (next r (at + 1) s)) → Meaning at room (follow f room at next)
+        → ((r s : ℕ) → at + 1 + s ≤ length line → Meaning (at + 1 + s) r (next r (at + 1) s)) → Meaning at room (cut_from_front f room at next)
     follow_means _ room next (ended h) rest = record { stop = at; ends = inr (inside, here ∙ h); tokens = none_from at (omega (arith, inside)); few = omega arith }
     follow_means _ room next (blank h) rest =
         let same : at + 1 + 0 ≡ at + 1 = omega arith in
@@ -130,7 +130,7 @@ module _ (line : List ℕ) where
       record { stop = at + skip; ends = inl (omega arith); tokens = none_from (at + skip) h; few = omega arith }
   cut_means (c ∷ cs) room at zero e h =
       let same : at + 0 ≡ at = omega arith in
-      rw same (follow_means at c cs e (front_at c (c ∷ cs)) room (cut cs) (front_says c cs) (λ r s fits. cut_means cs r (at + 1) s (sym (drop-drop 1 at line) ∙ ap (drop 1) e) fits))
+      rw same (follow_means at c cs e (token_front_by_byte c (c ∷ cs)) room (cut cs) (front_says c cs) (λ r s fits. cut_means cs r (at + 1) s (sym (drop-drop 1 at line) ∙ ap (drop 1) e) fits))
   cut_means (c ∷ cs) room at (suc skip) e h =
       let same : at + suc skip ≡ at + 1 + skip = omega arith in
       rw same (cut_means cs room (at + 1) skip (sym (drop-drop 1 at line) ∙ ap (drop 1) e) (omega arith))
@@ -144,5 +144,5 @@ whole_means line =
 pub cut_reads : (line : List ℕ) (ts : List Token) → tokens_of line ≡ Ok ts → IsCut line 0 64 ts
 cut_reads line ts e = subst (λ (r : Result (List Token) ℕ). Meaning line 0 64 r) e (whole_means line)
 
-pub fault_reads : (line : List ℕ) (at : ℕ) → tokens_of line ≡ Err at → IsFault line 0 64 at
+pub fault_reads : (line : List ℕ) (at : ℕ) → tokens_of line ≡ Err at → IsCutFault line 0 64 at
 fault_reads line at e = subst (λ (r : Result (List Token) ℕ). Meaning line 0 64 r) e (whole_means line)

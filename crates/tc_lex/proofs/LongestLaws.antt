@@ -11,7 +11,7 @@ use Rattle.tc_lex.specs.declared.kinds.TokenKind.{TokenKind}
 use Rattle.tc_lex.specs.declared.kinds.TokenKind.TheVariants.{Word, Number, Comma, Colon, Open, Close, Plus, Minus}
 use Rattle.tcd_base.specs.NameBytes.{is_name_byte, is_name_first}
 use Rattle.tc_lex.specs.Bytes.{is_digit, is_hex}
-use Rattle.tc_lex.specs.Cut.{number_len, has_hex_front, IsLongest, BeginsNone}
+use Rattle.tc_lex.specs.Cut.{number_len, has_hex_front, IsLongest, BeginsNoToken}
 use Rattle.tc_lex.specs.Texts.{is_run, is_hex_text, is_token}
 use Rattle.tc_lex.proofs.FrontLaws.{prefix_len_some}
 use Rattle.tc_lex.proofs.TextLaws.{run_taken, run_past, is_run-take, digit_of_name, starts, not_begun, past_one, hex_text}
@@ -198,7 +198,7 @@ module _ (c : ℕ) (cs : List ℕ) (symbol : NoSymbol c) where
   only_number h Plus = inr symbol.plus
   only_number h Minus = inr symbol.minus
 
-  pub begins_none : is_name_first c ≡ false → is_digit c ≡ false → BeginsNone (c ∷ cs)
+  pub begins_none : is_name_first c ≡ false → is_digit c ≡ false → BeginsNoToken (c ∷ cs)
   begins_none h d kind n within = not_begun kind c cs n (by kind)
     where
       by : (kind : TokenKind) → starts kind c ≡ false

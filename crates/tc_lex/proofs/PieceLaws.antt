@@ -3,7 +3,7 @@ use Rattle.std.proofs.Common.{◌≡◌, ◌<◌, ◌≤◌, ◌+◌, ℕ, List,
 use Rattle.tc_lex.specs.declared.kinds.Token.{Token}
 use Rattle.tc_lex.specs.declared.kinds.TokenKind.{TokenKind}
 use Rattle.tc_lex.specs.declared.kinds.Front.TheVariants as front
-use Rattle.tc_lex.specs.Cut.{cut, front_of, with_front, token}
+use Rattle.tc_lex.specs.Cut.{cut, token_front_of, with_front, token}
 use Rattle.tc_lex.specs.Pieces.{PieceData, piece_in, pieces_of}
 use Rattle.tc_lex.proofs.CutLaws.{cut_done, cut_end, cut_bad, cut_blank, cut_full, cut_token}
 
@@ -34,19 +34,19 @@ module _ (line : List ℕ) (ps : List PieceData) (at : ℕ) where
   pub pieces_done : (room : ℕ) → length line ≤ at → rest_of room ≡ Ok ps
   pieces_done room h = told room (Ok []) (cut_done line [] at room h) ∙ none_left
 
-  pub pieces_end : (room : ℕ) → at < length line → front_of (drop at line) ≡ front.End → rest_of room ≡ Ok ps
+  pub pieces_end : (room : ℕ) → at < length line → token_front_of (drop at line) ≡ front.End → rest_of room ≡ Ok ps
   pieces_end room h e = told room (Ok []) (cut_end line [] at room h e) ∙ none_left
 
-  pub pieces_bad : (room : ℕ) → at < length line → front_of (drop at line) ≡ front.Bad → rest_of room ≡ Err at
+  pub pieces_bad : (room : ℕ) → at < length line → token_front_of (drop at line) ≡ front.Bad → rest_of room ≡ Err at
   pieces_bad room h e = told room (Err at) (cut_bad line [] at room h e)
 
-  pub pieces_blank : (room : ℕ) → at < length line → front_of (drop at line) ≡ front.Blank → rest_of room ≡ with_pieces ps (pieces_of line (cut (drop (at + 1) line) room (at + 1) 0))
+  pub pieces_blank : (room : ℕ) → at < length line → token_front_of (drop at line) ≡ front.Blank → rest_of room ≡ with_pieces ps (pieces_of line (cut (drop (at + 1) line) room (at + 1) 0))
   pieces_blank room h e = told room _ (cut_blank line [] at room h e) ∙ ap (λ x. with_pieces ps (pieces_of line x)) (alone (cut (drop (at + 1) line) room (at + 1) 0))
 
-  pub pieces_full : (kind : TokenKind) (len : ℕ) → at < length line → front_of (drop at line) ≡ front.Token kind len → rest_of 0 ≡ Err at
+  pub pieces_full : (kind : TokenKind) (len : ℕ) → at < length line → token_front_of (drop at line) ≡ front.Token kind len → rest_of 0 ≡ Err at
   pieces_full kind len h e = told 0 (Err at) (cut_full line [] at kind len h e)
 
-  pub pieces_token : (kind : TokenKind) (len room : ℕ) → at < length line → front_of (drop at line) ≡ front.Token kind len → 0 < len
+  pub pieces_token : (kind : TokenKind) (len room : ℕ) → at < length line → token_front_of (drop at line) ≡ front.Token kind len → 0 < len
       → rest_of (room + 1) ≡ with_pieces (ps ++ piece_in line (token kind at len) ∷ []) (pieces_of line (cut (drop (at + len) line) room (at + len) 0))
   pieces_token kind len room h e some =
       told (room + 1) _ (cut_token line [] at kind len room h e some)

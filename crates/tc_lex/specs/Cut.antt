@@ -1,5 +1,5 @@
 -- The tokens of one line: as it is cut, and what they are, apart from how it is cut.
-use Rattle.std.specs.Prelude.{◌≡◌, ℕ, zero, suc, ◌+◌, ◌-◌, ◌<◌, ◌≤◌, ◌==◌, ◌&&◌, nat_lt, slice_index, Bool, if◌then◌else◌, List, ◌∷◌, ◌++◌, length, drop, Result, Ok, Err, true, false, take, ◌⊎◌, ◌||◌, codes, []}
+use Rattle.std.specs.Prelude.{◌≡◌, ℕ, zero, suc, ◌+◌, ◌-◌, ◌<◌, ◌≤◌, ◌==◌, ◌&&◌, nat_lt, slice_index, Bool, if◌then◌else◌, List, ◌∷◌, ◌++◌, length, drop, Result, Ok, Err, true, false, take, ◌⊎◌, ◌||◌, []}
 use Rattle.std.specs.List.{prefix_len}
 use Rattle.arrayvec.specs.ArrayVec.{ArrayVec}
 use Rattle.tc_lex.specs.declared.kinds.Token.{Token}
@@ -11,7 +11,7 @@ use Rattle.tcd_base.specs.NameBytes.{is_name_byte, is_name_first}
 use Rattle.tc_lex.specs.Bytes.{is_digit, is_hex, is_blank}
 use Rattle.tc_lex.specs.Texts.{is_token}
 
--- the text begins with `0x` and a hex digit
+-- the text begins with `0x` and a hex digit, so its token is a hexadecimal number
 unfoldable pub has_hex_front : List ℕ → Bool
 has_hex_front bs = nat_lt 2 (length bs) && slice_index bs 0 == 48 && slice_index bs 1 == 120 && is_hex (slice_index bs 2)
 
@@ -20,8 +20,8 @@ unfoldable pub number_len : List ℕ → ℕ
 number_len bs = if has_hex_front bs then 2 + prefix_len is_hex (drop 2 bs) else prefix_len is_digit bs
 
 -- what a text with this first byte begins with
-unfoldable pub front_at : ℕ → List ℕ → Front
-front_at c text =
+unfoldable pub token_front_by_byte : ℕ → List ℕ → Front
+token_front_by_byte c text =
     if c == 35 then front.End
     else (if c == 32 then front.Blank
     else (if c == 9 then front.Blank
@@ -36,16 +36,16 @@ front_at c text =
     else front.Bad))))))))))
 
 -- what a text begins with
-abbrev pub front_of : List ℕ → Front
-front_of [] = front.End
-front_of (c ∷ cs) = front_at c (c ∷ cs)
+abbrev pub token_front_of : List ℕ → Front
+token_front_of [] = front.End
+token_front_of (c ∷ cs) = token_front_by_byte c (c ∷ cs)
 
 -- the token that a text begins with has at least one byte, and ends within the text
-abbrev pub IsWithin : Front → ℕ → Type 0
-IsWithin front.End n = Unit {0}
-IsWithin front.Blank n = 0 < n
-IsWithin front.Bad n = 0 < n
-IsWithin (front.Token kind len) n = (0 < len) × (len ≤ n)
+abbrev pub IsTokenWithin : Front → ℕ → Type 0
+IsTokenWithin front.End n = Unit {0}
+IsTokenWithin front.Blank n = 0 < n
+IsTokenWithin front.Bad n = 0 < n
+IsTokenWithin (front.Token kind len) n = (0 < len) × (len ≤ n)
 
 -- the token of this kind and length at a place of its line
 abbrev pub token : TokenKind → ℕ → ℕ → Token
@@ -58,16 +58,16 @@ with_front ts (Err e) = Err e
 
 -- What follows from the front at a place: `next room at skip` is the answer for the rest of the
 -- line after its first byte.
-abbrev pub follow : Front → ℕ → ℕ → (ℕ → ℕ → ℕ → Result (List Token) ℕ) → Result (List Token) ℕ
-follow front.End room at next = Ok []
-follow front.Blank room at next = next room (at + 1) 0
-follow front.Bad room at next = Err at
-follow (front.Token kind len) room at next = if room == 0 then Err at else with_front (token kind at len ∷ []) (next (room - 1) (at + 1) (len - 1))
+abbrev pub cut_from_front : Front → ℕ → ℕ → (ℕ → ℕ → ℕ → Result (List Token) ℕ) → Result (List Token) ℕ
+cut_from_front front.End room at next = Ok []
+cut_from_front front.Blank room at next = next room (at + 1) 0
+cut_from_front front.Bad room at next = Err at
+cut_from_front (front.Token kind len) room at next = if room == 0 then Err at else with_front (token kind at len ∷ []) (next (room - 1) (at + 1) (len - 1))
 
 -- The tokens of a text at this place of its line, at most `room`, after the first `skip` bytes.
 unfoldable pub cut : List ℕ → ℕ → ℕ → ℕ → Result (List Token) ℕ
 cut [] room at skip = Ok []
-cut (c ∷ cs) room at zero = follow (front_of (c ∷ cs)) room at (cut cs)
+cut (c ∷ cs) room at zero = cut_from_front (token_front_of (c ∷ cs)) room at (cut cs)
 cut (c ∷ cs) room at (suc skip) = cut cs room (at + 1) skip
 
 -- the tokens of a line, at most 64, or the place of the first byte that can't be taken
@@ -93,10 +93,10 @@ pub record IsLongest (kind : TokenKind) (len : ℕ) (text : List ℕ) : Type 0 w
   pub longest : (other : TokenKind) (n : ℕ) → len < n → n ≤ length text → is_token other (take n text) ≡ false
 
 -- no start of the text is a token
-abbrev pub BeginsNone : List ℕ → Type 0
-BeginsNone text = (kind : TokenKind) (n : ℕ) → n ≤ length text → is_token kind (take n text) ≡ false
+abbrev pub BeginsNoToken : List ℕ → Type 0
+BeginsNoToken text = (kind : TokenKind) (n : ℕ) → n ≤ length text → is_token kind (take n text) ≡ false
 
--- the places from low on and below high hold blanks and tabs
+-- the places of a line from low on and below high hold only blanks and tabs
 pub record AreBlanks (line : List ℕ) (low high : ℕ) : Type 0 where
   pub ordered : low ≤ high
   pub within : high ≤ length line
@@ -114,13 +114,13 @@ AreTokens line low stop [] = AreBlanks line low stop
 AreTokens line low stop (t ∷ ts) = IsNext line low t × AreTokens line t.to stop ts
 
 -- the line ends, or a comment begins
-abbrev pub Ends : List ℕ → ℕ → Type 0
-Ends line stop = (stop ≡ length line) ⊎ ((stop < length line) × (slice_index line stop ≡ 35))
+abbrev pub IsLineEnd : List ℕ → ℕ → Type 0
+IsLineEnd line stop = (stop ≡ length line) ⊎ ((stop < length line) × (slice_index line stop ≡ 35))
 
 -- the whole line from low on is at most `most` tokens
 pub record IsCut (line : List ℕ) (low most : ℕ) (ts : List Token) : Type 0 where
   pub stop : ℕ
-  pub ends : Ends line stop
+  pub ends : IsLineEnd line stop
   pub tokens : AreTokens line low stop ts
   pub few : length ts ≤ most
 
@@ -128,10 +128,10 @@ pub record IsCut (line : List ℕ) (low most : ℕ) (ts : List Token) : Type 0 w
 pub record IsStray (line : List ℕ) (at : ℕ) : Type 0 where
   pub within : at < length line
   pub shown : (is_blank (slice_index line at) || slice_index line at == 35) ≡ false
-  pub none : BeginsNone (drop at line)
+  pub none : BeginsNoToken (drop at line)
 
 -- the first byte of a token after `most` tokens
-pub record IsPast (line : List ℕ) (at count most : ℕ) : Type 0 where
+pub record IsTokenPastLimit (line : List ℕ) (at count most : ℕ) : Type 0 where
   pub full : count ≡ most
   pub kind : TokenKind
   pub len : ℕ
@@ -139,27 +139,12 @@ pub record IsPast (line : List ℕ) (at count most : ℕ) : Type 0 where
   pub longest : IsLongest kind len (drop at line)
 
 -- a line with a byte that can't be taken
-pub record IsFault (line : List ℕ) (low most at : ℕ) : Type 0 where
+pub record IsCutFault (line : List ℕ) (low most at : ℕ) : Type 0 where
   pub before : List Token
   pub tokens : AreTokens line low at before
-  pub fault : IsStray line at ⊎ IsPast line at (length before) most
+  pub fault : IsStray line at ⊎ IsTokenPastLimit line at (length before) most
 
 -- the answer is the line's tokens, at most 64, or the place of the first byte that can't be taken
 abbrev pub Reads : List ℕ → Result (ArrayVec Token) ℕ → Type 0
 Reads line (Ok ts) = IsCut line 0 64 ts.items
-Reads line (Err at) = IsFault line 0 64 at
-
--- a name
-unfoldable pub at_name : List ℕ → List ℕ
-at_name name = codes " name " ++ (name ++ 10 ∷ [])
-
--- a number for each kind of token, so that kinds can be compared
-unfoldable pub kind_index : TokenKind → ℕ
-kind_index Word = 0
-kind_index Number = 1
-kind_index Comma = 2
-kind_index Colon = 3
-kind_index Open = 4
-kind_index Close = 5
-kind_index Plus = 6
-kind_index Minus = 7
+Reads line (Err at) = IsCutFault line 0 64 at

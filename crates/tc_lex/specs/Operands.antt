@@ -8,9 +8,8 @@ use Rattle.tc_lex.specs.declared.operand.Shape.{Shape}
 use Rattle.tc_lex.specs.declared.operand.Shape.TheVariants as shape
 use Rattle.tc_lex.specs.declared.operand.Value.{Value}
 use Rattle.tc_lex.specs.declared.operand.Operand.{Operand}
-use Rattle.tc_lex.specs.Pieces.{PieceData, is_kind, text_at}
-use Rattle.tc_lex.specs.Cut.{kind_index}
-use Rattle.tc_lex.specs.Numbers.{number_of}
+use Rattle.tc_lex.specs.Pieces.{PieceData, is_kind, text_at, kind_index}
+use Rattle.tc_lex.specs.Numbers.{token_number}
 
 -- a value as plain data; a wide one adds a number of 2^128 or more to its name, which no field
 -- holds
@@ -37,40 +36,40 @@ abbrev pub operand_of : Operand → OperandData
 operand_of o = record { is_memory = o.is_memory; plus = o.plus; base = o.base.now; value = value_of o.value }
 
 -- a value of this form, with a name, a sign and a number
-abbrev pub value : Shape → List ℕ → Bool → ℕ → ValueData
-value s name minus size = record { shape = s; name = name; minus = minus; size = size; wide = false }
+abbrev pub operand_value_data : Shape → List ℕ → Bool → ℕ → ValueData
+operand_value_data s name minus size = record { shape = s; name = name; minus = minus; size = size; wide = false }
 
 -- tokens that are no value
-abbrev pub bad : ValueData
-bad = value shape.Bad [] false 0
+abbrev pub bad_operand_value : ValueData
+bad_operand_value = operand_value_data shape.Bad [] false 0
 
 -- a number with an optional `-` that ends the operand: whether there is the `-`, and the number if
 -- it is below 2^128
-unfoldable pub number_at : List PieceData → ℕ → Option (Bool × Option ℕ)
-number_at ps at =
-    if is_kind ps at kind.Number && length ps == at + 1 then Some (false, number_of (text_at ps at))
-    else (if is_kind ps at kind.Minus && is_kind ps (at + 1) kind.Number && length ps == at + 2 then Some (true, number_of (text_at ps (at + 1)))
+unfoldable pub operand_number_at : List PieceData → ℕ → Option (Bool × Option ℕ)
+operand_number_at ps at =
+    if is_kind ps at kind.Number && length ps == at + 1 then Some (false, token_number (text_at ps at))
+    else (if is_kind ps at kind.Minus && is_kind ps (at + 1) kind.Number && length ps == at + 2 then Some (true, token_number (text_at ps (at + 1)))
     else None)
 
 -- the value that is a number alone
 abbrev pub plain_number : Bool → Option ℕ → ValueData
-plain_number minus (Some n) = value shape.Number [] minus n
-plain_number minus None = value shape.Huge [] minus 0
+plain_number minus (Some n) = operand_value_data shape.Number [] minus n
+plain_number minus None = operand_value_data shape.Huge [] minus 0
 
 -- the value that is a name plus a number; None is a number of 2^128 or more
 abbrev pub with_number : Shape → List ℕ → Bool → Option ℕ → ValueData
-with_number s name minus (Some n) = value s name minus n
-with_number s name minus None = record (value s name minus 0) { wide = true }
+with_number s name minus (Some n) = operand_value_data s name minus n
+with_number s name minus None = record (operand_value_data s name minus 0) { wide = true }
 
 -- the name at this place, with or without a number added
 unfoldable pub sum_at : List PieceData → ℕ → Shape → Shape → ValueData
 sum_at ps at plain summed =
     if is_kind ps at kind.Word
-    then (if length ps == at + 1 then value plain (text_at ps at) false 0
-    else (if is_kind ps (at + 1) kind.Plus then option_map_or (λ n. with_number summed (text_at ps at) n.0 n.1) (number_at ps (at + 2)) bad
-    else (if is_kind ps (at + 1) kind.Minus then option_map_or (λ n. with_number summed (text_at ps at) (not n.0) n.1) (number_at ps (at + 2)) bad
-    else bad)))
-    else bad
+    then (if length ps == at + 1 then operand_value_data plain (text_at ps at) false 0
+    else (if is_kind ps (at + 1) kind.Plus then option_map_or (λ n. with_number summed (text_at ps at) n.0 n.1) (operand_number_at ps (at + 2)) bad_operand_value
+    else (if is_kind ps (at + 1) kind.Minus then option_map_or (λ n. with_number summed (text_at ps at) (not n.0) n.1) (operand_number_at ps (at + 2)) bad_operand_value
+    else bad_operand_value)))
+    else bad_operand_value
 
 -- the upper or lower half of a symbol, or a symbol
 unfoldable pub named_at : List PieceData → ℕ → ValueData
@@ -78,33 +77,33 @@ named_at ps at =
     if is_kind ps (at + 1) kind.Colon
     then (if bytes_eq (text_at ps at) (codes "hi") then sum_at ps (at + 2) shape.High shape.High
     else (if bytes_eq (text_at ps at) (codes "lo") then sum_at ps (at + 2) shape.Low shape.Low
-    else bad))
+    else bad_operand_value))
     else sum_at ps at shape.Word shape.Sum
 
 -- the value from this place to the end
-unfoldable pub value_at : List PieceData → ℕ → ValueData
-value_at ps at =
-    if length ps == at then value shape.Absent [] false 0
-    else option_map_or (λ n. plain_number n.0 n.1) (number_at ps at) (named_at ps at)
+unfoldable pub operand_value_at : List PieceData → ℕ → ValueData
+operand_value_at ps at =
+    if length ps == at then operand_value_data shape.Absent [] false 0
+    else option_map_or (λ n. plain_number n.0 n.1) (operand_number_at ps at) (named_at ps at)
 
 -- an operand that is a value alone
-abbrev pub plain : ValueData → OperandData
-plain v = record { is_memory = false; plus = false; base = []; value = v }
+abbrev pub plain_operand : ValueData → OperandData
+plain_operand v = record { is_memory = false; plus = false; base = []; value = v }
 
 -- the operand `[BASE]` or `[BASE+]`, followed by a value
-abbrev pub memory : Bool → List ℕ → ValueData → OperandData
-memory plus base v = record { is_memory = true; plus = plus; base = base; value = v }
+abbrev pub bracketed_operand : Bool → List ℕ → ValueData → OperandData
+bracketed_operand plus base v = record { is_memory = true; plus = plus; base = base; value = v }
 
 -- an operand: `[BASE]` or `[BASE+]` and a value, or a value alone
 unfoldable pub operand : List PieceData → OperandData
 operand ps =
     if is_kind ps 0 kind.Open
     then (if is_kind ps 1 kind.Word
-    then (if is_kind ps 2 kind.Close then memory false (text_at ps 1) (value_at ps 3)
-    else (if is_kind ps 2 kind.Plus && is_kind ps 3 kind.Close then memory true (text_at ps 1) (value_at ps 4)
-    else plain bad))
-    else plain bad)
-    else plain (value_at ps 0)
+    then (if is_kind ps 2 kind.Close then bracketed_operand false (text_at ps 1) (operand_value_at ps 3)
+    else (if is_kind ps 2 kind.Plus && is_kind ps 3 kind.Close then bracketed_operand true (text_at ps 1) (operand_value_at ps 4)
+    else plain_operand bad_operand_value))
+    else plain_operand bad_operand_value)
+    else plain_operand (operand_value_at ps 0)
 
 -- the token that separates operands
 abbrev pub is_comma : PieceData → Bool

@@ -4,7 +4,7 @@ use Rattle.std.specs.Option.{option_map_or}
 use Rattle.tc_lex.specs.declared.kinds.TokenKind.{TokenKind}
 use Rattle.tc_lex.specs.declared.kinds.Token.{Token}
 use Rattle.tc_lex.specs.declared.pieces.Piece.{Piece}
-use Rattle.tc_lex.specs.Cut.{kind_index}
+use Rattle.tc_lex.specs.declared.kinds.TokenKind.TheVariants.{Word, Number, Comma, Colon, Open, Close, Plus, Minus}
 
 -- a token with its text, as plain data
 pub record PieceData : Type 0 where
@@ -15,6 +15,17 @@ pub record PieceData : Type 0 where
 abbrev pub piece_of : Piece → PieceData
 piece_of p = record { kind = p.kind; text = p.text.now }
 
+-- a number for each kind of token, so that kinds can be compared
+unfoldable pub kind_index : TokenKind → ℕ
+kind_index Word = 0
+kind_index Number = 1
+kind_index Comma = 2
+kind_index Colon = 3
+kind_index Open = 4
+kind_index Close = 5
+kind_index Plus = 6
+kind_index Minus = 7
+
 -- the token at this place exists and has this kind
 unfoldable pub is_kind : List PieceData → ℕ → TokenKind → Bool
 is_kind ps i kind = option_map_or (λ p. kind_index p.kind == kind_index kind) (slice_get ps i) false
@@ -23,7 +34,8 @@ is_kind ps i kind = option_map_or (λ p. kind_index p.kind == kind_index kind) (
 unfoldable pub text_at : List PieceData → ℕ → List ℕ
 text_at ps i = option_map_or (λ p. p.text) (slice_get ps i) []
 
--- the bytes from one place to another; a token is always within its line
+-- the text of a token in its line: the bytes from one place to another; a token is always within
+-- its line
 abbrev pub text_in : List ℕ → ℕ → ℕ → List ℕ
 text_in line from to = if nat_le from to && nat_le to (length line) then slice_range line from to else []
 

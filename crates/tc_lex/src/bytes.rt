@@ -2,6 +2,7 @@
 ghost use Rattle.std.specs.Prelude.{◌≡◌};
 ghost use Rattle.tc_lex.specs.Bytes.{is_digit, is_hex};
 
+/// Whether a byte is a decimal digit: 0 to 9.
 #[tactic(auto, unfolding(crate::specs::Bytes::is_digit))]
 pub(crate) fn is_digit(c: u8) -> bool
     ensures { result ≡ is_digit c }

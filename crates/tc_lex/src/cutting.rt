@@ -3,7 +3,7 @@ ghost use Rattle.std.specs.Prelude.{◌≡◌, ◌<◌, ◌≤◌, length};
 ghost use Rattle.tc_lex.specs.Cut.{tokens_of, Cuts, CutsInto, Reads};
 
 use crate::kinds::{Front, Token};
-use crate::longest_token::front;
+use crate::longest_token::longest_token_at;
 use arrayvec::ArrayVec;
 
 /// Replaces the contents of `out` by the tokens of a line. The error is the byte offset of the
@@ -15,7 +15,7 @@ pub fn cut_into(line: &[u8], out: &mut ArrayVec<Token, 64>) -> Result<(), usize>
     out.clear();
     let mut at = 0;
     'cut: while at < line.len() {
-        match front(line, at) {
+        match longest_token_at(line, at) {
             Front::End => return Ok(()),
             Front::Blank => at += 1,
             Front::Bad => return Err(at),

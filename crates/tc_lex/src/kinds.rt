@@ -1,6 +1,6 @@
 // The types of tokens.
 ghost use Rattle.std.specs.Prelude.{◌≡◌};
-ghost use Rattle.tc_lex.specs.Cut.{kind_index};
+ghost use Rattle.tc_lex.specs.Pieces.{kind_index};
 
 /// The kind of a token.
 #[derive(Clone, Copy, Debug, PartialEq, Eq, Default)]
@@ -48,7 +48,8 @@ pub enum Front {
     Token(TokenKind, usize),
 }
 
-#[tactic(auto, unfolding(crate::specs::Cut::kind_index))]
+/// A number for each kind of token, so that kinds can be compared.
+#[tactic(auto, unfolding(crate::specs::Pieces::kind_index))]
 pub(crate) fn kind_index(kind: TokenKind) -> u8
     ensures { result ≡ kind_index kind }
 {

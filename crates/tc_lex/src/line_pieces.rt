@@ -4,7 +4,7 @@ ghost use Rattle.tc_lex.specs.Cut.{tokens_of, token};
 ghost use Rattle.tc_lex.specs.Pieces.{piece_of, piece_in, pieces_of, CutsPieces};
 
 use crate::kinds::{Front, TokenKind};
-use crate::longest_token::front;
+use crate::longest_token::longest_token_at;
 use crate::pieces::Piece;
 use crate::scratch::Scratch;
 
@@ -19,8 +19,8 @@ fn piece_at(line: &[u8], kind: TokenKind, at: usize, len: usize) -> Piece<'_>
     }
 }
 
-/// Replaces the contents of `out` by the tokens of a line with their texts. The error is the byte
-/// offset of the first byte that begins no token, or that begins a 65th one.
+/// Cuts a line into tokens with their texts, which replace the contents of `out`. The error is the
+/// offset of the first byte that begins no token, or a 65th one.
 pub fn cut_pieces<'a>(line: &'a [u8], out: &mut Scratch<Piece<'a>, 64>) -> Result<(), usize>
     ensures pieces { CutsPieces result
         (map piece_of out.new.items) (pieces_of line.now (tokens_of line.now)) }
@@ -29,7 +29,7 @@ pub fn cut_pieces<'a>(line: &'a [u8], out: &mut Scratch<Piece<'a>, 64>) -> Resul
     out.clear();
     let mut at = 0;
     'cut: while at < line.len() {
-        match front(line, at) {
+        match longest_token_at(line, at) {
             Front::End => return Ok(()),
             Front::Blank => at += 1,
             Front::Bad => return Err(at),

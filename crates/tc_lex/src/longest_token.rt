@@ -3,13 +3,14 @@ ghost use Rattle.std.specs.Prelude.{◌≡◌, ◌<◌, ◌≤◌, ◌-◌, drop
 ghost use Rattle.std.specs.List.{prefix_len};
 ghost use Rattle.tc_lex.specs.Bytes.{is_digit, is_hex};
 ghost use Rattle.tcd_base.specs.NameBytes.{is_name_byte};
-ghost use Rattle.tc_lex.specs.Cut.{has_hex_front, number_len, front_of, front_at, IsWithin};
+ghost use Rattle.tc_lex.specs.Cut.{has_hex_front, number_len, token_front_of, token_front_by_byte, IsTokenWithin};
 
 use crate::bytes::{is_digit, is_hex};
 use crate::kinds::{Front, TokenKind};
 use crate::numbers::has_hex_front;
 use tcd_base::{is_name_byte, is_name_first};
 
+/// The number of decimal digits that the text begins with.
 fn digits_len(rest: &[u8]) -> usize
     ensures value { result ≡ prefix_len is_digit rest.now }
     ensures within { result ≤ length rest.now }
@@ -17,6 +18,7 @@ fn digits_len(rest: &[u8]) -> usize
     rest.iter().take_while(|c| is_digit(**c)).count()
 }
 
+/// The number of hex digits that the text begins with.
 fn hex_len(rest: &[u8]) -> usize
     ensures value { result ≡ prefix_len is_hex rest.now }
     ensures within { result ≤ length rest.now }
@@ -24,6 +26,7 @@ fn hex_len(rest: &[u8]) -> usize
     rest.iter().take_while(|c| is_hex(**c)).count()
 }
 
+/// The length of the word token that the text begins with.
 fn word_len(rest: &[u8]) -> usize
     ensures value { result ≡ prefix_len is_name_byte rest.now }
     ensures within { result ≤ length rest.now }
@@ -31,6 +34,7 @@ fn word_len(rest: &[u8]) -> usize
     rest.iter().take_while(|c| is_name_byte(**c)).count()
 }
 
+/// The length of the number token that the text begins with.
 #[tactic(auto, unfolding(crate::specs::Cut::number_len))]
 fn number_len(rest: &[u8]) -> usize
     ensures value { result ≡ number_len rest.now }
@@ -45,12 +49,12 @@ fn number_len(rest: &[u8]) -> usize
 }
 
 // What the text begins with; `c` is its first byte.
-#[tactic(auto, unfolding(crate::specs::Cut::front_at))]
-fn front_at(c: u8, text: &[u8]) -> Front
+#[tactic(auto, unfolding(crate::specs::Cut::token_front_by_byte))]
+fn token_front_by_byte(c: u8, text: &[u8]) -> Front
     requires some { 0 < length text.now }
     requires first { c ≡ slice_index text.now 0 }
-    ensures value { result ≡ front_at c text.now }
-    ensures within { IsWithin result (length text.now) }
+    ensures value { result ≡ token_front_by_byte c text.now }
+    ensures within { IsTokenWithin result (length text.now) }
 {
     if c == b'#' {
         Front::End
@@ -79,11 +83,11 @@ fn front_at(c: u8, text: &[u8]) -> Front
     }
 }
 
-/// What the line holds at the byte offset `at`.
-pub(crate) fn front(line: &[u8], at: usize) -> Front
+/// The longest token at byte `at` of a line, or the blank, end or bad byte there.
+pub(crate) fn longest_token_at(line: &[u8], at: usize) -> Front
     requires { at < length line.now }
-    ensures value { result ≡ front_of (drop at line.now) }
-    ensures within { IsWithin result (length line.now - at) }
+    ensures value { result ≡ token_front_of (drop at line.now) }
+    ensures within { IsTokenWithin result (length line.now - at) }
 {
-    front_at(line[at], &line[at..])
+    token_front_by_byte(line[at], &line[at..])
 }

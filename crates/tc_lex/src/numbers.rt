@@ -1,15 +1,15 @@
 // Reads the numbers that tokens spell.
 ghost use Rattle.std.specs.Prelude.{◌≡◌, ◌<◌, Some, length, true, ◌-◌, IsTrue};
-ghost use Rattle.tc_lex.specs.Numbers.{digit_of, add_digit, digits_of, number_of};
+ghost use Rattle.tc_lex.specs.Numbers.{token_digit_value, add_digit, number_by_digits, token_number};
 ghost use Rattle.tc_lex.specs.Bytes.{is_hex};
 ghost use Rattle.tc_lex.specs.Cut.{has_hex_front};
 
 use crate::bytes::is_hex;
 
 // The value of a digit of base 10 or 16.
-#[tactic(auto, unfolding(crate::specs::Numbers::digit_of, crate::specs::Bytes::is_digit))]
-fn digit_of(c: u8) -> u8
-    ensures { result ≡ digit_of c }
+#[tactic(auto, unfolding(crate::specs::Numbers::token_digit_value, crate::specs::Bytes::is_digit))]
+fn token_digit_value(c: u8) -> u8
+    ensures { result ≡ token_digit_value c }
 {
     if b'0' <= c && c <= b'9' {
         c - b'0'
@@ -20,6 +20,7 @@ fn digit_of(c: u8) -> u8
     }
 }
 
+/// The number of a token with one more digit, if it is below 2^128.
 #[tactic(auto, unfolding(crate::specs::Numbers::add_digit), using(crate::proofs::SmallTimes::small_times))]
 fn add_digit(base: u8, so_far: Option<u128>, c: u8) -> Option<u128>
     ensures { result ≡ add_digit base so_far c }
@@ -28,7 +29,7 @@ fn add_digit(base: u8, so_far: Option<u128>, c: u8) -> Option<u128>
         None => None,
         Some(n) => {
             if n < 0x1_0000_0000_0000_0000 {
-                Some(n * u128::from(base) + u128::from(digit_of(c)))
+                Some(n * u128::from(base) + u128::from(token_digit_value(c)))
             } else {
                 add_far_digit(base, n, c)
             }
@@ -44,12 +45,13 @@ fn add_far_digit(base: u8, n: u128, c: u8) -> Option<u128>
 {
     match n.checked_mul(u128::from(base)) {
         None => None,
-        Some(shifted) => shifted.checked_add(u128::from(digit_of(c))),
+        Some(shifted) => shifted.checked_add(u128::from(token_digit_value(c))),
     }
 }
 
-fn digits(base: u8, text: &[u8]) -> Option<u128>
-    ensures { result ≡ digits_of base text.now }
+/// The number that these digits of a token spell, if it is below 2^128.
+fn number_by_digits(base: u8, text: &[u8]) -> Option<u128>
+    ensures { result ≡ number_by_digits base text.now }
 {
     let mut so_far = Some(0);
     for c in text {
@@ -59,14 +61,14 @@ fn digits(base: u8, text: &[u8]) -> Option<u128>
 }
 
 /// The number that a token spells, if it is below 2^128.
-#[tactic(auto, unfolding(crate::specs::Numbers::number_of))]
-pub(crate) fn number_of(text: &[u8]) -> Option<u128>
-    ensures { result ≡ number_of text.now }
+#[tactic(auto, unfolding(crate::specs::Numbers::token_number))]
+pub(crate) fn token_number(text: &[u8]) -> Option<u128>
+    ensures { result ≡ token_number text.now }
 {
     if has_hex_front(text) {
-        digits(16, &text[2..])
+        number_by_digits(16, &text[2..])
     } else {
-        digits(10, text)
+        number_by_digits(10, text)
     }
 }
 

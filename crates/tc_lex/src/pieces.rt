@@ -1,12 +1,9 @@
 // Tokens with their texts.
 ghost use Rattle.std.specs.Prelude.{◌≡◌, ◌<◌, map, length, true};
-ghost use Rattle.std.specs.Str.{bytes_eq};
-ghost use Rattle.tc_lex.specs.Pieces.{piece_of, is_kind, text_at};
-ghost use Rattle.tc_lex.specs.Cut.{kind_index};
+ghost use Rattle.tc_lex.specs.Pieces.{piece_of, is_kind, text_at, kind_index};
 
 use crate::TokenKind;
 use crate::kinds::kind_index;
-use crate::same_bytes::is_same;
 
 /// A token and its text.
 #[derive(Clone, Copy, Default)]
@@ -36,11 +33,4 @@ pub fn text_at<'a>(ps: &[Piece<'a>], i: usize) -> &'a [u8]
     ensures { result.now ≡ text_at (map piece_of ps.now) i }
 {
     if i < ps.len() { ps[i].text } else { &[] }
-}
-
-/// Whether the bytes are this text.
-pub fn is_text(bytes: &[u8], text: &str) -> bool
-    ensures { result ≡ bytes_eq bytes.now text.now }
-{
-    is_same(bytes, text.as_bytes())
 }

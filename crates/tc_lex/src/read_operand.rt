@@ -2,16 +2,18 @@
 ghost use Rattle.std.specs.Prelude.{◌≡◌, ◌≢◌, ◌<◌, ◌≤◌, ◌+◌, ◌++◌, ◌∷◌, [], map, length, true};
 ghost use Rattle.tc_lex.specs.declared.kinds.TokenKind.TheVariants.{Word, Number, Colon, Open};
 ghost use Rattle.tc_lex.specs.Pieces.{piece_of, is_kind as is_kind_at};
-ghost use Rattle.tc_lex.specs.Operands.{value_of, operand_of, number_at, sum_at, named_at, value_at, operand, value as data_of, plain as plain_of, memory as memory_of, plain_number as number_value, with_number as sum_value};
+ghost use Rattle.tc_lex.specs.Operands.{value_of, operand_of, operand_number_at, sum_at, named_at, operand_value_at, operand, operand_value_data as data_of, plain_operand as plain_of, bracketed_operand as memory_of, plain_number as number_value, with_number as sum_value, operands};
 
 use crate::TokenKind;
-use crate::numbers::number_of;
+use crate::numbers::token_number;
 use crate::operand::{Operand, Shape, Value};
-use crate::pieces::{Piece, is_kind, is_text, text_at};
+use crate::pieces::{Piece, is_kind, text_at};
+use crate::same_bytes::is_same_text;
 use crate::scratch::Scratch;
-use crate::split_operands::put;
+use crate::split_operands::operands;
 
-fn make_value(shape: Shape, name: &[u8], minus: bool, size: u128) -> Value<'_>
+/// The value of an operand with this form, name, sign and number.
+fn make_operand_value(shape: Shape, name: &[u8], minus: bool, size: u128) -> Value<'_>
     ensures { value_of result ≡ data_of shape name.now minus size }
 {
     Value {
@@ -23,13 +25,13 @@ fn make_value(shape: Shape, name: &[u8], minus: bool, size: u128) -> Value<'_>
     }
 }
 
-// The value that is a number alone; `None` is a number of 2^128 or more.
+/// Returns the value that is read from a number alone; `None` is a number of 2^128 or more.
 fn plain_number<'a>(minus: bool, n: Option<u128>) -> Value<'a>
     ensures { value_of result ≡ number_value minus n }
 {
     match n {
-        Some(size) => make_value(Shape::Number, &[], minus, size),
-        None => make_value(Shape::Huge, &[], minus, 0),
+        Some(size) => make_operand_value(Shape::Number, &[], minus, size),
+        None => make_operand_value(Shape::Huge, &[], minus, 0),
     }
 }
 
@@ -38,26 +40,27 @@ fn add_number(shape: Shape, name: &[u8], minus: bool, n: Option<u128>) -> Value<
     ensures { value_of result ≡ sum_value shape name.now minus n }
 {
     match n {
-        Some(size) => make_value(shape, name, minus, size),
+        Some(size) => make_operand_value(shape, name, minus, size),
         None => Value {
             wide: true,
-            ..make_value(shape, name, minus, 0)
+            ..make_operand_value(shape, name, minus, 0)
         },
     }
 }
 
-#[tactic(auto, unfolding(crate::specs::Operands::number_at))]
-fn number_at(ps: &[Piece], at: usize) -> Option<(bool, Option<u128>)>
+/// Reads a number with an optional `-` that ends the operand: the sign, and the number.
+#[tactic(auto, unfolding(crate::specs::Operands::operand_number_at))]
+fn operand_number_at(ps: &[Piece], at: usize) -> Option<(bool, Option<u128>)>
     requires { at ≤ length ps.now }
-    ensures { result ≡ number_at (map piece_of ps.now) at }
+    ensures { result ≡ operand_number_at (map piece_of ps.now) at }
 {
     if is_kind(ps, at, TokenKind::Number) && ps.len() - at == 1 {
-        Some((false, number_of(text_at(ps, at))))
+        Some((false, token_number(text_at(ps, at))))
     } else if is_kind(ps, at, TokenKind::Minus)
         && ps.len() - at == 2
         && is_kind(ps, at + 1, TokenKind::Number)
     {
-        Some((true, number_of(text_at(ps, at + 1))))
+        Some((true, token_number(text_at(ps, at + 1))))
     } else {
         None
     }
@@ -73,20 +76,21 @@ fn name_plus_number_at<'a>(ps: &[Piece<'a>], at: usize, plain: Shape, summed: Sh
     ensures { value_of result ≡ sum_at (map piece_of ps.now) at plain summed }
 {
     if is_kind(ps, at + 1, TokenKind::Plus) {
-        match number_at(ps, at + 2) {
+        match operand_number_at(ps, at + 2) {
             Some((minus, n)) => add_number(summed, text_at(ps, at), minus, n),
-            None => make_value(Shape::Bad, &[], false, 0),
+            None => make_operand_value(Shape::Bad, &[], false, 0),
         }
     } else if is_kind(ps, at + 1, TokenKind::Minus) {
-        match number_at(ps, at + 2) {
+        match operand_number_at(ps, at + 2) {
             Some((minus, n)) => add_number(summed, text_at(ps, at), !minus, n),
-            None => make_value(Shape::Bad, &[], false, 0),
+            None => make_operand_value(Shape::Bad, &[], false, 0),
         }
     } else {
-        make_value(Shape::Bad, &[], false, 0)
+        make_operand_value(Shape::Bad, &[], false, 0)
     }
 }
 
+/// Reads the name at this token, with or without a number added, as a value.
 #[tactic(auto, unfolding(crate::specs::Operands::sum_at))]
 fn sum_at<'a>(ps: &[Piece<'a>], at: usize, plain: Shape, summed: Shape) -> Value<'a>
     requires { at ≤ length ps.now }
@@ -94,12 +98,12 @@ fn sum_at<'a>(ps: &[Piece<'a>], at: usize, plain: Shape, summed: Shape) -> Value
 {
     if is_kind(ps, at, TokenKind::Word) {
         if ps.len() - at == 1 {
-            make_value(plain, text_at(ps, at), false, 0)
+            make_operand_value(plain, text_at(ps, at), false, 0)
         } else {
             name_plus_number_at(ps, at, plain, summed)
         }
     } else {
-        make_value(Shape::Bad, &[], false, 0)
+        make_operand_value(Shape::Bad, &[], false, 0)
     }
 }
 
@@ -112,15 +116,16 @@ fn half_at<'a>(ps: &[Piece<'a>], at: usize) -> Value<'a>
     ensures { value_of result ≡ named_at (map piece_of ps.now) at }
 {
     let name = text_at(ps, at);
-    if is_text(name, "hi") {
+    if is_same_text(name, "hi") {
         sum_at(ps, at + 2, Shape::High, Shape::High)
-    } else if is_text(name, "lo") {
+    } else if is_same_text(name, "lo") {
         sum_at(ps, at + 2, Shape::Low, Shape::Low)
     } else {
-        make_value(Shape::Bad, &[], false, 0)
+        make_operand_value(Shape::Bad, &[], false, 0)
     }
 }
 
+/// Reads a symbol, or its upper or lower half, at this token as a value.
 #[tactic(auto, unfolding(crate::specs::Operands::named_at))]
 fn named_at<'a>(ps: &[Piece<'a>], at: usize) -> Value<'a>
     requires { at ≤ length ps.now }
@@ -133,24 +138,26 @@ fn named_at<'a>(ps: &[Piece<'a>], at: usize) -> Value<'a>
     }
 }
 
-#[tactic(auto, unfolding(crate::specs::Operands::value_at), using(crate::proofs::NumberTokens::word_no_number))]
-fn value_at<'a>(ps: &[Piece<'a>], at: usize) -> Value<'a>
+/// Reads the value of an operand from this token to the end.
+#[tactic(auto, unfolding(crate::specs::Operands::operand_value_at), using(crate::proofs::NumberTokens::word_no_number))]
+fn operand_value_at<'a>(ps: &[Piece<'a>], at: usize) -> Value<'a>
     requires { at ≤ length ps.now }
-    ensures { value_of result ≡ value_at (map piece_of ps.now) at }
+    ensures { value_of result ≡ operand_value_at (map piece_of ps.now) at }
 {
     if ps.len() == at {
-        make_value(Shape::Absent, &[], false, 0)
+        make_operand_value(Shape::Absent, &[], false, 0)
     } else if is_kind(ps, at, TokenKind::Word) {
         named_at(ps, at)
     } else {
-        match number_at(ps, at) {
+        match operand_number_at(ps, at) {
             Some((minus, n)) => plain_number(minus, n),
             None => named_at(ps, at),
         }
     }
 }
 
-fn plain(value: Value<'_>) -> Operand<'_>
+/// Returns the operand that is read from a value alone, without brackets.
+fn plain_operand(value: Value<'_>) -> Operand<'_>
     ensures { operand_of result ≡ plain_of (value_of value.entry) }
 {
     Operand {
@@ -161,7 +168,8 @@ fn plain(value: Value<'_>) -> Operand<'_>
     }
 }
 
-fn memory<'a>(plus: bool, base: &'a [u8], value: Value<'a>) -> Operand<'a>
+/// The operand `[BASE]` or `[BASE+]`, followed by a value.
+fn bracketed_operand<'a>(plus: bool, base: &'a [u8], value: Value<'a>) -> Operand<'a>
     ensures { operand_of result ≡ memory_of plus base.now (value_of value.entry) }
 {
     Operand {
@@ -181,14 +189,14 @@ fn memory_operand<'a>(ps: &[Piece<'a>]) -> Operand<'a>
 {
     if is_kind(ps, 1, TokenKind::Word) {
         if is_kind(ps, 2, TokenKind::Close) {
-            memory(false, text_at(ps, 1), value_at(ps, 3))
+            bracketed_operand(false, text_at(ps, 1), operand_value_at(ps, 3))
         } else if is_kind(ps, 2, TokenKind::Plus) && is_kind(ps, 3, TokenKind::Close) {
-            memory(true, text_at(ps, 1), value_at(ps, 4))
+            bracketed_operand(true, text_at(ps, 1), operand_value_at(ps, 4))
         } else {
-            plain(make_value(Shape::Bad, &[], false, 0))
+            plain_operand(make_operand_value(Shape::Bad, &[], false, 0))
         }
     } else {
-        plain(make_value(Shape::Bad, &[], false, 0))
+        plain_operand(make_operand_value(Shape::Bad, &[], false, 0))
     }
 }
 
@@ -203,9 +211,9 @@ fn put_longer<'a>(ps: &[Piece<'a>], out: &mut Scratch<Operand<'a>, 65>)
     ensures one_more { length out.new.items ≡ length out.old.items + 1 }
 {
     if is_kind(ps, 0, TokenKind::Open) {
-        put(memory_operand(ps), out);
+        push_operand(memory_operand(ps), out);
     } else {
-        put(plain(value_at(ps, 0)), out);
+        push_operand(plain_operand(operand_value_at(ps, 0)), out);
     }
 }
 
@@ -215,7 +223,7 @@ fn lone_word<'a>(ps: &[Piece<'a>]) -> Operand<'a>
     requires word { is_kind_at (map piece_of ps.now) 0 Word ≡ true }
     ensures { operand_of result ≡ operand (map piece_of ps.now) }
 {
-    plain(make_value(Shape::Word, text_at(ps, 0), false, 0))
+    plain_operand(make_operand_value(Shape::Word, text_at(ps, 0), false, 0))
 }
 
 // The operand that is one number.
@@ -224,7 +232,7 @@ fn lone_number<'a>(ps: &[Piece<'a>]) -> Operand<'a>
     requires number { is_kind_at (map piece_of ps.now) 0 Number ≡ true }
     ensures { operand_of result ≡ operand (map piece_of ps.now) }
 {
-    plain(plain_number(false, number_of(text_at(ps, 0))))
+    plain_operand(plain_number(false, token_number(text_at(ps, 0))))
 }
 
 /// Adds the operand that these tokens spell to the list. Each arm of one token builds the operand
@@ -238,10 +246,20 @@ pub(crate) fn put_operand<'a>(ps: &[Piece<'a>], out: &mut Scratch<Operand<'a>, 6
     if ps.len() != 1 {
         put_longer(ps, out);
     } else if is_kind(ps, 0, TokenKind::Word) {
-        put(lone_word(ps), out);
+        push_operand(lone_word(ps), out);
     } else if is_kind(ps, 0, TokenKind::Number) {
-        put(lone_number(ps), out);
+        push_operand(lone_number(ps), out);
     } else {
         put_longer(ps, out);
     }
+}
+
+// Adds an operand to the list.
+pub(crate) fn push_operand<'a>(operand: Operand<'a>, out: &mut Scratch<Operand<'a>, 65>)
+    requires { length out.old.items < 65 }
+    ensures operands { map operand_of out.new.items
+        ≡ map operand_of out.old.items ++ operand_of operand.entry ∷ [] }
+    ensures one_more { length out.new.items ≡ length out.old.items + 1 }
+{
+    out.push(operand);
 }

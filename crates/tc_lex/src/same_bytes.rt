@@ -3,7 +3,7 @@ ghost use Rattle.std.specs.Prelude.{◌≡◌};
 ghost use Rattle.std.specs.Str.{bytes_eq};
 
 /// Whether two texts are equal. A loop over bytes is fastest here, since names are short.
-pub fn is_same(a: &[u8], b: &[u8]) -> bool
+pub fn are_same_bytes(a: &[u8], b: &[u8]) -> bool
     ensures { result ≡ bytes_eq a.now b.now }
 {
     if a.len() != b.len() {
@@ -17,4 +17,11 @@ pub fn is_same(a: &[u8], b: &[u8]) -> bool
         }
     }
     true
+}
+
+/// Whether the bytes are this text.
+pub fn is_same_text(bytes: &[u8], text: &str) -> bool
+    ensures { result ≡ bytes_eq bytes.now text.now }
+{
+    are_same_bytes(bytes, text.as_bytes())
 }

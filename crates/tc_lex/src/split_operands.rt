@@ -1,7 +1,6 @@
 // Splits the tokens of a statement at its commas into operands.
 ghost use Rattle.std.specs.Prelude.{◌≡◌, ◌≤◌, ◌<◌, map, length, position, IfSome, take, drop, ◌+◌, ◌++◌, ◌∷◌, []};
-ghost use Rattle.tc_lex.specs.Pieces.{piece_of};
-ghost use Rattle.tc_lex.specs.Cut.{kind_index};
+ghost use Rattle.tc_lex.specs.Pieces.{piece_of, kind_index};
 ghost use Rattle.tc_lex.specs.Operands.{operand_of, operands, is_comma, operand};
 
 use crate::kinds::kind_index;
@@ -10,6 +9,7 @@ use crate::pieces::Piece;
 use crate::read_operand::put_operand;
 use crate::scratch::Scratch;
 
+/// The place of the first comma among these tokens.
 fn find_comma(ps: &[Piece]) -> Option<usize>
     ensures value { result ≡ position (λ p. is_comma (piece_of p)) ps.now }
     ensures within { IfSome result (λ i. i < length ps.now) }
@@ -51,14 +51,4 @@ pub fn operands<'a>(ps: &[Piece<'a>], out: &mut Scratch<Operand<'a>, 65>)
         rest = tokens_after(rest, i);
     }
     put_operand(rest, out);
-}
-
-// Adds an operand to the list.
-pub(crate) fn put<'a>(operand: Operand<'a>, out: &mut Scratch<Operand<'a>, 65>)
-    requires { length out.old.items < 65 }
-    ensures operands { map operand_of out.new.items
-        ≡ map operand_of out.old.items ++ operand_of operand.entry ∷ [] }
-    ensures one_more { length out.new.items ≡ length out.old.items + 1 }
-{
-    out.push(operand);
 }

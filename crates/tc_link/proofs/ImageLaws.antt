@@ -5,12 +5,12 @@ use Rattle.std.specs.List.{sum_by, list_any, list_all}
 use Rattle.std.proofs.lemmas.Bool.{le-leb, leb-false, ltb-false, ltb-true, and_from}
 use Rattle.std.proofs.lemmas.List.Folds.{list_any-append}
 use Rattle.std.proofs.lemmas.List.Sums.{sum_by-cons}
-use Rattle.elf_image.specs.Images.{SegmentData, ImageData, AreBytes, IsImage, is_segment, are_apart, all_apart}
+use Rattle.elf_image.specs.Images.{SegmentData, ImageData, AreSegmentBytes, IsImage, is_segment, are_apart, all_apart}
 use Rattle.tc_object.specs.Objects.{SectionData, InTurn}
-use Rattle.tc_link.specs.Layouts.{PlaceData, LayoutData, IsPlace, IsPlaceAfter, IsLayout, shares}
-use Rattle.tc_link.specs.PlaceSizes.{taken_bytes, is_over, total}
+use Rattle.tc_link.specs.Layouts.{PlaceData, LayoutData, IsPlace, IsPlaceAfter, IsLayout, are_overlapping_places}
+use Rattle.tc_link.specs.PlaceSizes.{taken_bytes, are_places_overfull, total_place_size}
 use Rattle.tc_link.specs.Segments.{joined_sections, segment_of, segments_of}
-use Rattle.tc_link.specs.Shapes.{shape_of}
+use Rattle.tc_link.specs.Shapes.{section_shape}
 use Rattle.tc_link.proofs.ShapeLaws.{length-joined, taken-shapes}
 
 or_false : (a b : Bool) → (a || b) ≡ false → (a ≡ false) × (b ≡ false)
@@ -22,7 +22,7 @@ abbrev Fits : List SectionData → List PlaceData → Type 0
 Fits contents [] = Unit {0}
 Fits contents (p ∷ ps) = (IsPlace p × (length (joined_sections p.section contents) ≤ p.most)) × Fits contents ps
 
-fits_from : (contents sections : List SectionData) (before places : List PlaceData) → map shape_of contents ≡ map shape_of sections → InTurn IsPlaceAfter before places
+fits_from : (contents sections : List SectionData) (before places : List PlaceData) → map section_shape contents ≡ map section_shape sections → InTurn IsPlaceAfter before places
     → list_any (λ p. ltb p.most (taken_bytes p.section sections)) places ≡ false → Fits contents places
 fits_from contents sections before [] same turn e = tt
 fits_from contents sections before (p ∷ ps) same turn e =
@@ -52,7 +52,7 @@ all_segments contents (p ∷ ps) h = by_bytes (all_segments contents ps h.1) (ha
 -- ---- no two share an address
 abbrev ApartFrom : PlaceData → List PlaceData → Type 0
 ApartFrom p [] = Unit {0}
-ApartFrom p (q ∷ qs) = (shares q p ≡ false) × ApartFrom p qs
+ApartFrom p (q ∷ qs) = (are_overlapping_places q p ≡ false) × ApartFrom p qs
 
 -- a test that fails for each place of the list fails for p
 abbrev IsOf : List PlaceData → PlaceData → Type 0
@@ -68,9 +68,9 @@ of_last before p f e =
 
 apart_from : (p : PlaceData) (before qs : List PlaceData) → IsOf before p → InTurn IsPlaceAfter before qs → ApartFrom p qs
 apart_from p before [] h turn = tt
-apart_from p before (q ∷ qs) h turn = (h (shares q) turn.0.apart, apart_from p (before ++ q ∷ []) qs (of_more before p q h) turn.1)
+apart_from p before (q ∷ qs) h turn = (h (are_overlapping_places q) turn.0.apart, apart_from p (before ++ q ∷ []) qs (of_more before p q h) turn.1)
 
-two_apart : (p q : PlaceData) (m n : ℕ) → m ≤ p.most → n ≤ q.most → 0 < m → 0 < n → shares q p ≡ false → (leb (p.at + m) q.at || leb (q.at + n) p.at) ≡ true
+two_apart : (p q : PlaceData) (m n : ℕ) → m ≤ p.most → n ≤ q.most → 0 < m → 0 < n → are_overlapping_places q p ≡ false → (leb (p.at + m) q.at || leb (q.at + n) p.at) ≡ true
 two_apart p q m n fm fn sm sn e = by_first (leb (p.at + m) q.at) refl
   where
     met : min (q.at + q.most) (p.at + p.most) ≤ max q.at p.at
@@ -110,7 +110,7 @@ few_segments contents (p ∷ ps) = by_bytes (few_segments contents ps) (has_byte
     by_bytes rest true = omega arith
     by_bytes rest false = omega arith
 
-small_segments : (contents sections : List SectionData) (ps : List PlaceData) → map shape_of contents ≡ map shape_of sections
+small_segments : (contents sections : List SectionData) (ps : List PlaceData) → map section_shape contents ≡ map section_shape sections
     → sum_by (λ s. length s.bytes) (segments contents ps) ≤ sum_by (λ p. taken_bytes p.section sections) ps
 small_segments contents sections [] same = omega arith
 small_segments contents sections (p ∷ ps) same =
@@ -137,12 +137,12 @@ pub record KeepsLimits (i : ImageData) : Type 0 where
   pub apart : IsTrue (all_apart i.segments)
   pub small : sum_by (λ s. length s.bytes) i.segments ≤ 2 ^ 24
 
-pub image_of_bytes : (i : ImageData) → KeepsLimits i → AreBytes i.segments → IsImage i
+pub image_of_bytes : (i : ImageData) → KeepsLimits i → AreSegmentBytes i.segments → IsImage i
 image_of_bytes i l bytes = record { entry = l.entry; few = l.few; segments = l.segments; bytes = bytes; apart = l.apart; small = l.small }
 
-pub image_is : (layout : LayoutData) (contents sections : List SectionData) (entry : ℕ) → IsLayout layout → map shape_of contents ≡ map shape_of sections → is_over layout.places sections ≡ false → entry < 2 ^ 32
+pub image_is : (layout : LayoutData) (contents sections : List SectionData) (entry : ℕ) → IsLayout layout → map section_shape contents ≡ map section_shape sections → are_places_overfull layout.places sections ≡ false → entry < 2 ^ 32
     → KeepsLimits (record { entry = entry; segments = segments_of layout.places contents })
-unfolding is_over total segments_of
+unfolding are_places_overfull total_place_size segments_of
 image_is layout contents sections entry good same room small =
     let parts = or_false (list_any (λ p. ltb p.most (taken_bytes p.section sections)) layout.places) (ltb (2 ^ 24) (sum_by (λ p. taken_bytes p.section sections) layout.places)) room in
     let fits = fits_from contents sections [] layout.places same good.places parts.0 in

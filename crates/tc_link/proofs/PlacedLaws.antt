@@ -6,7 +6,7 @@ use Rattle.std.proofs.lemmas.List.{length-map, get_or-map, take_all}
 use Rattle.std.proofs.lemmas.Option.{slice_get-get_or}
 use Rattle.tc_object.specs.Objects.{SectionData, SymbolData, ObjectData}
 use Rattle.tc_link.specs.Layouts.{PlaceData}
-use Rattle.tc_link.specs.Placing.{PlacedData, address_in, placed_after, address_of}
+use Rattle.tc_link.specs.Placing.{PlacedData, address_in_section, placed_after, address_of}
 use Rattle.tc_link.specs.Names.{GlobalData, is_global, global_data, global_address}
 use Rattle.tc_link.proofs.ItemLaws.{same_item}
 
@@ -47,7 +47,7 @@ pub symbol_globals : (placed : List PlacedData) (p : PlacedData) (object : ℕ) 
     → global_address (before ++ record { name = v.name; address = address_of placed (record { object = object; section = v.section; offset = v.offset; is_twice = false }) } ∷ []) q
     ≡ global_address (before ++ map (global_data p.bases) (filter is_global (v ∷ []))) q
 symbol_globals placed p object v before q at is =
-    ap (λ (o : Option PlacedData). global_address (before ++ record { name = v.name; address = option_map_or (λ (x : PlacedData). address_in x.bases v.section v.offset) o 0 } ∷ []) q) at
+    ap (λ (o : Option PlacedData). global_address (before ++ record { name = v.name; address = option_map_or (λ (x : PlacedData). address_in_section x.bases v.section v.offset) o 0 } ∷ []) q) at
     ∙ ap (λ (b : Bool). global_address (before ++ map (global_data p.bases) (cond b (v ∷ []) [])) q) (sym is)
 
 -- the objects that were placed

@@ -6,31 +6,31 @@ use Rattle.std.proofs.lemmas.List.Elements.{filter_map-append}
 use Rattle.tc_link.specs.declared.layout_errors.LayoutErr.{LayoutErr}
 use Rattle.tc_link.specs.declared.layout_errors.LayoutErr.TheVariants.{BadLine, Twice, TooMany, Overlap, NoMemory}
 use Rattle.tc_link.specs.Layouts.{PlaceData}
-use Rattle.tcd_text.specs.Lines.{lines_of}
-use Rattle.tc_link.specs.LayoutLines.{LineData, line_of, entry_in, region_in, entries_of, places_of}
+use Rattle.tcd_text.specs.Lines.{text_lines}
+use Rattle.tc_link.specs.LayoutLines.{LayoutLineData, layout_line_contents, entry_in, region_in, layout_entries, places_of}
 use Rattle.std.specs.List.{filter_map, cons_option}
-use Rattle.tcd_base.specs.Refusing.{unless}
+use Rattle.tcd_base.specs.Refusing.{unless_refused}
 use Rattle.tc_link.specs.LayoutFaults.{fault_of, first_fault, layout_in, IsFault, IsFaultOf}
-use Rattle.tc_link.specs.LayoutDrafts.{with_entry, DraftData, with_line}
+use Rattle.tc_link.specs.LayoutDrafts.{with_entry, LayoutDraftData, with_layout_line}
 
 -- the first n lines have no fault and lead to the draft; the text is the rest
-pub record Reached (all : List (List ℕ)) (n : ℕ) (rest : List ℕ) (d : DraftData) : Type 0 where
-  pub rest_lines : drop n all ≡ lines_of rest
+pub record Reached (all : List (List ℕ)) (n : ℕ) (rest : List ℕ) (d : LayoutDraftData) : Type 0 where
+  pub rest_lines : drop n all ≡ text_lines rest
   pub count : n ≤ length all
-  pub entries : d.entries ≡ entries_of (take n all)
+  pub entries : d.entries ≡ layout_entries (take n all)
   pub places : d.places ≡ places_of (take n all)
-  pub good : first_fault (take n all) (lines_of rest) ≡ first_fault [] all
+  pub good : first_fault (take n all) (text_lines rest) ≡ first_fault [] all
 
-pub reached_none : (bytes : List ℕ) (d : DraftData) → d.entries ≡ [] → d.places ≡ [] → Reached (lines_of bytes) 0 bytes d
-unfolding entries_of places_of
+pub reached_none : (bytes : List ℕ) (d : LayoutDraftData) → d.entries ≡ [] → d.places ≡ [] → Reached (text_lines bytes) 0 bytes d
+unfolding layout_entries places_of
 reached_none bytes d e f = record { rest_lines = refl; count = omega arith; entries = e; places = f; good = refl }
 
 as_list : {A : Type 0} (o : Option A) → cons_option o [] ≡ option_to_list o
 as_list None = refl
 as_list (Some x) = refl
 
-pushed : {A : Type 0} (f : LineData → Option A) (lines : List (List ℕ)) (line : List ℕ) → filter_map (λ l. option_and_then f (line_of l)) (lines ++ line ∷ []) ≡ filter_map (λ l. option_and_then f (line_of l)) lines ++ option_to_list (option_and_then f (line_of line))
-pushed f lines line = filter_map-append (λ l. option_and_then f (line_of l)) lines (line ∷ []) ∙ ap (λ ys. filter_map (λ l. option_and_then f (line_of l)) lines ++ ys) (as_list (option_and_then f (line_of line)))
+pushed : {A : Type 0} (f : LayoutLineData → Option A) (lines : List (List ℕ)) (line : List ℕ) → filter_map (λ l. option_and_then f (layout_line_contents l)) (lines ++ line ∷ []) ≡ filter_map (λ l. option_and_then f (layout_line_contents l)) lines ++ option_to_list (option_and_then f (layout_line_contents line))
+pushed f lines line = filter_map-append (λ l. option_and_then f (layout_line_contents l)) lines (line ∷ []) ∙ ap (λ ys. filter_map (λ l. option_and_then f (layout_line_contents l)) lines ++ ys) (as_list (option_and_then f (layout_line_contents line)))
 
 -- a further line
 step_all : (all : List (List ℕ)) (n : ℕ) (line : List ℕ) (more : List (List ℕ)) → drop n all ≡ line ∷ more → (take (n + 1) all ≡ take n all ++ line ∷ []) × (drop (n + 1) all ≡ more) × (n + 1 ≤ length all)
@@ -42,37 +42,37 @@ step_all (x ∷ xs) (suc n) line more e =
     let same : suc (n + 1) ≡ suc n + 1 = omega arith in
     (ap (λ k. take k (x ∷ xs)) (sym same) ∙ ap (λ (ys : List (List ℕ)). x ∷ ys) s.0, ap (λ k. drop k (x ∷ xs)) (sym same) ∙ s.1, omega (arith, s.2))
 
-next_fault : (all : List (List ℕ)) (n : ℕ) (rest line after : List ℕ) (d : DraftData) → Reached all n rest d → lines_of rest ≡ line ∷ lines_of after
-    → option_or (fault_of (n + 1) d.entries d.places (line_of line)) (first_fault (take n all ++ line ∷ []) (lines_of after)) ≡ first_fault [] all
+next_fault : (all : List (List ℕ)) (n : ℕ) (rest line after : List ℕ) (d : LayoutDraftData) → Reached all n rest d → text_lines rest ≡ line ∷ text_lines after
+    → option_or (fault_of (n + 1) d.entries d.places (layout_line_contents line)) (first_fault (take n all ++ line ∷ []) (text_lines after)) ≡ first_fault [] all
 unfolding first_fault
 next_fault all n rest line after d r e =
     let len : length (take n all) ≡ n = length-take-le n all r.count in
-    let at : first_fault (take n all) (line ∷ lines_of after) ≡ first_fault [] all = ap (first_fault (take n all)) (sym e) ∙ r.good in
+    let at : first_fault (take n all) (line ∷ text_lines after) ≡ first_fault [] all = ap (first_fault (take n all)) (sym e) ∙ r.good in
     rw (r.entries, r.places) (rw len at at)
 
-pub reached_more : (all : List (List ℕ)) (n : ℕ) (rest line after : List ℕ) (d new : DraftData) → Reached all n rest d → lines_of rest ≡ line ∷ lines_of after
-    → fault_of (n + 1) d.entries d.places (line_of line) ≡ None → new ≡ with_line d (line_of line) → Reached all (n + 1) after new
-unfolding entries_of places_of
+pub reached_more : (all : List (List ℕ)) (n : ℕ) (rest line after : List ℕ) (d new : LayoutDraftData) → Reached all n rest d → text_lines rest ≡ line ∷ text_lines after
+    → fault_of (n + 1) d.entries d.places (layout_line_contents line) ≡ None → new ≡ with_layout_line d (layout_line_contents line) → Reached all (n + 1) after new
+unfolding layout_entries places_of
 reached_more all n rest line after d new r e good is =
-    let s = step_all all n line (lines_of after) (r.rest_lines ∙ e) in record {
+    let s = step_all all n line (text_lines after) (r.rest_lines ∙ e) in record {
       rest_lines = s.1;
       count = s.2;
-      entries = ap (λ (x : DraftData). x.entries) is ∙ ap (λ (xs : List (List ℕ)). xs ++ option_to_list (option_and_then entry_in (line_of line))) r.entries ∙ sym (pushed entry_in (take n all) line) ∙ ap entries_of (sym s.0);
-      places = ap (λ (x : DraftData). x.places) is ∙ ap (λ (xs : List PlaceData). xs ++ option_to_list (option_and_then region_in (line_of line))) r.places ∙ sym (pushed region_in (take n all) line) ∙ ap places_of (sym s.0);
-      good = ap (λ (xs : List (List ℕ)). first_fault xs (lines_of after)) s.0 ∙ (rw good at (next_fault all n rest line after d r e));
+      entries = ap (λ (x : LayoutDraftData). x.entries) is ∙ ap (λ (xs : List (List ℕ)). xs ++ option_to_list (option_and_then entry_in (layout_line_contents line))) r.entries ∙ sym (pushed entry_in (take n all) line) ∙ ap layout_entries (sym s.0);
+      places = ap (λ (x : LayoutDraftData). x.places) is ∙ ap (λ (xs : List PlaceData). xs ++ option_to_list (option_and_then region_in (layout_line_contents line))) r.places ∙ sym (pushed region_in (take n all) line) ∙ ap places_of (sym s.0);
+      good = ap (λ (xs : List (List ℕ)). first_fault xs (text_lines after)) s.0 ∙ (rw good at (next_fault all n rest line after d r e));
     }
 
-pub reached_fault : (all : List (List ℕ)) (n : ℕ) (rest line after : List ℕ) (d : DraftData) (e : LayoutErr) → Reached all n rest d → lines_of rest ≡ line ∷ lines_of after
-    → IsFault (fault_of (n + 1) d.entries d.places (line_of line)) e → IsFaultOf (layout_in all) e
+pub reached_fault : (all : List (List ℕ)) (n : ℕ) (rest line after : List ℕ) (d : LayoutDraftData) (e : LayoutErr) → Reached all n rest d → text_lines rest ≡ line ∷ text_lines after
+    → IsFault (fault_of (n + 1) d.entries d.places (layout_line_contents line)) e → IsFaultOf (layout_in all) e
 reached_fault all n rest line after d e r lines f = by_err e f
   where
-    told_first : (x : LayoutErr) → fault_of (n + 1) d.entries d.places (line_of line) ≡ Some x → first_fault [] all ≡ Some x
-    told_first x is = sym (next_fault all n rest line after d r lines) ∙ ap (λ (o : Option LayoutErr). option_or o (first_fault (take n all ++ line ∷ []) (lines_of after))) is
+    told_first : (x : LayoutErr) → fault_of (n + 1) d.entries d.places (layout_line_contents line) ≡ Some x → first_fault [] all ≡ Some x
+    told_first x is = sym (next_fault all n rest line after d r lines) ∙ ap (λ (o : Option LayoutErr). option_or o (first_fault (take n all ++ line ∷ []) (text_lines after))) is
 
-    told : (x : LayoutErr) → fault_of (n + 1) d.entries d.places (line_of line) ≡ Some x → layout_in all ≡ Err x
-    told x is = ap (λ (o : Option LayoutErr). unless o (with_entry (length all) (entries_of all) (places_of all))) (told_first x is)
+    told : (x : LayoutErr) → fault_of (n + 1) d.entries d.places (layout_line_contents line) ≡ Some x → layout_in all ≡ Err x
+    told x is = ap (λ (o : Option LayoutErr). unless_refused o (with_entry (length all) (layout_entries all) (places_of all))) (told_first x is)
 
-    by_err : (x : LayoutErr) → IsFault (fault_of (n + 1) d.entries d.places (line_of line)) x → IsFaultOf (layout_in all) x
+    by_err : (x : LayoutErr) → IsFault (fault_of (n + 1) d.entries d.places (layout_line_contents line)) x → IsFaultOf (layout_in all) x
     by_err (BadLine k) h = told (BadLine k) h
     by_err (Twice k) h = told (Twice k) h
     by_err (TooMany k) h = told (TooMany k) h
@@ -80,19 +80,19 @@ reached_fault all n rest line after d e r lines f = by_err e f
     by_err NoMemory h = tt
 
 -- all lines were read
-end_at : (all : List (List ℕ)) (n : ℕ) (d : DraftData) → Reached all n [] d → layout_in all ≡ with_entry n d.entries d.places
-unfolding lines_of first_fault
+end_at : (all : List (List ℕ)) (n : ℕ) (d : LayoutDraftData) → Reached all n [] d → layout_in all ≡ with_entry n d.entries d.places
+unfolding text_lines first_fault
 end_at all n d r =
     let none : length (drop n all) ≡ 0 = ap length r.rest_lines in
     let whole : n ≡ length all = omega (arith, none, length-drop n all, r.count) in
     let taken : take n all ≡ all = take_all n all (omega (arith, whole)) in
-    let entries : entries_of all ≡ d.entries = ap entries_of (sym taken) ∙ sym r.entries in
+    let entries : layout_entries all ≡ d.entries = ap layout_entries (sym taken) ∙ sym r.entries in
     let places : places_of all ≡ d.places = ap places_of (sym taken) ∙ sym r.places in
-    ap (λ (o : Option LayoutErr). unless o (with_entry (length all) (entries_of all) (places_of all))) (sym r.good)
+    ap (λ (o : Option LayoutErr). unless_refused o (with_entry (length all) (layout_entries all) (places_of all))) (sym r.good)
     ∙ ap (λ (es : List (List ℕ)). with_entry (length all) es (places_of all)) entries
     ∙ ap (λ (ps : List PlaceData). with_entry (length all) d.entries ps) places
     ∙ ap (λ k. with_entry k d.entries d.places) (sym whole)
 
-pub reached_end : (all : List (List ℕ)) (n : ℕ) (rest : List ℕ) (d : DraftData) → Reached all n rest d → length rest ≡ 0 → layout_in all ≡ with_entry n d.entries d.places
+pub reached_end : (all : List (List ℕ)) (n : ℕ) (rest : List ℕ) (d : LayoutDraftData) → Reached all n rest d → length rest ≡ 0 → layout_in all ≡ with_entry n d.entries d.places
 reached_end all n [] d r e = end_at all n d r
 reached_end all n (c ∷ cs) d r e = absurd (omega arith)

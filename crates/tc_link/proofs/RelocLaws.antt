@@ -8,21 +8,20 @@ use Rattle.std.proofs.lemmas.List.{map-append, append-nil, length-map, take_more
 use Rattle.std.proofs.lemmas.List.Concat.{flat_map-append}
 use Rattle.std.proofs.lemmas.List.Sums.{fold_more}
 use Rattle.tc_object.specs.declared.relocs.Reloc.{Reloc}
-use Rattle.tc_object.specs.Objects.{SectionData, ObjectData, InTurn, IsReloc, IsObject, size_of, size_at}
+use Rattle.tc_object.specs.Objects.{SectionData, ObjectData, InTurn, IsReloc, IsObject, section_size, section_size_at}
 use Rattle.tc_link.specs.Layouts.{PlaceData}
-use Rattle.tc_link.specs.Placing.{PlacedData, sections_of, bases_after, placed_after}
+use Rattle.tc_link.specs.Placing.{PlacedData, sections_to_link, bases_after, placed_after}
 use Rattle.tc_link.specs.Names.{GlobalData}
-use Rattle.tc_link.specs.Relocated.{with_filled_field, with_relocation, with_item, with_reloc, field_place, value_of, relocated_sections}
+use Rattle.tc_link.specs.Relocated.{with_filled_field, with_relocation, with_relocated_item, with_reloc, field_place, reloc_value, relocated_sections, reloc_field_at}
 use Rattle.tc_link.specs.Refusals.{reloc_refusal, reloc, refusal_at}
-use Rattle.tc_reloc.specs.Fields.{field_at}
 use Rattle.tc_reloc.specs.declared.refusals.RelocErr.{RelocErr}
-use Rattle.tc_reloc.specs.Refusals.{refusal_of}
-use Rattle.tc_link.specs.Shapes.{Shape, shape_of}
+use Rattle.tc_reloc.specs.Refusals.{reloc_value_refusal}
+use Rattle.tc_link.specs.Shapes.{SectionShape, section_shape}
 use Rattle.tc_link.proofs.ShapeLaws.{filled_shape}
 use Rattle.tc_link.proofs.ItemLaws.{same_item}
 
 -- four bytes, one by one
-pub four_bytes : (bs : List ℕ) (i : ℕ) → i + 4 ≤ length bs → get_or bs i 0 ∷ get_or bs (i + 1) 0 ∷ get_or bs (i + 2) 0 ∷ get_or bs (i + 3) 0 ∷ [] ≡ field_at bs i
+pub four_bytes : (bs : List ℕ) (i : ℕ) → i + 4 ≤ length bs → get_or bs i 0 ∷ get_or bs (i + 1) 0 ∷ get_or bs (i + 2) 0 ∷ get_or bs (i + 3) 0 ∷ [] ≡ reloc_field_at bs i
 four_bytes bs i h =
     let a : suc i ≡ i + 1 = omega arith in
     let b : suc (suc i) ≡ i + 2 = omega arith in
@@ -39,60 +38,60 @@ four_bytes bs i h =
     ∙ ap (λ k. get_or bs i 0 ∷ get_or bs (i + 1) 0 ∷ get_or bs (i + 2) 0 ∷ get_or bs k 0 ∷ []) c)
 
 -- an item that is changed
-pub changed_at : {A : Type 0} (f : A → A) (n : ℕ) (xs : List A) (x : A) → n < length xs → x ≡ get_or xs n x → with_item f n xs ≡ set xs n (f x)
+pub changed_at : {A : Type 0} (f : A → A) (n : ℕ) (xs : List A) (x : A) → n < length xs → x ≡ get_or xs n x → with_relocated_item f n xs ≡ set xs n (f x)
 changed_at {A} f n xs x h is =
     ap (λ (o : Option A). option_map_or (λ y. set xs n (f y)) o xs) (slice_get-get_or xs n x h ∙ ap (λ (y : A). Some y) (sym is))
 
-set_shape : (xs : List SectionData) (n : ℕ) (x y : SectionData) → slice_get xs n ≡ Some x → shape_of y ≡ shape_of x → map shape_of (set xs n y) ≡ map shape_of xs
+set_shape : (xs : List SectionData) (n : ℕ) (x y : SectionData) → slice_get xs n ≡ Some x → section_shape y ≡ section_shape x → map section_shape (set xs n y) ≡ map section_shape xs
 set_shape [] n x y at e = cc
-set_shape (z ∷ zs) zero x y at e = ap (λ (s : Shape). s ∷ map shape_of zs) (e ∙ ap shape_of cc)
-set_shape (z ∷ zs) (suc n) x y at e = ap (λ (ss : List Shape). shape_of z ∷ ss) (set_shape zs n x y at e)
+set_shape (z ∷ zs) zero x y at e = ap (λ (s : SectionShape). s ∷ map section_shape zs) (e ∙ ap section_shape cc)
+set_shape (z ∷ zs) (suc n) x y at e = ap (λ (ss : List SectionShape). section_shape z ∷ ss) (set_shape zs n x y at e)
 
-abbrev size_in : Option Shape → ℕ
+abbrev size_in : Option SectionShape → ℕ
 size_in None = 0
 size_in (Some s) = s.size
 
-sizes_are : (o : Option SectionData) → size_of o ≡ size_in (option_map shape_of o)
+sizes_are : (o : Option SectionData) → section_size o ≡ size_in (option_map section_shape o)
 sizes_are None = refl
 sizes_are (Some s) = refl
 
 -- sections of the same shapes have the same sizes
-pub size_at-shapes : (ss ts : List SectionData) (n : ℕ) → map shape_of ss ≡ map shape_of ts → size_at ss n ≡ size_at ts n
+pub size_at-shapes : (ss ts : List SectionData) (n : ℕ) → map section_shape ss ≡ map section_shape ts → section_size_at ss n ≡ section_size_at ts n
 size_at-shapes ss ts n e =
-    sizes_are (slice_get ss n) ∙ ap size_in (sym (slice_get-map shape_of ss n) ∙ ap (λ (l : List Shape). slice_get l n) e ∙ slice_get-map shape_of ts n) ∙ sym (sizes_are (slice_get ts n))
+    sizes_are (slice_get ss n) ∙ ap size_in (sym (slice_get-map section_shape ss n) ∙ ap (λ (l : List SectionShape). slice_get l n) e ∙ slice_get-map section_shape ts n) ∙ sym (sizes_are (slice_get ts n))
 
 -- a single relocation keeps the shapes
-pub with_reloc_shapes : (g : List GlobalData) (p : PlacedData) (ss : List SectionData) (r : Reloc) → r.offset + 4 ≤ size_at ss r.section → map shape_of (with_reloc g p ss r) ≡ map shape_of ss
+pub with_reloc_shapes : (g : List GlobalData) (p : PlacedData) (ss : List SectionData) (r : Reloc) → r.offset + 4 ≤ section_size_at ss r.section → map section_shape (with_reloc g p ss r) ≡ map section_shape ss
 with_reloc_shapes g p ss r h = by_section (slice_get ss r.section) refl
   where
-    by_section : (o : Option SectionData) → slice_get ss r.section ≡ o → map shape_of (option_map_or (λ x. set ss r.section (with_relocation g p r x)) o ss) ≡ map shape_of ss
+    by_section : (o : Option SectionData) → slice_get ss r.section ≡ o → map section_shape (option_map_or (λ x. set ss r.section (with_relocation g p r x)) o ss) ≡ map section_shape ss
     by_section None at = refl
     by_section (Some x) at =
-        let room : r.offset + 4 ≤ length x.bytes = omega (arith, h, ap size_of at) in
-        set_shape ss r.section x (with_relocation g p r x) at (filled_shape r (field_place p r) (value_of g p r) x room)
+        let room : r.offset + 4 ≤ length x.bytes = omega (arith, h, ap section_size at) in
+        set_shape ss r.section x (with_relocation g p r x) at (filled_shape r (field_place p r) (reloc_value g p r) x room)
 
-relocs_shapes : (g : List GlobalData) (p : PlacedData) (sections ss : List SectionData) (symbols : ℕ) (before rs : List Reloc) → map shape_of ss ≡ map shape_of sections → InTurn (IsReloc sections symbols) before rs
-    → map shape_of (fold (with_reloc g p) ss rs) ≡ map shape_of sections
+relocs_shapes : (g : List GlobalData) (p : PlacedData) (sections ss : List SectionData) (symbols : ℕ) (before rs : List Reloc) → map section_shape ss ≡ map section_shape sections → InTurn (IsReloc sections symbols) before rs
+    → map section_shape (fold (with_reloc g p) ss rs) ≡ map section_shape sections
 relocs_shapes g p sections ss symbols before [] same turn = same
 relocs_shapes g p sections ss symbols before (r ∷ rs) same turn =
-    let room : r.offset + 4 ≤ size_at ss r.section = omega (arith, turn.0.room, size_at-shapes ss sections r.section same) in
+    let room : r.offset + 4 ≤ section_size_at ss r.section = omega (arith, turn.0.room, size_at-shapes ss sections r.section same) in
     relocs_shapes g p sections (with_reloc g p ss r) symbols (before ++ r ∷ []) rs (with_reloc_shapes g p ss r room ∙ same) turn.1
 
-pub relocated_shapes : (g : List GlobalData) (p : PlacedData) → IsObject p.object → map shape_of (relocated_sections g p) ≡ map shape_of p.object.sections
+pub relocated_shapes : (g : List GlobalData) (p : PlacedData) → IsObject p.object → map section_shape (relocated_sections g p) ≡ map section_shape p.object.sections
 unfolding relocated_sections
 relocated_shapes g p good = relocs_shapes g p p.object.sections p.object.sections (length p.object.symbols) [] p.object.relocs refl good.relocs
 
 -- all sections keep their shapes
 pub contents_shapes : (g : List GlobalData) (places : List PlaceData) (before : List SectionData) (objects : List ObjectData) → ((k : ℕ) (d : ObjectData) → k < length objects → IsObject (get_or objects k d))
-    → map shape_of (flat_map (relocated_sections g) (placed_after places before objects)) ≡ map shape_of (sections_of objects)
+    → map section_shape (flat_map (relocated_sections g) (placed_after places before objects)) ≡ map section_shape (sections_to_link objects)
 unfolding placed_after
 contents_shapes g places before [] good = refl
 contents_shapes g places before (o ∷ os) good =
     let p : PlacedData = record { object = o; bases = bases_after places before o.sections } in
-    map-append shape_of (relocated_sections g p) (flat_map (relocated_sections g) (placed_after places (before ++ o.sections) os))
-    ∙ ap (λ (l : List Shape). l ++ map shape_of (flat_map (relocated_sections g) (placed_after places (before ++ o.sections) os))) (relocated_shapes g p (good 0 o (omega arith)))
-    ∙ ap (λ (l : List Shape). map shape_of o.sections ++ l) (contents_shapes g places (before ++ o.sections) os (λ k d h. good (suc k) d (omega arith)))
-    ∙ sym (map-append shape_of o.sections (sections_of os))
+    map-append section_shape (relocated_sections g p) (flat_map (relocated_sections g) (placed_after places (before ++ o.sections) os))
+    ∙ ap (λ (l : List SectionShape). l ++ map section_shape (flat_map (relocated_sections g) (placed_after places (before ++ o.sections) os))) (relocated_shapes g p (good 0 o (omega arith)))
+    ∙ ap (λ (l : List SectionShape). map section_shape o.sections ++ l) (contents_shapes g places (before ++ o.sections) os (λ k d h. good (suc k) d (omega arith)))
+    ∙ sym (map-append section_shape o.sections (sections_to_link os))
 
 -- ---- the relocation at hand
 turn_at : {A : Type 0} (good : List A → A → Type 0) (before xs : List A) (i : ℕ) (d : A) → InTurn good before xs → i < length xs → good (before ++ take i xs) (get_or xs i d)
@@ -103,20 +102,20 @@ turn_at good before (x ∷ xs) (suc i) d h l = subst (λ (ys : List _). good ys 
 pub reloc_at : (o : ObjectData) (i : ℕ) (d : Reloc) → IsObject o → i < length o.relocs → IsReloc o.sections (length o.symbols) (take i o.relocs) (get_or o.relocs i d)
 reloc_at o i d good h = turn_at (IsReloc o.sections (length o.symbols)) [] o.relocs i d good.relocs h
 
-pub section_in : (ss sections : List SectionData) (n : ℕ) → map shape_of ss ≡ map shape_of sections → n < length sections → n < length ss
+pub section_in : (ss sections : List SectionData) (n : ℕ) → map section_shape ss ≡ map section_shape sections → n < length sections → n < length ss
 section_in ss sections n same h =
-    let e : length ss ≡ length sections = sym (length-map ss shape_of) ∙ ap (λ (l : List Shape). length l) same ∙ length-map sections shape_of in
+    let e : length ss ≡ length sections = sym (length-map ss section_shape) ∙ ap (λ (l : List SectionShape). length l) same ∙ length-map sections section_shape in
     omega arith
 
-pub room_in : (ss sections : List SectionData) (n k : ℕ) → map shape_of ss ≡ map shape_of sections → k ≤ size_at sections n → k ≤ size_at ss n
+pub room_in : (ss sections : List SectionData) (n k : ℕ) → map section_shape ss ≡ map section_shape sections → k ≤ section_size_at sections n → k ≤ section_size_at ss n
 room_in ss sections n k same h = omega (arith, h, size_at-shapes ss sections n same)
 
-pub size_here : (ss : List SectionData) (n : ℕ) (x : SectionData) → n < length ss → x ≡ get_or ss n x → size_at ss n ≡ length x.bytes
-size_here ss n x h is = ap size_of (slice_get-get_or ss n x h) ∙ ap (λ (s : SectionData). length s.bytes) (sym is)
+pub size_here : (ss : List SectionData) (n : ℕ) (x : SectionData) → n < length ss → x ≡ get_or ss n x → section_size_at ss n ≡ length x.bytes
+size_here ss n x h is = ap section_size (slice_get-get_or ss n x h) ∙ ap (λ (s : SectionData). length s.bytes) (sym is)
 
 -- a single relocation is written
 pub written_in : (g : List GlobalData) (p : PlacedData) (r : Reloc) (ss new : List SectionData) (x : SectionData) (place value : ℕ) → r.section < length ss → x ≡ get_or ss r.section x
-    → new ≡ set ss r.section (with_filled_field r place value x) → place ≡ field_place p r → value ≡ value_of g p r → new ≡ with_reloc g p ss r
+    → new ≡ set ss r.section (with_filled_field r place value x) → place ≡ field_place p r → value ≡ reloc_value g p r → new ≡ with_reloc g p ss r
 written_in g p r ss new x place value h is e pl va =
     e
     ∙ ap (λ k. set ss r.section (with_filled_field r k value x)) pl
@@ -124,12 +123,12 @@ written_in g p r ss new x place value h is e pl va =
     ∙ sym (changed_at (with_relocation g p r) r.section ss x h is)
 
 pub shapes_in : (r : Reloc) (ss new : List SectionData) (x : SectionData) (place value : ℕ) → r.section < length ss → x ≡ get_or ss r.section x → r.offset + 4 ≤ length x.bytes
-    → new ≡ set ss r.section (with_filled_field r place value x) → map shape_of new ≡ map shape_of ss
+    → new ≡ set ss r.section (with_filled_field r place value x) → map section_shape new ≡ map section_shape ss
 shapes_in r ss new x place value h is room e =
-    ap (map shape_of) e ∙ set_shape ss r.section x (with_filled_field r place value x) (slice_get-get_or ss r.section x h ∙ ap (λ (s : SectionData). Some s) (sym is)) (filled_shape r place value x room)
+    ap (map section_shape) e ∙ set_shape ss r.section x (with_filled_field r place value x) (slice_get-get_or ss r.section x h ∙ ap (λ (s : SectionData). Some s) (sym is)) (filled_shape r place value x room)
 
-pub refusal_in : (g : List GlobalData) (p : PlacedData) (r : Reloc) (place value : ℕ) → place ≡ field_place p r → value ≡ value_of g p r → reloc_refusal g p r ≡ refusal_of r.kind place value
-refusal_in g p r place value pl va = ap (λ v. refusal_of r.kind (field_place p r) v) (sym va) ∙ ap (λ k. refusal_of r.kind k value) (sym pl)
+pub refusal_in : (g : List GlobalData) (p : PlacedData) (r : Reloc) (place value : ℕ) → place ≡ field_place p r → value ≡ reloc_value g p r → reloc_refusal g p r ≡ reloc_value_refusal r.kind place value
+refusal_in g p r place value pl va = ap (λ v. reloc_value_refusal r.kind (field_place p r) v) (sym va) ∙ ap (λ k. reloc_value_refusal r.kind k value) (sym pl)
 
 -- a further relocation
 pub relocs_next : (g : List GlobalData) (p : PlacedData) (sections ss new : List SectionData) (rs : List Reloc) (i : ℕ) (r : Reloc) → i < length rs → r ≡ get_or rs i r
@@ -162,8 +161,8 @@ reloc_here o ds i d good e h =
     subst (λ (r : Reloc). IsReloc o.sections (length o.symbols) (take i o.relocs) r) (ap (λ (l : List Reloc). get_or l i d) (sym e)) (reloc_at o i d good (subst (λ (l : List Reloc). i < length l) e h))
 
 -- the section at this number keeps its shape, for every default past the end
-pub shapes_at : (r : Reloc) (ss : List SectionData) (y d : SectionData) (place value : ℕ) → r.section < length ss → r.offset + 4 ≤ size_at ss r.section → y ≡ with_filled_field r place value (get_or ss r.section d)
-    → map shape_of (set ss r.section y) ≡ map shape_of ss
+pub shapes_at : (r : Reloc) (ss : List SectionData) (y d : SectionData) (place value : ℕ) → r.section < length ss → r.offset + 4 ≤ section_size_at ss r.section → y ≡ with_filled_field r place value (get_or ss r.section d)
+    → map section_shape (set ss r.section y) ≡ map section_shape ss
 shapes_at r ss y d place value h room e =
     let x : SectionData = get_or ss r.section d in
     let is : x ≡ get_or ss r.section x = same_item ss r.section d x h in

@@ -14,8 +14,8 @@ use Rattle.std.proofs.lemmas.List.Folds.{find_at}
 use Rattle.std.proofs.lemmas.List.Quantifiers.{position-Some}
 use Rattle.tc_object.specs.Objects.{SectionData, ObjectData}
 use Rattle.tc_link.specs.Layouts.{PlaceData}
-use Rattle.tc_link.specs.Placing.{PlacedData, sections_of, base_of, bases_after, placed_after}
-use Rattle.tc_link.specs.PlaceSizes.{round_up, with_size, taken_bytes, AreTaken, is_over, total}
+use Rattle.tc_link.specs.Placing.{PlacedData, sections_to_link, base_of, bases_after, placed_after}
+use Rattle.tc_link.specs.PlaceSizes.{round_up_place_size, place_size_with_section, taken_bytes, AreTaken, are_places_overfull, total_place_size}
 use Rattle.tc_link.specs.Refusals.{Refusal, no_room, no_room_of, no_room_after}
 use Rattle.std.specs.Bool.{then_some}
 use Rattle.std.proofs.lemmas.Bool.Decides.{nat_tests}
@@ -25,9 +25,9 @@ unfolding taken_bytes
 taken_none name = refl
 
 -- a further section
-pub taken_more : (name : List ℕ) (before : List SectionData) (s : SectionData) → taken_bytes name (before ++ s ∷ []) ≡ with_size name (taken_bytes name before) s
+pub taken_more : (name : List ℕ) (before : List SectionData) (s : SectionData) → taken_bytes name (before ++ s ∷ []) ≡ place_size_with_section name (taken_bytes name before) s
 unfolding taken_bytes
-taken_more name before s = fold-append (with_size name) 0 before (s ∷ [])
+taken_more name before s = fold-append (place_size_with_section name) 0 before (s ∷ [])
 
 pub bases_push : (places : List PlaceData) (before ss : List SectionData) (s : SectionData) → bases_after places before (ss ++ s ∷ []) ≡ bases_after places before ss ++ base_of places (before ++ ss) s ∷ []
 unfolding bases_after
@@ -66,22 +66,22 @@ pub no_room_front : (places : List PlaceData) (before xs ys : List SectionData) 
 no_room_front places before xs ys r e = no_room_parts places before xs ys ∙ ap (λ (o : Option Refusal). option_or o (no_room_after places (before ++ xs) ys)) e
 
 pub placed_push : (places : List PlaceData) (before : List SectionData) (os : List ObjectData) (o : ObjectData)
-    → placed_after places before (os ++ o ∷ []) ≡ placed_after places before os ++ record { object = o; bases = bases_after places (before ++ sections_of os) o.sections } ∷ []
+    → placed_after places before (os ++ o ∷ []) ≡ placed_after places before os ++ record { object = o; bases = bases_after places (before ++ sections_to_link os) o.sections } ∷ []
 unfolding placed_after
 placed_push places before [] o = ap (λ (b : List SectionData). record { object = o; bases = bases_after places b o.sections } ∷ []) (sym (append-nil before))
 placed_push places before (x ∷ xs) o =
     ap (λ (ps : List PlacedData). record { object = x; bases = bases_after places before x.sections } ∷ ps) (placed_push places (before ++ x.sections) xs o)
-    ∙ ap (λ (b : List SectionData). record { object = x; bases = bases_after places before x.sections } ∷ (placed_after places (before ++ x.sections) xs ++ record { object = o; bases = bases_after places b o.sections } ∷ [])) (append_assoc before x.sections (sections_of xs))
+    ∙ ap (λ (b : List SectionData). record { object = x; bases = bases_after places before x.sections } ∷ (placed_after places (before ++ x.sections) xs ++ record { object = o; bases = bases_after places b o.sections } ∷ [])) (append_assoc before x.sections (sections_to_link xs))
 
 -- ---- rooms
 pub are_taken_none : (places : List PlaceData) (sizes : List ℕ) → ((k : ℕ) → get_or sizes k 0 ≡ 0) → AreTaken places [] sizes
 are_taken_none places sizes zeros = λ k d h. zeros k ∙ sym (taken_none (get_or places k d).section)
 
 pub are_taken_more : (places : List PlaceData) (before : List SectionData) (s : SectionData) (sizes new : List ℕ) → AreTaken places before sizes
-    → ((k : ℕ) (d : PlaceData) → k < length places → get_or new k 0 ≡ with_size (get_or places k d).section (get_or sizes k 0) s) → AreTaken places (before ++ s ∷ []) new
+    → ((k : ℕ) (d : PlaceData) → k < length places → get_or new k 0 ≡ place_size_with_section (get_or places k d).section (get_or sizes k 0) s) → AreTaken places (before ++ s ∷ []) new
 are_taken_more places before s sizes new t each = λ k d h.
     each k d h
-    ∙ ap (λ n. with_size (get_or places k d).section n s) (t k d h)
+    ∙ ap (λ n. place_size_with_section (get_or places k d).section n s) (t k d h)
     ∙ sym (taken_more (get_or places k d).section before s)
 
 -- ---- the place of a name
@@ -100,17 +100,17 @@ find_some {A} p xs i d e =
     find_at p xs ∙ slice_get-get_or xs (position_or_len p xs) d (ltb-true _ _ w.0) ∙ ap (λ k. Some (get_or xs k d)) w.1
 
 pub base_none : (places : List PlaceData) (before : List SectionData) (s : SectionData) → position (λ p. bytes_eq s.name p.section) places ≡ None → 0 ≡ base_of places before s
-base_none places before s e = sym (ap (λ (o : Option PlaceData). option_map_or (λ p. p.at + round_up (taken_bytes s.name before)) o 0) (find_none (λ p. bytes_eq s.name p.section) places e))
+base_none places before s e = sym (ap (λ (o : Option PlaceData). option_map_or (λ p. p.at + round_up_place_size (taken_bytes s.name before)) o 0) (find_none (λ p. bytes_eq s.name p.section) places e))
 
 -- a section begins after the earlier sections of its place
 pub base_some : (places : List PlaceData) (before : List SectionData) (s : SectionData) (i : ℕ) (p : PlaceData) (sizes : List ℕ) → AreTaken places before sizes
-    → position (λ p. bytes_eq s.name p.section) places ≡ Some i → p ≡ get_or places i p → p.at + round_up (get_or sizes i 0) ≡ base_of places before s
+    → position (λ p. bytes_eq s.name p.section) places ≡ Some i → p ≡ get_or places i p → p.at + round_up_place_size (get_or sizes i 0) ≡ base_of places before s
 base_some places before s i p sizes t e is =
     let at = position-Some (λ q. bytes_eq s.name q.section) places i p e in
     let named : s.name ≡ (get_or places i p).section = (bytes_eq-Decides s.name (get_or places i p).section).0 at.1 in
-    ap (λ n. p.at + round_up n) (t i p at.0 ∙ ap (λ (name : List ℕ). taken_bytes name before) (sym named))
-    ∙ ap (λ (q : PlaceData). q.at + round_up (taken_bytes s.name before)) is
-    ∙ sym (ap (λ (o : Option PlaceData). option_map_or (λ q. q.at + round_up (taken_bytes s.name before)) o 0) (find_some (λ q. bytes_eq s.name q.section) places i p e))
+    ap (λ n. p.at + round_up_place_size n) (t i p at.0 ∙ ap (λ (name : List ℕ). taken_bytes name before) (sym named))
+    ∙ ap (λ (q : PlaceData). q.at + round_up_place_size (taken_bytes s.name before)) is
+    ∙ sym (ap (λ (o : Option PlaceData). option_map_or (λ q. q.at + round_up_place_size (taken_bytes s.name before)) o 0) (find_some (λ q. bytes_eq s.name q.section) places i p e))
 
 -- ---- the end
 then_none : {A : Type 0} (b : Bool) (x : A) → then_some b x ≡ None → b ≡ false
@@ -122,12 +122,12 @@ none_parts None b e = (refl, e)
 none_parts (Some x) b e = cc
 
 -- if there is room for each section, there is room for all
-pub room_end : (places : List PlaceData) (before ss : List SectionData) → is_over places before ≡ false → no_room_after places before ss ≡ None → is_over places (before ++ ss) ≡ false
+pub room_end : (places : List PlaceData) (before ss : List SectionData) → are_places_overfull places before ≡ false → no_room_after places before ss ≡ None → are_places_overfull places (before ++ ss) ≡ false
 unfolding no_room_after
-room_end places before [] room e = ap (is_over places) (append-nil before) ∙ room
+room_end places before [] room e = ap (are_places_overfull places) (append-nil before) ∙ room
 room_end places before (s ∷ ss) room e =
     let p = none_parts (no_room_of places before s) (no_room_after places (before ++ s ∷ []) ss) e in
-    ap (is_over places) (sym (append_assoc before (s ∷ []) ss)) ∙ room_end places (before ++ s ∷ []) ss (then_none _ _ p.0) p.1
+    ap (are_places_overfull places) (sym (append_assoc before (s ∷ []) ss)) ∙ room_end places (before ++ s ∷ []) ss (then_none _ _ p.0) p.1
 
 never_below : (n : ℕ) → ltb n 0 ≡ false
 never_below n = grind (arith, nat_tests)
@@ -139,8 +139,8 @@ none_over (p ∷ ps) =
     let rest = none_over ps in
     (ap (λ b. b || list_any (λ q. ltb q.most (taken_bytes q.section [])) ps) (never_below p.most) ∙ rest.0, omega (arith, rest.1))
 
-pub room_start : (places : List PlaceData) → is_over places [] ≡ false
-unfolding is_over total
+pub room_start : (places : List PlaceData) → are_places_overfull places [] ≡ false
+unfolding are_places_overfull total_place_size
 room_start places =
     let n = none_over places in
     ap (λ b. b || ltb (2 ^ 24) (sum_by (λ p. taken_bytes p.section []) places)) n.0 ∙ ap (ltb (2 ^ 24)) n.1
@@ -161,26 +161,26 @@ pub taken_step : (places : List PlaceData) (before sections : List SectionData) 
     → AreTaken places ((before ++ take i sections) ++ s ∷ []) sizes → AreTaken places (before ++ take (i + 1) sections) sizes
 taken_step places before sections i s sizes next t = subst (λ (l : List SectionData). AreTaken places l sizes) (append_assoc before (take i sections) (s ∷ []) ∙ ap (λ (l : List SectionData). before ++ l) (sym next)) t
 
-room_of : (places : List PlaceData) (before : List SectionData) (s : SectionData) (over : Bool) → over ≡ is_over places (before ++ s ∷ []) → over ≡ false → no_room_of places before s ≡ None
+room_of : (places : List PlaceData) (before : List SectionData) (s : SectionData) (over : Bool) → over ≡ are_places_overfull places (before ++ s ∷ []) → over ≡ false → no_room_of places before s ≡ None
 room_of places before s over e f = ap (λ b. then_some b (no_room s.name)) (sym e ∙ f)
 
-no_room_here : (places : List PlaceData) (before : List SectionData) (s : SectionData) (over : Bool) → over ≡ is_over places (before ++ s ∷ []) → over ≡ true → no_room_of places before s ≡ Some (no_room s.name)
+no_room_here : (places : List PlaceData) (before : List SectionData) (s : SectionData) (over : Bool) → over ≡ are_places_overfull places (before ++ s ∷ []) → over ≡ true → no_room_of places before s ≡ Some (no_room s.name)
 no_room_here places before s over e f = ap (λ b. then_some b (no_room s.name)) (sym e ∙ f)
 
 pub room_step : (places : List PlaceData) (before sections : List SectionData) (i : ℕ) (s : SectionData) (over : Bool) → take (i + 1) sections ≡ take i sections ++ s ∷ []
-    → no_room_after places before (take i sections) ≡ None → over ≡ is_over places ((before ++ take i sections) ++ s ∷ []) → over ≡ false → no_room_after places before (take (i + 1) sections) ≡ None
+    → no_room_after places before (take i sections) ≡ None → over ≡ are_places_overfull places ((before ++ take i sections) ++ s ∷ []) → over ≡ false → no_room_after places before (take (i + 1) sections) ≡ None
 room_step places before sections i s over next e o f =
     ap (no_room_after places before) next ∙ no_room_push places before (take i sections) s e ∙ room_of places (before ++ take i sections) s over o f
 
 pub room_fault : (places : List PlaceData) (before sections : List SectionData) (i : ℕ) (s : SectionData) (over : Bool) → take (i + 1) sections ≡ take i sections ++ s ∷ []
-    → no_room_after places before (take i sections) ≡ None → over ≡ is_over places ((before ++ take i sections) ++ s ∷ []) → over ≡ true → no_room_after places before sections ≡ Some (no_room s.name)
+    → no_room_after places before (take i sections) ≡ None → over ≡ are_places_overfull places ((before ++ take i sections) ++ s ∷ []) → over ≡ true → no_room_after places before sections ≡ Some (no_room s.name)
 room_fault places before sections i s over next e o f =
     ap (no_room_after places before) (sym (take-append-drop (i + 1) sections))
     ∙ no_room_front places before (take (i + 1) sections) (drop (i + 1) sections) (no_room s.name)
     (ap (no_room_after places before) next ∙ no_room_push places before (take i sections) s e ∙ no_room_here places (before ++ take i sections) s over o f)
 
 -- ---- objects
-pub sections_next : (objects : List ObjectData) (i : ℕ) (o : ObjectData) → i < length objects → o ≡ get_or objects i o → sections_of (take (i + 1) objects) ≡ sections_of (take i objects) ++ o.sections
+pub sections_next : (objects : List ObjectData) (i : ℕ) (o : ObjectData) → i < length objects → o ≡ get_or objects i o → sections_to_link (take (i + 1) objects) ≡ sections_to_link (take i objects) ++ o.sections
 sections_next objects i o h is =
     let f : ObjectData → List SectionData = λ x. x.sections in
     ap (flat_map f) (take_next objects i o h is)
@@ -188,7 +188,7 @@ sections_next objects i o h is =
     ∙ ap (λ (ss : List SectionData). flat_map f (take i objects) ++ ss) (append-nil o.sections)
 
 pub sections_rest : (objects : List ObjectData) (i : ℕ) (o : ObjectData) → i < length objects → o ≡ get_or objects i o
-    → sections_of objects ≡ (sections_of (take i objects) ++ o.sections) ++ sections_of (drop (i + 1) objects)
+    → sections_to_link objects ≡ (sections_to_link (take i objects) ++ o.sections) ++ sections_to_link (drop (i + 1) objects)
 sections_rest objects i o h is =
     let f : ObjectData → List SectionData = λ x. x.sections in
     ap (flat_map f) (sym (take-append-drop (i + 1) objects))
@@ -196,37 +196,37 @@ sections_rest objects i o h is =
     ∙ ap (λ (ss : List SectionData). ss ++ flat_map f (drop (i + 1) objects)) (sections_next objects i o h is)
 
 pub placed_next : (places : List PlaceData) (objects : List ObjectData) (i : ℕ) (o : ObjectData) (old : List PlacedData) (bases : List ℕ) → i < length objects → o ≡ get_or objects i o
-    → old ≡ placed_after places [] (take i objects) → bases ≡ bases_after places (sections_of (take i objects)) o.sections
+    → old ≡ placed_after places [] (take i objects) → bases ≡ bases_after places (sections_to_link (take i objects)) o.sections
     → old ++ record { object = o; bases = bases } ∷ [] ≡ placed_after places [] (take (i + 1) objects)
 placed_next places objects i o old bases h is e b =
     ap (λ (bs : List ℕ). old ++ record { object = o; bases = bs } ∷ []) b
-    ∙ ap (λ (ps : List PlacedData). ps ++ record { object = o; bases = bases_after places (sections_of (take i objects)) o.sections } ∷ []) e
+    ∙ ap (λ (ps : List PlacedData). ps ++ record { object = o; bases = bases_after places (sections_to_link (take i objects)) o.sections } ∷ []) e
     ∙ sym (placed_push places [] (take i objects) o)
     ∙ ap (placed_after places []) (sym (take_next objects i o h is))
 
 pub taken_next : (places : List PlaceData) (objects : List ObjectData) (i : ℕ) (o : ObjectData) (sizes : List ℕ) → i < length objects → o ≡ get_or objects i o
-    → AreTaken places (sections_of (take i objects) ++ o.sections) sizes → AreTaken places (sections_of (take (i + 1) objects)) sizes
+    → AreTaken places (sections_to_link (take i objects) ++ o.sections) sizes → AreTaken places (sections_to_link (take (i + 1) objects)) sizes
 taken_next places objects i o sizes h is t = subst (λ (l : List SectionData). AreTaken places l sizes) (sym (sections_next objects i o h is)) t
 
 pub room_next : (places : List PlaceData) (objects : List ObjectData) (i : ℕ) (o : ObjectData) → i < length objects → o ≡ get_or objects i o
-    → no_room_after places [] (sections_of (take i objects)) ≡ None → no_room_after places (sections_of (take i objects)) o.sections ≡ None
-    → no_room_after places [] (sections_of (take (i + 1) objects)) ≡ None
+    → no_room_after places [] (sections_to_link (take i objects)) ≡ None → no_room_after places (sections_to_link (take i objects)) o.sections ≡ None
+    → no_room_after places [] (sections_to_link (take (i + 1) objects)) ≡ None
 room_next places objects i o h is e f =
     ap (no_room_after places []) (sections_next objects i o h is)
-    ∙ no_room_parts places [] (sections_of (take i objects)) o.sections
+    ∙ no_room_parts places [] (sections_to_link (take i objects)) o.sections
     ∙ none_or _ _ e ∙ f
 
 room_past : (places : List PlaceData) (objects : List ObjectData) (i : ℕ) (o : ObjectData) (r : Refusal) → i < length objects → o ≡ get_or objects i o
-    → no_room_after places [] (sections_of (take i objects)) ≡ None → no_room_after places (sections_of (take i objects)) o.sections ≡ Some r
-    → no_room_after places [] (sections_of objects) ≡ Some r
+    → no_room_after places [] (sections_to_link (take i objects)) ≡ None → no_room_after places (sections_to_link (take i objects)) o.sections ≡ Some r
+    → no_room_after places [] (sections_to_link objects) ≡ Some r
 room_past places objects i o r h is e f =
     ap (no_room_after places []) (sections_rest objects i o h is)
-    ∙ no_room_front places [] (sections_of (take i objects) ++ o.sections) (sections_of (drop (i + 1) objects)) r
-    (no_room_parts places [] (sections_of (take i objects)) o.sections ∙ none_or _ _ e ∙ f)
+    ∙ no_room_front places [] (sections_to_link (take i objects) ++ o.sections) (sections_to_link (drop (i + 1) objects)) r
+    (no_room_parts places [] (sections_to_link (take i objects)) o.sections ∙ none_or _ _ e ∙ f)
 
 -- an object without room is a refusal for all objects
 pub room_told : (places : List PlaceData) (objects : List ObjectData) (i : ℕ) (o : ObjectData) (x : Option Refusal) → i < length objects → o ≡ get_or objects i o
-    → no_room_after places [] (sections_of (take i objects)) ≡ None → IfSome x (λ r. no_room_after places (sections_of (take i objects)) o.sections ≡ Some r)
-    → IfSome x (λ r. no_room_after places [] (sections_of objects) ≡ Some r)
+    → no_room_after places [] (sections_to_link (take i objects)) ≡ None → IfSome x (λ r. no_room_after places (sections_to_link (take i objects)) o.sections ≡ Some r)
+    → IfSome x (λ r. no_room_after places [] (sections_to_link objects) ≡ Some r)
 room_told places objects i o None h is e t = tt
 room_told places objects i o (Some r) h is e t = room_past places objects i o r h is e t

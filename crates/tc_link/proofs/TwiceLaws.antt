@@ -4,13 +4,13 @@ use Rattle.std.specs.Bool.{then_some}
 use Rattle.std.specs.Option.{option_or}
 use Rattle.tc_object.specs.Objects.{SymbolData, ObjectData}
 use Rattle.tc_link.specs.Names.{is_global, globals_named}
-use Rattle.tc_link.specs.Refusals.{Refusal, twice, twice_of, twice_in, first_at}
+use Rattle.tc_link.specs.Refusals.{Refusal, twice, twice_of, twice_in, first_refusal_from}
 
 -- no answer at any item
-none_at : {A B : Type 0} (f : ℕ → A → Option B) (n : ℕ) (xs : List A) → ((k : ℕ) (x : A) → f k x ≡ None) → first_at f n xs ≡ None
-unfolding first_at
+none_at : {A B : Type 0} (f : ℕ → A → Option B) (n : ℕ) (xs : List A) → ((k : ℕ) (x : A) → f k x ≡ None) → first_refusal_from f n xs ≡ None
+unfolding first_refusal_from
 none_at f n [] h = refl
-none_at {A} {B} f n (x ∷ xs) h = ap (λ (o : Option B). option_or o (first_at f (n + 1) xs)) (h n x) ∙ none_at f (n + 1) xs h
+none_at {A} {B} f n (x ∷ xs) h = ap (λ (o : Option B). option_or o (first_refusal_from f (n + 1) xs)) (h n x) ∙ none_at f (n + 1) xs h
 
 not_both : (a b : Bool) (r : Refusal) → b ≡ false → then_some (a && b) r ≡ None
 not_both true b r e = ap (λ (x : Bool). then_some {T = Refusal} x r) e
@@ -19,6 +19,6 @@ not_both false b r e = refl
 pub none_twice : (objects : List ObjectData) → ((q : List ℕ) → ltb 1 (globals_named objects q) ≡ false) → twice_in objects ≡ None
 unfolding twice_in
 none_twice objects single =
-    none_at (λ _ (o : ObjectData). first_at (twice_of objects) 0 o.symbols) 0 objects
+    none_at (λ _ (o : ObjectData). first_refusal_from (twice_of objects) 0 o.symbols) 0 objects
     (λ k o. none_at (twice_of objects) 0 o.symbols
     (λ j (s : SymbolData). not_both (is_global s) (ltb 1 (globals_named objects s.name)) (twice s.name) (single s.name)))

@@ -3,40 +3,40 @@ use Rattle.std.specs.Prelude.{◌≡◌, ◌+◌, nat_lt, nat_le, if◌then◌el
 use Rattle.std.specs.Bool.{then_some}
 use Rattle.std.specs.Option.{option_or}
 use Rattle.std.specs.List.{list_any}
-use Rattle.tc_link.specs.Layouts.{PlaceData, LayoutData, shares, is_placed}
-use Rattle.tcd_base.specs.Refusing.{unless}
-use Rattle.tcd_text.specs.Lines.{lines_of}
-use Rattle.tc_link.specs.LayoutLines.{LineData, blank, entry, place, line_of, entries_of, places_of}
+use Rattle.tc_link.specs.Layouts.{PlaceData, LayoutData, are_overlapping_places, is_placed}
+use Rattle.tcd_base.specs.Refusing.{unless_refused}
+use Rattle.tcd_text.specs.Lines.{text_lines}
+use Rattle.tc_link.specs.LayoutLines.{LayoutLineData, blank, entry, place, layout_line_contents, layout_entries, places_of}
 use Rattle.tc_link.specs.declared.layout_errors.LayoutErr.{LayoutErr}
 use Rattle.tc_link.specs.declared.layout_errors.LayoutErr.TheVariants.{BadLine, Twice, TooMany, Overlap, NoMemory}
 use Rattle.tc_link.specs.LayoutDrafts.{with_entry}
 
 -- the fault of line n with these contents, after lines with these entries and places
-abbrev pub fault_of : ℕ → List (List ℕ) → List PlaceData → Option LineData → Option LayoutErr
+abbrev pub fault_of : ℕ → List (List ℕ) → List PlaceData → Option LayoutLineData → Option LayoutErr
 fault_of n entries places None = Some (BadLine n)
 fault_of n entries places (Some blank) = None
 fault_of n entries places (Some (entry name)) = then_some (nat_lt 0 (length entries)) (Twice n)
 fault_of n entries places (Some (place p)) =
     if is_placed places p.section then Some (Twice n)
     else if nat_le 64 (length places) then Some (TooMany n)
-    else then_some (list_any (shares p) places) (Overlap n)
+    else then_some (list_any (are_overlapping_places p) places) (Overlap n)
 
 -- the fault of a line after these lines, if it has one
 abbrev pub fault_after : List (List ℕ) → List ℕ → Option LayoutErr
-fault_after before line = fault_of (length before + 1) (entries_of before) (places_of before) (line_of line)
+fault_after before line = fault_of (length before + 1) (layout_entries before) (places_of before) (layout_line_contents line)
 
 -- the fault of the first line that has one, after these lines
 unfoldable pub first_fault : List (List ℕ) → List (List ℕ) → Option LayoutErr
 first_fault before [] = None
 first_fault before (line ∷ lines) = option_or (fault_after before line) (first_fault (before ++ line ∷ []) lines)
 
--- the layout of these lines, or their first fault
+-- the layout that these lines spell, or the fault of the first line that has one
 abbrev pub layout_in : List (List ℕ) → Result LayoutData LayoutErr
-layout_in lines = unless (first_fault [] lines) (with_entry (length lines) (entries_of lines) (places_of lines))
+layout_in lines = unless_refused (first_fault [] lines) (with_entry (length lines) (layout_entries lines) (places_of lines))
 
--- the layout of a text, or its first fault
+-- the layout that a text spells, or the fault of its first line that has one
 abbrev pub layout_of : List ℕ → Result LayoutData LayoutErr
-layout_of text = layout_in (lines_of text)
+layout_of text = layout_in (text_lines text)
 
 -- the error is this fault; out of memory says nothing of the text
 abbrev pub IsFault : Option LayoutErr → LayoutErr → Type 0

@@ -4,56 +4,64 @@ use Rattle.std.specs.Bool.{then_some}
 use Rattle.std.specs.Option.{option_map, option_and_then}
 use Rattle.std.specs.Str.{bytes_eq}
 use Rattle.tcd_text.specs.HexNumbers.{hex_number_of}
-use Rattle.tcd_text.specs.Lines.{words_of}
-use Rattle.tc_object.specs.Names.{name_of}
+use Rattle.tcd_text.specs.Lines.{line_words}
+use Rattle.tc_object.specs.Names.{object_name_of}
 use Rattle.tc_link.specs.Layouts.{PlaceData, IsPlace}
+use Rattle.tc_link.specs.declared.lines.Line.{Line}
+use Rattle.tc_link.specs.declared.lines.Line.TheVariants.{Blank, Entry, Region}
 
 -- the contents of a line: nothing, the entry, or a place
-pub data LineData : Type 0 where
-  blank : LineData
-  entry : List ℕ → LineData
-  place : PlaceData → LineData
+pub data LayoutLineData : Type 0 where
+  blank : LayoutLineData
+  entry : List ℕ → LayoutLineData
+  place : PlaceData → LayoutLineData
 
 -- a place at a multiple of 4, with no byte past 2^32
-abbrev pub place_of_words : Option (List ℕ) → Option ℕ → Option ℕ → Option LineData
+abbrev pub place_of_words : Option (List ℕ) → Option ℕ → Option ℕ → Option LayoutLineData
 place_of_words (Some section) (Some at) (Some most) = then_some (at % 4 == 0 && nat_le (at + most) (2 ^ 32)) (place (record { section = section; at = at; most = most }))
 place_of_words (Some section) (Some at) None = None
 place_of_words (Some section) None most = None
 place_of_words None at most = None
 
 -- the line of these words: none, `entry NAME`, or `place SECTION AT MOST`
-abbrev pub line_in : List (List ℕ) → Option LineData
+abbrev pub line_in : List (List ℕ) → Option LayoutLineData
 line_in (word ∷ []) = then_some (length word == 0) blank
-line_in (word ∷ name ∷ []) = if bytes_eq word (codes "entry") then option_map entry (name_of name) else None
-line_in (word ∷ section ∷ at ∷ most ∷ []) = if bytes_eq word (codes "place") then place_of_words (name_of section) (hex_number_of at) (hex_number_of most) else None
+line_in (word ∷ name ∷ []) = if bytes_eq word (codes "entry") then option_map entry (object_name_of name) else None
+line_in (word ∷ section ∷ at ∷ most ∷ []) = if bytes_eq word (codes "place") then place_of_words (object_name_of section) (hex_number_of at) (hex_number_of most) else None
 line_in _ = None
 
 -- the contents of a line, with one space between two words; None for a line in none of these forms
-unfoldable pub line_of : List ℕ → Option LineData
-line_of line = line_in (words_of line)
+unfoldable pub layout_line_contents : List ℕ → Option LayoutLineData
+layout_line_contents line = line_in (line_words line)
 
 -- the name in the line of an entry
-abbrev pub entry_in : LineData → Option (List ℕ)
+abbrev pub entry_in : LayoutLineData → Option (List ℕ)
 entry_in blank = None
 entry_in (entry name) = Some name
 entry_in (place p) = None
 
 -- the place in the line of a place
-abbrev pub region_in : LineData → Option PlaceData
+abbrev pub region_in : LayoutLineData → Option PlaceData
 region_in blank = None
 region_in (entry name) = None
 region_in (place p) = Some p
 
 -- the names of entries in these lines, in order
-unfoldable pub entries_of : List (List ℕ) → List (List ℕ)
-entries_of lines = filter_map (λ l. option_and_then entry_in (line_of l)) lines
+unfoldable pub layout_entries : List (List ℕ) → List (List ℕ)
+layout_entries lines = filter_map (λ l. option_and_then entry_in (layout_line_contents l)) lines
 
 -- the places in these lines, in order
 unfoldable pub places_of : List (List ℕ) → List PlaceData
-places_of lines = filter_map (λ l. option_and_then region_in (line_of l)) lines
+places_of lines = filter_map (λ l. option_and_then region_in (layout_line_contents l)) lines
 
 -- a line's name is one, and its place is valid
-abbrev pub IsGood : LineData → Type 0
-IsGood blank = Unit {0}
-IsGood (entry name) = name_of name ≡ Some name
-IsGood (place p) = IsPlace p
+abbrev pub IsGoodLayoutLine : LayoutLineData → Type 0
+IsGoodLayoutLine blank = Unit {0}
+IsGoodLayoutLine (entry name) = object_name_of name ≡ Some name
+IsGoodLayoutLine (place p) = IsPlace p
+
+-- the plain data of a line of a layout
+abbrev pub layout_line_data : Line → LayoutLineData
+layout_line_data Blank = blank
+layout_line_data (Entry name) = entry name.now
+layout_line_data (Region section at most) = place (record { section = section.now; at = at; most = most })

@@ -1,8 +1,8 @@
 -- Layouts as plain data, and the invariant of layouts.
-use Rattle.std.specs.Prelude.{◌≡◌, ◌≤◌, ◌<◌, ◌+◌, ◌%◌, ◌^◌, nat_lt, ℕ, Bool, false, min, max, List, length, Some, []}
+use Rattle.std.specs.Prelude.{◌≡◌, ◌≤◌, ◌<◌, ◌+◌, ◌%◌, ◌^◌, nat_lt, ℕ, Bool, false, min, max, List, length, Some, find, Option, []}
 use Rattle.std.specs.List.{list_any}
 use Rattle.std.specs.Str.{bytes_eq}
-use Rattle.tc_object.specs.Names.{name_of}
+use Rattle.tc_object.specs.Names.{object_name_of}
 use Rattle.tc_object.specs.Objects.{InTurn}
 
 -- a place for the sections of one name: its address, and the most bytes that it holds
@@ -18,18 +18,19 @@ pub record LayoutData : Type 0 where
 
 -- a name, an address that is a multiple of 4, and no byte past 2^32
 pub record IsPlace (p : PlaceData) : Type 0 where
-  pub name : name_of p.section ≡ Some p.section
+  pub name : object_name_of p.section ≡ Some p.section
   pub aligned : p.at % 4 ≡ 0
   pub word : p.at < 2 ^ 32
   pub within : p.at + p.most ≤ 2 ^ 32
 
--- this many bytes at an address share a byte with a place
-abbrev pub shares_at : ℕ → ℕ → PlaceData → Bool
-shares_at at most q = nat_lt (max at q.at) (min (at + most) (q.at + q.most))
+-- this many bytes at an address share a byte with a place, which the invariant of layouts excludes
+-- for its places
+abbrev pub is_overlapping_place : ℕ → ℕ → PlaceData → Bool
+is_overlapping_place at most q = nat_lt (max at q.at) (min (at + most) (q.at + q.most))
 
--- two places that share a byte
-abbrev pub shares : PlaceData → PlaceData → Bool
-shares p q = shares_at p.at p.most q
+-- two places share a byte, which the invariant of layouts excludes
+abbrev pub are_overlapping_places : PlaceData → PlaceData → Bool
+are_overlapping_places p q = is_overlapping_place p.at p.most q
 
 -- some place is for sections of this name
 abbrev pub is_placed : List PlaceData → List ℕ → Bool
@@ -39,10 +40,14 @@ is_placed ps name = list_any (λ p. bytes_eq name p.section) ps
 pub record IsPlaceAfter (before : List PlaceData) (p : PlaceData) : Type 0 where
   pub place : IsPlace p
   pub new : is_placed before p.section ≡ false
-  pub apart : list_any (shares p) before ≡ false
+  pub apart : list_any (are_overlapping_places p) before ≡ false
 
 -- a layout: an entry's name, and at most 64 places for different sections, which share no byte
 pub record IsLayout (l : LayoutData) : Type 0 where
-  pub entry : name_of l.entry ≡ Some l.entry
+  pub entry : object_name_of l.entry ≡ Some l.entry
   pub few : length l.places ≤ 64
   pub places : InTurn IsPlaceAfter [] l.places
+
+-- a layout's place for the sections of this name, if there is one
+abbrev pub place_of : List PlaceData → List ℕ → Option PlaceData
+place_of places name = find (λ p. bytes_eq name p.section) places

@@ -1,6 +1,6 @@
 -- The result of linking objects by a layout: an image, or the first refusal.
 use Rattle.std.specs.Prelude.{ℕ, List, Option, Some, None, Result, Ok, Err}
-use Rattle.tcd_base.specs.Refusing.{unless}
+use Rattle.tcd_base.specs.Refusing.{unless_refused}
 use Rattle.tc_object.specs.Objects.{ObjectData}
 use Rattle.elf_image.specs.Images.{ImageData}
 use Rattle.tc_link.specs.Layouts.{PlaceData, LayoutData}
@@ -11,18 +11,18 @@ use Rattle.tc_link.specs.Segments.{segments_of}
 use Rattle.tc_link.specs.Refusals.{Refusal, no_entry, reloc_in, refused_early}
 
 -- the image with this entry address; a refusal if the entry is no global symbol
-abbrev pub entry_of : Option ℕ → List PlaceData → List PlacedData → Result ImageData Refusal
-entry_of None places placed = Err no_entry
-entry_of (Some address) places placed = Ok (record { entry = address; segments = segments_of places (contents_of placed) })
+abbrev pub image_with_entry : Option ℕ → List PlaceData → List PlacedData → Result ImageData Refusal
+image_with_entry None places placed = Err no_entry
+image_with_entry (Some address) places placed = Ok (record { entry = address; segments = segments_of places (contents_of placed) })
 
 -- the image of placed objects, if no relocation is refused
 abbrev pub image_of : LayoutData → List PlacedData → Result ImageData Refusal
-image_of layout placed = entry_of (global_address (globals_of placed) layout.entry) layout.places placed
+image_of layout placed = image_with_entry (global_address (globals_of placed) layout.entry) layout.places placed
 
 -- the image of placed objects, or the first relocation that is refused
 abbrev pub made_of : LayoutData → List PlacedData → Result ImageData Refusal
-made_of layout placed = unless (reloc_in (globals_of placed) placed) (image_of layout placed)
+made_of layout placed = unless_refused (reloc_in (globals_of placed) placed) (image_of layout placed)
 
 -- the image, or the first refusal
 unfoldable pub image_of_objects : List ObjectData → LayoutData → Result ImageData Refusal
-image_of_objects objects layout = unless (refused_early layout objects) (made_of layout (placed_of layout objects))
+image_of_objects objects layout = unless_refused (refused_early layout objects) (made_of layout (placed_of layout objects))

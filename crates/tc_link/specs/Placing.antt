@@ -1,25 +1,20 @@
 -- The addresses of the sections and symbols of objects.
-use Rattle.std.specs.Prelude.{◌+◌, ◌%◌, ◌^◌, ℕ, List, ◌∷◌, ◌++◌, slice_index, slice_get, find, Option, []}
+use Rattle.std.specs.Prelude.{◌+◌, ◌%◌, ◌^◌, ℕ, List, ◌∷◌, ◌++◌, slice_index, slice_get, []}
 use Rattle.std.specs.Option.{option_map_or}
 use Rattle.std.specs.List.{flat_map}
 use Rattle.tc_object.specs.Objects.{SectionData, ObjectData}
-use Rattle.tc_link.specs.Layouts.{PlaceData, LayoutData}
-use Rattle.tc_link.specs.PlaceSizes.{round_up, taken_bytes}
+use Rattle.tc_link.specs.Layouts.{PlaceData, LayoutData, place_of}
+use Rattle.tc_link.specs.PlaceSizes.{round_up_place_size, taken_bytes}
 use Rattle.tc_link.specs.declared.definitions.Definition.{Definition}
-use Rattle.std.specs.Str.{bytes_eq}
 
 -- ---- sections
 -- the sections of all objects, in order
-abbrev pub sections_of : List ObjectData → List SectionData
-sections_of objects = flat_map (λ o. o.sections) objects
-
--- the place for the sections of this name
-abbrev pub place_of : List PlaceData → List ℕ → Option PlaceData
-place_of places name = find (λ p. bytes_eq name p.section) places
+abbrev pub sections_to_link : List ObjectData → List SectionData
+sections_to_link objects = flat_map (λ o. o.sections) objects
 
 -- the address of a section after these sections, and 0 if it has no place
 abbrev pub base_of : List PlaceData → List SectionData → SectionData → ℕ
-base_of places before s = option_map_or (λ p. p.at + round_up (taken_bytes s.name before)) (place_of places s.name) 0
+base_of places before s = option_map_or (λ p. p.at + round_up_place_size (taken_bytes s.name before)) (place_of places s.name) 0
 
 -- the addresses of sections after these sections, each after the one before it
 unfoldable pub bases_after : List PlaceData → List SectionData → List SectionData → List ℕ
@@ -39,12 +34,12 @@ placed_after places before (o ∷ os) = record { object = o; bases = bases_after
 -- ---- symbols
 
 -- the address of an offset in a section of this number
-abbrev pub address_in : List ℕ → ℕ → ℕ → ℕ
-address_in bases section offset = (slice_index bases section + offset) % 2 ^ 32
+abbrev pub address_in_section : List ℕ → ℕ → ℕ → ℕ
+address_in_section bases section offset = (slice_index bases section + offset) % 2 ^ 32
 
 -- the address of a definition in these objects
 abbrev pub address_of : List PlacedData → Definition → ℕ
-address_of placed d = option_map_or (λ p. address_in p.bases d.section d.offset) (slice_get placed d.object) 0
+address_of placed d = option_map_or (λ p. address_in_section p.bases d.section d.offset) (slice_get placed d.object) 0
 
 -- the objects with the addresses of their sections in the layout
 abbrev pub placed_of : LayoutData → List ObjectData → List PlacedData

@@ -7,11 +7,11 @@ use Rattle.tc_object.specs.Objects.{undefined_symbol, SectionData, SymbolData, O
 use Rattle.tc_object.specs.declared.relocs.Reloc.{Reloc}
 use Rattle.tc_reloc.specs.declared.refusals.RelocErr.{RelocErr}
 use Rattle.tc_link.specs.Layouts.{PlaceData, is_placed, LayoutData}
-use Rattle.tc_link.specs.Placing.{PlacedData, sections_of}
+use Rattle.tc_link.specs.Placing.{PlacedData, sections_to_link}
 use Rattle.tc_link.specs.Names.{GlobalData, is_global, globals_named}
-use Rattle.tc_link.specs.PlaceSizes.{is_over}
-use Rattle.tc_reloc.specs.Refusals.{refusal_of}
-use Rattle.tc_link.specs.Relocated.{field_place, value_of}
+use Rattle.tc_link.specs.PlaceSizes.{are_places_overfull}
+use Rattle.tc_reloc.specs.Refusals.{reloc_value_refusal}
+use Rattle.tc_link.specs.Relocated.{field_place, reloc_value}
 
 -- why objects can't be linked
 pub data Refusal : Type 0 where
@@ -22,14 +22,16 @@ pub data Refusal : Type 0 where
   reloc : ℕ → ℕ → ℕ → RelocErr → Refusal
   no_entry : Refusal
 
--- the first answer over the items of a list with their numbers, counted from n on
-unfoldable pub first_at : {A B : Type 0} → (ℕ → A → Option B) → ℕ → List A → Option B
-first_at f n [] = None
-first_at f n (x ∷ xs) = option_or (f n x) (first_at f (n + 1) xs)
+-- the linker's first refusal, over the items of a list (objects, symbols, sections or relocations)
+-- with their numbers, counted from n on
+unfoldable pub first_refusal_from : {A B : Type 0} → (ℕ → A → Option B) → ℕ → List A → Option B
+first_refusal_from f n [] = None
+first_refusal_from f n (x ∷ xs) = option_or (f n x) (first_refusal_from f (n + 1) xs)
 
--- the first answer over the items of a list with their numbers, counted from 0 on
-abbrev pub first_some : {A B : Type 0} → (ℕ → A → Option B) → List A → Option B
-first_some f xs = first_at f 0 xs
+-- the linker's first refusal, over the items of a list (objects, symbols, sections or relocations)
+-- with their numbers, counted from 0 on
+abbrev pub first_refusal_over : {A B : Type 0} → (ℕ → A → Option B) → List A → Option B
+first_refusal_over f xs = first_refusal_from f 0 xs
 
 -- a global symbol that is defined in two objects
 abbrev pub twice_of : List ObjectData → ℕ → SymbolData → Option Refusal
@@ -37,19 +39,19 @@ twice_of objects number s = then_some (is_global s && nat_lt 1 (globals_named ob
 
 -- the first global symbol that is defined in two objects, if there is one
 unfoldable pub twice_in : List ObjectData → Option Refusal
-twice_in objects = first_some (λ _ o. first_some (twice_of objects) o.symbols) objects
+twice_in objects = first_refusal_over (λ _ o. first_refusal_over (twice_of objects) o.symbols) objects
 
--- a relocation uses the symbol of this number
-abbrev pub is_used : List Reloc → ℕ → Bool
-is_used relocs number = list_any (λ r. r.symbol == number) relocs
+-- a relocation uses the symbol of this number, so that linking is refused if the symbol is missing
+abbrev pub is_used_by_relocs : List Reloc → ℕ → Bool
+is_used_by_relocs relocs number = list_any (λ r. r.symbol == number) relocs
 
 -- a symbol that a relocation uses, undefined in its object and global in none
 abbrev pub missing_of : List ObjectData → List Reloc → ℕ → SymbolData → Option Refusal
-missing_of objects relocs number s = then_some (s.kind == undefined_symbol && is_used relocs number && globals_named objects s.name == 0) (missing s.name)
+missing_of objects relocs number s = then_some (s.kind == undefined_symbol && is_used_by_relocs relocs number && globals_named objects s.name == 0) (missing s.name)
 
 -- the first symbol that is used, undefined in its object and global in none, if there is one
 unfoldable pub missing_in : List ObjectData → Option Refusal
-missing_in objects = first_some (λ _ o. first_some (missing_of objects o.relocs) o.symbols) objects
+missing_in objects = first_refusal_over (λ _ o. first_refusal_over (missing_of objects o.relocs) o.symbols) objects
 
 -- a symbol is defined in the section of this number
 abbrev pub has_symbol : List SymbolData → ℕ → Bool
@@ -61,11 +63,11 @@ no_place_of places symbols number s = then_some ((nat_lt 0 (length s.bytes) || h
 
 -- the first section that needs a place and has none, if there is one
 unfoldable pub no_place_in : List PlaceData → List ObjectData → Option Refusal
-no_place_in places objects = first_some (λ _ o. first_some (no_place_of places o.symbols) o.sections) objects
+no_place_in places objects = first_refusal_over (λ _ o. first_refusal_over (no_place_of places o.symbols) o.sections) objects
 
 -- a section for which there is no room after these sections
 abbrev pub no_room_of : List PlaceData → List SectionData → SectionData → Option Refusal
-no_room_of places before s = then_some (is_over places (before ++ s ∷ [])) (no_room s.name)
+no_room_of places before s = then_some (are_places_overfull places (before ++ s ∷ [])) (no_room s.name)
 
 -- the first section for which there is no room, after these sections and those before it
 unfoldable pub no_room_after : List PlaceData → List SectionData → List SectionData → Option Refusal
@@ -74,7 +76,7 @@ no_room_after places before (s ∷ ss) = option_or (no_room_of places before s) 
 
 -- the reason why a relocation can't be written, if there is one
 abbrev pub reloc_refusal : List GlobalData → PlacedData → Reloc → Option RelocErr
-reloc_refusal globals p r = refusal_of r.kind (field_place p r) (value_of globals p r)
+reloc_refusal globals p r = reloc_value_refusal r.kind (field_place p r) (reloc_value globals p r)
 
 -- a relocation of the object with this number that can't be written
 abbrev pub refusal_at : List GlobalData → ℕ → PlacedData → ℕ → Reloc → Option Refusal
@@ -82,11 +84,11 @@ refusal_at globals object p number r = option_map (λ err. reloc object r.sectio
 
 -- the first relocation that can't be written, in the order of the objects, if there is one
 unfoldable pub reloc_in : List GlobalData → List PlacedData → Option Refusal
-reloc_in globals placed = first_some (λ object p. first_some (refusal_at globals object p) p.object.relocs) placed
+reloc_in globals placed = first_refusal_over (λ object p. first_refusal_over (refusal_at globals object p) p.object.relocs) placed
 
 -- the first refusal before relocations are written, in this order
 abbrev pub refused_early : LayoutData → List ObjectData → Option Refusal
 refused_early layout objects =
     option_or (twice_in objects)
     (option_or (missing_in objects)
-    (option_or (no_place_in layout.places objects) (no_room_after layout.places [] (sections_of objects))))
+    (option_or (no_place_in layout.places objects) (no_room_after layout.places [] (sections_to_link objects))))

@@ -3,50 +3,54 @@ use Rattle.std.specs.Prelude.{◌+◌, ◌%◌, ◌^◌, ℕ, List, ◌++◌, fo
 use Rattle.std.specs.Option.{option_map_or}
 use Rattle.tc_object.specs.declared.relocs.Reloc.{Reloc}
 use Rattle.tc_object.specs.Objects.{SectionData, undefined_symbol, SymbolData}
-use Rattle.tc_reloc.specs.Fields.{content_of, field_at, with_field}
-use Rattle.tc_link.specs.Placing.{PlacedData, address_in}
+use Rattle.tc_reloc.specs.Fields.{reloc_field_number, with_reloc_field}
+use Rattle.tc_link.specs.Placing.{PlacedData, address_in_section}
 use Rattle.tc_link.specs.Names.{GlobalData, global_address, globals_of}
 use Rattle.std.specs.List.{flat_map}
 
 -- the address of a relocation's field
 abbrev pub field_place : PlacedData → Reloc → ℕ
-field_place p r = address_in p.bases r.section r.offset
+field_place p r = address_in_section p.bases r.section r.offset
 
 -- The address of a symbol of a placed object. A defined symbol has its own address, an undefined
 -- one that of the global symbol with its name, or 0 if there is none.
 abbrev pub symbol_address : List GlobalData → List ℕ → SymbolData → ℕ
-symbol_address globals bases s = if s.kind == undefined_symbol then option_map_or (λ a. a) (global_address globals s.name) 0 else address_in bases s.section s.offset
+symbol_address globals bases s = if s.kind == undefined_symbol then option_map_or (λ a. a) (global_address globals s.name) 0 else address_in_section bases s.section s.offset
 
 -- the addresses of the symbols of a placed object, by their numbers
 unfoldable pub symbol_addresses : List GlobalData → PlacedData → List ℕ
 symbol_addresses globals p = map (symbol_address globals p.bases) p.object.symbols
 
 -- the value of a relocation: the address of its symbol plus the addend
-abbrev pub value_of : List GlobalData → PlacedData → Reloc → ℕ
-value_of globals p r = (option_map_or (symbol_address globals p.bases) (slice_get p.object.symbols r.symbol) 0 + r.addend) % 2 ^ 32
+abbrev pub reloc_value : List GlobalData → PlacedData → Reloc → ℕ
+reloc_value globals p r = (option_map_or (symbol_address globals p.bases) (slice_get p.object.symbols r.symbol) 0 + r.addend) % 2 ^ 32
 
 -- the bytes with these four at an offset
-abbrev pub with_field_at : List ℕ → ℕ → List ℕ → List ℕ
-with_field_at bytes at field = take at bytes ++ (field ++ drop (at + 4) bytes)
+abbrev pub with_relocated_field : List ℕ → ℕ → List ℕ → List ℕ
+with_relocated_field bytes at field = take at bytes ++ (field ++ drop (at + 4) bytes)
+
+-- the four bytes of a relocation's field, at an offset of a section's bytes
+abbrev pub reloc_field_at : List ℕ → ℕ → List ℕ
+reloc_field_at bytes at = take 4 (drop at bytes)
 
 -- a section with the field of a relocation at this address filled with this value
 abbrev pub with_filled_field : Reloc → ℕ → ℕ → SectionData → SectionData
 with_filled_field r place value s = record {
   name = s.name;
-  bytes = with_field_at s.bytes r.offset (with_field r.kind (field_at s.bytes r.offset) (content_of r.kind place value));
+  bytes = with_relocated_field s.bytes r.offset (with_reloc_field r.kind (reloc_field_at s.bytes r.offset) (reloc_field_number r.kind place value));
 }
 
 -- a section with the field of a relocation written
 abbrev pub with_relocation : List GlobalData → PlacedData → Reloc → SectionData → SectionData
-with_relocation globals p r s = with_filled_field r (field_place p r) (value_of globals p r) s
+with_relocation globals p r s = with_filled_field r (field_place p r) (reloc_value globals p r) s
 
 -- a list with the item of this number changed, if it's there
-abbrev pub with_item : {A : Type 0} → (A → A) → ℕ → List A → List A
-with_item f n xs = option_map_or (λ x. slice_set xs n (f x)) (slice_get xs n) xs
+abbrev pub with_relocated_item : {A : Type 0} → (A → A) → ℕ → List A → List A
+with_relocated_item f n xs = option_map_or (λ x. slice_set xs n (f x)) (slice_get xs n) xs
 
 -- the sections of a placed object after one of its relocations is written
 abbrev pub with_reloc : List GlobalData → PlacedData → List SectionData → Reloc → List SectionData
-with_reloc globals p sections r = with_item (with_relocation globals p r) r.section sections
+with_reloc globals p sections r = with_relocated_item (with_relocation globals p r) r.section sections
 
 -- the sections of a placed object after all its relocations are written, in order
 unfoldable pub relocated_sections : List GlobalData → PlacedData → List SectionData

@@ -4,15 +4,16 @@ use Rattle.std.specs.Str.{bytes_eq}
 use Rattle.elf_image.specs.Images.{SegmentData}
 use Rattle.tc_object.specs.Objects.{SectionData}
 use Rattle.tc_link.specs.Layouts.{PlaceData}
-use Rattle.tc_link.specs.PlaceSizes.{round_up}
+use Rattle.tc_link.specs.PlaceSizes.{round_up_place_size}
 
--- zeros up to a multiple of 4
-abbrev pub with_padding : List ℕ → List ℕ
-with_padding bytes = bytes ++ replicate (round_up (length bytes) - length bytes) 0
+-- the bytes of a place with zeros up to a multiple of 4, where its next section begins in the
+-- segment
+abbrev pub with_segment_padding : List ℕ → List ℕ
+with_segment_padding bytes = bytes ++ replicate (round_up_place_size (length bytes) - length bytes) 0
 
 -- the bytes of a place after a further section, if it has the place's name
 abbrev pub with_section : List ℕ → List ℕ → SectionData → List ℕ
-with_section name bytes s = if bytes_eq name s.name then with_padding bytes ++ s.bytes else bytes
+with_section name bytes s = if bytes_eq name s.name then with_segment_padding bytes ++ s.bytes else bytes
 
 -- the sections of one name, each at a multiple of 4, the gaps zero
 unfoldable pub joined_sections : List ℕ → List SectionData → List ℕ

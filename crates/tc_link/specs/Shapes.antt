@@ -3,10 +3,10 @@ use Rattle.std.specs.Prelude.{ℕ, List, length}
 use Rattle.tc_object.specs.Objects.{SectionData}
 
 -- the name and the length of a section
-pub record Shape : Type 0 where
+pub record SectionShape : Type 0 where
   pub name : List ℕ
   pub size : ℕ
 
 -- the name and the length of a section
-abbrev pub shape_of : SectionData → Shape
-shape_of s = record { name = s.name; size = length s.bytes }
+abbrev pub section_shape : SectionData → SectionShape
+section_shape s = record { name = s.name; size = length s.bytes }

@@ -1,25 +1,20 @@
 // Computes the addresses of symbols.
-ghost use Rattle.std.specs.Prelude.{◌≡◌, List, slice_index, map, IfOk, IfErr, ◌≤◌, ◌<◌, ◌+◌, ◌++◌, length, OnOk, None};
-ghost use Rattle.tc_link.specs.Placing.{address_in, address_of, base_of, bases_after};
+ghost use Rattle.std.specs.Prelude.{◌≡◌, List, slice_index, map, IfOk, IfErr, ◌<◌, None};
+ghost use Rattle.tc_link.specs.Placing.{address_in_section, address_of};
 ghost use Rattle.tc_link.specs.Names.{GlobalData, address_named, AreGlobals};
 ghost use Rattle.tc_link.specs.Relocated.{symbol_address, symbol_addresses};
 ghost use Rattle.tc_link.specs.declared.errors.LinkErr.TheVariants.{NoMemory};
-ghost use Rattle.tc_object.specs.Objects.{SectionData};
-ghost use Rattle.tc_link.specs.PlaceSizes.{round_up, AreTaken, AreSmall, is_over};
-ghost use Rattle.tc_link.specs.Refusals.{no_room_after};
-ghost use Rattle.tc_link.specs.Errors.{IsRefusal};
 
+use crate::LinkErr;
 use crate::definitions::Definition;
-use crate::place_sizes::{add_size, find_place, is_over, round_up};
 use crate::placed::Placed;
-use crate::{LinkErr, Place};
 use std::alloc::Global;
 use std::collections::HashMap;
-use tc_object::{SectionRef, SymbolRef, UNDEFINED_SYMBOL};
+use tc_object::{SymbolRef, UNDEFINED_SYMBOL};
 
 /// The address of an offset in a section of this number.
-pub(crate) fn address_in(bases: &[u64], section: u16, offset: u32) -> u32
-    ensures { result ≡ address_in bases.now section offset }
+pub(crate) fn address_in_section(bases: &[u64], section: u16, offset: u32) -> u32
+    ensures { result ≡ address_in_section bases.now section offset }
 {
     let base = match bases.get(section as usize) {
         Some(base) => *base,
@@ -33,7 +28,7 @@ fn address_of(placed: &[Placed<'_, '_>], definition: Definition) -> u32
     ensures { result ≡ address_of placed.now definition }
 {
     match placed.get(definition.object) {
-        Some(each) => address_in(&each.bases, definition.section, definition.offset),
+        Some(each) => address_in_section(&each.bases, definition.section, definition.offset),
         None => 0,
     }
 }
@@ -63,7 +58,7 @@ fn symbol_address(
         → result ≡ symbol_address all bases.now symbol.now }
 {
     if symbol.kind != UNDEFINED_SYMBOL {
-        return address_in(bases, symbol.section, symbol.offset);
+        return address_in_section(bases, symbol.section, symbol.offset);
     }
     match address_named(names, placed, symbol.name) {
         Some(address) => address,
@@ -108,60 +103,11 @@ pub(crate) fn symbol_addresses(
 }
 
 // The address of the symbol with this number, and 0 if there is no such symbol.
-pub(crate) fn address_at(addresses: &[u32], number: u16) -> u32
+pub(crate) fn symbol_address_at(addresses: &[u32], number: u16) -> u32
     ensures { result ≡ slice_index addresses.now number }
 {
     match addresses.get(number as usize) {
         Some(address) => *address,
         None => 0,
     }
-}
-
-// The address of a section after sections that use these numbers of bytes.
-fn base_of(places: &[Place], sizes: &[u64], section: &SectionRef<'_>) -> u64
-    requires count { length sizes.now ≡ length places.now }
-    requires small { AreSmall sizes.now }
-    ensures { (before : List SectionData) → AreTaken places.now before sizes.now
-        → result ≡ base_of places.now before section.now }
-{
-    match find_place(places, section.name) {
-        None => 0,
-        Some(i) => {
-            let place = &places[i];
-            u64::from(place.at) + round_up(sizes[i])
-        }
-    }
-}
-
-/// The addresses of the sections of an object, or the first section without room.
-pub(crate) fn bases_of(
-    alloc: Global,
-    places: &[Place],
-    sizes: &mut [u64],
-    sections: &[SectionRef<'_>],
-) -> Result<Vec<u64>, LinkErr>
-    requires count { length sizes.old ≡ length places.now }
-    requires few { length places.now ≤ 64 }
-    requires small { AreSmall sizes.old }
-    ensures bases { IfOk result (λ bases. (before : List SectionData)
-        → AreTaken places.now before sizes.old
-        → bases.items ≡ bases_after places.now before sections.now) }
-    ensures taken { OnOk result ((before : List SectionData) → AreTaken places.now before sizes.old
-        → AreTaken places.now (before ++ sections.now) sizes.new) }
-    ensures room { OnOk result ((before : List SectionData) → AreTaken places.now before sizes.old
-        → no_room_after places.now before sections.now ≡ None) }
-    ensures small { OnOk result (AreSmall sizes.new) }
-    ensures err { IfErr result (λ e. (before : List SectionData)
-        → AreTaken places.now before sizes.old
-        → IsRefusal (no_room_after places.now before sections.now) e) }
-{
-    let mut bases = Vec::new(alloc);
-    for section in sections {
-        bases.push(base_of(places, sizes, section))?;
-        add_size(places, sizes, section);
-        if is_over(places, sizes) {
-            return Err(LinkErr::NoRoom(String::from_str(alloc, section.name)?));
-        }
-    }
-    Ok(bases)
 }

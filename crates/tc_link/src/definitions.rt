@@ -1,8 +1,8 @@
 // The definition of a global symbol.
-ghost use Rattle.std.specs.Prelude.{◌≡◌, ◌+◌, ◌++◌, ◌∷◌, nat_lt, ℕ, List, [], true, false, map, OnOk, IfOk, IfErr, if◌then◌else◌, None, Some};
+ghost use Rattle.std.specs.Prelude.{◌≡◌, ◌+◌, ◌++◌, ◌∷◌, ℕ, List, [], true, false, map, OnOk, IfOk, IfErr, if◌then◌else◌, None, Some};
 ghost use Rattle.std.specs.Str.{bytes_eq};
 ghost use Rattle.tc_link.specs.Placing.{PlacedData, address_of};
-ghost use Rattle.tc_link.specs.Names.{GlobalData, at_name, twice_at, twice_of_count, AreGlobals};
+ghost use Rattle.tc_link.specs.Names.{GlobalData, global_at_name, twice_at, twice_of_count, AreGlobals};
 ghost use Rattle.tc_link.specs.declared.errors.LinkErr.TheVariants.{NoMemory};
 
 use crate::LinkErr;
@@ -20,7 +20,7 @@ pub(crate) struct Definition {
 }
 
 // Adds a definition of this name. The first one keeps its place.
-pub(crate) fn add_name<'a>(
+pub(crate) fn add_definition<'a>(
     names: &mut HashMap<&'a str, Definition>,
     name: &'a str,
     definition: Definition,
@@ -48,23 +48,13 @@ pub(crate) fn add_name<'a>(
 }
 
 // An empty map, with capacity for `count` names.
-pub(crate) fn no_names<'a>(
+pub(crate) fn no_definitions<'a>(
     alloc: Global,
     count: usize,
 ) -> Result<HashMap<&'a str, Definition>, LinkErr>
-    ensures none { IfOk result (λ names. (q : List ℕ) → at_name names q ≡ None) }
+    ensures none { IfOk result (λ names. (q : List ℕ) → global_at_name names q ≡ None) }
     ensures err { IfErr result (λ e. e ≡ NoMemory) }
 {
     let names = HashMap::with_capacity(alloc, count)?;
     Ok(names)
-}
-
-/// Whether several global symbols have the name.
-pub(crate) fn is_twice(names: &HashMap<&str, Definition>, name: &str) -> bool
-    ensures { (n : ℕ) → twice_at names.now name.now ≡ twice_of_count n → result ≡ nat_lt 1 n }
-{
-    match names.get(name) {
-        Some(definition) => definition.is_twice,
-        None => false,
-    }
 }

@@ -1,8 +1,8 @@
 // Builds a layout line by line, with the first fault.
 ghost use Rattle.std.specs.Prelude.{◌≡◌};
-ghost use Rattle.tc_link.specs.Layouts.{shares_at};
+ghost use Rattle.tc_link.specs.Layouts.{is_overlapping_place};
 
-use crate::lines::{Line, line_of};
+use crate::lines::{Line, layout_line_contents};
 use crate::{Layout, LayoutErr, Place};
 use std::alloc::Global;
 use std::marker::Model;
@@ -20,24 +20,24 @@ pub(crate) struct Draft {
 impl Model for Draft {
     ghost use Rattle.std.specs.Prelude.{string_bytes};
     ghost use Rattle.std.specs.Option.{option_map, option_to_list};
-    ghost use Rattle.tc_link.specs.LayoutDrafts.{DraftData, IsDraft};
+    ghost use Rattle.tc_link.specs.LayoutDrafts.{LayoutDraftData, IsLayoutDraft};
 
-    ghost Value = { DraftData };
+    ghost Value = { LayoutDraftData };
 
     ghost view = { λ d. record { entries = option_to_list (option_map string_bytes d.entry); places = d.places.items } };
 
-    ghost invariant = { λ d. IsDraft (record { entries = option_to_list (option_map string_bytes d.entry); places = d.places.items }) };
+    ghost invariant = { λ d. IsLayoutDraft (record { entries = option_to_list (option_map string_bytes d.entry); places = d.places.items }) };
 }
 
 impl Draft {
     ghost use Rattle.std.specs.Prelude.{◌≡◌, ◌≤◌, ◌<◌, ◌+◌, ◌++◌, ◌^◌, [], ◌∷◌, length, nat_lt, Some, None, Ok, OnOk, OnErr, IfOk, IfErr, IfNone, if◌then◌else◌, nat_le};
     ghost use Rattle.std.specs.Bool.{then_some};
     ghost use Rattle.std.specs.List.{list_any};
-    ghost use Rattle.tc_object.specs.Names.{name_of};
-    ghost use Rattle.tc_link.specs.Layouts.{IsPlace, IsPlaceAfter, is_placed, shares_at};
-    ghost use Rattle.tc_link.specs.LayoutLines.{line_of, place, IsGood};
+    ghost use Rattle.tc_object.specs.Names.{object_name_of};
+    ghost use Rattle.tc_link.specs.Layouts.{IsPlace, IsPlaceAfter, is_placed, is_overlapping_place};
+    ghost use Rattle.tc_link.specs.LayoutLines.{layout_line_contents, place, IsGoodLayoutLine, layout_line_data};
     ghost use Rattle.tc_link.specs.LayoutFaults.{fault_of, IsFaultOf, IsFault};
-    ghost use Rattle.tc_link.specs.LayoutDrafts.{with_entry, with_line, line_data};
+    ghost use Rattle.tc_link.specs.LayoutDrafts.{with_entry, with_layout_line};
     ghost use Rattle.tc_link.specs.declared.layout_errors.LayoutErr.TheVariants.{Twice, TooMany, Overlap, NoMemory};
 
     /// A draft without lines.
@@ -60,10 +60,12 @@ impl Draft {
     }
 
     // Whether some place shares a byte with this one.
-    fn shares(&self, at: u32, most: u32) -> bool
-        ensures { result ≡ list_any (λ q. shares_at at most q) self.now.places }
+    fn has_overlapping_place(&self, at: u32, most: u32) -> bool
+        ensures { result ≡ list_any (λ q. is_overlapping_place at most q) self.now.places }
     {
-        self.places.iter().any(|other| share(at, most, other))
+        self.places
+            .iter()
+            .any(|other| is_overlapping_place(at, most, other))
     }
 
     // The fault of a place in line `number`, if it has one.
@@ -81,14 +83,15 @@ impl Draft {
         if self.places.len() >= MOST_PLACES {
             return Some(LayoutErr::TooMany(number));
         }
-        if self.shares(at, most) {
+        if self.has_overlapping_place(at, most) {
             return Some(LayoutErr::Overlap(number));
         }
         None
     }
 
+    /// Sets the entry of the layout.
     fn add_entry(&mut self, alloc: Global, name: &str) -> Result<(), LayoutErr>
-        requires name { name_of name.now ≡ Some name.now }
+        requires name { object_name_of name.now ≡ Some name.now }
         requires none { self.old.entries ≡ [] }
         ensures ok { OnOk result (self.new
             ≡ record { entries = name.now ∷ []; places = self.old.places }) }
@@ -98,6 +101,7 @@ impl Draft {
         Ok(())
     }
 
+    /// Adds a place to the layout.
     fn add_place(
         &mut self,
         alloc: Global,
@@ -123,13 +127,15 @@ impl Draft {
 
     // Adds the contents of line `number`, or returns the line's fault.
     fn add_good(&mut self, alloc: Global, number: u32, line: Line<'_>) -> Result<(), LayoutErr>
-        requires { IsGood (line_data line) }
+        requires { IsGoodLayoutLine (layout_line_data line) }
         ensures good { OnOk result
-            (fault_of number self.old.entries self.old.places (Some (line_data line.entry))
+            (fault_of number self.old.entries self.old.places (Some (layout_line_data line.entry))
             ≡ None) }
-        ensures ok { OnOk result (self.new ≡ with_line self.old (Some (line_data line.entry))) }
+        ensures ok { OnOk result (self.new
+            ≡ with_layout_line self.old (Some (layout_line_data line.entry))) }
         ensures err { IfErr result (IsFault
-            (fault_of number self.old.entries self.old.places (Some (line_data line.entry)))) }
+            (fault_of number self.old.entries self.old.places
+            (Some (layout_line_data line.entry)))) }
     {
         match line {
             Line::Blank => Ok(()),
@@ -156,12 +162,15 @@ impl Draft {
         line: &[u8],
     ) -> Result<(), LayoutErr>
         ensures good { OnOk result
-            (fault_of number self.old.entries self.old.places (line_of line.now) ≡ None) }
-        ensures ok { OnOk result (self.new ≡ with_line self.old (line_of line.now)) }
+            (fault_of number self.old.entries self.old.places (layout_line_contents line.now)
+            ≡ None) }
+        ensures ok { OnOk result (self.new
+            ≡ with_layout_line self.old (layout_line_contents line.now)) }
         ensures err { IfErr result
-            (IsFault (fault_of number self.old.entries self.old.places (line_of line.now))) }
+            (IsFault (fault_of number self.old.entries self.old.places
+            (layout_line_contents line.now))) }
     {
-        match line_of(line) {
+        match layout_line_contents(line) {
             None => Err(LayoutErr::BadLine(number)),
             Some(line) => self.add_good(alloc, number, line),
         }
@@ -182,8 +191,8 @@ impl Draft {
 }
 
 // Whether `most` bytes from `at` on share a byte with another place.
-fn share(at: u32, most: u32, other: &Place) -> bool
-    ensures { result ≡ shares_at at most other.now }
+fn is_overlapping_place(at: u32, most: u32, other: &Place) -> bool
+    ensures { result ≡ is_overlapping_place at most other.now }
 {
     let end = u64::from(at) + u64::from(most);
     let other_end = u64::from(other.at) + u64::from(other.most);

@@ -1,12 +1,12 @@
 // A map of the global symbols of objects by name, so that each look-up is a few steps.
-ghost use Rattle.std.specs.Prelude.{◌≡◌, ◌+◌, ◌++◌, ◌∷◌, nat_lt, ◌==◌, ℕ, List, [], true, false, count_by, map, filter, slice_get, OnOk, IfOk, IfErr, if◌then◌else◌, Some};
+ghost use Rattle.std.specs.Prelude.{◌≡◌, ◌+◌, ◌++◌, ◌∷◌, nat_lt, ◌==◌, ℕ, List, [], true, false, count_by, map, filter, slice_get, OnOk, IfOk, IfErr, if◌then◌else◌, Some, None};
 ghost use Rattle.tc_object.specs.Objects.{ObjectData};
 ghost use Rattle.tc_link.specs.Placing.{PlacedData};
 ghost use Rattle.tc_link.specs.Names.{GlobalData, is_global, global_data, has_global_name, globals_named, twice_at, twice_of_count, AreGlobals, CountsGlobals, DefinesGlobals};
 ghost use Rattle.tc_link.specs.declared.errors.LinkErr.TheVariants.{NoMemory};
 
 use crate::LinkErr;
-use crate::definitions::{Definition, add_name, is_twice, no_names};
+use crate::definitions::{Definition, add_definition, no_definitions};
 use std::alloc::Global;
 use std::collections::HashMap;
 use tc_object::{GLOBAL_SYMBOL, ObjectRef, SymbolRef};
@@ -36,7 +36,7 @@ fn add_symbol<'a>(
         offset: symbol.offset,
         is_twice: false,
     };
-    add_name(names, symbol.name, definition)
+    add_definition(names, symbol.name, definition)
 }
 
 // Adds the global symbols of object number `object`.
@@ -73,7 +73,7 @@ fn count_globals(objects: &[ObjectRef<'_>]) -> usize {
 }
 
 /// The map of the global symbols of objects by name.
-pub(crate) fn names_of<'a>(
+pub(crate) fn globals_by_name<'a>(
     alloc: Global,
     objects: &[ObjectRef<'a>],
 ) -> Result<HashMap<&'a str, Definition>, LinkErr>
@@ -81,7 +81,7 @@ pub(crate) fn names_of<'a>(
     ensures globals { IfOk result (λ names. DefinesGlobals names objects.now) }
     ensures err { IfErr result (λ e. e ≡ NoMemory) }
 {
-    let mut names = no_names(alloc, count_globals(objects))?;
+    let mut names = no_definitions(alloc, count_globals(objects))?;
     for (number, object) in objects.iter().enumerate() {
         add_symbols(&mut names, number, &object.symbols)?;
     }
@@ -89,16 +89,26 @@ pub(crate) fn names_of<'a>(
 }
 
 /// Whether no name has two definitions. This visits the names once, without look-ups.
-pub(crate) fn are_single(names: &HashMap<&str, Definition>) -> bool
+pub(crate) fn are_globals_single(names: &HashMap<&str, Definition>) -> bool
     ensures { result ≡ true → (objects : List ObjectData) → CountsGlobals names.now objects
         → (q : List ℕ) → nat_lt 1 (globals_named objects q) ≡ false }
 {
     names.values().all(|definition| !definition.is_twice)
 }
 
-/// Whether no global symbol has the name.
+/// Returns true if no global symbol has the name, by a look-up in the map of global symbols.
 pub(crate) fn is_missing(names: &HashMap<&str, Definition>, name: &str) -> bool
     ensures { (n : ℕ) → twice_at names.now name.now ≡ twice_of_count n → result ≡ (n == 0) }
 {
     !names.contains_key(name)
+}
+
+/// Returns true if several global symbols have the name, by a look-up in the map of global symbols.
+pub(crate) fn is_defined_twice(names: &HashMap<&str, Definition>, name: &str) -> bool
+    ensures { (n : ℕ) → twice_at names.now name.now ≡ twice_of_count n → result ≡ nat_lt 1 n }
+{
+    match names.get(name) {
+        Some(definition) => definition.is_twice,
+        None => false,
+    }
 }

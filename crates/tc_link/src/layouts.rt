@@ -1,4 +1,7 @@
 // Layouts, with the invariant of each layout.
+ghost use Rattle.std.specs.Prelude.{◌≡◌, ◌<◌, length, position, IfSome};
+ghost use Rattle.std.specs.Str.{bytes_eq};
+
 use crate::LayoutErr;
 use crate::drafts::Draft;
 use std::alloc::Global;
@@ -72,4 +75,14 @@ impl Layout {
         }
         draft.finish(number)
     }
+}
+
+/// Returns the number of a layout's place for sections of this name, if there is one.
+pub(crate) fn find_place(places: &[Place], name: &str) -> Option<usize>
+    ensures value { result ≡ position (λ p. bytes_eq name.now p.section) places.now }
+    ensures within { IfSome result (λ i. i < length places.now) }
+{
+    places
+        .iter()
+        .position(|place| name == place.section.as_str())
 }

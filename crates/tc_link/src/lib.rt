@@ -16,7 +16,6 @@ mod relocated_sections;
 mod section_checks;
 mod segments;
 mod symbol_checks;
-mod text;
 mod written_sections;
 
 pub use errors::LinkErr;

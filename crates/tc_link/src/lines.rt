@@ -2,13 +2,11 @@
 ghost use Rattle.std.specs.Prelude.{◌≡◌, codes, if◌then◌else◌, IfSome, Some, None};
 ghost use Rattle.std.specs.Option.{option_map, option_copied};
 ghost use Rattle.std.specs.Str.{bytes_eq};
-ghost use Rattle.tc_object.specs.Names.{name_of};
+ghost use Rattle.tc_object.specs.Names.{object_name_of};
 ghost use Rattle.tcd_text.specs.HexNumbers.{hex_number_of};
-ghost use Rattle.tc_link.specs.LayoutLines.{entry, line_of, place_of_words, IsGood};
-ghost use Rattle.tc_link.specs.LayoutDrafts.{line_data};
+ghost use Rattle.tc_link.specs.LayoutLines.{entry, layout_line_contents, place_of_words, IsGoodLayoutLine, layout_line_data};
 
-use crate::text::is_text;
-use tc_object::name_of;
+use tc_object::object_name_of;
 use tcd_text::{Words, hex_number, words_in};
 
 // The end of the address space.
@@ -27,34 +25,35 @@ pub(crate) enum Line<'a> {
 }
 
 // A word as a name, if it is one.
-fn name_in(word: &[u8]) -> Option<&str>
-    ensures value { option_copied result ≡ name_of word.now }
-    ensures good { IfSome result (λ name. name_of name.now ≡ Some name.now) }
+fn layout_word_name(word: &[u8]) -> Option<&str>
+    ensures value { option_copied result ≡ object_name_of word.now }
+    ensures good { IfSome result (λ name. object_name_of name.now ≡ Some name.now) }
 {
-    name_of(word)
+    object_name_of(word)
 }
 
+/// The line `entry NAME` of a layout, if these words are one.
 fn entry_line<'a>(word: &[u8], name: &'a [u8]) -> Option<Line<'a>>
-    ensures line { option_map line_data result
+    ensures line { option_map layout_line_data result
         ≡ (if bytes_eq word.now (codes "entry")
-        then option_map entry (name_of name.now) else None) }
-    ensures good { IfSome result (λ line. IsGood (line_data line)) }
+        then option_map entry (object_name_of name.now) else None) }
+    ensures good { IfSome result (λ line. IsGoodLayoutLine (layout_line_data line)) }
 {
-    if !is_text(word, "entry") {
+    if !is_layout_word(word, "entry") {
         return None;
     }
-    match name_in(name) {
+    match layout_word_name(name) {
         Some(name) => Some(Line::Entry(name)),
         None => None,
     }
 }
 
 // The place for sections of this name, if it is aligned and ends by 2^32.
-fn region<'a>(section: &'a str, at: u32, most: u32) -> Option<Line<'a>>
-    requires { name_of section.now ≡ Some section.now }
-    ensures line { option_map line_data result
+fn layout_place_line<'a>(section: &'a str, at: u32, most: u32) -> Option<Line<'a>>
+    requires { object_name_of section.now ≡ Some section.now }
+    ensures line { option_map layout_line_data result
         ≡ place_of_words (Some section.now) (Some at) (Some most) }
-    ensures good { IfSome result (λ line. IsGood (line_data line)) }
+    ensures good { IfSome result (λ line. IsGoodLayoutLine (layout_line_data line)) }
 {
     if at % 4 == 0 && u64::from(at) + u64::from(most) <= ADDRESS_END {
         Some(Line::Region { section, at, most })
@@ -63,17 +62,19 @@ fn region<'a>(section: &'a str, at: u32, most: u32) -> Option<Line<'a>>
     }
 }
 
+/// The line `place SECTION AT MOST` of a layout, if these words are one.
 fn region_line<'a>(word: &[u8], section: &'a [u8], at: &[u8], most: &[u8]) -> Option<Line<'a>>
-    ensures line { option_map line_data result
+    ensures line { option_map layout_line_data result
         ≡ (if bytes_eq word.now (codes "place")
-        then place_of_words (name_of section.now) (hex_number_of at.now) (hex_number_of most.now)
+        then place_of_words (object_name_of section.now) (hex_number_of at.now)
+        (hex_number_of most.now)
         else None) }
-    ensures good { IfSome result (λ line. IsGood (line_data line)) }
+    ensures good { IfSome result (λ line. IsGoodLayoutLine (layout_line_data line)) }
 {
-    if !is_text(word, "place") {
+    if !is_layout_word(word, "place") {
         return None;
     }
-    let Some(section) = name_in(section) else {
+    let Some(section) = layout_word_name(section) else {
         return None;
     };
     let Some(at) = hex_number(at) else {
@@ -82,14 +83,14 @@ fn region_line<'a>(word: &[u8], section: &'a [u8], at: &[u8], most: &[u8]) -> Op
     let Some(most) = hex_number(most) else {
         return None;
     };
-    region(section, at, most)
+    layout_place_line(section, at, most)
 }
 
 /// The contents of a line; None if it has none of the forms.
-#[tactic(auto, using(crate::proofs::LineLaws::more), unfolding(crate::specs::LayoutLines::line_of))]
-pub(crate) fn line_of(line: &[u8]) -> Option<Line<'_>>
-    ensures line { option_map line_data result ≡ line_of line.now }
-    ensures good { IfSome result (λ line. IsGood (line_data line)) }
+#[tactic(auto, using(crate::proofs::LineLaws::more), unfolding(crate::specs::LayoutLines::layout_line_contents))]
+pub(crate) fn layout_line_contents(line: &[u8]) -> Option<Line<'_>>
+    ensures line { option_map layout_line_data result ≡ layout_line_contents line.now }
+    ensures good { IfSome result (λ line. IsGoodLayoutLine (layout_line_data line)) }
 {
     match words_in(line) {
         Words::One(word) => {
@@ -104,4 +105,11 @@ pub(crate) fn line_of(line: &[u8]) -> Option<Line<'_>>
         Words::Four(word, section, at, most) => region_line(word, section, at, most),
         Words::More => None,
     }
+}
+
+/// Whether a word of a layout is this text.
+pub(crate) fn is_layout_word(bytes: &[u8], text: &str) -> bool
+    ensures { result ≡ bytes_eq bytes.now text.now }
+{
+    bytes == text.as_bytes()
 }

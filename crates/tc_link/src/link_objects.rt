@@ -1,6 +1,6 @@
 // Links objects to an image.
 ghost use Rattle.std.specs.Prelude.{◌≡◌, ◌≤◌, ◌<◌, ◌^◌, ℕ, length, slice_index_or, None, Ok, Err, OnOk, IfOk, IfErr, IfSome};
-ghost use Rattle.elf_image.specs.Images.{ImageData, AreBytes, IsImage};
+ghost use Rattle.elf_image.specs.Images.{ImageData, AreSegmentBytes, IsImage};
 ghost use Rattle.tc_object.specs.Objects.{ObjectData, IsObject};
 ghost use Rattle.tc_link.specs.Layouts.{IsLayout};
 ghost use Rattle.tc_link.specs.Names.{globals_of, AreGlobals, CountsGlobals};
@@ -13,7 +13,7 @@ ghost use Rattle.tc_link.specs.Errors.{IsRefusal, refusal_of};
 
 use crate::addresses::address_named;
 use crate::definitions::Definition;
-use crate::global_symbols::names_of;
+use crate::global_symbols::globals_by_name;
 use crate::placed::{Placed, placed_of};
 use crate::relocated_sections::contents_of;
 use crate::section_checks::check_places;
@@ -48,7 +48,7 @@ fn place_all<'a, 'b>(
 }
 
 // The image of placed objects, or the first relocation that is refused.
-fn make(
+fn make_linked_image(
     alloc: Global,
     names: &HashMap<&str, Definition>,
     placed: &[Placed<'_, '_>],
@@ -57,7 +57,7 @@ fn make(
     requires globals { AreGlobals names.now placed.now (globals_of placed.now) }
     requires few { length placed.now ≤ 65535 }
     requires good { let segments = segments_of layout.now.places (contents_of placed.now) in
-        IsLayout layout.now → AreBytes segments → (entry : ℕ) → entry < 2 ^ 32
+        IsLayout layout.now → AreSegmentBytes segments → (entry : ℕ) → entry < 2 ^ 32
         → IsImage (record { entry = entry; segments = segments }) }
     ensures ok { IfOk result (λ image. made_of layout.now placed.now ≡ Ok image) }
     ensures err { IfErr result (λ e. IfSome (refusal_of e)
@@ -83,9 +83,9 @@ pub fn link_borrowed(
     ensures err { IfErr result (λ e. IfSome (refusal_of e)
         (λ r. image_of_objects objects.now layout.now ≡ Err r)) }
 {
-    let names = names_of(alloc, objects)?;
+    let names = globals_by_name(alloc, objects)?;
     let placed = place_all(alloc, &names, objects, layout)?;
-    make(alloc, &names, &placed, layout)
+    make_linked_image(alloc, &names, &placed, layout)
 }
 
 // Borrows each object.

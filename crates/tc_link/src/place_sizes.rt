@@ -1,8 +1,7 @@
-// Computes the sizes of places, and the addresses of sections.
-ghost use Rattle.std.specs.Prelude.{◌≡◌, ◌≤◌, ◌<◌, ◌+◌, ◌++◌, ◌∷◌, [], ◌*◌, ◌^◌, List, length, position, IfSome, false, ℕ, IfOk, IfErr, slice_index};
+// Computes the sizes of places.
+ghost use Rattle.std.specs.Prelude.{◌≡◌, ◌≤◌, ◌<◌, ◌+◌, ◌++◌, ◌∷◌, [], ◌*◌, ◌^◌, List, length, false, ℕ, IfOk, IfErr, slice_index};
 ghost use Rattle.tc_object.specs.Objects.{SectionData};
-ghost use Rattle.std.specs.Str.{bytes_eq};
-ghost use Rattle.tc_link.specs.PlaceSizes.{round_up, with_size, AreTaken, AreSmall, is_over};
+ghost use Rattle.tc_link.specs.PlaceSizes.{round_up_place_size, place_size_with_section, AreTaken, AreSmallPlaceSizes, are_places_overfull};
 ghost use Rattle.tc_link.specs.declared.errors.LinkErr.TheVariants.{NoMemory};
 
 use crate::{LinkErr, Place};
@@ -14,20 +13,20 @@ use tc_object::SectionRef;
 const MOST_BYTES: u64 = 0x100_0000;
 
 /// The least multiple of 4 that isn't below `size`.
-pub(crate) fn round_up(size: u64) -> u64
+pub(crate) fn round_up_place_size(size: u64) -> u64
     requires { size ≤ 2 ^ 33 }
-    ensures { result ≡ round_up size }
+    ensures { result ≡ round_up_place_size size }
 {
     (size + 3) / 4 * 4
 }
 
 /// The number of used bytes of a place after a further section.
-fn with_size(place: &Place, size: u64, section: &SectionRef<'_>) -> u64
+fn place_size_with_section(place: &Place, size: u64, section: &SectionRef<'_>) -> u64
     requires { size ≤ 2 ^ 32 }
-    ensures { result ≡ with_size place.now.section size section.now }
+    ensures { result ≡ place_size_with_section place.now.section size section.now }
 {
     if place.section.as_str() == section.name {
-        round_up(size) + section.bytes.len() as u64
+        round_up_place_size(size) + section.bytes.len() as u64
     } else {
         size
     }
@@ -36,23 +35,23 @@ fn with_size(place: &Place, size: u64, section: &SectionRef<'_>) -> u64
 // Adds a section to the number of used bytes of its place.
 pub(crate) fn add_size(places: &[Place], sizes: &mut [u64], section: &SectionRef<'_>)
     requires count { length sizes.old ≡ length places.now }
-    requires small { AreSmall sizes.old }
+    requires small { AreSmallPlaceSizes sizes.old }
     ensures taken { (before : List SectionData) → AreTaken places.now before sizes.old
         → AreTaken places.now (before ++ section.now ∷ []) sizes.new }
 {
     for (i, place) in places.iter().enumerate() {
-        sizes[i] = with_size(place, sizes[i], section);
+        sizes[i] = place_size_with_section(place, sizes[i], section);
     }
 }
 
 // Whether a place is too small, or all places together are above the limit of an image.
-#[tactic(auto, unfolding(crate::specs::PlaceSizes::is_over, crate::specs::PlaceSizes::total))]
-pub(crate) fn is_over(places: &[Place], sizes: &[u64]) -> bool
+#[tactic(auto, unfolding(crate::specs::PlaceSizes::are_places_overfull, crate::specs::PlaceSizes::total_place_size))]
+pub(crate) fn are_places_overfull(places: &[Place], sizes: &[u64]) -> bool
     requires count { length sizes.now ≡ length places.now }
     requires few { length places.now ≤ 64 }
     ensures over { (before : List SectionData) → AreTaken places.now before sizes.now
-        → result ≡ is_over places.now before }
-    ensures small { result ≡ false → AreSmall sizes.now }
+        → result ≡ are_places_overfull places.now before }
+    ensures small { result ≡ false → AreSmallPlaceSizes sizes.now }
 {
     let mut total = 0u64;
     for (i, place) in places.iter().enumerate() {
@@ -62,15 +61,6 @@ pub(crate) fn is_over(places: &[Place], sizes: &[u64]) -> bool
         total += sizes[i];
     }
     total > MOST_BYTES
-}
-
-pub(crate) fn find_place(places: &[Place], name: &str) -> Option<usize>
-    ensures value { result ≡ position (λ p. bytes_eq name.now p.section) places.now }
-    ensures within { IfSome result (λ i. i < length places.now) }
-{
-    places
-        .iter()
-        .position(|place| name == place.section.as_str())
 }
 
 // The numbers of used bytes before the first section: zero for each place.

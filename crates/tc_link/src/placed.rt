@@ -1,17 +1,17 @@
 // Gives the sections of objects their addresses.
-ghost use Rattle.std.specs.Prelude.{◌≡◌, ◌≤◌, ◌<◌, [], ℕ, IfOk, IfErr, length, slice_index_or, None};
-ghost use Rattle.tc_object.specs.Objects.{ObjectData, IsObject};
-ghost use Rattle.tc_link.specs.Placing.{placed_after, sections_of};
+ghost use Rattle.std.specs.Prelude.{◌≡◌, ◌≤◌, ◌<◌, [], ℕ, IfOk, IfErr, length, slice_index_or, None, List, ◌+◌, ◌++◌, OnOk};
+ghost use Rattle.tc_object.specs.Objects.{ObjectData, IsObject, SectionData};
+ghost use Rattle.tc_link.specs.Placing.{placed_after, sections_to_link, base_of, bases_after};
 ghost use Rattle.tc_link.specs.Refusals.{no_room_after};
-ghost use Rattle.tc_link.specs.PlaceSizes.{AreTaken, AreSmall};
+ghost use Rattle.tc_link.specs.PlaceSizes.{AreTaken, AreSmallPlaceSizes, round_up_place_size, are_places_overfull};
 ghost use Rattle.tc_link.specs.Errors.{IsRefusal};
 
-use crate::addresses::bases_of;
-use crate::place_sizes::empty_sizes;
+use crate::layouts::find_place;
+use crate::place_sizes::{add_size, are_places_overfull, empty_sizes, round_up_place_size};
 use crate::{LinkErr, Place};
 use std::alloc::Global;
 use std::marker::Model;
-use tc_object::ObjectRef;
+use tc_object::{ObjectRef, SectionRef};
 
 /// An object, and the address of each of its sections.
 #[derive(Drop)]
@@ -39,12 +39,14 @@ fn place_objects<'a, 'b>(
     requires few { length places.now ≤ 64 }
     requires count { length sizes.old ≡ length places.now }
     requires none { AreTaken places.now [] sizes.old }
-    requires small { AreSmall sizes.old }
+    requires small { AreSmallPlaceSizes sizes.old }
     ensures placed { IfOk result (λ placed. placed.items ≡ placed_after places.now [] objects.now) }
     ensures good { IfOk result (λ _. (k : ℕ) (d : ObjectData) → k < length objects.now
         → IsObject (slice_index_or objects.now k d)) }
-    ensures room { IfOk result (λ _. no_room_after places.now [] (sections_of objects.now) ≡ None) }
-    ensures err { IfErr result (IsRefusal (no_room_after places.now [] (sections_of objects.now))) }
+    ensures room { IfOk result
+        (λ _. no_room_after places.now [] (sections_to_link objects.now) ≡ None) }
+    ensures err { IfErr result
+        (IsRefusal (no_room_after places.now [] (sections_to_link objects.now))) }
 {
     let mut placed = Vec::new(alloc);
     for object in objects {
@@ -64,9 +66,62 @@ pub(crate) fn placed_of<'a, 'b>(
     ensures placed { IfOk result (λ placed. placed.items ≡ placed_after places.now [] objects.now) }
     ensures good { IfOk result (λ _. (k : ℕ) (d : ObjectData) → k < length objects.now
         → IsObject (slice_index_or objects.now k d)) }
-    ensures room { IfOk result (λ _. no_room_after places.now [] (sections_of objects.now) ≡ None) }
-    ensures err { IfErr result (IsRefusal (no_room_after places.now [] (sections_of objects.now))) }
+    ensures room { IfOk result
+        (λ _. no_room_after places.now [] (sections_to_link objects.now) ≡ None) }
+    ensures err { IfErr result
+        (IsRefusal (no_room_after places.now [] (sections_to_link objects.now))) }
 {
     let mut sizes = empty_sizes(alloc, places)?;
     place_objects(alloc, places, &mut sizes, objects)
+}
+
+/// Returns the address of a section that is placed after sections that use these numbers of bytes
+/// of the places, and 0 if it has no place.
+pub(crate) fn base_of(places: &[Place], sizes: &[u64], section: &SectionRef<'_>) -> u64
+    requires count { length sizes.now ≡ length places.now }
+    requires small { AreSmallPlaceSizes sizes.now }
+    ensures { (before : List SectionData) → AreTaken places.now before sizes.now
+        → result ≡ base_of places.now before section.now }
+{
+    match find_place(places, section.name) {
+        None => 0,
+        Some(i) => {
+            let place = &places[i];
+            u64::from(place.at) + round_up_place_size(sizes[i])
+        }
+    }
+}
+
+/// Returns the addresses at which the sections of an object are placed, or the first section
+/// without room.
+pub(crate) fn bases_of(
+    alloc: Global,
+    places: &[Place],
+    sizes: &mut [u64],
+    sections: &[SectionRef<'_>],
+) -> Result<Vec<u64>, LinkErr>
+    requires count { length sizes.old ≡ length places.now }
+    requires few { length places.now ≤ 64 }
+    requires small { AreSmallPlaceSizes sizes.old }
+    ensures bases { IfOk result (λ bases. (before : List SectionData)
+        → AreTaken places.now before sizes.old
+        → bases.items ≡ bases_after places.now before sections.now) }
+    ensures taken { OnOk result ((before : List SectionData) → AreTaken places.now before sizes.old
+        → AreTaken places.now (before ++ sections.now) sizes.new) }
+    ensures room { OnOk result ((before : List SectionData) → AreTaken places.now before sizes.old
+        → no_room_after places.now before sections.now ≡ None) }
+    ensures small { OnOk result (AreSmallPlaceSizes sizes.new) }
+    ensures err { IfErr result (λ e. (before : List SectionData)
+        → AreTaken places.now before sizes.old
+        → IsRefusal (no_room_after places.now before sections.now) e) }
+{
+    let mut bases = Vec::new(alloc);
+    for section in sections {
+        bases.push(base_of(places, sizes, section))?;
+        add_size(places, sizes, section);
+        if are_places_overfull(places, sizes) {
+            return Err(LinkErr::NoRoom(String::from_str(alloc, section.name)?));
+        }
+    }
+    Ok(bases)
 }

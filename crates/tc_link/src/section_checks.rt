@@ -3,11 +3,11 @@ ghost use Rattle.std.specs.Prelude.{◌≡◌, ◌<◌, ◌==◌, ◌&&◌, ◌|
 ghost use Rattle.std.specs.Option.{option_map};
 ghost use Rattle.tc_object.specs.Objects.{SymbolData};
 ghost use Rattle.tc_link.specs.Layouts.{is_placed};
-ghost use Rattle.tc_link.specs.Refusals.{no_place, no_place_of, no_place_in, first_some, has_symbol};
+ghost use Rattle.tc_link.specs.Refusals.{no_place, no_place_of, no_place_in, first_refusal_over, has_symbol};
 ghost use Rattle.tc_link.specs.Errors.{IsRefusal};
 ghost use Rattle.tc_link.specs.declared.errors.LinkErr.TheVariants.{NoMemory};
 
-use crate::symbol_checks::mark;
+use crate::symbol_checks::set_check_mark;
 use crate::{LinkErr, Place};
 use std::alloc::Global;
 use tc_object::{ObjectRef, SectionRef, UNDEFINED_SYMBOL};
@@ -29,7 +29,7 @@ fn sections_with_symbols(alloc: Global, object: &ObjectRef<'_>) -> Result<Vec<bo
     let mut held = vec![in alloc; false; object.sections.len()]?;
     for symbol in &object.symbols {
         if symbol.kind != UNDEFINED_SYMBOL {
-            mark(&mut held, symbol.section as usize);
+            set_check_mark(&mut held, symbol.section as usize);
         }
     }
     Ok(held)
@@ -54,7 +54,7 @@ fn first_unplaced<'a>(
     ensures { (symbols : List SymbolData)
         → ((k : ℕ) (d : Bool) → k < length sections.now
         → slice_index_or held.now k d ≡ has_symbol symbols k)
-        → first_some (no_place_of places.now symbols) sections.now
+        → first_refusal_over (no_place_of places.now symbols) sections.now
         ≡ option_map (λ name. no_place name.now) result }
 {
     for (number, section) in sections.iter().enumerate() {

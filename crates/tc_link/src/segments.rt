@@ -1,8 +1,8 @@
 // Joins sections to the segments of an image.
 ghost use Rattle.std.specs.Prelude.{◌≡◌, ◌≤◌, ◌<◌, ◌-◌, ◌++◌, ◌∷◌, length, nat_lt, map, filter, [], OnOk, IfOk, IfErr, replicate};
 ghost use Rattle.elf_image.specs.Images.{segment_data};
-ghost use Rattle.tc_link.specs.PlaceSizes.{round_up};
-ghost use Rattle.tc_link.specs.Segments.{with_padding, joined_sections, segments_of, with_section};
+ghost use Rattle.tc_link.specs.PlaceSizes.{round_up_place_size};
+ghost use Rattle.tc_link.specs.Segments.{with_segment_padding, joined_sections, segments_of, with_section};
 ghost use Rattle.tc_link.specs.declared.errors.LinkErr.TheVariants.{NoMemory};
 
 use crate::written_sections::WrittenSection;
@@ -13,7 +13,7 @@ use std::alloc::Global;
 static ZEROS: [u8; 4] = [0, 0, 0, 0];
 
 // This number of zeros, at most 4.
-fn zeros(count: usize) -> &'static [u8]
+fn segment_padding(count: usize) -> &'static [u8]
     requires { count ≤ 4 }
     ensures { result.now ≡ replicate count 0 }
 {
@@ -21,22 +21,23 @@ fn zeros(count: usize) -> &'static [u8]
 }
 
 // Adds zeros up to a multiple of 4.
-fn pad(bytes: &mut Vec<u8>) -> Result<(), LinkErr>
-    ensures ok { OnOk result (bytes.new.items ≡ with_padding bytes.old.items) }
+fn pad_segment_bytes(bytes: &mut Vec<u8>) -> Result<(), LinkErr>
+    ensures ok { OnOk result (bytes.new.items ≡ with_segment_padding bytes.old.items) }
     ensures err { IfErr result (λ e. e ≡ NoMemory) }
 {
     let gap = (4 - bytes.len() % 4) % 4;
-    bytes.extend_from_slice(zeros(gap))?;
+    bytes.extend_from_slice(segment_padding(gap))?;
     Ok(())
 }
 
-// Adds a section, if it has the name.
+/// Joins a section to the bytes of a segment, at a multiple of 4, if it has the name of the
+/// segment's place.
 fn add_section(bytes: &mut Vec<u8>, name: &str, section: &WrittenSection<'_>) -> Result<(), LinkErr>
     ensures ok { OnOk result (bytes.new.items ≡ with_section name.now bytes.old.items section.now) }
     ensures err { IfErr result (λ e. e ≡ NoMemory) }
 {
     if name == section.name {
-        pad(bytes)?;
+        pad_segment_bytes(bytes)?;
         bytes.extend_from_slice(&section.bytes)?;
     }
     Ok(())

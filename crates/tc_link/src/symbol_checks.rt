@@ -4,13 +4,13 @@ ghost use Rattle.std.specs.Option.{option_map};
 ghost use Rattle.tc_object.specs.declared.relocs.Reloc.{Reloc};
 ghost use Rattle.tc_object.specs.Objects.{ObjectData};
 ghost use Rattle.tc_link.specs.Names.{is_global, globals_named, CountsGlobals};
-ghost use Rattle.tc_link.specs.Refusals.{twice, missing, twice_of, twice_in, missing_of, missing_in, first_some, is_used};
+ghost use Rattle.tc_link.specs.Refusals.{twice, missing, twice_of, twice_in, missing_of, missing_in, first_refusal_over, is_used_by_relocs};
 ghost use Rattle.tc_link.specs.Errors.{IsRefusal};
 ghost use Rattle.tc_link.specs.declared.errors.LinkErr.TheVariants.{NoMemory};
 
 use crate::LinkErr;
-use crate::definitions::{Definition, is_twice};
-use crate::global_symbols::{are_single, is_missing};
+use crate::definitions::Definition;
+use crate::global_symbols::{are_globals_single, is_defined_twice, is_missing};
 use std::alloc::Global;
 use std::collections::HashMap;
 use tc_object::{GLOBAL_SYMBOL, ObjectRef, SymbolRef, UNDEFINED_SYMBOL};
@@ -20,7 +20,7 @@ fn is_repeated(names: &HashMap<&str, Definition>, symbol: &SymbolRef<'_>) -> boo
     ensures { (objects : List ObjectData) → CountsGlobals names.now objects
         → result ≡ (is_global symbol.now && nat_lt 1 (globals_named objects symbol.now.name)) }
 {
-    symbol.kind == GLOBAL_SYMBOL && is_twice(names, symbol.name)
+    symbol.kind == GLOBAL_SYMBOL && is_defined_twice(names, symbol.name)
 }
 
 // The name of the first of these symbols that several objects define.
@@ -29,7 +29,8 @@ fn first_repeated<'a>(
     symbols: &[SymbolRef<'a>],
 ) -> Option<&'a str>
     ensures { (objects : List ObjectData) → CountsGlobals names.now objects
-        → first_some (twice_of objects) symbols.now ≡ option_map (λ name. twice name.now) result }
+        → first_refusal_over (twice_of objects) symbols.now
+        ≡ option_map (λ name. twice name.now) result }
 {
     for symbol in symbols {
         if is_repeated(names, symbol) {
@@ -49,7 +50,7 @@ pub(crate) fn check_repeated(
     ensures ok { OnOk result (twice_in objects.now ≡ None) }
     ensures err { IfErr result (IsRefusal (twice_in objects.now)) }
 {
-    if are_single(names) {
+    if are_globals_single(names) {
         return Ok(());
     }
     for object in objects {
@@ -60,8 +61,9 @@ pub(crate) fn check_repeated(
     Ok(())
 }
 
-/// Sets the mark of this number, if there is one.
-pub(crate) fn mark(marks: &mut Vec<bool>, number: usize)
+/// Sets the mark of this number, if there is one: that of a used symbol in the checks for symbols,
+/// or of a section that has a symbol in those for sections.
+pub(crate) fn set_check_mark(marks: &mut Vec<bool>, number: usize)
     ensures { marks.new.items ≡ slice_set marks.old.items number true }
 {
     if number < marks.len() {
@@ -72,13 +74,13 @@ pub(crate) fn mark(marks: &mut Vec<bool>, number: usize)
 // For each symbol of an object, whether a relocation uses it.
 fn used_symbols(alloc: Global, object: &ObjectRef<'_>) -> Result<Vec<bool>, LinkErr>
     ensures used { IfOk result (λ used. (k : ℕ) (d : Bool) → k < length object.now.symbols
-        → slice_index_or used.items k d ≡ is_used object.now.relocs k) }
+        → slice_index_or used.items k d ≡ is_used_by_relocs object.now.relocs k) }
     ensures count { IfOk result (λ used. length used.items ≡ length object.now.symbols) }
     ensures err { IfErr result (λ e. e ≡ NoMemory) }
 {
     let mut used = vec![in alloc; false; object.symbols.len()]?;
     for reloc in &object.relocs {
-        mark(&mut used, reloc.symbol as usize);
+        set_check_mark(&mut used, reloc.symbol as usize);
     }
     Ok(used)
 }
@@ -102,8 +104,8 @@ fn first_missing<'a>(
     ensures { (objects : List ObjectData) → CountsGlobals names.now objects
         → (relocs : List Reloc)
         → ((k : ℕ) (d : Bool) → k < length symbols.now
-        → slice_index_or used.now k d ≡ is_used relocs k)
-        → first_some (missing_of objects relocs) symbols.now
+        → slice_index_or used.now k d ≡ is_used_by_relocs relocs k)
+        → first_refusal_over (missing_of objects relocs) symbols.now
         ≡ option_map (λ name. missing name.now) result }
 {
     for (number, symbol) in symbols.iter().enumerate() {

@@ -38,7 +38,7 @@ pub(crate) fn copy_of<'a>(
 }
 
 // Adds sections to the list.
-pub(crate) fn append<'a>(
+pub(crate) fn append_written_sections<'a>(
     contents: &mut Vec<WrittenSection<'a>>,
     more: Vec<WrittenSection<'a>>,
 ) -> Result<(), LinkErr>
@@ -49,4 +49,19 @@ pub(crate) fn append<'a>(
         contents.push(section)?;
     }
     Ok(())
+}
+
+// Sections with copies of their bytes.
+pub(crate) fn copies_of<'a>(
+    alloc: Global,
+    sections: &[SectionRef<'a>],
+) -> Result<Vec<WrittenSection<'a>>, LinkErr>
+    ensures ok { IfOk result (λ copies. copies.items ≡ sections.now) }
+    ensures err { IfErr result (λ e. e ≡ NoMemory) }
+{
+    let mut copies = Vec::new(alloc);
+    for section in sections {
+        copies.push(copy_of(alloc, section)?)?;
+    }
+    Ok(copies)
 }

@@ -4,13 +4,13 @@ use Rattle.std.proofs.lemmas.Bool.{le-ltb, lt-ltb, ltb-true}
 use Rattle.std.specs.Prelude.{nat_lt}
 use Rattle.csa_chain.specs.MemoryBytes.{Memory, with_words}
 use Rattle.csa_chain.specs.Chain.{link_in, link_address, is_area, area_word}
-use Rattle.csa_chain.specs.ContextWords.{with_link}
+use Rattle.csa_chain.specs.ContextWords.{word_with_link}
 use Rattle.csa_chain.proofs.ChainLaws.{Links, Avoids, Avoids-before, Distinct, Distinct-after, reverse_onto, reverse-append_onto, free_after_save, free_after_restore, chain_within-Links, are_mapped_from}
 use Rattle.csa_chain.proofs.ContextLaws.{link_in-with_link, with_link-lt, link_in-lt}
 use Rattle.elf_image.specs.Images.{ImageData}
 use Rattle.tcd_plan.specs.PlanData.{PlanData, IsPlan}
 use Rattle.tc_machine.specs.declared.state.Machine.{Machine}
-use Rattle.tc_machine.specs.PlanAreas.{links_up, first_link, plan_areas}
+use Rattle.tc_machine.specs.PlanAreas.{area_links_up, first_link, plan_areas}
 use Rattle.tc_machine.specs.Safe.{Starts, ChainsAreWhole}
 use Rattle.tc_machine.proofs.PlanLaws.{length-links_up, Distinct-links_up, length-reverse_onto, place_of, link_address-area, some_link, link_lt}
 
@@ -67,12 +67,12 @@ has_free {plan = plan} ok most few mem fcx lcx used (f ∷ rest) h lt =
 
 -- after a save of any context
 pub Areas-saved : {plan : PlanData} (mem : Memory) (fcx lcx : ℕ) (used free : List ℕ) (h : HasFree plan mem fcx lcx used) → Areas plan mem fcx lcx used free → (context : List ℕ) → length context ≡ 16 →
-    Areas plan (with_words mem (link_address (link_in fcx)) context) (with_link fcx (link_in (area_word mem (link_in fcx) 0))) lcx (link_in fcx ∷ used) (h.rest)
+    Areas plan (with_words mem (link_address (link_in fcx)) context) (word_with_link fcx (link_in (area_word mem (link_in fcx) 0))) lcx (link_in fcx ∷ used) (h.rest)
 Areas-saved mem fcx lcx used free h old context long =
     let f = link_in fcx in
     let next = link_in (area_word mem f 0) in
     record {
-      links = free_after_save mem fcx f h.rest context (with_link fcx next) (h.some, refl, h.area, h.links) h.avoids_rest long (link_in-with_link fcx next (link_in-lt _));
+      links = free_after_save mem fcx f h.rest context (word_with_link fcx next) (h.some, refl, h.area, h.links) h.avoids_rest long (link_in-with_link fcx next (link_in-lt _));
       whole = h.whole;
       fcx_word = with_link-lt fcx next old.fcx_word (link_in-lt _);
       lcx_is = old.lcx_is;
@@ -80,9 +80,9 @@ Areas-saved mem fcx lcx used free h old context long =
 
 -- after a restore
 pub Areas-restored : {plan : PlanData} (mem : Memory) (pcxi fcx lcx l : ℕ) (used free : List ℕ) → Links mem pcxi (l ∷ used) → Areas plan mem fcx lcx (l ∷ used) free → l < 2 ^ 20 →
-    Areas plan (with_words mem (link_address l) (fcx ∷ [])) (with_link fcx l) lcx used (l ∷ free)
+    Areas plan (with_words mem (link_address l) (fcx ∷ [])) (word_with_link fcx l) lcx used (l ∷ free)
 Areas-restored {plan = plan} mem pcxi fcx lcx l used free links old small = record {
-  links = free_after_restore mem pcxi fcx l used free (with_link fcx l) links old.links (Distinct-after used (l ∷ free) (distinct plan used (l ∷ free) old.whole)).0 old.fcx_word (link_in-with_link fcx l small);
+  links = free_after_restore mem pcxi fcx l used free (word_with_link fcx l) links old.links (Distinct-after used (l ∷ free) (distinct plan used (l ∷ free) old.whole)).0 old.fcx_word (link_in-with_link fcx l small);
   whole = old.whole;
   fcx_word = with_link-lt fcx l old.fcx_word small;
   lcx_is = old.lcx_is;
@@ -136,7 +136,7 @@ module _ (image : ImageData) (plan : PlanData) (ok : IsPlan plan) (m : Machine) 
       are_mapped_from m.mem _ 64 (λ j h. (start.memory _).1 (let at = link_address-area ok i lt in inr (inr (omega arith, omega arith))))
 
   -- the areas from area i on are a chain
-  links_from : (i n : ℕ) (word : ℕ) → i + n ≡ plan.areas → link_in word ≡ cond (nat_lt i plan.areas) (first_link plan + i) 0 → Links m.mem word (links_up (first_link plan + i) n)
+  links_from : (i n : ℕ) (word : ℕ) → i + n ≡ plan.areas → link_in word ≡ cond (nat_lt i plan.areas) (first_link plan + i) 0 → Links m.mem word (area_links_up (first_link plan + i) n)
   links_from i zero word e w = w ∙ ap (λ t. cond t (first_link plan + i) 0) (le-ltb i plan.areas (omega arith))
   links_from i (suc n) word e w =
       let lt : i < plan.areas = omega arith in
@@ -144,7 +144,7 @@ module _ (image : ImageData) (plan : PlanData) (ok : IsPlan plan) (m : Machine) 
         some_link ok i,
         here,
         area_mapped i lt,
-        subst (λ l. Links m.mem (area_word m.mem (first_link plan + i) 0) (links_up l n)) (add_one_more (first_link plan) i)
+        subst (λ l. Links m.mem (area_word m.mem (first_link plan + i) 0) (area_links_up l n)) (add_one_more (first_link plan) i)
             (links_from (i + 1) n (area_word m.mem (first_link plan + i) 0) (omega arith)
             (ap link_in (start.linked i lt) ∙ small_link (nat_lt (i + 1) plan.areas) (first_link plan + (i + 1)) (λ b. link_lt ok (i + 1) (ltb-true (i + 1) plan.areas b)))),
       )
@@ -152,7 +152,7 @@ module _ (image : ImageData) (plan : PlanData) (ok : IsPlan plan) (m : Machine) 
   free_links : Links m.mem m.fcx (plan_areas plan)
   free_links =
       let some = (ok.areas).some in
-      subst (λ l. Links m.mem m.fcx (links_up l plan.areas)) (plus_zero (first_link plan))
+      subst (λ l. Links m.mem m.fcx (area_links_up l plan.areas)) (plus_zero (first_link plan))
       (links_from 0 plan.areas m.fcx (zero_plus plan.areas)
       (ap link_in (start.fcx ∙ sym (plus_zero (first_link plan))) ∙ link_mod (first_link plan + 0) (link_lt ok 0 (omega arith)) ∙ sym (ap (λ t. cond t (first_link plan + 0) 0) (lt-ltb 0 plan.areas (omega arith)))))
 

@@ -12,12 +12,12 @@ use Rattle.tc_machine.specs.declared.events.Event.{Event}
 use Rattle.tc_machine.specs.declared.events.End.{End}
 use Rattle.tc_machine.specs.declared.events.End.TheVariants.{Running, Dead}
 use Rattle.tc_machine.specs.declared.state.Machine.{Machine}
-use Rattle.tc_machine.specs.Machine.{with_reg, died, goes_on, then_}
-use Rattle.tc_machine.specs.Instructions.{with_status, trap, access_address, with_base, traps_at, with_core_register, lowered, does}
+use Rattle.tc_machine.specs.Machine.{with_reg, died, goes_on, then_, psw_with_status}
+use Rattle.tc_machine.specs.Instructions.{trap, access_address, with_base, is_trapping_access, with_core_register, lowered, does}
 use Rattle.tc_machine.specs.SavesAndRestores.{saved, save, has_kind, restored, restore}
 use Rattle.tc_machine.specs.Fetching.{fetched}
-use Rattle.tc_machine.specs.Stepping.{is_taken, executed, done, step}
-use Rattle.tc_machine.specs.MachineLaws.{DeathChanges}
+use Rattle.tc_machine.specs.Stepping.{is_taken, executed, machine_after_event, step}
+use Rattle.tc_machine.specs.MachineLaws.{DeathChangesEndOnly}
 
 -- n is m after an event: if it died, and not of Fcd, only the end changed
 abbrev OnlyEnd : Machine → Machine → Type 0
@@ -98,10 +98,10 @@ module _ (m : Machine) (runs : m.end ≡ Running) where
   only_does e (Compute op dst x y) n = only_running m _ (end_reg m dst _ ∙ runs)
   only_does e (Scaled dst base index k) n = only_running m _ (end_reg m dst _ ∙ runs)
   only_does e (Load dst base offset size signed after) n =
-      cond_both (traps_at e (access_address m base offset after) size) _ _ (OnlyEnd m) (λ _. only_trap 2 4 m.pc)
+      cond_both (is_trapping_access e (access_address m base offset after) size) _ _ (OnlyEnd m) (λ _. only_trap 2 4 m.pc)
       (λ _. only_running m _ (end_reg (with_base m base offset after) dst _ ∙ end_base m base offset after ∙ runs))
   only_does e (Store src base offset size after) n =
-      cond_both (traps_at e (access_address m base offset after) size) _ _ (OnlyEnd m) (λ _. only_trap 2 4 m.pc)
+      cond_both (is_trapping_access e (access_address m base offset after) size) _ _ (OnlyEnd m) (λ _. only_trap 2 4 m.pc)
       (λ _. only_running m _ (end_base m base offset after ∙ runs))
   only_does e (Branch c x y by lowers) n = only_running m _ (end_lowered m x lowers ∙ runs)
   only_does e (Call to) n = only_then m (save m true) _ (λ s. refl) (only_save m runs true)
@@ -119,7 +119,7 @@ module _ (m : Machine) (runs : m.end ≡ Running) where
   only_executed e (Ok found) = only_does e found.0 found.1
   only_executed e (Err cause) = only_died m cause
 
-  only_done : (e : Event) → OnlyEnd m (done m e)
+  only_done : (e : Event) → OnlyEnd m (machine_after_event m e)
   only_done e =
       cond_both (is_taken m e) _ _ (OnlyEnd m) (λ _. only_then m (save m true) _ (λ s. refl) (only_save m runs true)) (λ _. only_executed e (fetched m))
 
@@ -131,7 +131,7 @@ stays_dead m next (Dead d) e only = only_itself
     only_itself : OnlyEnd m m
     only_itself cause dead other = ap (λ (end : End). record m { end = end }) dead
 
-pub death_changes : DeathChanges
+pub death_changes : DeathChangesEndOnly
 unfolding step
 death_changes m e cause dead other =
-    stays_dead m _ m.end refl (λ runs. only_then m (done m e) (λ n. record n { psw = with_status n.psw e.status }) (λ n. refl) (only_done m runs e)) cause dead other
+    stays_dead m _ m.end refl (λ runs. only_then m (machine_after_event m e) (λ n. record n { psw = psw_with_status n.psw e.status }) (λ n. refl) (only_done m runs e)) cause dead other

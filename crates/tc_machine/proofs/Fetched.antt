@@ -11,7 +11,7 @@ use Rattle.tc_encode.specs.Decoding.{decoded_of}
 use Rattle.tc_encode.proofs.DecodeProofs.{decode_laws}
 use Rattle.tc_machine.specs.declared.events.Cause.TheVariants.{NoCode}
 use Rattle.tc_machine.specs.declared.state.Machine.{Machine}
-use Rattle.tc_machine.specs.Fetching.{in_front, mapped_bytes, shaped, fetched}
+use Rattle.tc_machine.specs.Fetching.{fetched_byte_before, mapped_bytes, fetched_shape, fetched}
 use Rattle.tc_machine.specs.Safe.{SpellsAt, IsAtCode}
 use Rattle.tc_mem.specs.PlanMemory.{HoldsRom}
 use Rattle.tcd_base.proofs.RangeLaws.{in_one}
@@ -33,7 +33,7 @@ mapped_bytes-front (suc n) m x (b ∷ []) le fits there =
 mapped_bytes-front (suc n) m x (b ∷ c ∷ bytes) le fits there =
     let more = mapped_bytes-front n m (x + 1) (c ∷ bytes) (omega arith) (omega arith) (λ i lt. rw (next_place x i) at (there (suc i) (omega arith))) in (
       more.0,
-      ap (λ o. in_front o (mapped_bytes n m ((x + 1) % 2 ^ 32))) (rw add-zero at (there 0 (omega arith)))
+      ap (λ o. fetched_byte_before o (mapped_bytes n m ((x + 1) % 2 ^ 32))) (rw add-zero at (there 0 (omega arith)))
           ∙ ap (λ y. b ∷ mapped_bytes n m y) (small_mod (x + 1) (omega arith)) ∙ ap (λ bs. b ∷ bs) more.1,
     )
 
@@ -48,9 +48,9 @@ module _ (image : ImageData) {plan : PlanData} (ok : IsPlan plan) where
   fetched-is m rom even bytes inst s =
       let short = (decode_laws.lengths (bytes ++ []) inst (length bytes) (decode_laws.spelled bytes [] inst s.spelled)).1 in
       let front = mapped_bytes-front 4 m.mem m.pc bytes short (rom_fits ok m.pc (length bytes) s.in_rom) (code_there m rom bytes inst s) in
-      ap (λ t. cond t (shaped (decoded_of (mapped_bytes 4 m.mem m.pc))) (Err NoCode)) (eq-eqb _ _ even)
-      ∙ ap (λ bs. shaped (decoded_of bs)) front.1
-      ∙ ap shaped (decode_laws.spelled bytes front.0 inst s.spelled)
+      ap (λ t. cond t (fetched_shape (decoded_of (mapped_bytes 4 m.mem m.pc))) (Err NoCode)) (eq-eqb _ _ even)
+      ∙ ap (λ bs. fetched_shape (decoded_of bs)) front.1
+      ∙ ap fetched_shape (decode_laws.spelled bytes front.0 inst s.spelled)
 
   pub IsAtCode-from : (m : Machine) → HoldsRom image plan m.mem → (bytes : List ℕ) (inst : InstData) → SpellsAt image plan m.pc bytes inst → IsAtCode image plan m
   IsAtCode-from m rom bytes inst s = record { bytes = bytes; inst = inst; spells = s; there = code_there m rom bytes inst s }

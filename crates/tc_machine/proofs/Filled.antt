@@ -8,8 +8,8 @@ use Rattle.csa_chain.proofs.MemoryLaws.{get-with_byte_same, get-with_byte_other,
 use Rattle.csa_chain.proofs.WordLaws.{HasBytes-with_words}
 use Rattle.elf_image.specs.Images.{ImageData, image_byte}
 use Rattle.tcd_base.specs.declared.range.Range.{Range}
-use Rattle.tcd_base.specs.Ranges.{IsWithin, IsInOne}
-use Rattle.tc_machine.specs.Starting.{with_some, with_image, with_images, next_link, with_links}
+use Rattle.tcd_base.specs.Ranges.{IsWithinRange, IsInOneRange}
+use Rattle.tc_machine.specs.Starting.{with_image_byte, with_image, with_images, next_start_link, with_area_links}
 
 -- ---- the image's bytes
 apart_from : (x n y : ℕ) → (y < x) ⊎ (x + suc n ≤ y) → y ≢ x + n
@@ -22,29 +22,29 @@ less_outside x n y (inr h) = inr (omega arith)
 
 module _ (image : ImageData) where
   -- a byte that is the image's stays
-  some_stays : (m : Memory) (x y b : ℕ) → image_byte image y ≡ Some b → map.get m y ≡ Some b → map.get (with_some m x (image_byte image x)) y ≡ Some b
+  some_stays : (m : Memory) (x y b : ℕ) → image_byte image y ≡ Some b → map.get m y ≡ Some b → map.get (with_image_byte m x (image_byte image x)) y ≡ Some b
   some_stays m x y b held here =
       elim (cases_eq y x) [
         | inl same ↦
-            ap (λ o. map.get (with_some m x o) y) (ap (image_byte image) (sym same) ∙ held) ∙ ap (map.get (with_byte m x b)) same
+            ap (λ o. map.get (with_image_byte m x o) y) (ap (image_byte image) (sym same) ∙ held) ∙ ap (map.get (with_byte m x b)) same
             ∙ get-with_byte_same m x b (ap is_some (ap (map.get m) (sym same) ∙ here))
         | inr apart ↦
-            elim (image_byte image x) as (λ o. map.get (with_some m x o) y ≡ Some b) [ Some c ↦ get-with_byte_other m x c y apart ∙ here | None ↦ here ]
+            elim (image_byte image x) as (λ o. map.get (with_image_byte m x o) y ≡ Some b) [ Some c ↦ get-with_byte_other m x c y apart ∙ here | None ↦ here ]
       ]
 
-  other_stays : (m : Memory) (x y : ℕ) (o : Option ℕ) → y ≢ x → map.get (with_some m x o) y ≡ map.get m y
+  other_stays : (m : Memory) (x y : ℕ) (o : Option ℕ) → y ≢ x → map.get (with_image_byte m x o) y ≡ map.get m y
   other_stays m x y (Some c) apart = get-with_byte_other m x c y apart
   other_stays m x y None apart = refl
 
-  mapped_stays : (m : Memory) (x y : ℕ) (o : Option ℕ) → is_mapped (with_some m x o) y ≡ is_mapped m y
+  mapped_stays : (m : Memory) (x y : ℕ) (o : Option ℕ) → is_mapped (with_image_byte m x o) y ≡ is_mapped m y
   mapped_stays m x y (Some c) = is_mapped-with_byte m x c y
   mapped_stays m x y None = refl
 
   -- if the image has no byte there, nothing changes
-  none_stays : (m : Memory) (x y : ℕ) → image_byte image y ≡ None → map.get (with_some m x (image_byte image x)) y ≡ map.get m y
+  none_stays : (m : Memory) (x y : ℕ) → image_byte image y ≡ None → map.get (with_image_byte m x (image_byte image x)) y ≡ map.get m y
   none_stays m x y none =
       elim (cases_eq y x) [
-        | inl same ↦ ap (λ o. map.get (with_some m x o) y) (ap (image_byte image) (sym same) ∙ none)
+        | inl same ↦ ap (λ o. map.get (with_image_byte m x o) y) (ap (image_byte image) (sym same) ∙ none)
         | inr apart ↦ other_stays m x y (image_byte image x) apart
       ]
 
@@ -75,7 +75,7 @@ module _ (image : ImageData) where
   image_put m x (suc n) y b low high here held =
       elim (cases_eq y (x + n)) [
         | inl same ↦
-            ap (λ o. map.get (with_some (with_image image m x n) (x + n) o) y) (ap (image_byte image) (sym same) ∙ held)
+            ap (λ o. map.get (with_image_byte (with_image image m x n) (x + n) o) y) (ap (image_byte image) (sym same) ∙ held)
             ∙ ap (map.get (with_byte (with_image image m x n) (x + n) b)) same
             ∙ get-with_byte_same (with_image image m x n) (x + n) b (image_mapped m x n (x + n) ∙ ap (is_mapped m) (sym same) ∙ here)
         | inr apart ↦ some_stays (with_image image m x n) (x + n) y b held (image_put m x n y b low (omega arith) here held)
@@ -86,7 +86,7 @@ module _ (image : ImageData) where
   images_held m [] y b held here = here
   images_held m (r ∷ rs) y b held here = images_held (with_image image m r.at r.len) rs y b held (image_held m r.at r.len y b held here)
 
-  pub images_put : (m : Memory) (rs : List Range) (y b : ℕ) → IsInOne y 1 rs → is_mapped m y ≡ true → image_byte image y ≡ Some b → map.get (with_images image m rs) y ≡ Some b
+  pub images_put : (m : Memory) (rs : List Range) (y b : ℕ) → IsInOneRange y 1 rs → is_mapped m y ≡ true → image_byte image y ≡ Some b → map.get (with_images image m rs) y ≡ Some b
   images_put m [] y b there here held = absurd there
   images_put m (r ∷ rs) y b (inl there) here held = images_held (with_image image m r.at r.len) rs y b held (image_put m r.at r.len y b there.0 (let lt = there.1 in omega arith) here held)
   images_put m (r ∷ rs) y b (inr there) here held = images_put (with_image image m r.at r.len) rs y b there (image_mapped m r.at r.len y ∙ here) held
@@ -99,14 +99,14 @@ module _ (image : ImageData) where
   images_none m [] y none = refl
   images_none m (r ∷ rs) y none = images_none (with_image image m r.at r.len) rs y none ∙ image_none m r.at r.len y none
 
-  outside : (r : Range) (y : ℕ) → (IsWithin y 1 r → ⊥) → (y < r.at) ⊎ (r.at + r.len ≤ y)
+  outside : (r : Range) (y : ℕ) → (IsWithinRange y 1 r → ⊥) → (y < r.at) ⊎ (r.at + r.len ≤ y)
   outside r y gone =
       elim (cases_lt y r.at) [
         | inl below ↦ inl below
         | inr above ↦ elim (cases_lt y (r.at + r.len)) [ inl within ↦ absurd (gone (above, omega arith)) | inr beyond ↦ inr beyond ]
       ]
 
-  pub images_outside : (m : Memory) (rs : List Range) (y : ℕ) → (IsInOne y 1 rs → ⊥) → map.get (with_images image m rs) y ≡ map.get m y
+  pub images_outside : (m : Memory) (rs : List Range) (y : ℕ) → (IsInOneRange y 1 rs → ⊥) → map.get (with_images image m rs) y ≡ map.get m y
   images_outside m [] y gone = refl
   images_outside m (r ∷ rs) y gone =
       images_outside (with_image image m r.at r.len) rs y (λ h. gone (inr h)) ∙ image_outside m r.at r.len y (outside r y (λ h. gone (inl h)))
@@ -116,20 +116,20 @@ one_word : (k : ℕ) → 64 * suc k ≡ 64 * k + 64
 one_word k = omega arith
 
 module _ (at first n : ℕ) (m : Memory) where
-  pub links_mapped : (k y : ℕ) → is_mapped (with_links at first n m k) y ≡ is_mapped m y
-  unfolding with_links
+  pub links_mapped : (k y : ℕ) → is_mapped (with_area_links at first n m k) y ≡ is_mapped m y
+  unfolding with_area_links
   links_mapped zero y = refl
-  links_mapped (suc k) y = is_mapped-with_words (with_links at first n m k) (at + 64 * k) (next_link first n k ∷ []) y ∙ links_mapped k y
+  links_mapped (suc k) y = is_mapped-with_words (with_area_links at first n m k) (at + 64 * k) (next_start_link first n k ∷ []) y ∙ links_mapped k y
 
-  pub links_bytes : HasBytes m → (k : ℕ) → HasBytes (with_links at first n m k)
-  unfolding with_links
+  pub links_bytes : HasBytes m → (k : ℕ) → HasBytes (with_area_links at first n m k)
+  unfolding with_area_links
   links_bytes h zero = h
-  links_bytes h (suc k) = HasBytes-with_words (with_links at first n m k) (at + 64 * k) (next_link first n k ∷ []) (links_bytes h k)
+  links_bytes h (suc k) = HasBytes-with_words (with_area_links at first n m k) (at + 64 * k) (next_start_link first n k ∷ []) (links_bytes h k)
 
   -- what is outside the links' own words
-  pub links_outside : (k y : ℕ) → ((j : ℕ) → j < k → (y < at + 64 * j) ⊎ (at + 64 * j + 4 ≤ y)) → map.get (with_links at first n m k) y ≡ map.get m y
-  unfolding with_links
+  pub links_outside : (k y : ℕ) → ((j : ℕ) → j < k → (y < at + 64 * j) ⊎ (at + 64 * j + 4 ≤ y)) → map.get (with_area_links at first n m k) y ≡ map.get m y
+  unfolding with_area_links
   links_outside zero y out = refl
   links_outside (suc k) y out =
-      get-with_words_other (with_links at first n m k) (at + 64 * k) (next_link first n k ∷ []) y (out k (omega arith))
+      get-with_words_other (with_area_links at first n m k) (at + 64 * k) (next_start_link first n k ∷ []) y (out k (omega arith))
       ∙ links_outside k y (λ j lt. out j (omega arith))

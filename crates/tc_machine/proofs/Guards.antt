@@ -8,7 +8,7 @@ use Rattle.csa_chain.specs.Chain.{link_address, area_word}
 use Rattle.csa_chain.proofs.ChainLaws.{Links, Links-chain_within, are_mapped_each, reverse_onto, reverse-append_onto}
 use Rattle.elf_image.specs.Images.{ImageData}
 use Rattle.tcd_base.specs.declared.range.Range.{Range}
-use Rattle.tcd_base.specs.Ranges.{IsInOne}
+use Rattle.tcd_base.specs.Ranges.{IsInOneRange}
 use Rattle.tcd_plan.specs.declared.plans.Device.{Device}
 use Rattle.tcd_plan.specs.PlanData.{PlanData}
 use Rattle.tcd_plan.specs.Regions.{IsInDevice, AnswersAt, IsStoreInRange}
@@ -18,7 +18,7 @@ use Rattle.tc_machine.specs.PlanAreas.{first_link, plan_areas}
 use Rattle.tc_machine.specs.Instructions.{access_address}
 use Rattle.tc_machine.specs.Stepping.{load_at_pc, run, stored}
 use Rattle.tc_machine.specs.Safe.{Fits, AllFit, IsSafeAt}
-use Rattle.tc_machine.specs.MachineLaws.{EveryEventFits, first_events, EveryRunFits, EveryStartStarts, IsWalk, LiesInRange, HasFiveParts, SafeSays, StoresTold}
+use Rattle.tc_machine.specs.MachineLaws.{EveryEventFits, first_events, EveryRunFits, EveryStartStarts, IsAreaWalk, LiesInRange, HasFiveParts, SafeHasFiveParts, StoreInstructionStores}
 use Rattle.tc_machine.proofs.PlanLaws.{link_lt, length-links_up, length-reverse_onto, get_or-links_up}
 use Rattle.tc_machine.proofs.Steps.{stored-is}
 
@@ -100,14 +100,14 @@ every_start image plan d a psw mem whole ok d_count d_words a_count a_words psw_
         ]
 
 -- ---- what is safe
-walk_of : (mem : Memory) (word : ℕ) (ls : List ℕ) → Links mem word ls → IsWalk mem word ls
+walk_of : (mem : Memory) (word : ℕ) (ls : List ℕ) → Links mem word ls → IsAreaWalk mem word ls
 walk_of mem word [] h = h
 walk_of mem word (l ∷ ls) h = (h.0, h.1, λ i lt. are_mapped_each mem (link_address l) 64 h.2 i lt, walk_of mem (area_word mem l 0) ls h.3)
 
 lies_more : (r : Range) (rs : List Range) (x n : ℕ) → LiesInRange rs x n → LiesInRange (r ∷ rs) x n
 lies_more r rs x n h = record { place = suc h.place; range = h.range; there = h.there; from = h.from; to = h.to }
 
-lies_in : (rs : List Range) (x n : ℕ) → IsInOne x n rs → LiesInRange rs x n
+lies_in : (rs : List Range) (x n : ℕ) → IsInOneRange x n rs → LiesInRange rs x n
 lies_in [] x n h = absurd h
 lies_in (r ∷ rs) x n (inl h) = record { place = 0; range = r; there = refl; from = h.0; to = h.1 }
 lies_in (r ∷ rs) x n (inr h) = lies_more r rs x n (lies_in rs x n h)
@@ -145,7 +145,7 @@ five_parts image plan most m e at =
       store = store_lies plan (stored m e) at.stores_in_range;
     }
 
-pub safe_says : SafeSays
+pub safe_says : SafeHasFiveParts
 safe_says image plan most states events n e safe walk starts fits last =
     let r = every_run plan states events n walk fits in
     let here = safe (states 0) (first_events n events) e starts r.0 (subst (λ (m : Machine). Fits plan m e) (sym r.1) last) in
@@ -156,7 +156,7 @@ no_trap : (aln : Bool) (rest : ℕ) → (aln ≡ true → rest ≡ 0) → (aln &
 no_trap true rest h = ap not (eq-eqb rest 0 (h refl))
 no_trap false rest h = refl
 
-pub stores_told : StoresTold
+pub stores_told : StoreInstructionStores
 stores_told m e src base offset size after n runs free at aligned =
     let x = access_address m base offset after in
     stored-is m e _ runs free at ∙ ap (λ (t : Bool). let o : Option (ℕ × ℕ) = cond t None (Some (x, size)) in o) (no_trap e.aln _ aligned)

@@ -5,7 +5,7 @@ use Rattle.csa_chain.specs.Chain.{link_in, is_area}
 use Rattle.tc_machine.specs.declared.events.End.TheVariants.{Running}
 use Rattle.tc_machine.specs.declared.events.Cause.TheVariants.{Fcd, Fcu, Csu, Ctyp, NoArea}
 use Rattle.tc_machine.specs.declared.state.Machine.{Machine}
-use Rattle.tc_machine.specs.Machine.{died, goes_on, then_, moved}
+use Rattle.tc_machine.specs.Machine.{died, goes_on, then_, machine_address_ahead}
 use Rattle.tc_machine.specs.SavesAndRestores.{context_of, saved, save, has_kind, restored, restore}
 
 -- a save succeeds if the first free area is mapped and isn't the limit of the list
@@ -32,5 +32,5 @@ pub length-context_of : (m : Machine) (upper : Bool) → length (context_of m up
 length-context_of m true = refl
 length-context_of m false = refl
 
-pub moved-lt : (at by : ℕ) → moved at by < 2 ^ 32
+pub moved-lt : (at by : ℕ) → machine_address_ahead at by < 2 ^ 32
 moved-lt at by = omega arith

@@ -10,10 +10,10 @@ use Rattle.tcd_base.specs.declared.range.Range.{Range}
 use Rattle.tcd_plan.specs.PlanData.{PlanData, IsPlan, is_range, areas_range}
 use Rattle.tc_machine.specs.declared.events.End.TheVariants.{Running}
 use Rattle.tc_machine.specs.declared.state.Machine.{Machine}
-use Rattle.tc_machine.specs.Machine.{is_of}
+use Rattle.tc_machine.specs.Machine.{is_interrupt_stack_used, AreRegisters, IsMachine}
 use Rattle.tc_machine.specs.PlanAreas.{first_link}
-use Rattle.tc_machine.specs.Safe.{AreRegisters, IsMachine, Starts}
-use Rattle.tc_machine.specs.Starting.{a_at_start, psw_at_start, mapped_ranges_of, StartsInZeros}
+use Rattle.tc_machine.specs.Safe.{Starts}
+use Rattle.tc_machine.specs.Starting.{a_at_start, psw_at_start, start_memory_ranges, StartsInZeros}
 use Rattle.tc_machine.proofs.PlanLaws.{link_lt}
 use Rattle.tc_machine.proofs.StartMemory.{IsStartMemory}
 
@@ -25,14 +25,14 @@ fits_each : (rs : List Range) → list_all is_range rs ≡ true → list_all fit
 fits_each [] e = refl
 fits_each (r ∷ rs) e = and_from (fits r) (list_all fits rs) (and_parts _ (fits r) (and_parts (is_range r) (list_all is_range rs) e).0).1 (fits_each rs (and_parts (is_range r) (list_all is_range rs) e).1)
 
-pub mapped_fit : (plan : PlanData) → IsPlan plan → All (λ r. r.at + r.len ≤ 2 ^ 32) (mapped_ranges_of plan.rom plan.ram plan.csa_at plan.areas)
+pub mapped_fit : (plan : PlanData) → IsPlan plan → All (λ r. r.at + r.len ≤ 2 ^ 32) (start_memory_ranges plan.rom plan.ram plan.csa_at plan.areas)
 mapped_fit plan ok =
     let k = ok.areas in
     let end : plan.csa_at + 64 * plan.areas ≤ 2 ^ 32 = (let w = k.word in let f = k.fit in let s = k.in_segment in omega arith) in
     let last : list_all fits (areas_range plan ∷ []) ≡ true = and_from _ true (le-leb (plan.csa_at + 64 * plan.areas) (2 ^ 32) end) refl in
     let front : list_all fits (plan.rom ++ plan.ram) ≡ true =
     list_all-append fits plan.rom plan.ram ∙ and_from _ _ (fits_each plan.rom (ok.ranges).rom) (fits_each plan.ram (ok.ranges).ram) in
-    let all = AllPass-from_list_all fits (mapped_ranges_of plan.rom plan.ram plan.csa_at plan.areas) (list_all-append fits (plan.rom ++ plan.ram) (areas_range plan ∷ []) ∙ and_from _ _ front last) in
+    let all = AllPass-from_list_all fits (start_memory_ranges plan.rom plan.ram plan.csa_at plan.areas) (list_all-append fits (plan.rom ++ plan.ram) (areas_range plan ∷ []) ∙ and_from _ _ front last) in
     λ i d lt. leb-true _ (2 ^ 32) (all i d lt)
 
 -- ---- registers
@@ -54,7 +54,7 @@ psw_lt : (is : Bool) → psw_at_start is < 2 ^ 32
 psw_lt true = lit< tt
 psw_lt false = lit< tt
 
-psw_is : (is : Bool) → is_of (psw_at_start is) ≡ is
+psw_is : (is : Bool) → is_interrupt_stack_used (psw_at_start is) ≡ is
 psw_is true = refl
 psw_is false = refl
 

@@ -5,7 +5,7 @@ use Rattle.std.proofs.lemmas.List.Sums.{AllPass-from_list_all}
 use Rattle.tcd_plan.specs.PlanData.{PlanData, IsPlan}
 use Rattle.std.proofs.lemmas.Nat.{or_lt}
 use Rattle.csa_chain.specs.Chain.{link_in, link_address, is_area, area_word}
-use Rattle.csa_chain.specs.MemoryChanges.{HasWords}
+use Rattle.csa_chain.specs.ContextWordLaws.{HasContextWords}
 use Rattle.csa_chain.specs.ContextWords.{pcpn_of, pie_of}
 use Rattle.csa_chain.proofs.ContextLaws.{pcxi_word-lt, with_link-lt, link_in-lt, pcpn_of-lt}
 use Rattle.csa_chain.proofs.WordLaws.{area_word-lt, HasBytes-with_words, All-16, d_after_upper-HasWords, a_after_upper-HasWords, d_after_lower-HasWords, a_after_lower-HasWords}
@@ -26,13 +26,13 @@ use Rattle.tc_machine.specs.declared.events.End.{End}
 use Rattle.tc_machine.specs.declared.events.End.TheVariants.{Running, Dead}
 use Rattle.tc_machine.specs.declared.events.Event.{Event}
 use Rattle.tc_machine.specs.declared.state.Machine.{Machine}
-use Rattle.tc_machine.specs.Machine.{reg, with_reg, a10, a11, is_of, handler_psw, moved, died, goes_on, then_}
-use Rattle.tc_machine.specs.Instructions.{arg, with_status, advanced, handler_stack, at_handler, trap, access_address, with_base, traps_at, misaligned, core_register, with_core_register, target_of, lowered, does}
-use Rattle.tc_machine.specs.Stepping.{interrupt, is_taken, executed, done, step, run}
+use Rattle.tc_machine.specs.Machine.{reg, with_reg, a10, a11, is_interrupt_stack_used, machine_address_ahead, died, goes_on, then_, psw_with_status, AreRegisters, IsMachine}
+use Rattle.tc_machine.specs.Instructions.{handler_psw, arg, advanced, handler_stack, at_handler, trap, access_address, with_base, is_trapping_access, misaligned, core_register, with_core_register, target_of, lowered, does}
+use Rattle.tc_machine.specs.Stepping.{interrupt, is_taken, executed, machine_after_event, step, run}
 use Rattle.tc_machine.specs.SavesAndRestores.{context_of, saved, save, has_kind, last_context, released, restored, restore}
-use Rattle.csa_chain.specs.MemoryBytes.{load_number, with_bytes, extend}
-use Rattle.tc_machine.specs.Fetching.{mapped_bytes, shaped, fetched}
-use Rattle.tc_machine.specs.Safe.{AreRegisters, IsMachine, Fits, AllFit}
+use Rattle.csa_chain.specs.MemoryBytes.{load_number, with_bytes, extend_loaded_bytes}
+use Rattle.tc_machine.specs.Fetching.{mapped_bytes, fetched_shape, fetched}
+use Rattle.tc_machine.specs.Safe.{Fits, AllFit}
 use Rattle.tc_machine.proofs.Saves.{moved-lt}
 use Rattle.tc_machine.proofs.ShapeWords.{IsArg, IsTarget, IsShape, shape_of-suits}
 use Rattle.tc_machine.proofs.Words.{register_lt, AreRegisters-set, alu_lt, load_lt, HasBytes-with_bytes}
@@ -40,10 +40,10 @@ use Rattle.tc_machine.proofs.Words.{register_lt, AreRegisters-set, alu_lt, load_
 abbrev IsWord : ℕ → Type 0
 IsWord w = w < 2 ^ 32
 
-has_words : (ws : List ℕ) → AreRegisters ws → HasWords 16 ws
+has_words : (ws : List ℕ) → AreRegisters ws → HasContextWords 16 ws
 has_words ws h = (h.count, h.words)
 
-are_registers : (ws : List ℕ) → HasWords 16 ws → AreRegisters ws
+are_registers : (ws : List ℕ) → HasContextWords 16 ws → AreRegisters ws
 are_registers ws h = record { count = h.0; words = h.1 }
 
 -- ---- reading
@@ -82,7 +82,7 @@ stays_at : (m : Machine) → IsMachine m → (pc : ℕ) → pc < 2 ^ 32 → IsMa
 stays_at m k pc small = record { d = k.d; a = k.a; pc = small; psw = k.psw; pcxi = k.pcxi; fcx = k.fcx; lcx = k.lcx; ccpn = k.ccpn; biv = k.biv; btv = k.btv; isp = k.isp; bytes = k.bytes }
 
 stays_advanced : (m : Machine) → IsMachine m → (n : ℕ) → IsMachine (advanced n m)
-stays_advanced m k n = stays_at m k (moved m.pc n) (moved-lt m.pc n)
+stays_advanced m k n = stays_at m k (machine_address_ahead m.pc n) (moved-lt m.pc n)
 
 stays_died : (m : Machine) → IsMachine m → (cause : Cause) → IsMachine (died cause m)
 stays_died m k cause = record { d = k.d; a = k.a; pc = k.pc; psw = k.psw; pcxi = k.pcxi; fcx = k.fcx; lcx = k.lcx; ccpn = k.ccpn; biv = k.biv; btv = k.btv; isp = k.isp; bytes = k.bytes }
@@ -130,7 +130,7 @@ stays_save m k upper =
     (λ _. stays_died (saved m upper) (stays_saved m k upper) Fcd) (λ _. stays_saved m k upper))
     (λ _. stays_died m k NoArea))
 
-last_words : (m : Machine) → IsMachine m → HasWords 16 (last_context m)
+last_words : (m : Machine) → IsMachine m → HasContextWords 16 (last_context m)
 last_words m k =
     let w = area_word-lt m.mem k.bytes (link_in m.pcxi) in
     (refl, All-16 IsWord _ _ _ _ _ _ _ _ _ _ _ _ _ _ _ _ (w 0) (w 1) (w 2) (w 3) (w 4) (w 5) (w 6) (w 7) (w 8) (w 9) (w 10) (w 11) (w 12) (w 13) (w 14) (w 15))
@@ -207,7 +207,7 @@ handler_psw-lt : (psw : ℕ) → psw < 2 ^ 32 → handler_psw psw < 2 ^ 32
 handler_psw-lt psw h = omega arith
 
 stack_lt : (m : Machine) → IsMachine m → handler_stack m < 2 ^ 32
-stack_lt m k = cond_both (is_of m.psw) (a10 m) m.isp IsWord (λ _. register_lt m.a k.a 10) (λ _. k.isp)
+stack_lt m k = cond_both (is_interrupt_stack_used m.psw) (a10 m) m.isp IsWord (λ _. register_lt m.a k.a 10) (λ _. k.isp)
 
 stays_handler : (m : Machine) → IsMachine m → (s : Machine) → IsMachine s → (back entry ccpn : ℕ) → back < 2 ^ 32 → entry < 2 ^ 32 → ccpn < 2 ^ 8 → IsMachine (record (at_handler m s back entry) { ccpn = ccpn })
 stays_handler m k s h back entry ccpn back_small entry_small ccpn_small = record {
@@ -242,7 +242,7 @@ stays_misaligned m k = stays_trap m k 2 4 m.pc (omega arith) (omega arith) k.pc
 
 -- ---- parts of instructions
 stays_base : (m : Machine) → IsMachine m → (base : Arg) (offset : ℕ) (after : Bool) → IsMachine (with_base m base offset after)
-stays_base m k (Reg r) offset after = cond_both after (with_reg m r (moved (reg m r) offset)) m IsMachine (λ _. stays_reg m k r (moved (reg m r) offset) (moved-lt (reg m r) offset)) (λ _. k)
+stays_base m k (Reg r) offset after = cond_both after (with_reg m r (machine_address_ahead (reg m r) offset)) m IsMachine (λ _. stays_reg m k r (machine_address_ahead (reg m r) offset) (moved-lt (reg m r) offset)) (λ _. k)
 stays_base m k (Word w) offset after = k
 
 stays_stored : (m : Machine) → IsMachine m → (base : Arg) (offset : ℕ) (after : Bool) (x w size : ℕ) → IsMachine (record (with_base m base offset after) { mem = with_bytes m.mem x w size })
@@ -251,7 +251,7 @@ stays_stored m k base offset after x w size =
     record { d = b.d; a = b.a; pc = b.pc; psw = b.psw; pcxi = b.pcxi; fcx = b.fcx; lcx = b.lcx; ccpn = b.ccpn; biv = b.biv; btv = b.btv; isp = b.isp; bytes = HasBytes-with_bytes m.mem x w size k.bytes }
 
 stays_lowered : (m : Machine) → IsMachine m → (x : ℕ) (lowers : Bool) → IsMachine (lowered m x lowers)
-stays_lowered m k x lowers = cond_both lowers (with_reg m x (moved (reg m x) (2 ^ 32 - 1))) m IsMachine (λ _. stays_reg m k x (moved (reg m x) (2 ^ 32 - 1)) (moved-lt (reg m x) (2 ^ 32 - 1))) (λ _. k)
+stays_lowered m k x lowers = cond_both lowers (with_reg m x (machine_address_ahead (reg m x) (2 ^ 32 - 1))) m IsMachine (λ _. stays_reg m k x (machine_address_ahead (reg m x) (2 ^ 32 - 1)) (moved-lt (reg m x) (2 ^ 32 - 1))) (λ _. k)
 
 stays_core : (m : Machine) → IsMachine m → (number w : ℕ) → w < 2 ^ 32 → IsMachine (with_core_register m number w)
 stays_core m k number w small =
@@ -275,30 +275,30 @@ stays_called m k back to small at = record { d = k.d; a = AreRegisters-set m.a 1
 pub stays_does : (m : Machine) → IsMachine m → (e : Event) → e.input < 2 ^ 32 → (shape : Shape) (n : ℕ) → IsShape shape → IsMachine (does m e shape n)
 unfolding does
 stays_does m k e small (Compute op dst x y) n h = stays_advanced _ (stays_reg m k dst (alu_of op (arg m x) (arg m y)) (alu_lt op (arg m x) (arg m y) (arg_lt m k x h.0) (arg_lt m k y h.1))) n
-stays_does m k e small (Scaled dst base index c) n h = stays_advanced _ (stays_reg m k dst (moved (reg m base) (reg m index * 2 ^ c)) (moved-lt (reg m base) (reg m index * 2 ^ c))) n
+stays_does m k e small (Scaled dst base index c) n h = stays_advanced _ (stays_reg m k dst (machine_address_ahead (reg m base) (reg m index * 2 ^ c)) (moved-lt (reg m base) (reg m index * 2 ^ c))) n
 stays_does m k e small (Load dst base offset size signed after) n h =
     let x = access_address m base offset after in
-    cond_both (traps_at e x size) (misaligned m) (advanced n (with_reg (with_base m base offset after) dst (extend signed size (load_number m.mem e.input x size)))) IsMachine (λ _. stays_misaligned m k)
-    (λ _. stays_advanced _ (stays_reg (with_base m base offset after) (stays_base m k base offset after) dst (extend signed size (load_number m.mem e.input x size)) (load_lt m.mem k.bytes signed e.input x size h)) n)
+    cond_both (is_trapping_access e x size) (misaligned m) (advanced n (with_reg (with_base m base offset after) dst (extend_loaded_bytes signed size (load_number m.mem e.input x size)))) IsMachine (λ _. stays_misaligned m k)
+    (λ _. stays_advanced _ (stays_reg (with_base m base offset after) (stays_base m k base offset after) dst (extend_loaded_bytes signed size (load_number m.mem e.input x size)) (load_lt m.mem k.bytes signed e.input x size h)) n)
 stays_does m k e small (Store src base offset size after) n h =
     let x = access_address m base offset after in
-    cond_both (traps_at e x size) (misaligned m) (advanced n (record (with_base m base offset after) { mem = with_bytes m.mem x (reg m src) size })) IsMachine (λ _. stays_misaligned m k)
+    cond_both (is_trapping_access e x size) (misaligned m) (advanced n (record (with_base m base offset after) { mem = with_bytes m.mem x (reg m src) size })) IsMachine (λ _. stays_misaligned m k)
     (λ _. stays_advanced _ (stays_stored m k base offset after x (reg m src) size) n)
 stays_does m k e small (Branch cond' x y by lowers) n h =
-    stays_at (lowered m x lowers) (stays_lowered m k x lowers) (cond (taken_of cond' (reg m x) (arg m y)) (moved m.pc by) (moved m.pc n))
-    (cond_both (taken_of cond' (reg m x) (arg m y)) (moved m.pc by) (moved m.pc n) IsWord (λ _. moved-lt m.pc by) (λ _. moved-lt m.pc n))
+    stays_at (lowered m x lowers) (stays_lowered m k x lowers) (cond (taken_of cond' (reg m x) (arg m y)) (machine_address_ahead m.pc by) (machine_address_ahead m.pc n))
+    (cond_both (taken_of cond' (reg m x) (arg m y)) (machine_address_ahead m.pc by) (machine_address_ahead m.pc n) IsWord (λ _. moved-lt m.pc by) (λ _. moved-lt m.pc n))
 stays_does m k e small (Jump to) n h = stays_at m k (target_of m to) (target_lt m k to h)
-stays_does m k e small (Call to) n h = stays_then (save m true) (stays_save m k true) _ (λ s ks. stays_called s ks (moved m.pc n) (target_of m to) (moved-lt m.pc n) (target_lt m k to h))
+stays_does m k e small (Call to) n h = stays_then (save m true) (stays_save m k true) _ (λ s ks. stays_called s ks (machine_address_ahead m.pc n) (target_of m to) (moved-lt m.pc n) (target_lt m k to h))
 stays_does m k e small Ret n h = stays_then (restore m true) (stays_restore m k true) _ (λ r kr. stays_at r kr (a11 m / 2 * 2) (half_lt (a11 m) (register_lt m.a k.a 11)))
 stays_does m k e small Rfe n h =
     stays_then (restore m true) (stays_restore m k true) _
     (λ r kr. stays_priority r kr (a11 m / 2 * 2) (pcpn_of m.core m.pcxi) (pie_of m.core m.pcxi) (half_lt (a11 m) (register_lt m.a k.a 11)) (pcpn_of-lt m.core m.pcxi))
 stays_does m k e small Svlcx n h = stays_then (save m false) (stays_save m k false) _ (λ s ks. stays_advanced s ks n)
 stays_does m k e small Rslcx n h = stays_then (restore m false) (stays_restore m k false) _ (λ r kr. stays_advanced r kr n)
-stays_does m k e small (Bisr c) n h = stays_then (save m false) (stays_save m k false) _ (λ s ks. stays_priority s ks (moved s.pc n) c true (moved-lt s.pc n) h)
-stays_does m k e small Enable n h = stays_priority m k (moved m.pc n) m.ccpn true (moved-lt m.pc n) k.ccpn
-stays_does m k e small Disable n h = stays_priority m k (moved m.pc n) m.ccpn false (moved-lt m.pc n) k.ccpn
-stays_does m k e small (Syscall tin) n h = stays_trap m k 6 tin (moved m.pc n) (omega arith) h (moved-lt m.pc n)
+stays_does m k e small (Bisr c) n h = stays_then (save m false) (stays_save m k false) _ (λ s ks. stays_priority s ks (machine_address_ahead s.pc n) c true (moved-lt s.pc n) h)
+stays_does m k e small Enable n h = stays_priority m k (machine_address_ahead m.pc n) m.ccpn true (moved-lt m.pc n) k.ccpn
+stays_does m k e small Disable n h = stays_priority m k (machine_address_ahead m.pc n) m.ccpn false (moved-lt m.pc n) k.ccpn
+stays_does m k e small (Syscall tin) n h = stays_trap m k 6 tin (machine_address_ahead m.pc n) (omega arith) h (moved-lt m.pc n)
 stays_does m k e small (Mfcr dst number) n h = stays_advanced _ (stays_reg m k dst (core_register m e number) (core_register_lt m k e small number)) n
 stays_does m k e small (Mtcr src number) n h = stays_advanced _ (stays_core m k number (reg m src) (reg_lt m k src)) n
 stays_does m k e small Nothing n h = stays_advanced m k n
@@ -308,7 +308,7 @@ abbrev IfShape : Result (Shape × ℕ) Cause → Type 0
 IfShape (Ok found) = IsShape found.0
 IfShape (Err cause) = Unit {0}
 
-shaped-suits : (r : Result (InstData × ℕ) DecodeErr) → ((i : InstData) (n : ℕ) → r ≡ Ok (i, n) → IsInst i) → IfShape (shaped r)
+shaped-suits : (r : Result (InstData × ℕ) DecodeErr) → ((i : InstData) (n : ℕ) → r ≡ Ok (i, n) → IsInst i) → IfShape (fetched_shape r)
 shaped-suits (Ok found) h = shape_of-suits found.0 (h found.0 found.1 refl)
 shaped-suits (Err e) h = tt
 
@@ -316,26 +316,26 @@ fetched-suits : (m : Machine) → IfShape (fetched m)
 unfolding fetched
 fetched-suits m =
     let bytes = mapped_bytes 4 m.mem m.pc in
-    cond_both (m.pc % 2 == 0) (shaped (decoded_of bytes)) (Err NoCode) IfShape (λ _. shaped-suits (decoded_of bytes) (λ i n is. (decode_laws.decoded bytes i n is).inst)) (λ _. tt)
+    cond_both (m.pc % 2 == 0) (fetched_shape (decoded_of bytes)) (Err NoCode) IfShape (λ _. shaped-suits (decoded_of bytes) (λ i n is. (decode_laws.decoded bytes i n is).inst)) (λ _. tt)
 
 stays_executed : (m : Machine) → IsMachine m → (e : Event) → e.input < 2 ^ 32 → (r : Result (Shape × ℕ) Cause) → IfShape r → IsMachine (executed m e r)
 stays_executed m k e small (Ok found) h = stays_does m k e small found.0 found.1 h
 stays_executed m k e small (Err cause) h = stays_died m k cause
 
-stays_done : (m : Machine) → IsMachine m → (e : Event) → e.irq < 2 ^ 8 → e.input < 2 ^ 32 → IsMachine (done m e)
+stays_done : (m : Machine) → IsMachine m → (e : Event) → e.irq < 2 ^ 8 → e.input < 2 ^ 32 → IsMachine (machine_after_event m e)
 stays_done m k e irq small =
     cond_both (is_taken m e) (interrupt m e.irq) (executed m e (fetched m)) IsMachine (λ _. stays_interrupt m k e.irq irq) (λ _. stays_executed m k e small (fetched m) (fetched-suits m))
 
-with_status-lt : (psw status : ℕ) → status < 2 ^ 8 → with_status psw status < 2 ^ 32
+with_status-lt : (psw status : ℕ) → status < 2 ^ 8 → psw_with_status psw status < 2 ^ 32
 with_status-lt psw status h = omega arith
 
-stays_status : (m : Machine) → IsMachine m → (status : ℕ) → status < 2 ^ 8 → IsMachine (record m { psw = with_status m.psw status })
+stays_status : (m : Machine) → IsMachine m → (status : ℕ) → status < 2 ^ 8 → IsMachine (record m { psw = psw_with_status m.psw status })
 stays_status m k status small = record { d = k.d; a = k.a; pc = k.pc; psw = with_status-lt m.psw status small; pcxi = k.pcxi; fcx = k.fcx; lcx = k.lcx; ccpn = k.ccpn; biv = k.biv; btv = k.btv; isp = k.isp; bytes = k.bytes }
 
 pub stays_step : (m : Machine) (e : Event) → IsMachine m → e.irq < 2 ^ 8 → e.input < 2 ^ 32 → e.status < 2 ^ 8 → IsMachine (step m e)
 unfolding step
 stays_step m e k irq input status =
-    stays_then m k _ (λ n kn. stays_then (done n e) (stays_done n kn e irq input) _ (λ r kr. stays_status r kr e.status status))
+    stays_then m k _ (λ n kn. stays_then (machine_after_event n e) (stays_done n kn e irq input) _ (λ r kr. stays_status r kr e.status status))
 
 -- ---- runs
 one_irq : (q : ℕ) → (nat_lt 0 q && nat_lt q (2 ^ 8)) ≡ true → q < 2 ^ 8

@@ -7,25 +7,25 @@ use Rattle.tc_machine.specs.declared.events.Cause.{Cause}
 use Rattle.tc_machine.specs.declared.events.Event.{Event}
 use Rattle.tc_machine.specs.declared.events.End.TheVariants.{Running}
 use Rattle.tc_machine.specs.declared.state.Machine.{Machine}
-use Rattle.tc_machine.specs.Machine.{a11, moved, then_}
-use Rattle.tc_machine.specs.Instructions.{with_status, advanced, target_of, does}
-use Rattle.tc_machine.specs.Stepping.{interrupt, is_taken, executed, done, step, store_in, where_running, stored}
+use Rattle.tc_machine.specs.Machine.{a11, machine_address_ahead, then_, psw_with_status}
+use Rattle.tc_machine.specs.Instructions.{advanced, target_of, does}
+use Rattle.tc_machine.specs.Stepping.{interrupt, is_taken, executed, machine_after_event, step, store_in, where_running, stored}
 use Rattle.tc_machine.specs.SavesAndRestores.{save, restore}
 use Rattle.tc_machine.specs.Fetching.{fetched}
 use Rattle.tc_machine.proofs.Saves.{then_-running}
 
 -- if no interrupt is taken, the instruction at pc is executed
-pub done-is : (m : Machine) (e : Event) (shape : Shape) (n : ℕ) → is_taken m e ≡ false → fetched m ≡ Ok (shape, n) → done m e ≡ does m e shape n
+pub done-is : (m : Machine) (e : Event) (shape : Shape) (n : ℕ) → is_taken m e ≡ false → fetched m ≡ Ok (shape, n) → machine_after_event m e ≡ does m e shape n
 done-is m e shape n none at = ap (λ t. cond t (interrupt m e.irq) (executed m e (fetched m))) none ∙ ap (executed m e) at
 
 -- the machine after an event that left it running
 abbrev pub with_event : Machine → Event → Machine
-with_event n e = record n { psw = with_status n.psw e.status }
+with_event n e = record n { psw = psw_with_status n.psw e.status }
 
-pub step-is : (m : Machine) (e : Event) → m.end ≡ Running → (done m e).end ≡ Running → step m e ≡ with_event (done m e) e
+pub step-is : (m : Machine) (e : Event) → m.end ≡ Running → (machine_after_event m e).end ≡ Running → step m e ≡ with_event (machine_after_event m e) e
 unfolding step
 step-is m e here after =
-    then_-running m (λ m. then_ (done m e) (λ n. with_event n e)) here ∙ then_-running (done m e) (λ n. with_event n e) after
+    then_-running m (λ m. then_ (machine_after_event m e) (λ n. with_event n e)) here ∙ then_-running (machine_after_event m e) (λ n. with_event n e) after
 
 pub step_does : (m : Machine) (e : Event) (shape : Shape) (n : ℕ) → m.end ≡ Running → is_taken m e ≡ false → fetched m ≡ Ok (shape, n) → (does m e shape n).end ≡ Running → step m e ≡ with_event (does m e shape n) e
 step_does m e shape n here none at after =
@@ -46,7 +46,7 @@ called m to back = then_ (save m true) (λ s. record s { a = set s.a 11 back; pc
 abbrev pub returned : Machine → Machine
 returned m = then_ (restore m true) (λ r. record r { pc = a11 m / 2 * 2 })
 
-pub does-call : (m : Machine) (e : Event) (to : Target) (n : ℕ) → does m e (Call to) n ≡ called m (target_of m to) (moved m.pc n)
+pub does-call : (m : Machine) (e : Event) (to : Target) (n : ℕ) → does m e (Call to) n ≡ called m (target_of m to) (machine_address_ahead m.pc n)
 unfolding does
 does-call m e to n = refl
 

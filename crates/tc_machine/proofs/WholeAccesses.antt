@@ -9,8 +9,8 @@ use Rattle.csa_chain.specs.MemoryBytes.{Memory, is_mapped, byte_at, are_mapped, 
 use Rattle.csa_chain.specs.Chain.{link_address, is_area, area_word}
 use Rattle.csa_chain.proofs.ChainLaws.{are_mapped_each}
 use Rattle.tcd_base.specs.Bytes.{bytes_of_word}
-use Rattle.tc_mem.specs.Blocks.{are_in_block, word_of, half_at, half_of, with_word_in, with_half_in}
-use Rattle.tc_mem.specs.Areas.{first_word_of}
+use Rattle.tc_mem.specs.Blocks.{are_in_block, mapped_block_word, memory_half_at, mapped_block_half, with_block_word, with_block_half}
+use Rattle.tc_mem.specs.Areas.{area_first_word}
 use Rattle.tc_mem.specs.Written.{with_half}
 use Rattle.tc_machine.specs.Fetching.{mapped_bytes}
 
@@ -48,7 +48,7 @@ next_3 : (x : ℕ) → x + 4 ≤ 2 ^ 32 → (x + 2 + 1) % 2 ^ 32 ≡ x + 3
 next_3 x h = omega arith
 
 -- ---- loads
-pub loaded_word : (m : Memory) (input x w : ℕ) → x < 2 ^ 32 → Some w ≡ word_of m x → w ≡ load_number m input x 4
+pub loaded_word : (m : Memory) (input x w : ℕ) → x < 2 ^ 32 → Some w ≡ mapped_block_word m x → w ≡ load_number m input x 4
 unfolding load_number word_at
 loaded_word m input x w small is =
     let parts = cond_some (are_in_block m x 4) (word_at m x) w (sym is) in
@@ -63,10 +63,10 @@ loaded_word m input x w small is =
     let value : w ≡ byte_at m x + 2 ^ 8 * byte_at m (x + 1) + 2 ^ 16 * byte_at m (x + 2) + 2 ^ 24 * byte_at m (x + 3) = sym parts.1 in
     rw (e1, e2, e3, b0, b1, b2, b3) (omega (arith, value))
 
-pub loaded_half : (m : Memory) (input x h : ℕ) → x < 2 ^ 32 → Some h ≡ half_of m x → h ≡ load_number m input x 2
+pub loaded_half : (m : Memory) (input x h : ℕ) → x < 2 ^ 32 → Some h ≡ mapped_block_half m x → h ≡ load_number m input x 2
 unfolding load_number
 loaded_half m input x h small is =
-    let parts = cond_some (are_in_block m x 2) (half_at m x) h (sym is) in
+    let parts = cond_some (are_in_block m x 2) (memory_half_at m x) h (sym is) in
     let block = is_block m x 2 small parts.0 in
     let e1 = next_1 x (omega (arith, block.ends)) in
     let b0 = some_byte (map.get m x) (input % 2 ^ 8) (rw add-zero at (block.mapped 0 (omega arith))) in
@@ -75,7 +75,7 @@ loaded_half m input x h small is =
     rw (e1, b0, b1) (omega (arith, value))
 
 -- ---- the bytes of an instruction
-pub mapped_word : (m : Memory) (x w : ℕ) → HasBytes m → x < 2 ^ 32 → Some w ≡ word_of m x → bytes_of_word w ≡ mapped_bytes 4 m x
+pub mapped_word : (m : Memory) (x w : ℕ) → HasBytes m → x < 2 ^ 32 → Some w ≡ mapped_block_word m x → bytes_of_word w ≡ mapped_bytes 4 m x
 unfolding mapped_bytes word_at
 mapped_word m x w bytes small is =
     let parts = cond_some (are_in_block m x 4) (word_at m x) w (sym is) in
@@ -120,26 +120,26 @@ stored_half m x w h =
     let v1 : w % 2 ^ 16 / 2 ^ 8 % 2 ^ 8 ≡ w / 2 ^ 8 % 2 ^ 8 = omega arith in
     rw (e1, v0, v1) refl
 
-pub whole_word : (m n : Memory) (x w : ℕ) (t : Bool) → x < 2 ^ 32 → t ≡ are_in_block m x 4 → n ≡ with_word_in m x w → MatchBool t (n ≡ with_bytes m x w 4) (n ≡ m)
+pub whole_word : (m n : Memory) (x w : ℕ) (t : Bool) → x < 2 ^ 32 → t ≡ are_in_block m x 4 → n ≡ with_block_word m x w → MatchBool t (n ≡ with_bytes m x w 4) (n ≡ m)
 whole_word m n x w true small here is =
     let block = is_block m x 4 small (sym here) in
     is ∙ ap (λ (t : Bool). cond t (with_word m x w) m) (sym here) ∙ sym (stored_word m x w block.ends)
 whole_word m n x w false small gone is = is ∙ ap (λ (t : Bool). cond t (with_word m x w) m) (sym gone)
 
-pub whole_half : (m n : Memory) (x w : ℕ) (t : Bool) → x < 2 ^ 32 → t ≡ are_in_block m x 2 → n ≡ with_half_in m x (w % 2 ^ 16) → MatchBool t (n ≡ with_bytes m x w 2) (n ≡ m)
+pub whole_half : (m n : Memory) (x w : ℕ) (t : Bool) → x < 2 ^ 32 → t ≡ are_in_block m x 2 → n ≡ with_block_half m x (w % 2 ^ 16) → MatchBool t (n ≡ with_bytes m x w 2) (n ≡ m)
 whole_half m n x w true small here is =
     let block = is_block m x 2 small (sym here) in
     is ∙ ap (λ (t : Bool). cond t (with_half m x (w % 2 ^ 16)) m) (sym here) ∙ sym (stored_half m x w block.ends)
 whole_half m n x w false small gone is = is ∙ ap (λ (t : Bool). cond t (with_half m x (w % 2 ^ 16)) m) (sym gone)
 
-pub put_whole : (m n : Memory) (x w : ℕ) (t : Bool) → t ≡ are_in_block m x 4 → n ≡ with_word_in m x w → t ≡ true → n ≡ with_word m x w
+pub put_whole : (m n : Memory) (x w : ℕ) (t : Bool) → t ≡ are_in_block m x 4 → n ≡ with_block_word m x w → t ≡ true → n ≡ with_word m x w
 put_whole m n x w t is written here = written ∙ ap (λ (t : Bool). cond t (with_word m x w) m) (sym is ∙ here)
 
-pub put_none : (m n : Memory) (x w : ℕ) (t : Bool) → t ≡ are_in_block m x 4 → n ≡ with_word_in m x w → t ≡ false → n ≡ m
+pub put_none : (m n : Memory) (x w : ℕ) (t : Bool) → t ≡ are_in_block m x 4 → n ≡ with_block_word m x w → t ≡ false → n ≡ m
 put_none m n x w t is written gone = written ∙ ap (λ (t : Bool). cond t (with_word m x w) m) (sym is ∙ gone)
 
 -- ---- word 0 of an area
-pub first_of_area : (m : Memory) (link : ℕ) → first_word_of m (link_address link) ≡ cond (is_area m link) (Some (area_word m link 0)) None
+pub first_of_area : (m : Memory) (link : ℕ) → area_first_word m (link_address link) ≡ cond (is_area m link) (Some (area_word m link 0)) None
 first_of_area m link =
     let start : link_address link ≡ link_address link + 4 * 0 = omega arith in
     ap (λ (y : ℕ). cond {A = Option ℕ} (is_area m link) (Some (word_at m y)) None) start

@@ -6,12 +6,12 @@ use Rattle.std.proofs.lemmas.List.Elements.{All-set}
 use Rattle.std.proofs.Math.Nat.{div-le_self}
 use Rattle.std.proofs.lemmas.Nat.{or_lt, and_le_l, xor_lt}
 use Rattle.std.specs.FinMap as map
-use Rattle.csa_chain.specs.MemoryBytes.{Memory, with_byte, load_number, with_bytes, extend, HasBytes}
+use Rattle.csa_chain.specs.MemoryBytes.{Memory, with_byte, load_number, with_bytes, extend_loaded_bytes, HasBytes}
 use Rattle.csa_chain.proofs.WordLaws.{HasBytes-with_byte}
 use Rattle.tc_isa.specs.declared.shapes.Op.{Op}
 use Rattle.tc_isa.specs.declared.shapes.Op.TheVariants as op
-use Rattle.tc_isa.specs.Arithmetic.{signed_place, complement, one_if, shift_by, shifted_signed, alu_of}
-use Rattle.tc_machine.specs.Safe.{AreRegisters}
+use Rattle.tc_isa.specs.Arithmetic.{signed_order_place, complement, one_if, shift_by, shifted_signed, alu_of}
+use Rattle.tc_machine.specs.Machine.{AreRegisters}
 use Rattle.tc_machine.proofs.ShapeWords.{IsSize, extended_lt}
 
 -- ---- registers
@@ -60,9 +60,9 @@ alu_lt op.Andn x y h g = and_lt x (complement y) h
 alu_lt op.Orn x y h g = or_lt 32 x (complement y) h (complement_lt y)
 alu_lt op.Eq x y h g = one_if_lt (x == y)
 alu_lt op.Ne x y h g = one_if_lt (not (x == y))
-alu_lt op.Lt x y h g = one_if_lt (nat_lt (signed_place x) (signed_place y))
+alu_lt op.Lt x y h g = one_if_lt (nat_lt (signed_order_place x) (signed_order_place y))
 alu_lt op.LtU x y h g = one_if_lt (nat_lt x y)
-alu_lt op.Ge x y h g = one_if_lt (nat_le (signed_place y) (signed_place x))
+alu_lt op.Ge x y h g = one_if_lt (nat_le (signed_order_place y) (signed_order_place x))
 alu_lt op.GeU x y h g = one_if_lt (nat_le y x)
 alu_lt op.Sh x y h g = shifted_lt x (y % 64) h
 alu_lt op.Sha x y h g = shifted_signed_lt x (y % 64) h
@@ -91,22 +91,22 @@ module _ (m : Memory) (bytes : HasBytes m) where
   loaded_4 : (input x : ℕ) → load_number m input x 4 < 2 ^ 32
   loaded_4 = loaded_more 3 (2 ^ 24) (loaded_more 2 (2 ^ 16) loaded_2)
 
-  extended_1 : (signed : Bool) (input x : ℕ) → extend signed 1 (load_number m input x 1) < 2 ^ 32
+  extended_1 : (signed : Bool) (input x : ℕ) → extend_loaded_bytes signed 1 (load_number m input x 1) < 2 ^ 32
   extended_1 true input x = let l = loaded_1 input x in extended_lt (load_number m input x 1) (2 ^ 8) (nat_lt (load_number m input x 1) (2 ^ 7)) l (omega arith)
   extended_1 false input x = let l = loaded_1 input x in omega arith
 
-  extended_2 : (signed : Bool) (input x : ℕ) → extend signed 2 (load_number m input x 2) < 2 ^ 32
+  extended_2 : (signed : Bool) (input x : ℕ) → extend_loaded_bytes signed 2 (load_number m input x 2) < 2 ^ 32
   extended_2 true input x = let l = loaded_2 input x in extended_lt (load_number m input x 2) (2 ^ 16) (nat_lt (load_number m input x 2) (2 ^ 15)) l (omega arith)
   extended_2 false input x = let l = loaded_2 input x in omega arith
 
-  extended_4 : (signed : Bool) (input x : ℕ) → extend signed 4 (load_number m input x 4) < 2 ^ 32
+  extended_4 : (signed : Bool) (input x : ℕ) → extend_loaded_bytes signed 4 (load_number m input x 4) < 2 ^ 32
   extended_4 true input x = let l = loaded_4 input x in extended_lt (load_number m input x 4) (2 ^ 32) (nat_lt (load_number m input x 4) (2 ^ 31)) l (omega arith)
   extended_4 false input x = loaded_4 input x
 
-  pub load_lt : (signed : Bool) (input x size : ℕ) → IsSize size → extend signed size (load_number m input x size) < 2 ^ 32
-  load_lt signed input x size (inl e) = subst (λ n. extend signed n (load_number m input x n) < 2 ^ 32) (sym e) (extended_1 signed input x)
-  load_lt signed input x size (inr (inl e)) = subst (λ n. extend signed n (load_number m input x n) < 2 ^ 32) (sym e) (extended_2 signed input x)
-  load_lt signed input x size (inr (inr e)) = subst (λ n. extend signed n (load_number m input x n) < 2 ^ 32) (sym e) (extended_4 signed input x)
+  pub load_lt : (signed : Bool) (input x size : ℕ) → IsSize size → extend_loaded_bytes signed size (load_number m input x size) < 2 ^ 32
+  load_lt signed input x size (inl e) = subst (λ n. extend_loaded_bytes signed n (load_number m input x n) < 2 ^ 32) (sym e) (extended_1 signed input x)
+  load_lt signed input x size (inr (inl e)) = subst (λ n. extend_loaded_bytes signed n (load_number m input x n) < 2 ^ 32) (sym e) (extended_2 signed input x)
+  load_lt signed input x size (inr (inr e)) = subst (λ n. extend_loaded_bytes signed n (load_number m input x n) < 2 ^ 32) (sym e) (extended_4 signed input x)
 
 pub HasBytes-with_bytes : (m : Memory) (x w n : ℕ) → HasBytes m → HasBytes (with_bytes m x w n)
 unfolding with_bytes

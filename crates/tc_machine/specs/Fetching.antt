@@ -13,30 +13,30 @@ use Rattle.tc_machine.specs.declared.events.Cause.TheVariants.{NotListed, NoCode
 use Rattle.tc_machine.specs.declared.state.Machine.{Machine}
 
 -- a byte before others; if it isn't mapped, none
-abbrev pub in_front : Option ℕ → List ℕ → List ℕ
-in_front None bytes = []
-in_front (Some b) bytes = b ∷ bytes
+abbrev pub fetched_byte_before : Option ℕ → List ℕ → List ℕ
+fetched_byte_before None bytes = []
+fetched_byte_before (Some b) bytes = b ∷ bytes
 
 -- the mapped bytes from x on, at most n, up to the first that isn't mapped
 unfoldable pub mapped_bytes : ℕ → Memory → ℕ → List ℕ
 mapped_bytes zero m x = []
-mapped_bytes (suc n) m x = in_front (map.get m x) (mapped_bytes n m ((x + 1) % 2 ^ 32))
+mapped_bytes (suc n) m x = fetched_byte_before (map.get m x) (mapped_bytes n m ((x + 1) % 2 ^ 32))
 
 -- bytes that are the beginning of an instruction are no code; others aren't listed
-abbrev pub cause_of : DecodeErr → Cause
-cause_of Short = NoCode
-cause_of _ = NotListed
+abbrev pub fetch_failure_cause : DecodeErr → Cause
+fetch_failure_cause Short = NoCode
+fetch_failure_cause _ = NotListed
 
 -- what the instruction does, and its length in bytes
-abbrev pub shaped : Result (InstData × ℕ) DecodeErr → Result (Shape × ℕ) Cause
-shaped (Ok found) = Ok (shape_of found.0, found.1)
-shaped (Err e) = Err (cause_of e)
+abbrev pub fetched_shape : Result (InstData × ℕ) DecodeErr → Result (Shape × ℕ) Cause
+fetched_shape (Ok found) = Ok (shape_of found.0, found.1)
+fetched_shape (Err e) = Err (fetch_failure_cause e)
 
 -- the instruction at pc, decoded from at most four mapped bytes; there is none at an odd address
 unfoldable pub fetched : Machine → Result (Shape × ℕ) Cause
-fetched m = if m.pc % 2 == 0 then shaped (decoded_of (mapped_bytes 4 m.mem m.pc)) else Err NoCode
+fetched m = if m.pc % 2 == 0 then fetched_shape (decoded_of (mapped_bytes 4 m.mem m.pc)) else Err NoCode
 
 -- the size of what was fetched
-abbrev pub size_in : Result (Shape × ℕ) Cause → ℕ
-size_in (Ok found) = found.1
-size_in (Err cause) = 0
+abbrev pub fetched_size : Result (Shape × ℕ) Cause → ℕ
+fetched_size (Ok found) = found.1
+fetched_size (Err cause) = 0

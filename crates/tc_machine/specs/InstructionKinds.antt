@@ -8,50 +8,51 @@ use Rattle.tc_machine.specs.declared.events.Event.{Event}
 use Rattle.tc_machine.specs.declared.state.Machine.{Machine}
 use Rattle.tc_machine.specs.Stepping.{is_taken}
 
--- P for a load or a store; no statement for other instructions
-abbrev pub OnAccess : Shape → Type 0 → Type 0
-OnAccess (Load dst base offset size signed after) P = P
-OnAccess (Store src base offset size after) P = P
-OnAccess _ P = Unit {0}
+-- P for a load or a store instruction; no statement for others
+abbrev pub OnAccessInstruction : Shape → Type 0 → Type 0
+OnAccessInstruction (Load dst base offset size signed after) P = P
+OnAccessInstruction (Store src base offset size after) P = P
+OnAccessInstruction _ P = Unit {0}
 
 -- P for an instruction that saves or restores a context; no statement for others
-abbrev pub OnContext : Shape → Type 0 → Type 0
-OnContext (Call to) P = P
-OnContext Ret P = P
-OnContext Rfe P = P
-OnContext Svlcx P = P
-OnContext Rslcx P = P
-OnContext (Bisr c) P = P
-OnContext (Syscall tin) P = P
-OnContext _ P = Unit {0}
+abbrev pub OnContextInstruction : Shape → Type 0 → Type 0
+OnContextInstruction (Call to) P = P
+OnContextInstruction Ret P = P
+OnContextInstruction Rfe P = P
+OnContextInstruction Svlcx P = P
+OnContextInstruction Rslcx P = P
+OnContextInstruction (Bisr c) P = P
+OnContextInstruction (Syscall tin) P = P
+OnContextInstruction _ P = Unit {0}
 
 -- P for an instruction on core registers or the interrupt system; no statement for others
-abbrev pub OnSystem : Shape → Type 0 → Type 0
-OnSystem Enable P = P
-OnSystem Disable P = P
-OnSystem (Mfcr dst number) P = P
-OnSystem (Mtcr src number) P = P
-OnSystem _ P = Unit {0}
+abbrev pub OnSystemInstruction : Shape → Type 0 → Type 0
+OnSystemInstruction Enable P = P
+OnSystemInstruction Disable P = P
+OnSystemInstruction (Mfcr dst number) P = P
+OnSystemInstruction (Mtcr src number) P = P
+OnSystemInstruction _ P = Unit {0}
 
 -- an instruction never changes the memory or PCXI: it is no store, saves and restores no context,
 -- writes no core register, and can't trap
-abbrev pub keeps_of : Event → Shape → Bool
-keeps_of e (Load dst base offset size signed after) = not e.aln
-keeps_of e (Compute op dst x y) = true
-keeps_of e (Scaled dst base index k) = true
-keeps_of e (Branch cond x y by lowers) = true
-keeps_of e (Jump to) = true
-keeps_of e (Mfcr dst number) = true
-keeps_of e Enable = true
-keeps_of e Disable = true
-keeps_of e Nothing = true
-keeps_of e _ = false
+abbrev pub is_area_keeping_shape : Event → Shape → Bool
+is_area_keeping_shape e (Load dst base offset size signed after) = not e.aln
+is_area_keeping_shape e (Compute op dst x y) = true
+is_area_keeping_shape e (Scaled dst base index k) = true
+is_area_keeping_shape e (Branch cond x y by lowers) = true
+is_area_keeping_shape e (Jump to) = true
+is_area_keeping_shape e (Mfcr dst number) = true
+is_area_keeping_shape e Enable = true
+is_area_keeping_shape e Disable = true
+is_area_keeping_shape e Nothing = true
+is_area_keeping_shape e _ = false
 
--- what was found is an instruction that never changes them
+-- what was found is an instruction that never changes the memory or PCXI
 abbrev pub keeps_found : Event → Result (Shape × ℕ) Cause → Bool
-keeps_found e (Ok found) = keeps_of e found.0
+keeps_found e (Ok found) = is_area_keeping_shape e found.0
 keeps_found e (Err cause) = false
 
--- no interrupt is taken, and what was found at pc never changes the memory or PCXI
-abbrev pub keeps_at : Machine → Event → Result (Shape × ℕ) Cause → Bool
-keeps_at m e found = not (is_taken m e) && keeps_found e found
+-- the event keeps all areas: no interrupt is taken, and what was found at pc is an instruction of a
+-- kind that never changes the memory or PCXI
+abbrev pub is_area_keeping_event : Machine → Event → Result (Shape × ℕ) Cause → Bool
+is_area_keeping_event m e found = not (is_taken m e) && keeps_found e found

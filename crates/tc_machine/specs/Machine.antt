@@ -1,9 +1,10 @@
 -- The state of the machine: its registers, its memory and its end.
-use Rattle.std.specs.Prelude.{ℕ, ◌+◌, ◌-◌, ◌*◌, ◌/◌, ◌%◌, ◌^◌, Bool, ◌==◌, nat_lt, if◌then◌else◌, slice_index, slice_set}
+use Rattle.std.specs.Prelude.{ℕ, ◌+◌, ◌-◌, ◌/◌, ◌%◌, ◌^◌, Bool, ◌==◌, nat_lt, if◌then◌else◌, slice_index, slice_set, ◌*◌, ◌≡◌, ◌<◌, List, length, All}
 use Rattle.tc_machine.specs.declared.events.Cause.{Cause}
 use Rattle.tc_machine.specs.declared.events.End.{End}
 use Rattle.tc_machine.specs.declared.events.End.TheVariants.{Running, Dead}
 pub use Rattle.tc_machine.specs.declared.state.Machine.{Machine}
+use Rattle.csa_chain.specs.MemoryBytes.{HasBytes}
 
 -- register r: 0 to 15 is D, 16 to 31 is A
 abbrev pub reg : Machine → ℕ → ℕ
@@ -22,22 +23,19 @@ abbrev pub a11 : Machine → ℕ
 a11 m = slice_index m.a 11
 
 -- PSW.IS, bit 9: the interrupt stack is in use
-abbrev pub is_of : ℕ → Bool
-is_of psw = psw / 2 ^ 9 % 2 == 1
-
--- PSW in a handler: IO (bits 11:10) 2, GW (bit 8) 0, PRS (bits 13:12) 0 and IS 1
-abbrev pub handler_psw : ℕ → ℕ
-handler_psw psw = psw / 2 ^ 14 * 2 ^ 14 + 2 * 2 ^ 10 + 2 ^ 9 + psw % 2 ^ 8
+abbrev pub is_interrupt_stack_used : ℕ → Bool
+is_interrupt_stack_used psw = psw / 2 ^ 9 % 2 == 1
 
 -- the address by bytes after x, modulo 2 ^ 32
-abbrev pub moved : ℕ → ℕ → ℕ
-moved at by = (at + by) % 2 ^ 32
+abbrev pub machine_address_ahead : ℕ → ℕ → ℕ
+machine_address_ahead at by = (at + by) % 2 ^ 32
 
 -- a machine that dies: only its end changes
 abbrev pub died : Cause → Machine → Machine
 died cause m = record m { end = Dead cause }
 
--- what follows if the machine still runs; a dead machine doesn't change
+-- the state of the machine after what follows, if this end says that it still runs; a dead machine
+-- doesn't change
 abbrev pub goes_on : End → Machine → (Machine → Machine) → Machine
 goes_on Running m next = next m
 goes_on (Dead cause) m next = m
@@ -50,3 +48,28 @@ then_ m next = goes_on m.end m next
 abbrev pub IsDead : End → Type 0
 IsDead Running = ⊥
 IsDead (Dead cause) = Unit {0}
+
+-- PSW with this status in bits 31:24
+abbrev pub psw_with_status : ℕ → ℕ → ℕ
+psw_with_status psw status = status * 2 ^ 24 + psw % 2 ^ 24
+
+-- 16 words below 2 ^ 32
+pub record AreRegisters (ws : List ℕ) : Type 0 where
+  pub count : length ws ≡ 16
+  pub words : All (λ w. w < 2 ^ 32) ws
+
+-- bounds of the registers and the memory of a machine: 32-bit words, a CCPN of one byte, and bytes
+-- in the memory
+pub record IsMachine (m : Machine) : Type 0 where
+  pub d : AreRegisters m.d
+  pub a : AreRegisters m.a
+  pub pc : m.pc < 2 ^ 32
+  pub psw : m.psw < 2 ^ 32
+  pub pcxi : m.pcxi < 2 ^ 32
+  pub fcx : m.fcx < 2 ^ 32
+  pub lcx : m.lcx < 2 ^ 32
+  pub ccpn : m.ccpn < 2 ^ 8
+  pub biv : m.biv < 2 ^ 32
+  pub btv : m.btv < 2 ^ 32
+  pub isp : m.isp < 2 ^ 32
+  pub bytes : HasBytes m.mem

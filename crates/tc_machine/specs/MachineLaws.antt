@@ -12,15 +12,16 @@ use Rattle.tc_machine.specs.declared.events.Cause.TheVariants.{Fcd}
 use Rattle.tc_machine.specs.declared.events.Event.{Event}
 use Rattle.tc_machine.specs.declared.events.End.TheVariants.{Running, Dead}
 use Rattle.tc_machine.specs.declared.state.Machine.{Machine}
-use Rattle.tc_machine.specs.Instructions.{with_status, does, access_address}
+use Rattle.tc_machine.specs.Instructions.{does, access_address}
+use Rattle.tc_machine.specs.Machine.{psw_with_status, IsMachine}
 use Rattle.tc_machine.specs.SavesAndRestores.{saved, save, has_kind, restored, restore}
 use Rattle.tc_machine.specs.Fetching.{fetched}
 use Rattle.tc_machine.specs.Stepping.{is_taken, step, run, load_at_pc, stored}
-use Rattle.tc_machine.specs.Safe.{IsMachine, Starts, AllFit, SpellsAt, ChainsAreWhole, Fits, Safe, IsRun}
+use Rattle.tc_machine.specs.Safe.{Starts, AllFit, SpellsAt, ChainsAreWhole, Fits, Safe, IsRun}
 use Rattle.tc_mem.specs.PlanMemory.{HoldsRom}
 use Rattle.csa_chain.specs.MemoryBytes.{Memory, is_mapped}
 use Rattle.tcd_base.specs.declared.range.Range.{Range}
-use Rattle.tcd_base.specs.Ranges.{IsInOne}
+use Rattle.tcd_base.specs.Ranges.{IsInOneRange}
 use Rattle.tcd_plan.specs.declared.plans.Device.{Device}
 use Rattle.tc_isa.specs.Spelling.{Spells}
 use Rattle.tc_isa.specs.declared.shapes.Arg.{Arg}
@@ -32,40 +33,41 @@ use Rattle.std.specs.FinMap as bytes
 abbrev pub StartsWhole : Type 0
 StartsWhole = (image : ImageData) (plan : PlanData) (m : Machine) → IsPlan plan → Starts image plan m → ChainsAreWhole plan 0 m
 
--- a spelling in rom is fetched as its instruction, if the memory has the image's bytes in rom
+-- if the memory has the image's bytes in rom, a spelling in rom at an even pc is fetched as its
+-- instruction
 abbrev pub FetchesSpelled : Type 0
 FetchesSpelled =
     (image : ImageData) (plan : PlanData) (m : Machine) (bytes : List ℕ) (inst : InstData) → IsPlan plan → HoldsRom image plan m.mem →
     m.pc % 2 ≡ 0 → SpellsAt image plan m.pc bytes inst → fetched m ≡ Ok (shape_of inst, length bytes)
 
 -- a save succeeds if the first free area is mapped and isn't the limit of the list
-abbrev pub SaveStands : Type 0
-SaveStands =
+abbrev pub MachineSaveSucceeds : Type 0
+MachineSaveSucceeds =
     (m : Machine) (upper : Bool) → link_in m.fcx ≢ 0 → is_area m.mem (link_in m.fcx) ≡ true → link_in m.fcx ≢ link_in m.lcx → save m upper ≡ saved m upper
 
 -- a restore succeeds if PCXI names a mapped area with a context of its kind
-abbrev pub RestoreStands : Type 0
-RestoreStands =
+abbrev pub MachineRestoreSucceeds : Type 0
+MachineRestoreSucceeds =
     (m : Machine) (upper : Bool) → link_in m.pcxi ≢ 0 → has_kind m upper ≡ true → is_area m.mem (link_in m.pcxi) ≡ true → restore m upper ≡ restored m upper
 
 -- a step of a running machine, if no interrupt is taken and the instruction leaves it running
-abbrev pub StepDoes : Type 0
-StepDoes =
+abbrev pub MachineStepExecutes : Type 0
+MachineStepExecutes =
     (m : Machine) (e : Event) (shape : Shape) (n : ℕ) → m.end ≡ Running → is_taken m e ≡ false → fetched m ≡ Ok (shape, n) → (does m e shape n).end ≡ Running →
-    step m e ≡ record (does m e shape n) { psw = with_status (does m e shape n).psw e.status }
+    step m e ≡ record (does m e shape n) { psw = psw_with_status (does m e shape n).psw e.status }
 
 -- A machine that died in an event, and not of Fcd, is the machine before it with that end: nothing
 -- else changed.
-abbrev pub DeathChanges : Type 0
-DeathChanges = (m : Machine) (e : Event) (cause : Cause) → (step m e).end ≡ Dead cause → cause ≢ Fcd → step m e ≡ record m { end = Dead cause }
+abbrev pub DeathChangesEndOnly : Type 0
+DeathChangesEndOnly = (m : Machine) (e : Event) (cause : Cause) → (step m e).end ≡ Dead cause → cause ≢ Fcd → step m e ≡ record m { end = Dead cause }
 
 -- a step keeps words in the registers and bytes in the memory
-abbrev pub StepStays : Type 0
-StepStays = (m : Machine) (e : Event) → IsMachine m → e.irq < 2 ^ 8 → e.input < 2 ^ 32 → e.status < 2 ^ 8 → IsMachine (step m e)
+abbrev pub StepKeepsMachine : Type 0
+StepKeepsMachine = (m : Machine) (e : Event) → IsMachine m → e.irq < 2 ^ 8 → e.input < 2 ^ 32 → e.status < 2 ^ 8 → IsMachine (step m e)
 
 -- every run from a start state, under events that fit, keeps them too
-abbrev pub RunStays : Type 0
-RunStays = (image : ImageData) (plan : PlanData) (m : Machine) (es : List Event) → IsPlan plan → Starts image plan m → AllFit plan m es → IsMachine (run m es)
+abbrev pub RunKeepsMachine : Type 0
+RunKeepsMachine = (image : ImageData) (plan : PlanData) (m : Machine) (es : List Event) → IsPlan plan → Starts image plan m → AllFit plan m es → IsMachine (run m es)
 
 -- ---- guard laws: what the definitions under the headline say, in plain equations
 -- An event fits if its interrupt is none or one of the plan's, and its input is within bounds. If
@@ -90,15 +92,15 @@ EveryRunFits =
     (plan : PlanData) (states : ℕ → Machine) (events : ℕ → Event) (n : ℕ) → IsRun states events → ((k : ℕ) → k < n → Fits plan (states k) (events k))
     → AllFit plan (states 0) (first_events n events) × (run (states 0) (first_events n events) ≡ states n)
 
--- A machine starts the image under the plan if its fields are the stated ones. All other registers,
--- bits of PSW and bytes can be anything.
+-- Guard law of start states, in plain equations: a machine starts the image under the plan if its
+-- fields are the stated ones. All other registers, bits of PSW and bytes can be anything.
 abbrev pub EveryStartStarts : Type 0
 EveryStartStarts =
     (image : ImageData) (plan : PlanData) (d a : List ℕ) (psw : ℕ) (mem : Memory) → IsImage image → IsPlan plan
     → length d ≡ 16 → All (λ w. w < 2 ^ 32) d → length a ≡ 16 → All (λ w. w < 2 ^ 32) a → psw < 2 ^ 32
     → ((x b : ℕ) → bytes.get mem x ≡ Some b → b < 2 ^ 8)
-    → ((x : ℕ) → (is_mapped mem x ≡ true) ↔ (IsInOne x 1 plan.rom ⊎ IsInOne x 1 plan.ram ⊎ ((plan.csa_at ≤ x) × (x < plan.csa_at + 64 * plan.areas))))
-    → ((x b : ℕ) → IsInOne x 1 plan.rom → image_byte image x ≡ Some b → bytes.get mem x ≡ Some b)
+    → ((x : ℕ) → (is_mapped mem x ≡ true) ↔ (IsInOneRange x 1 plan.rom ⊎ IsInOneRange x 1 plan.ram ⊎ ((plan.csa_at ≤ x) × (x < plan.csa_at + 64 * plan.areas))))
+    → ((x b : ℕ) → IsInOneRange x 1 plan.rom → image_byte image x ≡ Some b → bytes.get mem x ≡ Some b)
     → ((i : ℕ) → i + 1 < plan.areas → area_word mem (first_link plan + i) 0 ≡ first_link plan + (i + 1))
     → ((i : ℕ) → i + 1 ≡ plan.areas → area_word mem (first_link plan + i) 0 ≡ 0)
     → slice_index a 10 ≡ plan.sp → slice_index a 0 ∷ slice_index a 1 ∷ slice_index a 8 ∷ slice_index a 9 ∷ [] ≡ plan.globals
@@ -124,10 +126,10 @@ EveryStartStarts =
 -- ---- what is safe
 -- The links that a word leads to: its low 20 bits name a mapped area of 64 bytes, whose word 0
 -- leads to the next one. The last area has 0 there.
-abbrev pub IsWalk : Memory → ℕ → List ℕ → Type 0
-IsWalk mem word [] = word % 2 ^ 20 ≡ 0
-IsWalk mem word (l ∷ ls) =
-    (l ≢ 0) × (word % 2 ^ 20 ≡ l) × ((i : ℕ) → i < 64 → is_mapped mem (link_address l + i) ≡ true) × IsWalk mem (area_word mem l 0) ls
+abbrev pub IsAreaWalk : Memory → ℕ → List ℕ → Type 0
+IsAreaWalk mem word [] = word % 2 ^ 20 ≡ 0
+IsAreaWalk mem word (l ∷ ls) =
+    (l ≢ 0) × (word % 2 ^ 20 ≡ l) × ((i : ℕ) → i < 64 → is_mapped mem (link_address l + i) ≡ true) × IsAreaWalk mem (area_word mem l 0) ls
 
 -- the n addresses from x on are inside one of the ranges
 pub record LiesInRange (ranges : List Range) (x n : ℕ) : Type 0 where
@@ -145,8 +147,8 @@ pub record HasFiveParts (image : ImageData) (plan : PlanData) (most : ℕ) (m : 
   pub running : m.end ≡ Running
   pub used : List ℕ
   pub free : List ℕ
-  pub used_walk : IsWalk m.mem m.pcxi used
-  pub free_walk : IsWalk m.mem m.fcx free
+  pub used_walk : IsAreaWalk m.mem m.pcxi used
+  pub free_walk : IsAreaWalk m.mem m.fcx free
   pub count : length used + length free ≡ plan.areas
   pub places : (k : ℕ) → k < plan.areas → slice_index (reverse used ++ free) k ≡ first_link plan + k
   pub within_need : length used ≤ most
@@ -160,16 +162,16 @@ pub record HasFiveParts (image : ImageData) (plan : PlanData) (most : ℕ) (m : 
 
 -- in each state of each run that is written out, and for each next event that fits, what is safe
 -- has these five parts
-abbrev pub SafeSays : Type 0
-SafeSays =
+abbrev pub SafeHasFiveParts : Type 0
+SafeHasFiveParts =
     (image : ImageData) (plan : PlanData) (most : ℕ) (states : ℕ → Machine) (events : ℕ → Event) (n : ℕ) (e : Event) → Safe image plan most
     → IsRun states events → Starts image plan (states 0) → ((k : ℕ) → k < n → Fits plan (states k) (events k)) → Fits plan (states n) e
     → HasFiveParts image plan most (states n) e
 
 -- if no interrupt is taken, and the access is aligned or doesn't trap, a store instruction stores
 -- at its address
-abbrev pub StoresTold : Type 0
-StoresTold =
+abbrev pub StoreInstructionStores : Type 0
+StoreInstructionStores =
     (m : Machine) (e : Event) (src : ℕ) (base : Arg) (offset size : ℕ) (after : Bool) (n : ℕ) → m.end ≡ Running → is_taken m e ≡ false
     → fetched m ≡ Ok (Store src base offset size after, n) → (e.aln ≡ true → access_address m base offset after % size ≡ 0)
     → stored m e ≡ Some (access_address m base offset after, size)

@@ -3,9 +3,9 @@ use Rattle.std.specs.Prelude.{ℕ, zero, suc, ◌+◌, ◌*◌, ◌/◌, ◌%◌
 use Rattle.tcd_plan.specs.PlanData.{PlanData}
 
 -- n links, one after another
-abbrev pub links_up : ℕ → ℕ → List ℕ
-links_up link zero = []
-links_up link (suc n) = link ∷ links_up (link + 1) n
+abbrev pub area_links_up : ℕ → ℕ → List ℕ
+area_links_up link zero = []
+area_links_up link (suc n) = link ∷ area_links_up (link + 1) n
 
 -- the link of the first area: its segment, and its number in the segment
 abbrev pub first_link : PlanData → ℕ
@@ -13,7 +13,7 @@ first_link p = p.csa_at / 2 ^ 28 * 2 ^ 16 + p.csa_at % 2 ^ 28 / 64
 
 -- the links of the plan's areas, upward
 abbrev pub plan_areas : PlanData → List ℕ
-plan_areas p = links_up (first_link p) p.areas
+plan_areas p = area_links_up (first_link p) p.areas
 
 -- the link of the first free area, and of the one after area i
 abbrev pub link_or_end : PlanData → ℕ → ℕ

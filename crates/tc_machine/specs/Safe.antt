@@ -1,7 +1,7 @@
 -- Start states, events that fit, and what safe means: the definitions under the headline.
-use Rattle.std.specs.Prelude.{◌≡◌, ℕ, ◌+◌, ◌-◌, ◌/◌, ◌%◌, ◌^◌, ◌<◌, ◌≤◌, ◌⊎◌, false, nat_lt, if◌then◌else◌, List, ◌∷◌, ◌++◌, length, reverse, slice_index, Some, IfSome, All, Contains, suc, []}
+use Rattle.std.specs.Prelude.{◌≡◌, ℕ, ◌+◌, ◌-◌, ◌/◌, ◌%◌, ◌^◌, ◌<◌, ◌≤◌, ◌⊎◌, false, nat_lt, if◌then◌else◌, List, ◌∷◌, ◌++◌, length, reverse, slice_index, Some, IfSome, Contains, suc, []}
 use Rattle.std.specs.FinMap as map
-use Rattle.csa_chain.specs.MemoryBytes.{Memory, HasBytes}
+use Rattle.csa_chain.specs.MemoryBytes.{Memory}
 use Rattle.csa_chain.specs.Chain.{chain, area_word}
 use Rattle.elf_image.specs.Images.{ImageData, image_byte}
 use Rattle.tcd_plan.specs.PlanData.{PlanData}
@@ -10,43 +10,24 @@ use Rattle.tc_isa.specs.Spelling.{Spells}
 use Rattle.tc_machine.specs.declared.events.Event.{Event}
 use Rattle.tc_machine.specs.declared.events.End.TheVariants.{Running}
 use Rattle.tc_machine.specs.declared.state.Machine.{Machine}
-use Rattle.tc_machine.specs.Machine.{is_of}
+use Rattle.tc_machine.specs.Machine.{is_interrupt_stack_used, IsMachine}
 use Rattle.tc_machine.specs.Stepping.{step, run, stored, is_taken, load_at_pc}
-use Rattle.tcd_base.specs.Ranges.{IsInOne}
+use Rattle.tcd_base.specs.Ranges.{IsInOneRange}
 use Rattle.tcd_plan.specs.Regions.{AnswersLoad, IsStoreInRange}
 use Rattle.tc_mem.specs.PlanMemory.{HoldsRom, IsPlanMemory}
 use Rattle.tc_machine.specs.PlanAreas.{first_link, plan_areas}
 
--- 16 words below 2 ^ 32
-pub record AreRegisters (ws : List ℕ) : Type 0 where
-  pub count : length ws ≡ 16
-  pub words : All (λ w. w < 2 ^ 32) ws
-
--- bounds of the registers and the memory of a machine: words, addresses, bytes and truth values
-pub record IsMachine (m : Machine) : Type 0 where
-  pub d : AreRegisters m.d
-  pub a : AreRegisters m.a
-  pub pc : m.pc < 2 ^ 32
-  pub psw : m.psw < 2 ^ 32
-  pub pcxi : m.pcxi < 2 ^ 32
-  pub fcx : m.fcx < 2 ^ 32
-  pub lcx : m.lcx < 2 ^ 32
-  pub ccpn : m.ccpn < 2 ^ 8
-  pub biv : m.biv < 2 ^ 32
-  pub btv : m.btv < 2 ^ 32
-  pub isp : m.isp < 2 ^ 32
-  pub bytes : HasBytes m.mem
-
--- word 0 of each area is the link of the next one, and 0 in the last
+-- in a start state, word 0 of each area is the link of the next one, and 0 in the last
 abbrev pub IsLinkedUp : PlanData → Memory → Type 0
 IsLinkedUp plan mem =
     (i : ℕ) → i < plan.areas → area_word mem (first_link plan + i) 0 ≡ (if nat_lt (i + 1) plan.areas then first_link plan + (i + 1) else 0)
 
--- A0, A1, A8 and A9 are the plan's globals
+-- in a start state, A0, A1, A8 and A9 are the plan's globals
 abbrev pub HasGlobals : PlanData → List ℕ → Type 0
 HasGlobals plan a = slice_index a 0 ∷ slice_index a 1 ∷ slice_index a 8 ∷ slice_index a 9 ∷ [] ≡ plan.globals
 
--- A state that starts the image under the plan. All other bytes and registers can be anything.
+-- The machine is in a start state of the image under the plan. Registers, bits of PSW and bytes
+-- that aren't stated here can be anything.
 pub record Starts (image : ImageData) (plan : PlanData) (m : Machine) : Type 0 where
   pub machine : IsMachine m
   pub memory : IsPlanMemory plan m.mem
@@ -63,7 +44,7 @@ pub record Starts (image : ImageData) (plan : PlanData) (m : Machine) : Type 0 w
   pub isp : m.isp ≡ plan.isp
   pub ie : m.ie ≡ plan.start_ie
   pub ccpn : m.ccpn ≡ plan.start_ccpn
-  pub is : is_of m.psw ≡ plan.start_is
+  pub is : is_interrupt_stack_used m.psw ≡ plan.start_is
   pub io : m.psw / 2 ^ 10 % 4 ≡ 2
   pub end : m.end ≡ Running
   pub core : m.core ≡ plan.core
@@ -91,13 +72,15 @@ pub record ChainsAreWhole (plan : PlanData) (most : ℕ) (m : Machine) : Type 0 
   pub areas_partition : reverse used ++ free ≡ plan_areas plan
   pub within_need : length used ≤ most
 
--- the bytes at p, in one rom range and held by segments of the image, spell this instruction
+-- the bytes at p are in one rom range, are held by segments of the image, and spell this
+-- instruction
 pub record SpellsAt (image : ImageData) (plan : PlanData) (p : ℕ) (bytes : List ℕ) (inst : InstData) : Type 0 where
   pub spelled : Spells bytes inst
-  pub in_rom : IsInOne p (length bytes) plan.rom
+  pub in_rom : IsInOneRange p (length bytes) plan.rom
   pub held : (i : ℕ) → i < length bytes → image_byte image (p + i) ≡ Some (slice_index bytes i)
 
--- the bytes at pc spell an instruction in one rom range, are held by segments, and are the image's
+-- the bytes at the machine's pc spell an instruction in one rom range, are held by segments, and
+-- are the image's
 pub record IsAtCode (image : ImageData) (plan : PlanData) (m : Machine) : Type 0 where
   pub bytes : List ℕ
   pub inst : InstData
@@ -118,6 +101,6 @@ abbrev pub Safe : ImageData → PlanData → ℕ → Type 0
 Safe image plan most =
     (m : Machine) (es : List Event) (e : Event) → Starts image plan m → AllFit plan m es → Fits plan (run m es) e → IsSafeAt image plan most (run m es) e
 
--- a run, state by state: each state is the step of the one before
+-- a run, state by state: each state is the step of the one before, under its event
 abbrev pub IsRun : (ℕ → Machine) → (ℕ → Event) → Type 0
 IsRun states events = (k : ℕ) → states (suc k) ≡ step (states k) (events k)

@@ -2,7 +2,7 @@
 use Rattle.std.specs.Prelude.{ℕ, Bool, not, ◌==◌, if◌then◌else◌, List, [], ◌∷◌, map}
 use Rattle.csa_chain.specs.MemoryBytes.{Memory, with_words}
 use Rattle.csa_chain.specs.Chain.{link_in, link_address, is_area, area_word}
-use Rattle.csa_chain.specs.ContextWords.{pcxi_word_of, ul_of, with_link, upper_words_of, lower_words_of, d_after_upper, a_after_upper, d_after_lower, a_after_lower}
+use Rattle.csa_chain.specs.ContextWords.{pcxi_word_of, ul_of, word_with_link, upper_words_of, lower_words_of, d_after_upper, a_after_upper, d_after_lower, a_after_lower}
 use Rattle.tc_machine.specs.declared.events.Cause.TheVariants.{Fcd, Fcu, Csu, Ctyp, NoArea}
 use Rattle.tc_machine.specs.declared.state.Machine.{Machine}
 use Rattle.tc_machine.specs.Machine.{died}
@@ -19,7 +19,7 @@ saved m upper =
     record m {
       mem = with_words m.mem (link_address free) (context_of m upper);
       pcxi = pcxi_word_of m.core m.ccpn m.ie upper free;
-      fcx = with_link m.fcx (link_in (area_word m.mem free 0));
+      fcx = word_with_link m.fcx (link_in (area_word m.mem free 0));
     }
 
 -- A save. The machine dies if the free list is empty or its first area isn't mapped. After the save
@@ -42,16 +42,16 @@ released m =
     record m {
       pcxi = area_word m.mem used 0;
       mem = with_words m.mem (link_address used) (m.fcx ∷ []);
-      fcx = with_link m.fcx used;
+      fcx = word_with_link m.fcx used;
     }
 
--- the 16 words of the area of a link
-abbrev pub area_words : Memory → ℕ → List ℕ
-area_words mem link = map (area_word mem link) (0 ∷ 1 ∷ 2 ∷ 3 ∷ 4 ∷ 5 ∷ 6 ∷ 7 ∷ 8 ∷ 9 ∷ 10 ∷ 11 ∷ 12 ∷ 13 ∷ 14 ∷ 15 ∷ [])
+-- the 16 words that a restore reads from the area of a link
+abbrev pub saved_area_words : Memory → ℕ → List ℕ
+saved_area_words mem link = map (area_word mem link) (0 ∷ 1 ∷ 2 ∷ 3 ∷ 4 ∷ 5 ∷ 6 ∷ 7 ∷ 8 ∷ 9 ∷ 10 ∷ 11 ∷ 12 ∷ 13 ∷ 14 ∷ 15 ∷ [])
 
 -- the 16 words of the area that PCXI names
 abbrev pub last_context : Machine → List ℕ
-last_context m = area_words m.mem (link_in m.pcxi)
+last_context m = saved_area_words m.mem (link_in m.pcxi)
 
 -- the machine after the upper context, PSW included, was restored from the area that PCXI names
 abbrev pub restored_upper : Machine → Machine

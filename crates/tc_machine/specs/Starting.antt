@@ -3,25 +3,25 @@ use Rattle.std.specs.Prelude.{◌≡◌, ℕ, zero, suc, ◌+◌, ◌*◌, ◌^�
 use Rattle.std.specs.FinMap as map
 use Rattle.csa_chain.specs.MemoryBytes.{Memory, is_mapped, with_byte, with_words, HasBytes}
 use Rattle.csa_chain.specs.Chain.{area_word, link_at}
-use Rattle.elf_image.specs.Images.{ImageData, SegmentData, byte_in, image_byte}
+use Rattle.elf_image.specs.Images.{ImageData, SegmentData, segments_byte, image_byte}
 use Rattle.tcd_base.specs.declared.range.Range.{Range}
 use Rattle.tcd_plan.specs.PlanData.{PlanData}
-use Rattle.tc_mem.specs.PlanMemory.{IsZeros}
+use Rattle.tc_mem.specs.PlanMemory.{IsMemoryOfZeros}
 use Rattle.tc_machine.specs.declared.state.Machine.{Machine}
-use Rattle.tcd_base.specs.Ranges.{IsInOne}
+use Rattle.tcd_base.specs.Ranges.{IsInOneRange}
 use Rattle.tc_machine.specs.Safe.{Starts}
 use Rattle.tc_machine.specs.PlanAreas.{first_link}
 
 -- ---- the memory is filled
 -- the memory with a byte at x, if there is one
-abbrev pub with_some : Memory → ℕ → Option ℕ → Memory
-with_some m x (Some b) = with_byte m x b
-with_some m x None = m
+abbrev pub with_image_byte : Memory → ℕ → Option ℕ → Memory
+with_image_byte m x (Some b) = with_byte m x b
+with_image_byte m x None = m
 
 -- the memory with the image's bytes in the n bytes from x on
 unfoldable pub with_image : ImageData → Memory → ℕ → ℕ → Memory
 with_image image m x zero = m
-with_image image m x (suc n) = with_some (with_image image m x n) (x + n) (image_byte image (x + n))
+with_image image m x (suc n) = with_image_byte (with_image image m x n) (x + n) (image_byte image (x + n))
 
 -- the memory with the image's bytes in all of these ranges
 abbrev pub with_images : ImageData → Memory → List Range → Memory
@@ -30,31 +30,32 @@ with_images image m (r ∷ rs) = with_images image (with_image image m r.at r.le
 
 -- The memory after the copy of segments' bytes into a range. Each mapped byte of the range that a
 -- segment holds is the segment's. All else is as it was, and no byte is mapped or unmapped.
-pub record IsCopied (segments : List SegmentData) (r : Range) (m new : Memory) : Type 0 where
+pub record IsCopiedToMemory (segments : List SegmentData) (r : Range) (m new : Memory) : Type 0 where
   pub mapped : (q : ℕ) → is_mapped new q ≡ is_mapped m q
-  pub held : (q b : ℕ) → r.at ≤ q → q < r.at + r.len → is_mapped m q ≡ true → byte_in segments q ≡ Some b → map.get new q ≡ Some b
+  pub held : (q b : ℕ) → r.at ≤ q → q < r.at + r.len → is_mapped m q ≡ true → segments_byte segments q ≡ Some b → map.get new q ≡ Some b
   pub outside : (q : ℕ) → (q < r.at) ⊎ (r.at + r.len ≤ q) → map.get new q ≡ map.get m q
-  pub none : (q : ℕ) → byte_in segments q ≡ None → map.get new q ≡ map.get m q
+  pub none : (q : ℕ) → segments_byte segments q ≡ None → map.get new q ≡ map.get m q
 
--- the link of the area after area i of n: 0 after the last one
-abbrev pub next_link : ℕ → ℕ → ℕ → ℕ
-next_link first n i = if nat_lt (i + 1) n then first + (i + 1) else 0
+-- in the memory that a machine starts with, the link to write into area i of n: that of the area
+-- after it, 0 in the last one
+abbrev pub next_start_link : ℕ → ℕ → ℕ → ℕ
+next_start_link first n i = if nat_lt (i + 1) n then first + (i + 1) else 0
 
--- the memory with links in the first k of n areas, from the address `at` on
-unfoldable pub with_links : ℕ → ℕ → ℕ → Memory → ℕ → Memory
-with_links at first n m zero = m
-with_links at first n m (suc k) = with_words (with_links at first n m k) (at + 64 * k) (next_link first n k ∷ [])
+-- the memory with links written into the first k of n areas, from the address `at` on
+unfoldable pub with_area_links : ℕ → ℕ → ℕ → Memory → ℕ → Memory
+with_area_links at first n m zero = m
+with_area_links at first n m (suc k) = with_words (with_area_links at first n m k) (at + 64 * k) (next_start_link first n k ∷ [])
 
 -- the mapped ranges: rom, ram and n areas from an address on
-abbrev pub mapped_ranges_of : List Range → List Range → ℕ → ℕ → List Range
-mapped_ranges_of rom ram at n = rom ++ ram ++ record { at = at; len = 64 * n } ∷ []
+abbrev pub start_memory_ranges : List Range → List Range → ℕ → ℕ → List Range
+start_memory_ranges rom ram at n = rom ++ ram ++ record { at = at; len = 64 * n } ∷ []
 
 -- a memory of zeros in those ranges, with the image's bytes in rom, and the links
-pub record IsFilled (image : ImageData) (rom ram : List Range) (at n : ℕ) (mem : Memory) : Type 0 where
+pub record IsFilledStartMemory (image : ImageData) (rom ram : List Range) (at n : ℕ) (mem : Memory) : Type 0 where
   pub zeros : Memory
-  pub are_zeros : IsZeros (mapped_ranges_of rom ram at n) zeros
+  pub are_zeros : IsMemoryOfZeros (start_memory_ranges rom ram at n) zeros
   pub bytes : HasBytes (with_images image zeros rom)
-  pub is : mem ≡ with_links at (link_at at) n (with_images image zeros rom) n
+  pub is : mem ≡ with_area_links at (link_at at) n (with_images image zeros rom) n
 
 -- ---- the start
 -- A0 to A15 at the start: the globals, the stack pointer, and 0 in the others
@@ -76,6 +77,6 @@ pub record StartsInZeros (image : ImageData) (plan : PlanData) (m : Machine) : T
   pub d : m.d ≡ 0 ∷ 0 ∷ 0 ∷ 0 ∷ 0 ∷ 0 ∷ 0 ∷ 0 ∷ 0 ∷ 0 ∷ 0 ∷ 0 ∷ 0 ∷ 0 ∷ 0 ∷ 0 ∷ []
   pub a : m.a ≡ a_at_start plan
   pub psw : m.psw ≡ psw_at_start plan.start_is
-  pub ram : (x : ℕ) → IsInOne x 1 plan.ram → map.get m.mem x ≡ Some 0
-  pub rom : (x : ℕ) → IsInOne x 1 plan.rom → image_byte image x ≡ None → map.get m.mem x ≡ Some 0
+  pub ram : (x : ℕ) → IsInOneRange x 1 plan.ram → map.get m.mem x ≡ Some 0
+  pub rom : (x : ℕ) → IsInOneRange x 1 plan.rom → image_byte image x ≡ None → map.get m.mem x ≡ Some 0
   pub words : (i k : ℕ) → i < plan.areas → 0 < k → k < 16 → area_word m.mem (first_link plan + i) k ≡ 0

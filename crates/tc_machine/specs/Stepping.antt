@@ -10,9 +10,9 @@ use Rattle.tc_machine.specs.declared.events.Event.{Event}
 use Rattle.tc_machine.specs.declared.events.End.{End}
 use Rattle.tc_machine.specs.declared.events.End.TheVariants.{Running, Dead}
 use Rattle.tc_machine.specs.declared.state.Machine.{Machine}
-use Rattle.tc_machine.specs.Machine.{died, then_}
-use Rattle.tc_machine.specs.Instructions.{with_status, does, access_address, traps_at, at_handler}
-use Rattle.tc_machine.specs.Fetching.{fetched, mapped_bytes, shaped}
+use Rattle.tc_machine.specs.Machine.{died, then_, psw_with_status}
+use Rattle.tc_machine.specs.Instructions.{does, access_address, is_trapping_access, at_handler}
+use Rattle.tc_machine.specs.Fetching.{fetched, mapped_bytes, fetched_shape}
 use Rattle.tc_machine.specs.SavesAndRestores.{save}
 
 -- the event's interrupt is taken: interrupts are enabled, and its priority is above the current one
@@ -30,13 +30,13 @@ interrupt m irq =
     then_ (save m true) (λ s. record (at_handler m s m.pc (bit_or m.biv (irq * 2 ^ 5))) { ccpn = irq })
 
 -- an event of a machine that runs: an interrupt, else the instruction at pc
-abbrev pub done : Machine → Event → Machine
-done m e = if is_taken m e then interrupt m e.irq else executed m e (fetched m)
+abbrev pub machine_after_event : Machine → Event → Machine
+machine_after_event m e = if is_taken m e then interrupt m e.irq else executed m e (fetched m)
 
 -- One event. A dead machine doesn't change. If the machine still runs after the event, the status
 -- byte of PSW is the event's.
 unfoldable pub step : Machine → Event → Machine
-step m e = then_ m (λ m. then_ (done m e) (λ n. record n { psw = with_status n.psw e.status }))
+step m e = then_ m (λ m. then_ (machine_after_event m e) (λ n. record n { psw = psw_with_status n.psw e.status }))
 
 -- all events, one after another
 abbrev pub run : Machine → List Event → Machine
@@ -57,20 +57,21 @@ load_in m _ = None
 abbrev pub load_at_pc : Machine → Option (ℕ × ℕ)
 load_at_pc m = load_in m (fetched m)
 
--- The address and the size of the load that the bytes at pc do, whether pc is odd or even. There is
--- none if the machine is dead, the bytes don't decode, or the instruction is no load.
+-- What the next step may load: the address and the size of the load that the bytes at pc do, at odd
+-- pc too. None if the machine is dead, the bytes don't decode, or they are no load.
 abbrev pub next_load_of : Machine → Option (ℕ × ℕ)
-next_load_of m = where_running m.end (load_in m (shaped (decoded_of (mapped_bytes 4 m.mem m.pc))))
+next_load_of m = where_running m.end (load_in m (fetched_shape (decoded_of (mapped_bytes 4 m.mem m.pc))))
 
--- the length of the chain that begins in PCXI; none if it has more than 4,096 links or reaches an
--- area that isn't mapped
+-- the number of areas in use between steps of a machine: the length of the chain from PCXI; none if
+-- it has more than 4,096 links or reaches an area that isn't mapped
 abbrev pub used_of : Machine → Option ℕ
 used_of m = option_map length (chain m.mem m.pcxi)
 
--- the address and the size that this instruction stores at, if the access doesn't trap
+-- what a step with this event and this found instruction stores at: the address and the size, if it
+-- is a store and its access doesn't trap
 abbrev pub store_in : Machine → Event → Result (Shape × ℕ) Cause → Option (ℕ × ℕ)
 store_in m e (Ok (Store src base offset size after, n)) =
-    if traps_at e (access_address m base offset after) size then None else Some (access_address m base offset after, size)
+    if is_trapping_access e (access_address m base offset after) size then None else Some (access_address m base offset after, size)
 store_in m e _ = None
 
 -- The address and the size that the step of this event stores at. There is none if the machine is

@@ -2,17 +2,17 @@
 ghost use Rattle.std.specs.Prelude.{◌≡◌, ◌<◌, ◌%◌, ◌^◌, unwrap_or};
 ghost use Rattle.std.specs.Bool.{MatchBool};
 ghost use Rattle.std.specs.FinMap as map;
-ghost use Rattle.tc_isa.specs.InBounds.{IsSize};
-ghost use Rattle.csa_chain.specs.MemoryBytes.{load_number, with_bytes, extend};
-ghost use Rattle.tc_machine.specs.Instructions.{traps_at};
+ghost use Rattle.tc_isa.specs.InBounds.{IsShapeAccessSize};
+ghost use Rattle.csa_chain.specs.MemoryBytes.{load_number, with_bytes, extend_loaded_bytes};
+ghost use Rattle.tc_machine.specs.Instructions.{is_trapping_access};
 
 use crate::Event;
-use crate::registers::ahead;
+use crate::operands::machine_address_ahead;
 use tc_mem::Mem;
 use tcd_base::sext;
 
-/// Returns the byte at an address, or the low byte of the input if it isn't mapped.
-fn byte(mem: &Mem, input: u32, addr: u32) -> u8
+/// Returns the byte that a load reads at an address: the input's low byte if none is mapped.
+fn load_byte_or_input(mem: &Mem, input: u32, addr: u32) -> u8
     ensures { result ≡ unwrap_or (map.get mem.now addr) (input % 2 ^ 8) }
 {
     mem.get(addr).unwrap_or((input % 256) as u8)
@@ -20,65 +20,69 @@ fn byte(mem: &Mem, input: u32, addr: u32) -> u8
 
 /// Returns the halfword at an address, byte by byte.
 #[tactic(auto, unfolding(csa_chain::specs::MemoryBytes::load_number))]
-fn half_by_bytes(mem: &Mem, input: u32, addr: u32) -> u16
+fn load_half_by_bytes(mem: &Mem, input: u32, addr: u32) -> u16
     ensures { result ≡ load_number mem.now input addr 2 }
 {
-    let low = byte(mem, input, addr);
-    let high = byte(mem, input / 256, ahead(addr, 1));
+    let low = load_byte_or_input(mem, input, addr);
+    let high = load_byte_or_input(mem, input / 256, machine_address_ahead(addr, 1));
     u16::from(low) + 256 * u16::from(high)
 }
 
 /// Returns the halfword at an address.
-fn half(mem: &Mem, input: u32, addr: u32) -> u16
+fn load_half_or_input(mem: &Mem, input: u32, addr: u32) -> u16
     ensures { result ≡ load_number mem.now input addr 2 }
 {
     match mem.half(addr) {
         Some(half) => half,
-        None => half_by_bytes(mem, input, addr),
+        None => load_half_by_bytes(mem, input, addr),
     }
 }
 
 /// Returns the word at an address, byte by byte.
 #[tactic(auto, unfolding(csa_chain::specs::MemoryBytes::load_number))]
-fn word_by_bytes(mem: &Mem, input: u32, addr: u32) -> u32
+fn load_word_by_bytes(mem: &Mem, input: u32, addr: u32) -> u32
     ensures { result ≡ load_number mem.now input addr 4 }
 {
-    let low = byte(mem, input, addr);
-    let second = byte(mem, input / 256, ahead(addr, 1));
-    let high = half_by_bytes(mem, input / 256 / 256, ahead(ahead(addr, 1), 1));
+    let low = load_byte_or_input(mem, input, addr);
+    let second = load_byte_or_input(mem, input / 256, machine_address_ahead(addr, 1));
+    let high = load_half_by_bytes(
+        mem,
+        input / 256 / 256,
+        machine_address_ahead(machine_address_ahead(addr, 1), 1),
+    );
     u32::from(low) + 256 * (u32::from(second) + 256 * u32::from(high))
 }
 
 /// Returns the word at an address.
-fn word(mem: &Mem, input: u32, addr: u32) -> u32
+fn load_word_or_input(mem: &Mem, input: u32, addr: u32) -> u32
     ensures { result ≡ load_number mem.now input addr 4 }
 {
     match mem.word(addr) {
         Some(word) => word,
-        None => word_by_bytes(mem, input, addr),
+        None => load_word_by_bytes(mem, input, addr),
     }
 }
 
 /// Returns the byte at an address, for a load.
 #[tactic(auto, unfolding(csa_chain::specs::MemoryBytes::load_number))]
-fn single(mem: &Mem, input: u32, addr: u32) -> u8
+fn load_single_byte(mem: &Mem, input: u32, addr: u32) -> u8
     ensures { result ≡ load_number mem.now input addr 1 }
 {
-    byte(mem, input, addr)
+    load_byte_or_input(mem, input, addr)
 }
 
 /// Returns the value of a load of `size` bytes from an address, extended to a word.
 pub(crate) fn load(mem: &Mem, input: u32, addr: u32, size: u8, signed: bool) -> u32
-    requires { IsSize size }
-    ensures { result ≡ extend signed size (load_number mem.now input addr size) }
+    requires { IsShapeAccessSize size }
+    ensures { result ≡ extend_loaded_bytes signed size (load_number mem.now input addr size) }
 {
     if size == 4 {
-        return word(mem, input, addr);
+        return load_word_or_input(mem, input, addr);
     }
     let number = if size == 2 {
-        u32::from(half(mem, input, addr))
+        u32::from(load_half_or_input(mem, input, addr))
     } else {
-        u32::from(single(mem, input, addr))
+        u32::from(load_single_byte(mem, input, addr))
     };
     if signed {
         sext(number, 8 * size)
@@ -94,7 +98,7 @@ fn store_bytes(mem: &mut Mem, addr: u32, word: u32, n: u8)
 {
     if n > 0 {
         mem.set(addr, (word % 256) as u8);
-        store_bytes(mem, ahead(addr, 1), word / 256, n - 1);
+        store_bytes(mem, machine_address_ahead(addr, 1), word / 256, n - 1);
     }
 }
 
@@ -122,9 +126,9 @@ pub(crate) fn store(mem: &mut Mem, addr: u32, word: u32, n: u8)
 
 /// Returns true if an access traps: its address is no multiple of its size, and the event says that
 /// such accesses trap.
-pub fn traps(event: &Event, addr: u32, size: u8) -> bool
-    requires { IsSize size }
-    ensures { result ≡ traps_at event.now addr size }
+pub fn is_trapping_access(event: &Event, addr: u32, size: u8) -> bool
+    requires { IsShapeAccessSize size }
+    ensures { result ≡ is_trapping_access event.now addr size }
 {
     event.aln && addr % u32::from(size) != 0
 }

@@ -4,18 +4,18 @@ ghost use Rattle.std.specs.Bool.{OnTrue};
 ghost use Rattle.csa_chain.specs.Chain.{link_in, is_area, area_word};
 ghost use Rattle.tc_isa.specs.InBounds.{IsShape};
 ghost use Rattle.tc_encode.specs.Decoding.{decoded_of};
-ghost use Rattle.tc_machine.specs.Fetching.{mapped_bytes, shaped};
+ghost use Rattle.tc_machine.specs.Fetching.{mapped_bytes, fetched_shape};
 ghost use Rattle.tc_machine.specs.Stepping.{load_in, next_load_of, used_of, step};
-ghost use Rattle.tc_machine.specs.InstructionKinds.{keeps_of, keeps_at};
+ghost use Rattle.tc_machine.specs.InstructionKinds.{is_area_keeping_shape, is_area_keeping_event};
 
-use crate::contexts::link;
+use crate::contexts::context_link;
 use crate::{Cause, End, Event, Machine};
 use csa_chain::address_of;
 use tc_isa::Shape;
 
-/// Returns true if an instruction never changes the memory or PCXI.
-fn keeps(event: &Event, shape: Shape) -> bool
-    ensures { result ≡ keeps_of event.now shape }
+/// Returns true if an instruction of this shape never changes the memory or PCXI.
+fn is_area_keeping_shape(event: &Event, shape: Shape) -> bool
+    ensures { result ≡ is_area_keeping_shape event.now shape }
 {
     match shape {
         Shape::Load { .. } => !event.aln,
@@ -27,7 +27,8 @@ fn keeps(event: &Event, shape: Shape) -> bool
 }
 
 impl Machine {
-    /// Returns the address and the size in bytes of the load that an instruction does.
+    /// Returns the address and the size in bytes of the load that an instruction of this shape
+    /// does, or `None` if it is no load.
     fn load_of(&self, shape: Shape) -> Option<(u32, u8)>
         requires { IsShape shape }
         ensures { result ≡ load_in self.now (Ok (shape, 0)) }
@@ -44,9 +45,10 @@ impl Machine {
         }
     }
 
-    /// Returns the next load as `next_load` does; `found` is what the bytes at pc do.
+    /// Returns the machine's next load as `next_load` does; `found` is what the bytes at pc do.
     pub fn load_by(&self, found: &Result<(Shape, u32), Cause>) -> Option<(u32, u8)>
-        requires found { found.now ≡ shaped (decoded_of (mapped_bytes 4 self.now.mem self.now.pc)) }
+        requires found { found.now
+            ≡ fetched_shape (decoded_of (mapped_bytes 4 self.now.mem self.now.pc)) }
         requires bounded { IfOk found.now (λ it. IsShape it.0) }
         ensures { result ≡ next_load_of self.now }
     {
@@ -59,9 +61,8 @@ impl Machine {
         }
     }
 
-    /// Returns the address and the size in bytes of the load that the instruction at pc would do.
-    /// The answer is `None` if the machine is dead, the bytes there don't decode, or the
-    /// instruction is no load.
+    /// Returns the address and size of the load that the instruction at pc would do: `None` if the
+    /// machine is dead, the bytes don't decode, or the instruction is no load.
     pub fn next_load(&self) -> Option<(u32, u8)>
         ensures { result ≡ next_load_of self.now }
     {
@@ -76,22 +77,23 @@ impl Machine {
             (if is_area self.now.mem (link_in word)
             then Some (area_word self.now.mem (link_in word) 0) else None) }
     {
-        self.mem.first_word(address_of(link(word)), near)
+        self.mem.first_word(address_of(context_link(word)), near)
     }
 
     /// Returns true if an event never changes the memory or PCXI, so that the areas in use stay. No
     /// interrupt is taken, and `found`, which is what the bytes at pc do, is an instruction that
     /// can't trap. It stores nothing, saves and restores no context and writes no core register.
     pub fn keeps_areas(&self, event: &Event, found: &Result<(Shape, u32), Cause>) -> bool
-        requires { found.now ≡ shaped (decoded_of (mapped_bytes 4 self.now.mem self.now.pc)) }
-        ensures is { result ≡ keeps_at self.now event.now found.now }
+        requires { found.now ≡ fetched_shape
+            (decoded_of (mapped_bytes 4 self.now.mem self.now.pc)) }
+        ensures is { result ≡ is_area_keeping_event self.now event.now found.now }
         ensures kept { OnTrue result (used_of (step self.now event.now) ≡ used_of self.now) }
     {
         if self.ie && self.ccpn < event.irq {
             return false;
         }
         match found {
-            Ok((shape, _)) => keeps(event, *shape),
+            Ok((shape, _)) => is_area_keeping_shape(event, *shape),
             Err(_) => false,
         }
     }
@@ -104,7 +106,7 @@ impl Machine {
         let mut word = self.pcxi;
         let mut count = 0;
         let mut near = 0;
-        while link(word) != 0 {
+        while context_link(word) != 0 {
             if count == 4096 {
                 return None;
             }

@@ -3,8 +3,8 @@ ghost use Rattle.std.specs.Prelude.{◌≡◌, ◌<◌, ◌%◌, ◌^◌, Some, 
 ghost use Rattle.csa_chain.specs.MemoryBytes.{with_word};
 ghost use Rattle.csa_chain.specs.Chain.{link_in, link_address, is_area, area_word};
 ghost use Rattle.csa_chain.specs.ContextWords.{pcxi_word_of};
-ghost use Rattle.tc_mem.specs.Areas.{area_of};
-ghost use Rattle.tc_machine.specs.SavesAndRestores.{context_of, saved, save, area_words, last_context, released, restored_upper, restored_lower, restored, restore};
+ghost use Rattle.tc_mem.specs.Areas.{memory_area_of};
+ghost use Rattle.tc_machine.specs.SavesAndRestores.{context_of, saved, save, saved_area_words, last_context, released, restored_upper, restored_lower, restored, restore};
 
 use crate::{Cause, Machine};
 use csa_chain::{
@@ -12,16 +12,16 @@ use csa_chain::{
 };
 use tc_mem::Mem;
 
-/// Returns the link in bits 19:0 of a word.
-pub(crate) fn link(word: u32) -> u32
+/// Returns the link in bits 19:0 of a word, such as FCX or PCXI.
+pub(crate) fn context_link(word: u32) -> u32
     ensures { result ≡ link_in word }
 {
     word % 0x10_0000
 }
 
-/// Writes a word to the four bytes from an address on, byte by byte.
+/// Writes a word to the four bytes from an address on, in a save area, byte by byte.
 #[tactic(auto, unfolding(csa_chain::specs::MemoryBytes::with_word))]
-fn put_bytes(mem: &mut Mem, addr: u32, word: u32)
+fn put_area_word_bytes(mem: &mut Mem, addr: u32, word: u32)
     requires { addr + 3 < 2 ^ 32 }
     ensures { mem.new ≡ with_word mem.old addr word }
 {
@@ -31,15 +31,15 @@ fn put_bytes(mem: &mut Mem, addr: u32, word: u32)
     mem.set(addr + 3, (word / 16777216 % 256) as u8);
 }
 
-/// Writes a word to the four bytes from an address on.
-pub(crate) fn put_word(mem: &mut Mem, addr: u32, word: u32)
+/// Writes a word to the four bytes from an address on, in a save area.
+pub(crate) fn put_area_word(mem: &mut Mem, addr: u32, word: u32)
     requires { addr + 3 < 2 ^ 32 }
     ensures { mem.new ≡ with_word mem.old addr word }
 {
     if mem.set_word(addr, word) {
         return;
     }
-    put_bytes(mem, addr, word);
+    put_area_word_bytes(mem, addr, word);
 }
 
 impl Machine {
@@ -75,7 +75,8 @@ impl Machine {
     pub(crate) fn words_of(&self, named: u32) -> Option<[u32; 16]>
         requires { named < 2 ^ 20 }
         ensures { result ≡
-            (if is_area self.now.mem named then Some (area_words self.now.mem named) else None) }
+            (if is_area self.now.mem named then Some
+            (saved_area_words self.now.mem named) else None) }
     {
         self.mem.area(address_of(named))
     }
@@ -90,7 +91,7 @@ impl Machine {
         let words = self.context(upper);
         self.mem.set_area(address_of(free), &words);
         self.pcxi = self.pcxi_after(upper, free);
-        self.fcx = self.fcx / 0x10_0000 * 0x10_0000 + link(next);
+        self.fcx = self.fcx / 0x10_0000 * 0x10_0000 + context_link(next);
     }
 
     /// Saves a context. The machine dies if the free list is empty or its first area isn't mapped.
@@ -100,7 +101,7 @@ impl Machine {
     pub(crate) fn save(&mut self, upper: bool)
         ensures { self.new ≡ save self.old upper }
     {
-        let free = link(self.fcx);
+        let free = context_link(self.fcx);
         if free == 0 {
             self.die(Cause::Fcu);
             return;
@@ -109,7 +110,7 @@ impl Machine {
             self.die(Cause::NoArea);
             return;
         };
-        let limit = link(self.lcx);
+        let limit = context_link(self.lcx);
         self.save_to(free, words[0], upper);
         if free == limit {
             self.die(Cause::Fcd);
@@ -124,7 +125,7 @@ impl Machine {
         requires before { before ≡ area_word self.old.mem used 0 }
         ensures { self.new ≡ released self.old }
     {
-        put_word(&mut self.mem, address_of(used), self.fcx);
+        put_area_word(&mut self.mem, address_of(used), self.fcx);
         self.pcxi = before;
         self.fcx = self.fcx / 0x10_0000 * 0x10_0000 + used;
     }

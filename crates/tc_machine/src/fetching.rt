@@ -3,16 +3,16 @@ ghost use Rattle.std.specs.Prelude.{◌≡◌, ◌<◌, ◌≤◌, IfOk};
 ghost use Rattle.tcd_base.specs.Bytes.{bytes_of_word};
 ghost use Rattle.tc_isa.specs.InBounds.{IsShape};
 ghost use Rattle.tc_encode.specs.Decoding.{decoded_of};
-ghost use Rattle.tc_machine.specs.Fetching.{mapped_bytes, cause_of, fetched, shaped};
+ghost use Rattle.tc_machine.specs.Fetching.{mapped_bytes, fetch_failure_cause, fetched, fetched_shape};
 
-use crate::registers::ahead;
+use crate::operands::machine_address_ahead;
 use crate::{Cause, Machine};
 use tc_encode::{DecodeErr, decode};
 use tc_isa::{Inst, Shape, shape};
 use tc_mem::Mem;
 
 /// Returns the instruction that the bytes begin with, and its length in bytes.
-fn decode_front(bytes: &[u8]) -> Result<(Inst, usize), DecodeErr>
+fn decode_fetched_bytes(bytes: &[u8]) -> Result<(Inst, usize), DecodeErr>
     ensures decoded { result ≡ decoded_of bytes.now }
     ensures small { IfOk result (λ found. found.1 ≤ 4) }
 {
@@ -20,7 +20,7 @@ fn decode_front(bytes: &[u8]) -> Result<(Inst, usize), DecodeErr>
 }
 
 /// Returns the bytes of a word, the lowest first.
-fn word_bytes(word: u32) -> [u8; 4]
+fn fetched_word_bytes(word: u32) -> [u8; 4]
     ensures { result ≡ bytes_of_word word }
 {
     word.to_le_bytes()
@@ -29,42 +29,42 @@ fn word_bytes(word: u32) -> [u8; 4]
 /// Decodes the instruction that at most four mapped bytes from an address on begin with, read byte
 /// by byte. Returns its length in bytes too.
 #[tactic(auto, unfolding(crate::specs::Fetching::mapped_bytes))]
-fn decode_by_bytes(mem: &Mem, addr: u32) -> Result<(Inst, usize), DecodeErr>
+fn fetch_by_bytes(mem: &Mem, addr: u32) -> Result<(Inst, usize), DecodeErr>
     ensures decoded { result ≡ decoded_of (mapped_bytes 4 mem.now addr) }
     ensures small { IfOk result (λ found. found.1 ≤ 4) }
 {
     let Some(a) = mem.get(addr) else {
-        return decode_front(&[]);
+        return decode_fetched_bytes(&[]);
     };
-    let second = ahead(addr, 1);
+    let second = machine_address_ahead(addr, 1);
     let Some(b) = mem.get(second) else {
-        return decode_front(&[a]);
+        return decode_fetched_bytes(&[a]);
     };
-    let third = ahead(second, 1);
+    let third = machine_address_ahead(second, 1);
     let Some(c) = mem.get(third) else {
-        return decode_front(&[a, b]);
+        return decode_fetched_bytes(&[a, b]);
     };
-    let Some(d) = mem.get(ahead(third, 1)) else {
-        return decode_front(&[a, b, c]);
+    let Some(d) = mem.get(machine_address_ahead(third, 1)) else {
+        return decode_fetched_bytes(&[a, b, c]);
     };
-    decode_front(&[a, b, c, d])
+    decode_fetched_bytes(&[a, b, c, d])
 }
 
 /// Decodes the instruction that at most four mapped bytes from an address on begin with. Returns
 /// its length in bytes too.
-fn decode_at(mem: &Mem, addr: u32) -> Result<(Inst, usize), DecodeErr>
+fn fetch_at_address(mem: &Mem, addr: u32) -> Result<(Inst, usize), DecodeErr>
     ensures decoded { result ≡ decoded_of (mapped_bytes 4 mem.now addr) }
     ensures small { IfOk result (λ found. found.1 ≤ 4) }
 {
     match mem.word(addr) {
-        Some(word) => decode_front(&word_bytes(word)),
-        None => decode_by_bytes(mem, addr),
+        Some(word) => decode_fetched_bytes(&fetched_word_bytes(word)),
+        None => fetch_by_bytes(mem, addr),
     }
 }
 
-/// Returns why a machine dies if its bytes are no instruction.
-fn cause(e: DecodeErr) -> Cause
-    ensures { result ≡ cause_of e }
+/// Returns why a machine dies if the bytes at pc decode to no instruction.
+fn fetch_failure_cause(e: DecodeErr) -> Cause
+    ensures { result ≡ fetch_failure_cause e }
 {
     match e {
         DecodeErr::Short => Cause::NoCode,
@@ -76,12 +76,13 @@ impl Machine {
     /// Returns what the bytes at pc do, and the length of the instruction in bytes. Here pc may be
     /// odd.
     pub fn shape_at_pc(&self) -> Result<(Shape, u32), Cause>
-        ensures shape { result ≡ shaped (decoded_of (mapped_bytes 4 self.now.mem self.now.pc)) }
+        ensures shape { result ≡ fetched_shape
+            (decoded_of (mapped_bytes 4 self.now.mem self.now.pc)) }
         ensures bounded { IfOk result (λ found. IsShape found.0) }
     {
-        match decode_at(&self.mem, self.pc) {
+        match fetch_at_address(&self.mem, self.pc) {
             Ok((inst, n)) => Ok((shape(&inst), n as u32)),
-            Err(e) => Err(cause(e)),
+            Err(e) => Err(fetch_failure_cause(e)),
         }
     }
 
@@ -89,7 +90,8 @@ impl Machine {
     /// is none.
     #[tactic(auto, unfolding(crate::specs::Fetching::fetched))]
     pub(crate) fn fetch(&self, found: Result<(Shape, u32), Cause>) -> Result<(Shape, u32), Cause>
-        requires found { found ≡ shaped (decoded_of (mapped_bytes 4 self.now.mem self.now.pc)) }
+        requires found { found ≡ fetched_shape
+            (decoded_of (mapped_bytes 4 self.now.mem self.now.pc)) }
         requires bounded { IfOk found (λ it. IsShape it.0) }
         ensures shape { result ≡ fetched self.now }
         ensures bounded { IfOk result (λ it. IsShape it.0) }

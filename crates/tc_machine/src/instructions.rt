@@ -1,12 +1,12 @@
 // Executes instructions.
 ghost use Rattle.std.specs.Prelude.{◌≡◌, ◌<◌};
-ghost use Rattle.tc_isa.specs.InBounds.{IsShape, IsArg, IsTarget, IsSize};
+ghost use Rattle.tc_isa.specs.InBounds.{IsShape, IsArg, IsTarget, IsShapeAccessSize};
 ghost use Rattle.tc_machine.specs.declared.events.Event.{Event};
 ghost use Rattle.tc_machine.specs.Instructions.{does};
-ghost use Rattle.tc_machine.specs.InstructionKinds.{OnAccess, OnContext, OnSystem};
+ghost use Rattle.tc_machine.specs.InstructionKinds.{OnAccessInstruction, OnContextInstruction, OnSystemInstruction};
 
-use crate::accesses::{load, store, traps};
-use crate::registers::ahead;
+use crate::accesses::{is_trapping_access, load, store};
+use crate::operands::machine_address_ahead;
 use crate::{End, Event, Machine};
 use csa_chain::pcxi_parts;
 use tc_isa::{Arg, Cond, Op, Shape, Target, alu, taken};
@@ -57,7 +57,7 @@ impl Machine {
         ensures { (event : Event)
             → self.new ≡ does self.old event (Shape.Scaled dst base index k) n }
     {
-        let word = ahead(self.reg(base), self.reg(index) << k);
+        let word = machine_address_ahead(self.reg(base), self.reg(index) << k);
         self.set_reg(dst, word);
         self.advance(n);
     }
@@ -70,7 +70,7 @@ impl Machine {
             ≡ does self.old event.now (Shape.Load dst at.base at.offset at.size signed at.after) n }
     {
         let addr = self.access(at.base, at.offset, at.after);
-        if traps(event, addr, at.size) {
+        if is_trapping_access(event, addr, at.size) {
             self.trap(INSTRUCTION_ERRORS, ALN, self.pc);
             return;
         }
@@ -80,7 +80,7 @@ impl Machine {
         self.advance(n);
     }
 
-    /// Executes a store, or takes the trap of a misaligned one.
+    /// Executes a store instruction of `n` bytes, or takes the trap of a misaligned one.
     #[tactic(auto, unfolding(crate::specs::Instructions::does))]
     fn store(&mut self, event: &Event, src: u8, at: Access, n: u32)
         requires { IsShape (Shape.Store src at.base at.offset at.size at.after) }
@@ -88,7 +88,7 @@ impl Machine {
             ≡ does self.old event.now (Shape.Store src at.base at.offset at.size at.after) n }
     {
         let addr = self.access(at.base, at.offset, at.after);
-        if traps(event, addr, at.size) {
+        if is_trapping_access(event, addr, at.size) {
             self.trap(INSTRUCTION_ERRORS, ALN, self.pc);
             return;
         }
@@ -118,7 +118,7 @@ impl Machine {
         ensures { (event : Event) → self.new ≡ does self.old event (Shape.Call to) n }
     {
         let entry = self.target(to);
-        let back = ahead(self.pc, n);
+        let back = machine_address_ahead(self.pc, n);
         self.save(true);
         match self.end {
             End::Running => {
@@ -142,7 +142,7 @@ impl Machine {
         }
     }
 
-    /// Executes a return from a handler, which restores IE and CCPN from PCXI.
+    /// Executes the instruction `rfe`: returns from a handler, and restores IE and CCPN from PCXI.
     #[tactic(auto, unfolding(crate::specs::Instructions::does))]
     fn leave_handler(&mut self, n: u32)
         ensures { (event : Event) → self.new ≡ does self.old event Shape.Rfe n }
@@ -160,7 +160,7 @@ impl Machine {
         }
     }
 
-    /// Executes a save of the lower context.
+    /// Executes the instruction `svlcx`: saves the lower context, and goes on after it.
     #[tactic(auto, unfolding(crate::specs::Instructions::does))]
     fn save_lower(&mut self, n: u32)
         ensures { (event : Event) → self.new ≡ does self.old event Shape.Svlcx n }
@@ -172,7 +172,7 @@ impl Machine {
         }
     }
 
-    /// Executes a restore of the lower context.
+    /// Executes the instruction `rslcx`: restores the lower context, and goes on after it.
     #[tactic(auto, unfolding(crate::specs::Instructions::does))]
     fn take_lower(&mut self, n: u32)
         ensures { (event : Event) → self.new ≡ does self.old event Shape.Rslcx n }
@@ -206,7 +206,7 @@ impl Machine {
     #[tactic(auto, unfolding(crate::specs::Instructions::does))]
     fn execute_access(&mut self, event: &Event, shape: Shape, n: u32)
         requires { IsShape shape }
-        ensures { OnAccess shape (self.new ≡ does self.old event.now shape n) }
+        ensures { OnAccessInstruction shape (self.new ≡ does self.old event.now shape n) }
     {
         match shape {
             Shape::Load {
@@ -248,7 +248,7 @@ impl Machine {
     #[tactic(auto, unfolding(crate::specs::Instructions::does))]
     fn execute_context(&mut self, event: &Event, shape: Shape, n: u32)
         requires { IsShape shape }
-        ensures { OnContext shape (self.new ≡ does self.old event.now shape n) }
+        ensures { OnContextInstruction shape (self.new ≡ does self.old event.now shape n) }
     {
         match shape {
             Shape::Call { to } => self.call(to, n),
@@ -257,7 +257,11 @@ impl Machine {
             Shape::Svlcx => self.save_lower(n),
             Shape::Rslcx => self.take_lower(n),
             Shape::Bisr { c } => self.begin_interruptible(c, n),
-            Shape::Syscall { tin } => self.trap(SYSTEM_CALLS, tin, ahead(self.pc, n)),
+            Shape::Syscall { tin } => self.trap(
+                SYSTEM_CALLS,
+                tin,
+                machine_address_ahead(self.pc, n),
+            ),
             _ => {}
         }
     }
@@ -266,7 +270,7 @@ impl Machine {
     #[tactic(auto, unfolding(crate::specs::Instructions::does))]
     fn execute_system(&mut self, event: &Event, shape: Shape, n: u32)
         requires { IsShape shape }
-        ensures { OnSystem shape (self.new ≡ does self.old event.now shape n) }
+        ensures { OnSystemInstruction shape (self.new ≡ does self.old event.now shape n) }
     {
         match shape {
             Shape::Enable => {

@@ -1,18 +1,18 @@
 // Laws of the machine for all programs, and laws that pin the definitions under the headline.
 
-ghost use Rattle.tc_machine.specs.MachineLaws.{EveryEventFits, EveryRunFits, EveryStartStarts, SafeSays, StoresTold, StartsWhole, FetchesSpelled, SaveStands, RestoreStands, StepDoes, DeathChanges, StepStays, RunStays};
+ghost use Rattle.tc_machine.specs.MachineLaws.{EveryEventFits, EveryRunFits, EveryStartStarts, SafeHasFiveParts, StoreInstructionStores, StartsWhole, FetchesSpelled, MachineSaveSucceeds, MachineRestoreSucceeds, MachineStepExecutes, DeathChangesEndOnly, StepKeepsMachine, RunKeepsMachine};
 
 /// The laws of the machine: its areas at the start, what it fetches, saves, restores, steps and
 /// deaths.
 pub fn machine_laws()
     ensures start { StartsWhole }
     ensures fetch { FetchesSpelled }
-    ensures save { SaveStands }
-    ensures restore { RestoreStands }
-    ensures does { StepDoes }
-    ensures death { DeathChanges }
-    ensures stays { StepStays }
-    ensures runs { RunStays }
+    ensures save { MachineSaveSucceeds }
+    ensures restore { MachineRestoreSucceeds }
+    ensures does { MachineStepExecutes }
+    ensures death { DeathChangesEndOnly }
+    ensures stays { StepKeepsMachine }
+    ensures runs { RunKeepsMachine }
 {}
 
 /// The laws that pin the definitions: which events fit, which machines start, and what is safe,
@@ -21,6 +21,6 @@ pub fn guard_laws()
     ensures events { EveryEventFits }
     ensures runs { EveryRunFits }
     ensures starts { EveryStartStarts }
-    ensures safe { SafeSays }
-    ensures stores { StoresTold }
+    ensures safe { SafeHasFiveParts }
+    ensures stores { StoreInstructionStores }
 {}

@@ -17,7 +17,7 @@ mod starting;
 mod state;
 mod stepping;
 
-pub use accesses::traps;
+pub use accesses::is_trapping_access;
 pub use events::{Cause, End, Event};
 pub use laws::{guard_laws, machine_laws};
 pub use state::Machine;

@@ -1,11 +1,10 @@
 // Addresses and operands of instructions.
 ghost use Rattle.std.specs.Prelude.{◌≡◌, ◌<◌};
 ghost use Rattle.tc_isa.specs.InBounds.{IsArg, IsTarget};
-ghost use Rattle.tc_machine.specs.Machine.{reg};
+ghost use Rattle.tc_machine.specs.Machine.{reg, machine_address_ahead};
 ghost use Rattle.tc_machine.specs.Instructions.{arg, access_address, with_base, target_of, lowered, does};
 
 use crate::Machine;
-use crate::registers::ahead;
 use tc_isa::{Arg, Target};
 
 impl Machine {
@@ -17,7 +16,7 @@ impl Machine {
         if after {
             self.arg(base)
         } else {
-            ahead(self.arg(base), offset)
+            machine_address_ahead(self.arg(base), offset)
         }
     }
 
@@ -29,7 +28,7 @@ impl Machine {
         match base {
             Arg::Reg(r) => {
                 if after {
-                    let sum = ahead(self.reg(r), offset);
+                    let sum = machine_address_ahead(self.reg(r), offset);
                     self.set_reg(r, sum);
                 }
             }
@@ -43,20 +42,27 @@ impl Machine {
         ensures { result ≡ target_of self.now to }
     {
         match to {
-            Target::Rel(by) => ahead(self.pc, by),
+            Target::Rel(by) => machine_address_ahead(self.pc, by),
             Target::Abs(x) => x,
             Target::Reg(r) => self.reg(r) / 2 * 2,
         }
     }
 
-    /// Decrements the register of a branch by 1, if the branch does that.
+    /// Decrements the register `x` of a branch by 1, if the branch does that.
     pub(crate) fn lower(&mut self, x: u8, lowers: bool)
         requires { x < 32 }
         ensures { self.new ≡ lowered self.old x lowers }
     {
         if lowers {
-            let less = ahead(self.reg(x), u32::MAX);
+            let less = machine_address_ahead(self.reg(x), u32::MAX);
             self.set_reg(x, less);
         }
     }
+}
+
+/// Returns the address `by` bytes after `at`, modulo 2^32.
+pub(crate) fn machine_address_ahead(at: u32, by: u32) -> u32
+    ensures { result ≡ machine_address_ahead at by }
+{
+    at.wrapping_add(by)
 }

@@ -1,18 +1,12 @@
 // Reads and writes registers and operands.
 ghost use Rattle.std.specs.Prelude.{◌≡◌, ◌<◌};
 ghost use Rattle.tc_isa.specs.InBounds.{IsArg};
-ghost use Rattle.tc_machine.specs.Machine.{reg, with_reg, moved, died};
+ghost use Rattle.tc_machine.specs.Machine.{reg, with_reg, machine_address_ahead, died};
 ghost use Rattle.tc_machine.specs.Instructions.{arg, advanced};
 
+use crate::operands::machine_address_ahead;
 use crate::{Cause, End, Machine};
 use tc_isa::Arg;
-
-/// Returns the address `by` bytes after `at`, modulo 2^32.
-pub(crate) fn ahead(at: u32, by: u32) -> u32
-    ensures { result ≡ moved at by }
-{
-    at.wrapping_add(by)
-}
 
 impl Machine {
     /// Returns the word in a register: 0 to 15 for D0 to D15, 16 to 31 for A0 to A15.
@@ -39,7 +33,7 @@ impl Machine {
         }
     }
 
-    /// Returns the value of an operand.
+    /// Returns the value of an operand: the word in its register, or its own word.
     pub(crate) fn arg(&self, x: Arg) -> u32
         requires { IsArg x }
         ensures { result ≡ arg self.now x }
@@ -54,10 +48,10 @@ impl Machine {
     pub(crate) fn advance(&mut self, n: u32)
         ensures { self.new ≡ advanced n self.old }
     {
-        self.pc = ahead(self.pc, n);
+        self.pc = machine_address_ahead(self.pc, n);
     }
 
-    /// Ends the machine.
+    /// Ends the machine with this cause; its registers and its memory stay.
     pub(crate) fn die(&mut self, cause: Cause)
         ensures { self.new ≡ died cause self.old }
     {

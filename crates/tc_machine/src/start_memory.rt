@@ -3,17 +3,17 @@ ghost use Rattle.std.specs.Prelude.{◌≡◌, ◌<◌, ◌≤◌, ◌+◌, ◌*
 ghost use Rattle.std.specs.List.{list_all};
 ghost use Rattle.elf_image.specs.Images.{segment_data, is_segment};
 ghost use Rattle.csa_chain.specs.MemoryBytes.{HasBytes};
-ghost use Rattle.tc_machine.specs.Starting.{with_image, with_images, next_link, with_links, mapped_ranges_of, IsFilled, IsCopied};
+ghost use Rattle.tc_machine.specs.Starting.{with_image, with_images, next_start_link, with_area_links, start_memory_ranges, IsFilledStartMemory, IsCopiedToMemory};
 ghost use Rattle.csa_chain.specs.Chain.{link_at};
 
-use crate::contexts::put_word;
+use crate::contexts::put_area_word;
 use elf_image::{Image, Segment};
 use std::alloc::Global;
 use tc_mem::Mem;
 use tcd_base::{NoMemory, Range};
 
 /// Returns the mapped ranges: rom, ram and the save areas.
-fn mapped_ranges(
+fn start_memory_ranges(
     alloc: Global,
     rom: &[Range],
     ram: &[Range],
@@ -32,7 +32,7 @@ fn mapped_ranges(
 fn copy_segment(mem: &mut Mem, segment: &Segment, range: &Range)
     requires segment { segment.now.at + length segment.now.bytes.items ≤ 2 ^ 32 }
     requires range { range.now.at + range.now.len ≤ 2 ^ 32 }
-    ensures copied { IsCopied (segment_data segment.now ∷ []) range.now mem.old mem.new }
+    ensures copied { IsCopiedToMemory (segment_data segment.now ∷ []) range.now mem.old mem.new }
     ensures bytes { HasBytes mem.old → HasBytes mem.new }
 {
     let from = segment.at.max(range.at);
@@ -49,7 +49,7 @@ fn copy_segment(mem: &mut Mem, segment: &Segment, range: &Range)
 fn copy_segments(mem: &mut Mem, segments: &[Segment], range: &Range)
     requires segments { IsTrue (list_all is_segment (map segment_data segments.now)) }
     requires range { range.now.at + range.now.len ≤ 2 ^ 32 }
-    ensures copied { IsCopied (map segment_data segments.now) range.now mem.old mem.new }
+    ensures copied { IsCopiedToMemory (map segment_data segments.now) range.now mem.old mem.new }
     ensures bytes { HasBytes mem.old → HasBytes mem.new }
 {
     let mut rest = segments.len();
@@ -80,28 +80,28 @@ fn copy_image(mem: &mut Mem, image: &Image, ranges: &[Range])
 }
 
 /// Returns the link of the area after area `i` of `n`, or 0 after the last one.
-fn next_link(first: u32, n: u32, i: u32) -> u32
+fn next_start_link(first: u32, n: u32, i: u32) -> u32
     requires i { i < n }
     requires first { first + n < 2 ^ 32 }
-    ensures { result ≡ next_link first n i }
+    ensures { result ≡ next_start_link first n i }
 {
     if i + 1 < n { first + (i + 1) } else { 0 }
 }
 
 /// Links `n` areas from the address `at` on; `first` is the link of the first.
-#[tactic(auto, unfolding(crate::specs::Starting::with_links, csa_chain::specs::MemoryBytes::with_words))]
-fn link_areas(mem: &mut Mem, at: u32, first: u32, n: u32)
+#[tactic(auto, unfolding(crate::specs::Starting::with_area_links, csa_chain::specs::MemoryBytes::with_words))]
+fn link_start_areas(mem: &mut Mem, at: u32, first: u32, n: u32)
     requires areas { at + 64 * n ≤ 2 ^ 32 }
     requires links { first + n < 2 ^ 32 }
-    ensures { mem.new ≡ with_links at first n mem.old n }
+    ensures { mem.new ≡ with_area_links at first n mem.old n }
 {
     for i in 0..n {
-        put_word(mem, at + 64 * i, next_link(first, n, i));
+        put_area_word(mem, at + 64 * i, next_start_link(first, n, i));
     }
 }
 
 /// Returns the link of the area at an address.
-pub(crate) fn area_link(at: u32) -> u32
+pub(crate) fn start_area_link(at: u32) -> u32
     ensures { result ≡ link_at at }
 {
     at / 0x1000_0000 * 0x1_0000 + at % 0x1000_0000 / 64
@@ -118,15 +118,15 @@ pub(crate) fn start_memory(
     n: u32,
 ) -> Result<Mem, NoMemory>
     requires rom { All (λ r. r.at + r.len ≤ 2 ^ 32) rom.now }
-    requires all { All (λ r. r.at + r.len ≤ 2 ^ 32) (mapped_ranges_of rom.now ram.now at n) }
+    requires all { All (λ r. r.at + r.len ≤ 2 ^ 32) (start_memory_ranges rom.now ram.now at n) }
     requires areas { at + 64 * n ≤ 2 ^ 32 }
     requires few { n ≤ 4096 }
     requires links { link_at at + n < 2 ^ 32 }
-    ensures { IfOk result (λ mem. IsFilled image.now rom.now ram.now at n mem) }
+    ensures { IfOk result (λ mem. IsFilledStartMemory image.now rom.now ram.now at n mem) }
 {
-    let ranges = mapped_ranges(alloc, rom, ram, Range { at, len: 64 * n })?;
+    let ranges = start_memory_ranges(alloc, rom, ram, Range { at, len: 64 * n })?;
     let mut mem = Mem::of(alloc, &ranges)?;
     copy_image(&mut mem, image, rom);
-    link_areas(&mut mem, at, area_link(at), n);
+    link_start_areas(&mut mem, at, start_area_link(at), n);
     Ok(mem)
 }

@@ -2,7 +2,7 @@
 ghost use Rattle.std.specs.Prelude.{◌≡◌, IfOk};
 ghost use Rattle.tc_machine.specs.Starting.{psw_at_start, StartsInZeros};
 
-use crate::start_memory::{area_link, start_memory};
+use crate::start_memory::{start_area_link, start_memory};
 use crate::{End, Machine};
 use elf_image::Image;
 use std::alloc::Global;
@@ -32,7 +32,7 @@ impl Machine {
             csa_at,
             areas,
         )?;
-        let first = area_link(csa_at);
+        let first = start_area_link(csa_at);
         let globals = plan.globals;
         Ok(Machine {
             pc: image.entry,

@@ -2,8 +2,8 @@
 ghost use Rattle.std.specs.Prelude.{◌≡◌, IfOk};
 ghost use Rattle.tc_isa.specs.InBounds.{IsShape};
 ghost use Rattle.tc_encode.specs.Decoding.{decoded_of};
-ghost use Rattle.tc_machine.specs.Fetching.{mapped_bytes, shaped};
-ghost use Rattle.tc_machine.specs.Stepping.{done, step, run};
+ghost use Rattle.tc_machine.specs.Fetching.{mapped_bytes, fetched_shape};
+ghost use Rattle.tc_machine.specs.Stepping.{machine_after_event, step, run};
 
 use crate::{Cause, End, Event, Machine};
 use tc_isa::Shape;
@@ -12,9 +12,10 @@ impl Machine {
     /// Performs an event of a machine that runs. Its interrupt is taken if interrupts are enabled
     /// and its priority is above the current one; otherwise the instruction at pc is executed.
     fn perform(&mut self, event: &Event, found: Result<(Shape, u32), Cause>)
-        requires found { found ≡ shaped (decoded_of (mapped_bytes 4 self.old.mem self.old.pc)) }
+        requires found { found ≡ fetched_shape
+            (decoded_of (mapped_bytes 4 self.old.mem self.old.pc)) }
         requires bounded { IfOk found (λ it. IsShape it.0) }
-        ensures { self.new ≡ done self.old event.now }
+        ensures { self.new ≡ machine_after_event self.old event.now }
     {
         if self.ie && self.ccpn < event.irq {
             self.interrupt(event.irq);
@@ -29,7 +30,8 @@ impl Machine {
     /// Performs one event as `step` does; `found` is what the bytes at pc do.
     #[tactic(auto, unfolding(crate::specs::Stepping::step))]
     pub fn step_by(&mut self, event: &Event, found: Result<(Shape, u32), Cause>)
-        requires found { found ≡ shaped (decoded_of (mapped_bytes 4 self.old.mem self.old.pc)) }
+        requires found { found ≡ fetched_shape
+            (decoded_of (mapped_bytes 4 self.old.mem self.old.pc)) }
         requires bounded { IfOk found (λ it. IsShape it.0) }
         ensures { self.new ≡ step self.old event.now }
     {

@@ -5,10 +5,10 @@ use Rattle.std.specs.Int.{bit_at}
 use Rattle.std.specs.FinMap as finite
 use Rattle.std.proofs.lemmas.Bool.{cases_eq, eqb-true, eq-eqb, ne_eqb}
 use Rattle.std.proofs.lemmas.Nat.Bits.{bit_at_ones, same_from_bits_below}
-use Rattle.csa_chain.specs.MemoryBytes.{Memory, is_mapped, byte_at, are_mapped, word_at, words_at}
+use Rattle.csa_chain.specs.MemoryBytes.{Memory, is_mapped, byte_at, are_mapped, word_at, memory_words_at}
 use Rattle.csa_chain.proofs.ChainLaws.{are_mapped_each, are_mapped_from}
-use Rattle.tcd_base.specs.Bytes.{word_at as word_in}
-use Rattle.tc_mem.specs.Pages.{is_set, memory_of, ArePages, number_of}
+use Rattle.tcd_base.specs.Bytes.{word_in_bytes as word_in}
+use Rattle.tc_mem.specs.Pages.{is_page_bit_set, memory_of, ArePages, number_of}
 use Rattle.tc_mem.specs.declared.page.Page.{Page}
 use Rattle.tc_mem.proofs.Search.{no_page}
 use Rattle.tc_mem.proofs.Mapped.{byte_of_same, get-memory_of, byte_in_none}
@@ -29,19 +29,19 @@ high : (n j : ℕ) → j < 4096 → n ≡ (n * 4096 + j) / 4096
 high n j lt = omega arith
 
 -- a byte of a page: its bit says if it is mapped
-pub mapped_at : (ps : List Page) (i n j : ℕ) → IsAt ps i n → j < 4096 → is_mapped (memory_of ps) (n * 4096 + j) ≡ is_set (get_or ps i no_page).mapped j
-mapped_at ps i n j at lt = mapped_found (n * 4096 + j) ps i at.pages at.within (at.number ∙ high n j lt) ∙ ap (is_set (get_or ps i no_page).mapped) (low n j lt)
+pub mapped_at : (ps : List Page) (i n j : ℕ) → IsAt ps i n → j < 4096 → is_mapped (memory_of ps) (n * 4096 + j) ≡ is_page_bit_set (get_or ps i no_page).mapped j
+mapped_at ps i n j at lt = mapped_found (n * 4096 + j) ps i at.pages at.within (at.number ∙ high n j lt) ∙ ap (is_page_bit_set (get_or ps i no_page).mapped) (low n j lt)
 
-pub byte_at_is : (ps : List Page) (i n j : ℕ) → IsAt ps i n → j < 4096 → is_set (get_or ps i no_page).mapped j ≡ true → byte_at (memory_of ps) (n * 4096 + j) ≡ get_or (get_or ps i no_page).bytes j 0
+pub byte_at_is : (ps : List Page) (i n j : ℕ) → IsAt ps i n → j < 4096 → is_page_bit_set (get_or ps i no_page).mapped j ≡ true → byte_at (memory_of ps) (n * 4096 + j) ≡ get_or (get_or ps i no_page).bytes j 0
 byte_at_is ps i n j at lt here =
     let p : Page = get_or ps i no_page in
     let number = at.number ∙ high n j lt in
     ap (λ (o : Option ℕ). unwrap_or o 0) (get_found (n * 4096 + j) ps i at.pages at.within number ∙ byte_of_same (n * 4096 + j) p number)
-    ∙ ap (λ (k : ℕ). unwrap_or (cond (is_set p.mapped k) (Some (get_or p.bytes k 0)) None) 0) (low n j lt)
+    ∙ ap (λ (k : ℕ). unwrap_or (cond (is_page_bit_set p.mapped k) (Some (get_or p.bytes k 0)) None) 0) (low n j lt)
     ∙ ap (λ (t : Bool). unwrap_or (cond t (Some (get_or p.bytes j 0)) None) 0) here
 
 -- a word of a page
-pub word_at_is : (ps : List Page) (i n o : ℕ) → IsAt ps i n → o + 4 ≤ 4096 → ((k : ℕ) → k < 4 → is_set (get_or ps i no_page).mapped (o + k) ≡ true) → word_at (memory_of ps) (n * 4096 + o) ≡ word_in (get_or ps i no_page).bytes o
+pub word_at_is : (ps : List Page) (i n o : ℕ) → IsAt ps i n → o + 4 ≤ 4096 → ((k : ℕ) → k < 4 → is_page_bit_set (get_or ps i no_page).mapped (o + k) ≡ true) → word_at (memory_of ps) (n * 4096 + o) ≡ word_in (get_or ps i no_page).bytes o
 unfolding word_at
 word_at_is ps i n o at lt here =
     let a1 : n * 4096 + (o + 1) ≡ n * 4096 + o + 1 = omega arith in
@@ -54,8 +54,8 @@ word_at_is ps i n o at lt here =
     omega arith
 
 -- words one after another
-pub words_are : (m : Memory) (x : ℕ) (ws : List ℕ) (n : ℕ) → length ws ≡ n → ((k : ℕ) → k < n → get_or ws k 0 ≡ word_at m (x + 4 * k)) → ws ≡ words_at m x n
-unfolding words_at
+pub words_are : (m : Memory) (x : ℕ) (ws : List ℕ) (n : ℕ) → length ws ≡ n → ((k : ℕ) → k < n → get_or ws k 0 ≡ word_at m (x + 4 * k)) → ws ≡ memory_words_at m x n
+unfolding memory_words_at
 words_are m x [] zero size each = refl
 words_are m x [] (suc n) size each = absurd (omega arith)
 words_are m x (w ∷ ws) zero size each = absurd (omega arith)
@@ -71,18 +71,18 @@ bit_place o j aligned lt = omega arith
 bit_number : (o j : ℕ) → o % 64 ≡ 0 → j < 64 → (o + j) % 64 ≡ j
 bit_number o j aligned lt = omega arith
 
-bit_is : (mapped : List ℕ) (o j : ℕ) → o % 64 ≡ 0 → j < 64 → is_set mapped (o + j) ≡ (bit_at (get_or mapped (o / 64) 0) j == 1)
+bit_is : (mapped : List ℕ) (o j : ℕ) → o % 64 ≡ 0 → j < 64 → is_page_bit_set mapped (o + j) ≡ (bit_at (get_or mapped (o / 64) 0) j == 1)
 bit_is mapped o j aligned lt =
     ap (λ (k : ℕ). bit_at (get_or mapped k 0) ((o + j) % 64) == 1) (bit_place o j aligned lt)
     ∙ ap (λ (k : ℕ). bit_at (get_or mapped (o / 64) 0) k == 1) (bit_number o j aligned lt)
 
-pub all_set : (mapped : List ℕ) (o : ℕ) → o % 64 ≡ 0 → get_or mapped (o / 64) 0 ≡ 2 ^ 64 - 1 → (j : ℕ) → j < 64 → is_set mapped (o + j) ≡ true
+pub all_set : (mapped : List ℕ) (o : ℕ) → o % 64 ≡ 0 → get_or mapped (o / 64) 0 ≡ 2 ^ 64 - 1 → (j : ℕ) → j < 64 → is_page_bit_set mapped (o + j) ≡ true
 all_set mapped o aligned full j lt =
     bit_is mapped o j aligned lt
     ∙ ap (λ (w : ℕ). bit_at w j == 1) full
     ∙ eq-eqb (bit_at (2 ^ 64 - 1) j) 1 (bit_at_ones 64 j lt)
 
-pub set_all : (mapped : List ℕ) (o : ℕ) → o % 64 ≡ 0 → get_or mapped (o / 64) 0 < 2 ^ 64 → ((j : ℕ) → j < 64 → is_set mapped (o + j) ≡ true) → get_or mapped (o / 64) 0 ≡ 2 ^ 64 - 1
+pub set_all : (mapped : List ℕ) (o : ℕ) → o % 64 ≡ 0 → get_or mapped (o / 64) 0 < 2 ^ 64 → ((j : ℕ) → j < 64 → is_page_bit_set mapped (o + j) ≡ true) → get_or mapped (o / 64) 0 ≡ 2 ^ 64 - 1
 set_all mapped o aligned fits each =
     same_from_bits_below 64 (get_or mapped (o / 64) 0) (2 ^ 64 - 1) fits (omega arith) (λ j lt.
     eqb-true (bit_at (get_or mapped (o / 64) 0) j) 1 (sym (bit_is mapped o j aligned lt) ∙ each j lt) ∙ sym (bit_at_ones 64 j lt))

@@ -10,7 +10,7 @@ use Rattle.std.specs.FinMap as finite
 use Rattle.std.specs.FinMap.{find, get-from_entries}
 use Rattle.std.specs.Ordering.{nat_cmp, eq_by_cmp}
 use Rattle.std.specs.Cmp.{nat_cmp_total, unsigned_tied}
-use Rattle.tc_mem.specs.Pages.{is_set, byte_of, entries_from, entries_of, memory_of, IsPage, ArePages, number_of}
+use Rattle.tc_mem.specs.Pages.{is_page_bit_set, byte_of, page_entries_from, entries_of, memory_of, IsPage, ArePages, number_of}
 use Rattle.tc_mem.specs.declared.page.Page.{Page}
 use Rattle.tc_mem.proofs.Search.{no_page, number_at_is, rises}
 
@@ -26,7 +26,7 @@ byte_in q (p ∷ ps) = or_else (byte_of q p) (byte_in q ps)
 -- ---- a look through the entries of a page
 -- the byte at q, of bytes from an address on
 abbrev part : ℕ → List ℕ → ℕ → List ℕ → Option ℕ
-part q mapped at bytes = cond (nat_le at q) (cond (is_set mapped (q % 4096)) (slice_get bytes (q - at)) None) None
+part q mapped at bytes = cond (nat_le at q) (cond (is_page_bit_set mapped (q % 4096)) (slice_get bytes (q - at)) None) None
 
 none_both : (a b : Bool) → cond a (cond {A = Option ℕ} b None None) None ≡ None
 none_both true true = refl
@@ -71,27 +71,27 @@ entries_split : (q at b : ℕ) (es rest : List (ℕ × ℕ)) (t : Bool) → find
 entries_split q at b es rest true = refl
 entries_split q at b es rest false = refl
 
-entries_find : (q : ℕ) (mapped : List ℕ) (at : ℕ) (bs : List ℕ) (rest : List (ℕ × ℕ)) → find nat_cmp q (entries_from mapped at bs ++ rest) ≡ or_else (part q mapped at bs) (find nat_cmp q rest)
-unfolding entries_from
-entries_find q mapped at [] rest = sym (ap (λ (o : Option ℕ). or_else o (find nat_cmp q rest)) (none_both (nat_le at q) (is_set mapped (q % 4096))))
+entries_find : (q : ℕ) (mapped : List ℕ) (at : ℕ) (bs : List ℕ) (rest : List (ℕ × ℕ)) → find nat_cmp q (page_entries_from mapped at bs ++ rest) ≡ or_else (part q mapped at bs) (find nat_cmp q rest)
+unfolding page_entries_from
+entries_find q mapped at [] rest = sym (ap (λ (o : Option ℕ). or_else o (find nat_cmp q rest)) (none_both (nat_le at q) (is_page_bit_set mapped (q % 4096))))
 entries_find q mapped at (b ∷ bs) rest =
-    entries_split q at b (entries_from mapped (at + 1) bs) rest (is_set mapped (at % 4096))
-    ∙ ap (λ (f : Option ℕ). cond (is_set mapped (at % 4096)) (cond (eq_by_cmp nat_cmp q at) (Some b) f) f) (entries_find q mapped (at + 1) bs rest)
-    ∙ ap (λ t. cond (is_set mapped (at % 4096)) (cond t (Some b) (or_else (part q mapped (at + 1) bs) (find nat_cmp q rest))) (or_else (part q mapped (at + 1) bs) (find nat_cmp q rest))) (unsigned_tied q at)
-    ∙ first_byte q at b bs (find nat_cmp q rest) (is_set mapped (at % 4096)) (is_set mapped (q % 4096)) (λ e. ap (λ k. is_set mapped (k % 4096)) (sym e))
+    entries_split q at b (page_entries_from mapped (at + 1) bs) rest (is_page_bit_set mapped (at % 4096))
+    ∙ ap (λ (f : Option ℕ). cond (is_page_bit_set mapped (at % 4096)) (cond (eq_by_cmp nat_cmp q at) (Some b) f) f) (entries_find q mapped (at + 1) bs rest)
+    ∙ ap (λ t. cond (is_page_bit_set mapped (at % 4096)) (cond t (Some b) (or_else (part q mapped (at + 1) bs) (find nat_cmp q rest))) (or_else (part q mapped (at + 1) bs) (find nat_cmp q rest))) (unsigned_tied q at)
+    ∙ first_byte q at b bs (find nat_cmp q rest) (is_page_bit_set mapped (at % 4096)) (is_page_bit_set mapped (q % 4096)) (λ e. ap (λ k. is_page_bit_set mapped (k % 4096)) (sym e))
 
 -- ---- a page
 -- the page of another number has no such byte
 pub byte_of_other : (q : ℕ) (p : Page) → number_of p ≢ q / 4096 → byte_of q p ≡ None
 byte_of_other q p other =
     let no : (q / 4096 == p.number) ≡ false = ne_eqb (q / 4096) p.number (λ e. other (sym e)) in
-    ap (λ (t : Bool). cond t (cond (is_set p.mapped (q % 4096)) (Some (get_or p.bytes (q % 4096) 0)) None) None) no
+    ap (λ (t : Bool). cond t (cond (is_page_bit_set p.mapped (q % 4096)) (Some (get_or p.bytes (q % 4096) 0)) None) None) no
 
 -- the page of that number has the byte if its bit is set
-pub byte_of_same : (q : ℕ) (p : Page) → number_of p ≡ q / 4096 → byte_of q p ≡ cond (is_set p.mapped (q % 4096)) (Some (get_or p.bytes (q % 4096) 0)) None
+pub byte_of_same : (q : ℕ) (p : Page) → number_of p ≡ q / 4096 → byte_of q p ≡ cond (is_page_bit_set p.mapped (q % 4096)) (Some (get_or p.bytes (q % 4096) 0)) None
 byte_of_same q p same =
     let yes : (q / 4096 == p.number) ≡ true = eq-eqb (q / 4096) p.number (sym same) in
-    ap (λ (t : Bool). cond t (cond (is_set p.mapped (q % 4096)) (Some (get_or p.bytes (q % 4096) 0)) None) None) yes
+    ap (λ (t : Bool). cond t (cond (is_page_bit_set p.mapped (q % 4096)) (Some (get_or p.bytes (q % 4096) 0)) None) None) yes
 
 part_is : (q : ℕ) (p : Page) → IsPage p → part q p.mapped (p.number * 4096) p.bytes ≡ byte_of q p
 part_is q p page =
@@ -101,19 +101,19 @@ part_is q p page =
           let from : nat_le (p.number * 4096) q ≡ true = le-leb (p.number * 4096) q (omega arith) in
           let offset : q - p.number * 4096 ≡ q % 4096 = omega arith in
           let there = slice_get-get_or p.bytes (q % 4096) 0 (omega arith) in
-          ap (λ (t : Bool). cond t (cond (is_set p.mapped (q % 4096)) (slice_get p.bytes (q - p.number * 4096)) None) None) from
-          ∙ ap (λ (k : ℕ). cond (is_set p.mapped (q % 4096)) (slice_get p.bytes k) None) offset
-          ∙ ap (λ (o : Option ℕ). cond (is_set p.mapped (q % 4096)) o None) there
+          ap (λ (t : Bool). cond t (cond (is_page_bit_set p.mapped (q % 4096)) (slice_get p.bytes (q - p.number * 4096)) None) None) from
+          ∙ ap (λ (k : ℕ). cond (is_page_bit_set p.mapped (q % 4096)) (slice_get p.bytes k) None) offset
+          ∙ ap (λ (o : Option ℕ). cond (is_page_bit_set p.mapped (q % 4096)) o None) there
           ∙ sym (byte_of_same q p same)
       | inr other ↦ elim (cases_lt q (p.number * 4096)) [
         | inl below ↦
             let from : nat_le (p.number * 4096) q ≡ false = lt-leb (p.number * 4096) q below in
-            ap (λ (t : Bool). cond t (cond (is_set p.mapped (q % 4096)) (slice_get p.bytes (q - p.number * 4096)) None) None) from
+            ap (λ (t : Bool). cond t (cond (is_page_bit_set p.mapped (q % 4096)) (slice_get p.bytes (q - p.number * 4096)) None) None) from
             ∙ sym (byte_of_other q p other)
         | inr above ↦
             let past = slice_get_past p.bytes (q - p.number * 4096) (omega arith) in
-            ap (λ (o : Option ℕ). cond (nat_le (p.number * 4096) q) (cond (is_set p.mapped (q % 4096)) o None) None) past
-            ∙ none_both (nat_le (p.number * 4096) q) (is_set p.mapped (q % 4096))
+            ap (λ (o : Option ℕ). cond (nat_le (p.number * 4096) q) (cond (is_page_bit_set p.mapped (q % 4096)) o None) None) past
+            ∙ none_both (nat_le (p.number * 4096) q) (is_page_bit_set p.mapped (q % 4096))
             ∙ sym (byte_of_other q p other)
       ]
     ]

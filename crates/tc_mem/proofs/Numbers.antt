@@ -5,7 +5,7 @@ use Rattle.std.proofs.lemmas.Bool.{cases_lt, cases_eq, leb-true, ltb-true}
 use Rattle.std.proofs.lemmas.Grind.{get_or_default_zero}
 use Rattle.std.proofs.lemmas.List.Folds.{list_any_more}
 use Rattle.std.proofs.lemmas.List.Elements.{Contains-append_left, Contains-push}
-use Rattle.tcd_base.specs.Ranges.{is_in}
+use Rattle.tcd_base.specs.Ranges.{is_address_in_ranges}
 use Rattle.tcd_base.specs.declared.range.Range.{Range}
 
 -- after one more number
@@ -30,11 +30,11 @@ both true b h = (refl, h)
 both false b h = cc
 
 -- an address in the ranges so far and one more
-pub in_more : (ranges : List Range) (i : ℕ) (d : Range) (q : ℕ) → i < length ranges → IsTrue (is_in (take (i + 1) ranges) q) → IsTrue (is_in (take i ranges) q) ⊎ (((get_or ranges i d).at ≤ q) × (q < (get_or ranges i d).at + (get_or ranges i d).len))
+pub in_more : (ranges : List Range) (i : ℕ) (d : Range) (q : ℕ) → i < length ranges → IsTrue (is_address_in_ranges (take (i + 1) ranges) q) → IsTrue (is_address_in_ranges (take i ranges) q) ⊎ (((get_or ranges i d).at ≤ q) × (q < (get_or ranges i d).at + (get_or ranges i d).len))
 in_more ranges i d q lt h =
     let r : Range = get_or ranges i d in
     let test : Range → Bool = λ x. nat_le x.at q && nat_lt q (x.at + x.len) in
-    elim (either (is_in (take i ranges) q) (test r) (sym (list_any_more test ranges i d lt) ∙ h)) [
+    elim (either (is_address_in_ranges (take i ranges) q) (test r) (sym (list_any_more test ranges i d lt) ∙ h)) [
       | inl before ↦ inl before
       | inr here ↦
           let parts = both (nat_le r.at q) (nat_lt q (r.at + r.len)) here in

@@ -2,7 +2,7 @@
 use Rattle.std.proofs.Common.{◌≡◌, ◌+◌, ◌/◌, ◌%◌, ◌<◌, ◌==◌, ℕ, zero, suc, Bool, true, false, cond, List, [], ◌∷◌, get_or, set, replicate, lit<, Option, Some, None, sym, ◌∙◌, arith}
 use Rattle.std.proofs.lemmas.List.Elements.{All-head, All-tail, All-set}
 use Rattle.csa_chain.specs.MemoryBytes.{HasBytes}
-use Rattle.tc_mem.specs.Pages.{is_set, byte_of, memory_of, bytes_with, ArePages, AreSmall, IsMem}
+use Rattle.tc_mem.specs.Pages.{is_page_bit_set, byte_of, memory_of, page_bytes_with_words, ArePages, ArePageBytesSmall, IsMem}
 use Rattle.tc_mem.specs.declared.page.Page.{Page}
 use Rattle.tc_mem.proofs.Search.{no_page}
 use Rattle.tc_mem.proofs.Mapped.{or_else, byte_in, get-memory_of}
@@ -20,14 +20,14 @@ set_small (x ∷ xs) (suc o) b small lt zero = small zero
 set_small (x ∷ xs) (suc o) b small lt (suc k) = set_small xs o b (λ j. small (suc j)) lt k
 
 -- words that are replaced
-pub bytes_with_small : (bytes : List ℕ) (o : ℕ) (ws : List ℕ) → ((k : ℕ) → get_or bytes k 0 < 256) → (k : ℕ) → get_or (bytes_with bytes o ws) k 0 < 256
-unfolding bytes_with
+pub bytes_with_small : (bytes : List ℕ) (o : ℕ) (ws : List ℕ) → ((k : ℕ) → get_or bytes k 0 < 256) → (k : ℕ) → get_or (page_bytes_with_words bytes o ws) k 0 < 256
+unfolding page_bytes_with_words
 bytes_with_small bytes o [] small k = small k
 bytes_with_small bytes o (w ∷ ws) small k =
     set_small _ (o + 3) _ (set_small _ (o + 2) _ (set_small _ (o + 1) _ (set_small _ o _ (bytes_with_small bytes (o + 4) ws small) (omega arith)) (omega arith)) (omega arith)) (omega arith) k
 
 -- pages, one of them with other bytes
-pub AreSmall-put : (ps : List Page) (i : ℕ) (bytes : List ℕ) (t : Bool) → ((k : ℕ) → get_or bytes k 0 < 256) → IsSmall (get_or ps i no_page) → AreSmall ps → AreSmall (set ps i (put_in (get_or ps i no_page) t bytes))
+pub AreSmall-put : (ps : List Page) (i : ℕ) (bytes : List ℕ) (t : Bool) → ((k : ℕ) → get_or bytes k 0 < 256) → IsSmall (get_or ps i no_page) → ArePageBytesSmall ps → ArePageBytesSmall (set ps i (put_in (get_or ps i no_page) t bytes))
 AreSmall-put ps i bytes true new old small = All-set IsSmall ps i (put_in (get_or ps i no_page) true bytes) new small
 AreSmall-put ps i bytes false new old small = All-set IsSmall ps i (put_in (get_or ps i no_page) false bytes) old small
 
@@ -41,14 +41,14 @@ from_either : (o r : Option ℕ) (b : ℕ) → (o ≡ Some b → b < 256) → (r
 from_either None r b one other e = other e
 from_either (Some x) r b one other e = one e
 
-pub byte_in_small : (q : ℕ) (ps : List Page) (b : ℕ) → AreSmall ps → byte_in q ps ≡ Some b → b < 256
+pub byte_in_small : (q : ℕ) (ps : List Page) (b : ℕ) → ArePageBytesSmall ps → byte_in q ps ≡ Some b → b < 256
 byte_in_small q [] b small e = cc
 byte_in_small q (p ∷ ps) b small e =
     from_either (byte_of q p) (byte_in q ps) b
-    (byte_of_small q p b (All-head IsSmall p ps small) (q / 4096 == p.number) (is_set p.mapped (q % 4096)))
+    (byte_of_small q p b (All-head IsSmall p ps small) (q / 4096 == p.number) (is_page_bit_set p.mapped (q % 4096)))
     (byte_in_small q ps b (All-tail IsSmall p ps small)) e
 
-pub HasBytes-memory_of : (ps : List Page) → ArePages ps → AreSmall ps → HasBytes (memory_of ps)
+pub HasBytes-memory_of : (ps : List Page) → ArePages ps → ArePageBytesSmall ps → HasBytes (memory_of ps)
 HasBytes-memory_of ps pages small q b e = byte_in_small q ps b small (sym (get-memory_of ps q pages.whole) ∙ e)
 
 pub HasBytes-mem : (ps : List Page) → IsMem ps → HasBytes (memory_of ps)

@@ -10,25 +10,25 @@ use Rattle.std.specs.FinMap.{same_map, nat_cmp-IsAntisymmetric}
 use Rattle.std.specs.Cmp.{nat_cmp_total}
 use Rattle.csa_chain.specs.MemoryBytes.{Memory, is_mapped, with_byte, with_word, with_words}
 use Rattle.csa_chain.proofs.MemoryLaws.{get-with_byte_other, get-with_byte_same}
-use Rattle.tc_mem.specs.Pages.{is_set, byte_of, memory_of, bytes_with, IsPage, ArePages, number_of}
+use Rattle.tc_mem.specs.Pages.{is_page_bit_set, byte_of, memory_of, page_bytes_with_words, IsPage, ArePages, number_of}
 use Rattle.tc_mem.specs.declared.page.Page.{Page}
 use Rattle.tc_mem.proofs.Search.{no_page}
 use Rattle.tc_mem.proofs.Mapped.{byte_in, byte_of_same, byte_of_other, get-memory_of, byte_in_found, byte_in_set, ArePages-set}
 
 -- the number of a page's bytes doesn't change
-pub length-bytes_with : (bytes : List ℕ) (o : ℕ) (ws : List ℕ) → length (bytes_with bytes o ws) ≡ length bytes
-unfolding bytes_with
+pub length-bytes_with : (bytes : List ℕ) (o : ℕ) (ws : List ℕ) → length (page_bytes_with_words bytes o ws) ≡ length bytes
+unfolding page_bytes_with_words
 length-bytes_with bytes o [] = refl
 length-bytes_with bytes o (w ∷ ws) = length-set _ (o + 3) _ ∙ length-set _ (o + 2) _ ∙ length-set _ (o + 1) _ ∙ length-set _ o _ ∙ length-bytes_with bytes (o + 4) ws
 
 -- no words are left to write
-pub bytes_with_all : (bytes : List ℕ) (o : ℕ) (ws : List ℕ) (i : ℕ) → length ws ≤ i → bytes_with bytes o (drop i ws) ≡ bytes
-unfolding bytes_with
+pub bytes_with_all : (bytes : List ℕ) (o : ℕ) (ws : List ℕ) (i : ℕ) → length ws ≤ i → page_bytes_with_words bytes o (drop i ws) ≡ bytes
+unfolding page_bytes_with_words
 bytes_with_all bytes o ws i past = let none : drop i ws ≡ [] = drop_of_length-le ws past in rw none refl
 
 -- one more word, before those that were written
-pub bytes_with_more : (bytes now : List ℕ) (o : ℕ) (ws : List ℕ) (i j : ℕ) → i ≡ j + 1 → j < length ws → now ≡ bytes_with bytes (o + 4 * i) (drop i ws) → bytes_with now (o + 4 * j) (get_or ws j 0 ∷ []) ≡ bytes_with bytes (o + 4 * j) (drop j ws)
-unfolding bytes_with
+pub bytes_with_more : (bytes now : List ℕ) (o : ℕ) (ws : List ℕ) (i j : ℕ) → i ≡ j + 1 → j < length ws → now ≡ page_bytes_with_words bytes (o + 4 * i) (drop i ws) → page_bytes_with_words now (o + 4 * j) (get_or ws j 0 ∷ []) ≡ page_bytes_with_words bytes (o + 4 * j) (drop j ws)
+unfolding page_bytes_with_words
 bytes_with_more bytes now o ws i j next lt is =
     let first = drop_more ws j 0 lt in
     let place : o + 4 * j + 4 ≡ o + 4 * i = omega arith in
@@ -52,7 +52,7 @@ ArePages-changed ps i bytes pages lt size =
     ArePages-set ps i (with_bytes (get_or ps i no_page) bytes) pages (record { bytes = size; bits = page.bits }) refl
 
 -- the byte of a page at an address, if one byte is replaced
-written_same : (a b : ℕ) (p : Page) → IsPage p → number_of p ≡ a / 4096 → is_set p.mapped (a % 4096) ≡ true → byte_of a (with_bytes p (set p.bytes (a % 4096) b)) ≡ Some b
+written_same : (a b : ℕ) (p : Page) → IsPage p → number_of p ≡ a / 4096 → is_page_bit_set p.mapped (a % 4096) ≡ true → byte_of a (with_bytes p (set p.bytes (a % 4096) b)) ≡ Some b
 written_same a b p page is here =
     let size = page.bytes in
     byte_of_same a (with_bytes p (set p.bytes (a % 4096) b)) is
@@ -65,7 +65,7 @@ written_other a b q p is other =
       | inl same ↦
           let apart : q % 4096 ≢ a % 4096 = λ e. other (omega arith) in
           byte_of_same q (with_bytes p (set p.bytes (a % 4096) b)) same
-          ∙ ap (λ (x : ℕ). cond (is_set p.mapped (q % 4096)) (Some x) None) (get_or-set_other p.bytes (a % 4096) (q % 4096) b 0 apart)
+          ∙ ap (λ (x : ℕ). cond (is_page_bit_set p.mapped (q % 4096)) (Some x) None) (get_or-set_other p.bytes (a % 4096) (q % 4096) b 0 apart)
           ∙ sym (byte_of_same q p same)
       | inr ne ↦ byte_of_other q (with_bytes p (set p.bytes (a % 4096) b)) ne ∙ sym (byte_of_other q p ne)
     ]
@@ -74,16 +74,16 @@ written_other a b q p is other =
 pub get_found : (a : ℕ) (ps : List Page) (i : ℕ) → ArePages ps → i < length ps → number_of (get_or ps i no_page) ≡ a / 4096 → finite.get (memory_of ps) a ≡ byte_of a (get_or ps i no_page)
 get_found a ps i pages lt is = get-memory_of ps a pages.whole ∙ byte_in_found a ps i pages lt is
 
-pub mapped_found : (a : ℕ) (ps : List Page) (i : ℕ) → ArePages ps → i < length ps → number_of (get_or ps i no_page) ≡ a / 4096 → is_mapped (memory_of ps) a ≡ is_set (get_or ps i no_page).mapped (a % 4096)
+pub mapped_found : (a : ℕ) (ps : List Page) (i : ℕ) → ArePages ps → i < length ps → number_of (get_or ps i no_page) ≡ a / 4096 → is_mapped (memory_of ps) a ≡ is_page_bit_set (get_or ps i no_page).mapped (a % 4096)
 mapped_found a ps i pages lt is =
-    ap is_some (get_found a ps i pages lt is ∙ byte_of_same a (get_or ps i no_page) is) ∙ some_of (is_set (get_or ps i no_page).mapped (a % 4096)) (get_or (get_or ps i no_page).bytes (a % 4096) 0)
+    ap is_some (get_found a ps i pages lt is ∙ byte_of_same a (get_or ps i no_page) is) ∙ some_of (is_page_bit_set (get_or ps i no_page).mapped (a % 4096)) (get_or (get_or ps i no_page).bytes (a % 4096) 0)
   where
     some_of : (b : Bool) (x : ℕ) → is_some (cond b (Some x) None) ≡ b
     some_of true x = refl
     some_of false x = refl
 
 -- a byte that is written into a page is the byte that is written into the memory
-pub memory_of-changed : (a b : ℕ) (ps : List Page) (i : ℕ) → ArePages ps → i < length ps → number_of (get_or ps i no_page) ≡ a / 4096 → is_set (get_or ps i no_page).mapped (a % 4096) ≡ true → memory_of (changed ps i (set (get_or ps i no_page).bytes (a % 4096) b)) ≡ with_byte (memory_of ps) a b
+pub memory_of-changed : (a b : ℕ) (ps : List Page) (i : ℕ) → ArePages ps → i < length ps → number_of (get_or ps i no_page) ≡ a / 4096 → is_page_bit_set (get_or ps i no_page).mapped (a % 4096) ≡ true → memory_of (changed ps i (set (get_or ps i no_page).bytes (a % 4096) b)) ≡ with_byte (memory_of ps) a b
 memory_of-changed a b ps i pages lt is here =
     let p : Page = get_or ps i no_page in
     let page : IsPage p = page_at ps i pages lt in
@@ -123,20 +123,20 @@ pub record IsAt (ps : List Page) (i n : ℕ) : Type 0 where
   pub number : number_of (get_or ps i no_page) ≡ n
 
 -- one more byte
-pub step : (ps : List Page) (i n : ℕ) (bytes : List ℕ) (j b : ℕ) → IsAt ps i n → length bytes ≡ 4096 → j < 4096 → is_set (get_or ps i no_page).mapped j ≡ true → memory_of (changed ps i (set bytes j b)) ≡ with_byte (memory_of (changed ps i bytes)) (n * 4096 + j) b
+pub step : (ps : List Page) (i n : ℕ) (bytes : List ℕ) (j b : ℕ) → IsAt ps i n → length bytes ≡ 4096 → j < 4096 → is_page_bit_set (get_or ps i no_page).mapped j ≡ true → memory_of (changed ps i (set bytes j b)) ≡ with_byte (memory_of (changed ps i bytes)) (n * 4096 + j) b
 step ps i n bytes j b at size lt here =
     let a : ℕ = n * 4096 + j in
     let low : a % 4096 ≡ j = omega arith in
     let high : n ≡ a / 4096 = omega arith in
     let there = changed_there ps i bytes at.within in
-    let after = memory_of-changed a b (changed ps i bytes) i (ArePages-changed ps i bytes at.pages at.within size) (rw length-set at.within) (ap number_of there ∙ at.number ∙ high) (ap (λ (p : Page). is_set p.mapped (a % 4096)) there ∙ ap (is_set (get_or ps i no_page).mapped) low ∙ here) in
+    let after = memory_of-changed a b (changed ps i bytes) i (ArePages-changed ps i bytes at.pages at.within size) (rw length-set at.within) (ap number_of there ∙ at.number ∙ high) (ap (λ (p : Page). is_page_bit_set p.mapped (a % 4096)) there ∙ ap (is_page_bit_set (get_or ps i no_page).mapped) low ∙ here) in
     ap memory_of (sym (changed_again ps i bytes (set bytes j b) at.within))
     ∙ ap (λ (k : ℕ). memory_of (changed (changed ps i bytes) i (set bytes k b))) (sym low)
     ∙ ap (λ (p : Page). memory_of (changed (changed ps i bytes) i (set p.bytes (a % 4096) b))) (sym there)
     ∙ after
 
 -- four more bytes: a word
-word_step : (ps : List Page) (i n : ℕ) (bytes : List ℕ) (o w : ℕ) → IsAt ps i n → length bytes ≡ 4096 → o + 4 ≤ 4096 → ((k : ℕ) → k < 4 → is_set (get_or ps i no_page).mapped (o + k) ≡ true) →
+word_step : (ps : List Page) (i n : ℕ) (bytes : List ℕ) (o w : ℕ) → IsAt ps i n → length bytes ≡ 4096 → o + 4 ≤ 4096 → ((k : ℕ) → k < 4 → is_page_bit_set (get_or ps i no_page).mapped (o + k) ≡ true) →
     memory_of (changed ps i (set (set (set (set bytes o (w % 2 ^ 8)) (o + 1) (w / 2 ^ 8 % 2 ^ 8)) (o + 2) (w / 2 ^ 16 % 2 ^ 8)) (o + 3) (w / 2 ^ 24 % 2 ^ 8))) ≡ with_word (memory_of (changed ps i bytes)) (n * 4096 + o) w
 unfolding with_word
 word_step ps i n bytes o w at size lt here =
@@ -156,11 +156,11 @@ word_step ps i n bytes o w at size lt here =
     rw (t3, t2, t1, t0, a1, a2, a3) refl
 
 -- words, the last ones first
-pub memory_of-words : (ps : List Page) (i n o : ℕ) (ws : List ℕ) → IsAt ps i n → o + 4 * length ws ≤ 4096 → ((k : ℕ) → k < 4 * length ws → is_set (get_or ps i no_page).mapped (o + k) ≡ true) → memory_of (changed ps i (bytes_with (get_or ps i no_page).bytes o ws)) ≡ with_words (memory_of ps) (n * 4096 + o) ws
-unfolding with_words bytes_with
+pub memory_of-words : (ps : List Page) (i n o : ℕ) (ws : List ℕ) → IsAt ps i n → o + 4 * length ws ≤ 4096 → ((k : ℕ) → k < 4 * length ws → is_page_bit_set (get_or ps i no_page).mapped (o + k) ≡ true) → memory_of (changed ps i (page_bytes_with_words (get_or ps i no_page).bytes o ws)) ≡ with_words (memory_of ps) (n * 4096 + o) ws
+unfolding with_words page_bytes_with_words
 memory_of-words ps i n o [] at fit here = ap memory_of (set-get_or ps i no_page)
 memory_of-words ps i n o (w ∷ ws) at fit here =
     let next : n * 4096 + (o + 4) ≡ n * 4096 + o + 4 = omega arith in
     let rest = memory_of-words ps i n (o + 4) ws at (omega arith) (λ k h. let e : o + 4 + k ≡ o + (4 + k) = omega arith in rw e (here (4 + k) (omega arith))) in
-    word_step ps i n (bytes_with (get_or ps i no_page).bytes (o + 4) ws) o w at (length-bytes_with _ (o + 4) ws ∙ (page_at ps i at.pages at.within).bytes) (omega arith) (λ k h. here k (omega arith))
+    word_step ps i n (page_bytes_with_words (get_or ps i no_page).bytes (o + 4) ws) o w at (length-bytes_with _ (o + 4) ws ∙ (page_at ps i at.pages at.within).bytes) (omega arith) (λ k h. here k (omega arith))
     ∙ ap (λ (m : Memory). with_word m (n * 4096 + o) w) (rest ∙ ap (λ (x : ℕ). with_words (memory_of ps) x ws) next)

@@ -7,8 +7,8 @@ use Rattle.std.proofs.lemmas.List.Elements.{All-get_or}
 use Rattle.std.proofs.lemmas.List.Edits.{length-between, get_or-between}
 use Rattle.std.specs.FinMap as finite
 use Rattle.csa_chain.specs.MemoryBytes.{Memory, is_mapped}
-use Rattle.tc_mem.specs.Pages.{is_set, byte_of, memory_of, with_bytes_at, ArePages, number_of}
-use Rattle.tc_mem.specs.Written.{IsWritten}
+use Rattle.tc_mem.specs.Pages.{is_page_bit_set, byte_of, memory_of, page_bytes_with, ArePages, number_of}
+use Rattle.tc_mem.specs.Written.{IsMemoryWritten}
 use Rattle.tc_mem.specs.declared.page.Page.{Page}
 use Rattle.tc_mem.proofs.Search.{no_page}
 use Rattle.tc_mem.proofs.Mapped.{byte_of_same, byte_of_other, get-memory_of, byte_in_set}
@@ -21,7 +21,7 @@ module _ (bytes : List ℕ) (o : ℕ) (new : List ℕ) (fits : o + length new �
   front_size : length (take o bytes) ≡ o
   front_size = let e = length-take o bytes in omega arith
 
-  pub put_size : length (with_bytes_at bytes o new) ≡ length bytes
+  pub put_size : length (page_bytes_with bytes o new) ≡ length bytes
   put_size =
       let front = front_size in
       let all = length-append (take o bytes) (new ++ drop (o + length new) bytes) in
@@ -29,12 +29,12 @@ module _ (bytes : List ℕ) (o : ℕ) (new : List ℕ) (fits : o + length new �
       let last = length-drop (o + length new) bytes in
       omega arith
 
-  put_below : (k : ℕ) → k < o → get_or (with_bytes_at bytes o new) k 0 ≡ get_or bytes k 0
+  put_below : (k : ℕ) → k < o → get_or (page_bytes_with bytes o new) k 0 ≡ get_or bytes k 0
   put_below k lt =
       let front = front_size in
       get_or_append_left (take o bytes) (new ++ drop (o + length new) bytes) 0 k (omega arith) ∙ get_or-take o bytes k 0 lt
 
-  put_here : (k : ℕ) → k < length new → get_or (with_bytes_at bytes o new) (o + k) 0 ≡ get_or new k 0
+  put_here : (k : ℕ) → k < length new → get_or (page_bytes_with bytes o new) (o + k) 0 ≡ get_or new k 0
   put_here k lt =
       let front = front_size in
       let place : o + k - o ≡ k = omega arith in
@@ -42,7 +42,7 @@ module _ (bytes : List ℕ) (o : ℕ) (new : List ℕ) (fits : o + length new �
       ∙ ap (λ (i : ℕ). get_or (new ++ drop (o + length new) bytes) i 0) place
       ∙ get_or_append_left new (drop (o + length new) bytes) 0 k lt
 
-  put_above : (k : ℕ) → o + length new ≤ k → get_or (with_bytes_at bytes o new) k 0 ≡ get_or bytes k 0
+  put_above : (k : ℕ) → o + length new ≤ k → get_or (page_bytes_with bytes o new) k 0 ≡ get_or bytes k 0
   put_above k le =
       let front = front_size in
       let back : o + length new + (k - o - length new) ≡ k = omega arith in
@@ -51,7 +51,7 @@ module _ (bytes : List ℕ) (o : ℕ) (new : List ℕ) (fits : o + length new �
       ∙ get_or-drop (o + length new) bytes (k - o - length new) 0
       ∙ ap (λ (i : ℕ). get_or bytes i 0) back
 
-  pub put_small : ((k : ℕ) → get_or bytes k 0 < 256) → All (λ b. b < 2 ^ 8) new → (k : ℕ) → get_or (with_bytes_at bytes o new) k 0 < 256
+  pub put_small : ((k : ℕ) → get_or bytes k 0 < 256) → All (λ b. b < 2 ^ 8) new → (k : ℕ) → get_or (page_bytes_with bytes o new) k 0 < 256
   put_small old small k =
       elim (cases_lt k o) [
         | inl below ↦ rw (put_below k below) (old k)
@@ -59,7 +59,7 @@ module _ (bytes : List ℕ) (o : ℕ) (new : List ℕ) (fits : o + length new �
           | inl within ↦
               let place : o + (k - o) ≡ k = omega arith in
               let byte = All-get_or (λ b. b < 2 ^ 8) new (k - o) 0 (omega arith) small in
-              let there = ap (λ (i : ℕ). get_or (with_bytes_at bytes o new) i 0) (sym place) ∙ put_here (k - o) (omega arith) in
+              let there = ap (λ (i : ℕ). get_or (page_bytes_with bytes o new) i 0) (sym place) ∙ put_here (k - o) (omega arith) in
               rw there byte
           | inr beyond ↦ rw (put_above k beyond) (old k)
         ]
@@ -76,7 +76,7 @@ module _ (ps : List Page) (i n : ℕ) (bytes : List ℕ) (at : IsAt ps i n) (siz
   within_after : i < length (changed ps i bytes)
   within_after = rw length-set at.within
 
-  get_same : (q : ℕ) → n ≡ q / 4096 → finite.get (memory_of (changed ps i bytes)) q ≡ cond (is_set (get_or ps i no_page).mapped (q % 4096)) (Some (get_or bytes (q % 4096) 0)) None
+  get_same : (q : ℕ) → n ≡ q / 4096 → finite.get (memory_of (changed ps i bytes)) q ≡ cond (is_page_bit_set (get_or ps i no_page).mapped (q % 4096)) (Some (get_or bytes (q % 4096) 0)) None
   get_same q same =
       get_found q (changed ps i bytes) i after within_after (ap number_of there ∙ at.number ∙ same)
       ∙ ap (byte_of q) there
@@ -94,26 +94,26 @@ module _ (ps : List Page) (i n : ℕ) (bytes : List ℕ) (at : IsAt ps i n) (siz
       elim (cases_eq n (q / 4096)) [
         | inl same ↦
             mapped_found q (changed ps i bytes) i after within_after (ap number_of there ∙ at.number ∙ same)
-            ∙ ap (λ (p : Page). is_set p.mapped (q % 4096)) there
+            ∙ ap (λ (p : Page). is_page_bit_set p.mapped (q % 4096)) there
             ∙ sym (mapped_found q ps i at.pages at.within (at.number ∙ same))
         | inr other ↦ ap is_some (get_other q other)
       ]
 
 -- bytes that are written into one page
 pub page_written : (ps : List Page) (i a : ℕ) (new : List ℕ) → IsAt ps i (a / 4096) → a % 4096 + length new ≤ 4096 →
-    IsWritten (memory_of ps) a new (memory_of (changed ps i (with_bytes_at (get_or ps i no_page).bytes (a % 4096) new)))
+    IsMemoryWritten (memory_of ps) a new (memory_of (changed ps i (page_bytes_with (get_or ps i no_page).bytes (a % 4096) new)))
 page_written ps i a new at fit =
     let p : Page = get_or ps i no_page in
     let size : length p.bytes ≡ 4096 = (page_at ps i at.pages at.within).bytes in
     let fits : a % 4096 + length new ≤ length p.bytes = omega arith in
-    let bytes : List ℕ = with_bytes_at p.bytes (a % 4096) new in
+    let bytes : List ℕ = page_bytes_with p.bytes (a % 4096) new in
     let all : length bytes ≡ 4096 = put_size p.bytes (a % 4096) new fits ∙ size in
     record {
       mapped = mapped_same ps i (a / 4096) bytes at all;
       here = λ k lt is.
           let same : a / 4096 ≡ (a + k) / 4096 = omega arith in
           let place : (a + k) % 4096 ≡ a % 4096 + k = omega arith in
-          let is_here : is_set p.mapped ((a + k) % 4096) ≡ true = sym (mapped_found (a + k) ps i at.pages at.within (at.number ∙ same)) ∙ is in
+          let is_here : is_page_bit_set p.mapped ((a + k) % 4096) ≡ true = sym (mapped_found (a + k) ps i at.pages at.within (at.number ∙ same)) ∙ is in
           get_same ps i (a / 4096) bytes at all (a + k) same
           ∙ ap (λ (t : Bool). cond t (Some (get_or bytes ((a + k) % 4096) 0)) None) is_here
           ∙ ap (λ (j : ℕ). Some (get_or bytes j 0)) place
@@ -127,7 +127,7 @@ page_written ps i a new at fit =
                   | inr high ↦ put_above p.bytes (a % 4096) new fits (q % 4096) (omega arith)
                 ] in
                 get_same ps i (a / 4096) bytes at all q same
-                ∙ ap (λ (b : ℕ). cond (is_set p.mapped (q % 4096)) (Some b) None) kept
+                ∙ ap (λ (b : ℕ). cond (is_page_bit_set p.mapped (q % 4096)) (Some b) None) kept
                 ∙ sym (byte_of_same q p (at.number ∙ same))
                 ∙ sym (get_found q ps i at.pages at.within (at.number ∙ same))
             | inr other ↦ get_other ps i (a / 4096) bytes at all q other
@@ -135,7 +135,7 @@ page_written ps i a new at fit =
     }
 
 -- no page has the bytes
-pub none_written : (ps : List Page) (a : ℕ) (new : List ℕ) → ArePages ps → All (λ p. number_of p ≢ a / 4096) ps → a % 4096 + length new ≤ 4096 → IsWritten (memory_of ps) a new (memory_of ps)
+pub none_written : (ps : List Page) (a : ℕ) (new : List ℕ) → ArePages ps → All (λ p. number_of p ≢ a / 4096) ps → a % 4096 + length new ≤ 4096 → IsMemoryWritten (memory_of ps) a new (memory_of ps)
 none_written ps a new pages none fit = record {
   mapped = λ q. refl;
   here = λ k lt is.
@@ -145,10 +145,10 @@ none_written ps a new pages none fit = record {
 }
 
 -- ---- one part after another
-pub nothing_written : (m : Memory) (x : ℕ) (bs : List ℕ) → IsWritten m x (take 0 bs) m
+pub nothing_written : (m : Memory) (x : ℕ) (bs : List ℕ) → IsMemoryWritten m x (take 0 bs) m
 nothing_written m x bs = record { mapped = λ q. refl; here = λ k lt is. absurd (omega arith); elsewhere = λ q out. refl }
 
-pub more_written : (m now new : Memory) (x y k l : ℕ) (bs : List ℕ) → IsWritten m x (take k bs) now → IsWritten now y (take (l - k) (drop k bs)) new → y ≡ x + k → k ≤ l → l ≤ length bs → IsWritten m x (take l bs) new
+pub more_written : (m now new : Memory) (x y k l : ℕ) (bs : List ℕ) → IsMemoryWritten m x (take k bs) now → IsMemoryWritten now y (take (l - k) (drop k bs)) new → y ≡ x + k → k ≤ l → l ≤ length bs → IsMemoryWritten m x (take l bs) new
 more_written m now new x y k l bs before more is le most =
     let size_k : length (take k bs) ≡ k = (let e = length-take k bs in omega arith) in
     let size_l : length (take l bs) ≡ l = (let e = length-take l bs in omega arith) in

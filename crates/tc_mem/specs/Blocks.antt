@@ -8,21 +8,21 @@ abbrev pub are_in_block : Memory → ℕ → ℕ → Bool
 are_in_block m x n = nat_le (x % 64 + n) 64 && are_mapped m x n
 
 -- the word at an address, its lowest byte first, if its four bytes are mapped and in one block
-abbrev pub word_of : Memory → ℕ → Option ℕ
-word_of m x = if are_in_block m x 4 then Some (word_at m x) else None
+abbrev pub mapped_block_word : Memory → ℕ → Option ℕ
+mapped_block_word m x = if are_in_block m x 4 then Some (word_at m x) else None
 
 -- the memory with this word at an address, if its four bytes are mapped and in one block
-abbrev pub with_word_in : Memory → ℕ → ℕ → Memory
-with_word_in m x w = if are_in_block m x 4 then with_word m x w else m
+abbrev pub with_block_word : Memory → ℕ → ℕ → Memory
+with_block_word m x w = if are_in_block m x 4 then with_word m x w else m
 
--- the halfword of the two bytes from an address on, the lower byte first
-abbrev pub half_at : Memory → ℕ → ℕ
-half_at m x = byte_at m x + 2 ^ 8 * byte_at m (x + 1)
+-- the halfword of the two bytes of a memory from an address on, the lower byte first
+abbrev pub memory_half_at : Memory → ℕ → ℕ
+memory_half_at m x = byte_at m x + 2 ^ 8 * byte_at m (x + 1)
 
 -- the halfword at an address, if its two bytes are mapped and in one block
-abbrev pub half_of : Memory → ℕ → Option ℕ
-half_of m x = if are_in_block m x 2 then Some (half_at m x) else None
+abbrev pub mapped_block_half : Memory → ℕ → Option ℕ
+mapped_block_half m x = if are_in_block m x 2 then Some (memory_half_at m x) else None
 
 -- the memory with this halfword at an address, if its two bytes are mapped and in one block
-abbrev pub with_half_in : Memory → ℕ → ℕ → Memory
-with_half_in m x h = if are_in_block m x 2 then with_half m x h else m
+abbrev pub with_block_half : Memory → ℕ → ℕ → Memory
+with_block_half m x h = if are_in_block m x 2 then with_half m x h else m

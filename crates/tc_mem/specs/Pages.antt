@@ -7,26 +7,26 @@ use Rattle.csa_chain.specs.MemoryBytes.{Memory}
 use Rattle.tc_mem.specs.declared.page.Page.{Page}
 
 -- the byte at an offset of a page is mapped: a bit for each, 64 to a word
-abbrev pub is_set : List ℕ → ℕ → Bool
-is_set mapped offset = bit_at (slice_index mapped (offset / 64)) (offset % 64) == 1
+abbrev pub is_page_bit_set : List ℕ → ℕ → Bool
+is_page_bit_set mapped offset = bit_at (slice_index mapped (offset / 64)) (offset % 64) == 1
 
 -- the bits of the n bytes from an offset on are in one word, and all set
-abbrev pub are_set : ℕ → List ℕ → ℕ → Bool
-are_set n mapped offset = slice_index mapped (offset / 64) / 2 ^ (offset % 64) % 2 ^ n == 2 ^ n - 1
+abbrev pub are_page_bits_set : ℕ → List ℕ → ℕ → Bool
+are_page_bits_set n mapped offset = slice_index mapped (offset / 64) / 2 ^ (offset % 64) % 2 ^ n == 2 ^ n - 1
 
 -- the byte at an address, if it is in the page and mapped
 abbrev pub byte_of : ℕ → Page → Option ℕ
-byte_of q p = if q / 4096 == p.number then (if is_set p.mapped (q % 4096) then Some (slice_index p.bytes (q % 4096)) else None) else None
+byte_of q p = if q / 4096 == p.number then (if is_page_bit_set p.mapped (q % 4096) then Some (slice_index p.bytes (q % 4096)) else None) else None
 
 -- the mapped ones of the bytes from an address on, each with its address
-unfoldable pub entries_from : List ℕ → ℕ → List ℕ → List (ℕ × ℕ)
-entries_from mapped at [] = []
-entries_from mapped at (b ∷ bs) = if is_set mapped (at % 4096) then (at, b) ∷ entries_from mapped (at + 1) bs else entries_from mapped (at + 1) bs
+unfoldable pub page_entries_from : List ℕ → ℕ → List ℕ → List (ℕ × ℕ)
+page_entries_from mapped at [] = []
+page_entries_from mapped at (b ∷ bs) = if is_page_bit_set mapped (at % 4096) then (at, b) ∷ page_entries_from mapped (at + 1) bs else page_entries_from mapped (at + 1) bs
 
 -- the mapped bytes of all pages, each with its address
 unfoldable pub entries_of : List Page → List (ℕ × ℕ)
 entries_of [] = []
-entries_of (p ∷ ps) = entries_from p.mapped (p.number * 4096) p.bytes ++ entries_of ps
+entries_of (p ∷ ps) = page_entries_from p.mapped (p.number * 4096) p.bytes ++ entries_of ps
 
 -- the memory of a list of pages
 unfoldable pub memory_of : List Page → Memory
@@ -46,21 +46,21 @@ pub record ArePages (ps : List Page) : Type 0 where
   pub whole : All IsPage ps
   pub rising : IsStrictlyIncreasing (map number_of ps)
 
--- each byte of the pages is below 256
-abbrev pub AreSmall : List Page → Type 0
-AreSmall ps = All (λ p. (k : ℕ) → slice_index p.bytes k < 256) ps
+-- each byte of the memory's pages is below 256
+abbrev pub ArePageBytesSmall : List Page → Type 0
+ArePageBytesSmall ps = All (λ p. (k : ℕ) → slice_index p.bytes k < 256) ps
 
 -- what holds of the pages of a memory
 pub record IsMem (ps : List Page) : Type 0 where
   pub pages : ArePages ps
-  pub small : AreSmall ps
+  pub small : ArePageBytesSmall ps
 
--- these bytes from an offset on, written into the bytes of a page
-abbrev pub with_bytes_at : List ℕ → ℕ → List ℕ → List ℕ
-with_bytes_at bytes offset new = take offset bytes ++ (new ++ drop (offset + length new) bytes)
+-- the bytes of a page, with these bytes written from an offset on
+abbrev pub page_bytes_with : List ℕ → ℕ → List ℕ → List ℕ
+page_bytes_with bytes offset new = take offset bytes ++ (new ++ drop (offset + length new) bytes)
 
 -- the 32-bit words from an offset on, written into the bytes of a page, the last word first
-unfoldable pub bytes_with : List ℕ → ℕ → List ℕ → List ℕ
-bytes_with bytes offset [] = bytes
-bytes_with bytes offset (w ∷ ws) =
-    slice_set (slice_set (slice_set (slice_set (bytes_with bytes (offset + 4) ws) offset (w % 2 ^ 8)) (offset + 1) (w / 2 ^ 8 % 2 ^ 8)) (offset + 2) (w / 2 ^ 16 % 2 ^ 8)) (offset + 3) (w / 2 ^ 24 % 2 ^ 8)
+unfoldable pub page_bytes_with_words : List ℕ → ℕ → List ℕ → List ℕ
+page_bytes_with_words bytes offset [] = bytes
+page_bytes_with_words bytes offset (w ∷ ws) =
+    slice_set (slice_set (slice_set (slice_set (page_bytes_with_words bytes (offset + 4) ws) offset (w % 2 ^ 8)) (offset + 1) (w / 2 ^ 8 % 2 ^ 8)) (offset + 2) (w / 2 ^ 16 % 2 ^ 8)) (offset + 3) (w / 2 ^ 24 % 2 ^ 8)

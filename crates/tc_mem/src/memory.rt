@@ -1,20 +1,20 @@
-// The type `Mem`: a sorted list of pages, and its public functions.
-ghost use Rattle.std.specs.Prelude.{◌≡◌, ◌≤◌, ◌+◌, ◌%◌, ◌^◌, All, IfOk, length, ◌<◌, slice_index, ◌/◌, ℕ, Some, None, if◌then◌else◌};
+// The type `Mem`, a sorted list of pages: its public functions, and the functions on pages that do
+// their work.
+ghost use Rattle.std.specs.Prelude.{◌≡◌, ◌≤◌, ◌+◌, ◌%◌, ◌^◌, All, IfOk, length, ◌<◌, ◌/◌, Some, None, if◌then◌else◌, ◌-◌, false, ◌*◌};
 ghost use Rattle.std.specs.Bool.{OnFalse};
 ghost use Rattle.std.specs.FinMap as finite;
-ghost use Rattle.csa_chain.specs.MemoryBytes.{is_mapped, are_mapped, with_byte, HasBytes};
-ghost use Rattle.tc_mem.specs.Areas.{area_of, with_area, first_word_of};
-ghost use Rattle.tc_mem.specs.Blocks.{are_in_block, word_of, half_of, with_word_in, with_half_in};
-ghost use Rattle.tc_mem.specs.Pages.{memory_of, IsMem, IsPage, byte_of};
-ghost use Rattle.tc_mem.specs.PlanMemory.{IsZeros};
-ghost use Rattle.tc_mem.specs.Written.{IsWritten};
-ghost use Rattle.tcd_base.specs.Ranges.{is_in};
+ghost use Rattle.csa_chain.specs.MemoryBytes.{is_mapped, are_mapped, with_byte, HasBytes, is_mapped as has_byte};
+ghost use Rattle.tc_mem.specs.Areas.{memory_area_of, memory_with_area, area_first_word};
+ghost use Rattle.tc_mem.specs.Blocks.{are_in_block, mapped_block_word, mapped_block_half, with_block_word, with_block_half};
+ghost use Rattle.tc_mem.specs.Pages.{memory_of, IsMem};
+ghost use Rattle.tc_mem.specs.PlanMemory.{IsMemoryOfZeros};
+ghost use Rattle.tc_mem.specs.Written.{IsMemoryWritten};
 
 use crate::page::{
-    Page, byte, mapped_half, mapped_word, mark_range, no_bits, pages_of, put_bytes, read_area,
-    read_first, write, write_area, write_bytes, write_half, write_word, zeros,
+    Page, area_in, byte, first_in, mapped_half, mapped_word, page_of, put_area, put_byte,
+    put_bytes, put_mapped_half, put_mapped_word,
 };
-use crate::page_numbers::find_page;
+use crate::page_numbers::{find_near, find_page, page_numbers};
 use std::alloc::Global;
 use std::marker::Model;
 use tcd_base::{NoMemory, Range};
@@ -47,7 +47,7 @@ impl Mem {
     /// Returns the memory in which the bytes of the ranges are mapped, all zero.
     pub fn of(alloc: Global, ranges: &[Range]) -> Result<Mem, NoMemory>
         requires { All (λ r. r.at + r.len ≤ 2 ^ 32) ranges.now }
-        ensures zeros { IfOk result (λ m. IsZeros ranges.now m) }
+        ensures zeros { IfOk result (λ m. IsMemoryOfZeros ranges.now m) }
         ensures bytes { IfOk result (λ m. HasBytes m) }
     {
         Ok(Mem {
@@ -61,7 +61,7 @@ impl Mem {
         ensures byte { result ≡ finite.get self.now addr }
         ensures bytes { HasBytes self.now }
     {
-        read(&self.pages, addr, self.near)
+        read_memory_byte(&self.pages, addr, self.near)
     }
 
     /// Writes a mapped byte. If it isn't mapped, the answer is false, and nothing changes.
@@ -71,13 +71,13 @@ impl Mem {
         ensures kept { OnFalse result (self.new ≡ self.old) }
         ensures bytes { HasBytes self.new }
     {
-        write(&mut self.pages, addr, byte, self.near)
+        write_memory_byte(&mut self.pages, addr, byte, self.near)
     }
 
     /// Writes bytes from an address on. Those at addresses that aren't mapped are dropped.
     pub fn set_bytes(&mut self, addr: u32, bytes: &[u8])
         requires { addr + length bytes.now ≤ 2 ^ 32 }
-        ensures written { IsWritten self.old addr bytes.now self.new }
+        ensures written { IsMemoryWritten self.old addr bytes.now self.new }
         ensures bytes { HasBytes self.new }
     {
         write_bytes(&mut self.pages, addr, bytes);
@@ -87,7 +87,7 @@ impl Mem {
     /// one of the bytes isn't mapped, the answer is `None`.
     pub fn area(&self, addr: u32) -> Option<[u32; 16]>
         requires { addr % 64 ≡ 0 }
-        ensures words { result ≡ area_of self.now addr }
+        ensures words { result ≡ memory_area_of self.now addr }
         ensures bytes { HasBytes self.now }
     {
         read_area(&self.pages, addr, self.near)
@@ -98,7 +98,7 @@ impl Mem {
     pub fn set_area(&mut self, addr: u32, words: &[u32; 16]) -> bool
         requires { addr % 64 ≡ 0 }
         ensures mapped { result ≡ are_mapped self.old addr 64 }
-        ensures written { self.new ≡ with_area self.old addr words.now }
+        ensures written { self.new ≡ memory_with_area self.old addr words.now }
         ensures kept { OnFalse result (self.new ≡ self.old) }
         ensures bytes { HasBytes self.new }
     {
@@ -108,7 +108,7 @@ impl Mem {
     /// Returns the word of the four bytes from an address on, its lowest byte first. If one of them
     /// isn't mapped, or they cross a multiple of 64, the answer is `None`.
     pub fn word(&self, addr: u32) -> Option<u32>
-        ensures word { result ≡ word_of self.now addr }
+        ensures word { result ≡ mapped_block_word self.now addr }
         ensures bytes { HasBytes self.now }
     {
         read_word(&self.pages, addr, self.near)
@@ -117,7 +117,7 @@ impl Mem {
     /// Returns the halfword of the two bytes from an address on, its lower byte first. If one of
     /// them isn't mapped, or they cross a multiple of 64, the answer is `None`.
     pub fn half(&self, addr: u32) -> Option<u16>
-        ensures half { result ≡ half_of self.now addr }
+        ensures half { result ≡ mapped_block_half self.now addr }
         ensures bytes { HasBytes self.now }
     {
         read_half(&self.pages, addr, self.near)
@@ -127,7 +127,7 @@ impl Mem {
     /// isn't mapped, or they cross a multiple of 64, the answer is false, and nothing changes.
     pub fn set_word(&mut self, addr: u32, word: u32) -> bool
         ensures mapped { result ≡ are_in_block self.old addr 4 }
-        ensures written { self.new ≡ with_word_in self.old addr word }
+        ensures written { self.new ≡ with_block_word self.old addr word }
         ensures bytes { HasBytes self.new }
     {
         write_word(&mut self.pages, addr, word, self.near)
@@ -137,7 +137,7 @@ impl Mem {
     /// isn't mapped, or they cross a multiple of 64, the answer is false, and nothing changes.
     pub fn set_half(&mut self, addr: u32, half: u16) -> bool
         ensures mapped { result ≡ are_in_block self.old addr 2 }
-        ensures written { self.new ≡ with_half_in self.old addr half }
+        ensures written { self.new ≡ with_block_half self.old addr half }
         ensures bytes { HasBytes self.new }
     {
         write_half(&mut self.pages, addr, half, self.near)
@@ -148,15 +148,15 @@ impl Mem {
     /// is allowed.
     pub fn first_word(&self, addr: u32, near: &mut usize) -> Option<u32>
         requires { addr % 64 ≡ 0 }
-        ensures word { result ≡ first_word_of self.now addr }
+        ensures word { result ≡ area_first_word self.now addr }
         ensures bytes { HasBytes self.now }
     {
-        read_first(&self.pages, addr, near)
+        read_area_first_word(&self.pages, addr, near)
     }
 }
 
 // Returns the byte at an address, or `None` if it isn't mapped.
-pub(crate) fn read(pages: &[Page], addr: u32, near: usize) -> Option<u8>
+pub(crate) fn read_memory_byte(pages: &[Page], addr: u32, near: usize) -> Option<u8>
     requires { IsMem pages.now }
     ensures byte { result ≡ finite.get (memory_of pages.now) addr }
     ensures bytes { HasBytes (memory_of pages.now) }
@@ -167,11 +167,12 @@ pub(crate) fn read(pages: &[Page], addr: u32, near: usize) -> Option<u8>
     byte(&pages[i], addr)
 }
 
-// Writes bytes from an address on, all in one page. Those that aren't mapped are dropped.
+/// Writes bytes from an address on, all in one page, for `Mem::set_bytes`. Those that aren't mapped
+/// are dropped.
 pub(crate) fn write_in_page(pages: &mut [Page], addr: u32, bytes: &[u8])
     requires pages { IsMem pages.old }
     requires within { addr % 4096 + length bytes.now ≤ 4096 }
-    ensures written { IsWritten (memory_of pages.old) addr bytes.now (memory_of pages.new) }
+    ensures written { IsMemoryWritten (memory_of pages.old) addr bytes.now (memory_of pages.new) }
     ensures pages { IsMem pages.new }
 {
     let Some(i) = find_page(pages, addr / 4096, 0) else {
@@ -180,10 +181,11 @@ pub(crate) fn write_in_page(pages: &mut [Page], addr: u32, bytes: &[u8])
     put_bytes(&mut pages[i], (addr % 4096) as usize, bytes);
 }
 
-// Returns the word at an address if its bytes are mapped and in one block of 64.
+/// Does the work of `Mem::word`: returns the word at an address if its bytes are mapped and in one
+/// block of 64.
 pub(crate) fn read_word(pages: &[Page], addr: u32, near: usize) -> Option<u32>
     requires { IsMem pages.now }
-    ensures word { result ≡ word_of (memory_of pages.now) addr }
+    ensures word { result ≡ mapped_block_word (memory_of pages.now) addr }
     ensures bytes { HasBytes (memory_of pages.now) }
 {
     if addr % 64 > 60 {
@@ -195,10 +197,11 @@ pub(crate) fn read_word(pages: &[Page], addr: u32, near: usize) -> Option<u32>
     mapped_word(&pages[i], (addr % 4096) as usize)
 }
 
-// Returns the halfword at an address if its bytes are mapped and in one block of 64.
+/// Does the work of `Mem::half`: returns the halfword at an address if its bytes are mapped and in
+/// one block of 64.
 pub(crate) fn read_half(pages: &[Page], addr: u32, near: usize) -> Option<u16>
     requires { IsMem pages.now }
-    ensures half { result ≡ half_of (memory_of pages.now) addr }
+    ensures half { result ≡ mapped_block_half (memory_of pages.now) addr }
     ensures bytes { HasBytes (memory_of pages.now) }
 {
     if addr % 64 > 62 {
@@ -210,21 +213,131 @@ pub(crate) fn read_half(pages: &[Page], addr: u32, near: usize) -> Option<u16>
     mapped_half(&pages[i], (addr % 4096) as usize)
 }
 
-// Returns the page with this number in which the bytes of the ranges are mapped.
-pub(crate) fn page_of(number: u32, ranges: &[Range]) -> Page
-    ensures number { result.number ≡ number }
-    ensures page { IsPage result }
-    ensures small { (k : ℕ) → slice_index result.bytes k < 256 }
-    ensures zeros { (q : ℕ) → q / 4096 ≡ number
-        → byte_of q result ≡ (if is_in ranges.now q then Some 0 else None) }
+/// Does the work of `Mem::set`: writes a byte if it is mapped, and returns whether it is.
+pub(crate) fn write_memory_byte(pages: &mut [Page], addr: u32, byte: u8, near: usize) -> bool
+    requires { IsMem pages.old }
+    ensures mapped { result ≡ has_byte (memory_of pages.old) addr }
+    ensures written { memory_of pages.new ≡ with_byte (memory_of pages.old) addr byte }
+    ensures kept { OnFalse result (memory_of pages.new ≡ memory_of pages.old) }
+    ensures pages { IsMem pages.new }
+    ensures bytes { HasBytes (memory_of pages.new) }
 {
-    let mut mapped = no_bits();
-    for range in ranges {
-        mark_range(&mut mapped, number, range);
+    let Some(i) = find_page(pages, addr / 4096, near) else {
+        return false;
+    };
+    put_byte(&mut pages[i], (addr % 4096) as usize, byte)
+}
+
+/// Does the work of `Mem::set_bytes`: writes bytes from an address on. Those that aren't mapped are
+/// dropped.
+pub(crate) fn write_bytes(pages: &mut [Page], addr: u32, bytes: &[u8])
+    requires pages { IsMem pages.old }
+    requires fits { addr + length bytes.now ≤ 2 ^ 32 }
+    ensures written { IsMemoryWritten (memory_of pages.old) addr bytes.now (memory_of pages.new) }
+    ensures pages { IsMem pages.new }
+    ensures bytes { HasBytes (memory_of pages.new) }
+{
+    let mut done = 0;
+    while done < bytes.len() {
+        let at = addr + done as u32;
+        let end = bytes.len().min(done + (4096 - at % 4096) as usize);
+        write_in_page(pages, at, &bytes[done..end]);
+        done = end;
     }
-    Page {
-        number,
-        mapped,
-        bytes: zeros(),
+}
+
+/// Does the work of `Mem::set_word`: writes a word if its bytes are mapped and in one block of 64,
+/// and returns whether they are.
+pub(crate) fn write_word(pages: &mut [Page], addr: u32, word: u32, near: usize) -> bool
+    requires { IsMem pages.old }
+    ensures mapped { result ≡ are_in_block (memory_of pages.old) addr 4 }
+    ensures written { memory_of pages.new ≡ with_block_word (memory_of pages.old) addr word }
+    ensures pages { IsMem pages.new }
+    ensures bytes { HasBytes (memory_of pages.new) }
+{
+    if addr % 64 > 60 {
+        return false;
     }
+    let Some(i) = find_page(pages, addr / 4096, near) else {
+        return false;
+    };
+    put_mapped_word(&mut pages[i], (addr % 4096) as usize, word)
+}
+
+/// Does the work of `Mem::set_half`: writes a halfword if its bytes are mapped and in one block of
+/// 64, and returns whether they are.
+pub(crate) fn write_half(pages: &mut [Page], addr: u32, half: u16, near: usize) -> bool
+    requires { IsMem pages.old }
+    ensures mapped { result ≡ are_in_block (memory_of pages.old) addr 2 }
+    ensures written { memory_of pages.new ≡ with_block_half (memory_of pages.old) addr half }
+    ensures pages { IsMem pages.new }
+    ensures bytes { HasBytes (memory_of pages.new) }
+{
+    if addr % 64 > 62 {
+        return false;
+    }
+    let Some(i) = find_page(pages, addr / 4096, near) else {
+        return false;
+    };
+    put_mapped_half(&mut pages[i], (addr % 4096) as usize, half)
+}
+
+/// Does the work of `Mem::first_word`: returns the first word of an area that is wholly mapped. The
+/// search for its page begins at `near`, which is then set to the place of the page.
+pub(crate) fn read_area_first_word(pages: &[Page], addr: u32, near: &mut usize) -> Option<u32>
+    requires pages { IsMem pages.now }
+    requires aligned { addr % 64 ≡ 0 }
+    ensures word { result ≡ area_first_word (memory_of pages.now) addr }
+    ensures bytes { HasBytes (memory_of pages.now) }
+{
+    let Some(i) = find_near(pages, addr / 4096, *near) else {
+        return None;
+    };
+    *near = i;
+    first_in(&pages[i], (addr % 4096) as usize)
+}
+
+/// Does the work of `Mem::area`: returns the words of an area that is wholly mapped.
+pub(crate) fn read_area(pages: &[Page], addr: u32, near: usize) -> Option<[u32; 16]>
+    requires pages { IsMem pages.now }
+    requires aligned { addr % 64 ≡ 0 }
+    ensures words { result ≡ memory_area_of (memory_of pages.now) addr }
+    ensures bytes { HasBytes (memory_of pages.now) }
+{
+    let Some(i) = find_page(pages, addr / 4096, near) else {
+        return None;
+    };
+    area_in(&pages[i], (addr % 4096) as usize)
+}
+
+/// Does the work of `Mem::set_area`: writes an area if it is wholly mapped, and returns whether it
+/// is.
+pub(crate) fn write_area(pages: &mut [Page], addr: u32, words: &[u32; 16], near: &mut usize) -> bool
+    requires pages { IsMem pages.old }
+    requires aligned { addr % 64 ≡ 0 }
+    ensures mapped { result ≡ are_mapped (memory_of pages.old) addr 64 }
+    ensures written { memory_of pages.new ≡ memory_with_area (memory_of pages.old) addr words.now }
+    ensures pages { IsMem pages.new }
+    ensures bytes { HasBytes (memory_of pages.new) }
+{
+    let Some(i) = find_page(pages, addr / 4096, *near) else {
+        return false;
+    };
+    *near = i;
+    put_area(&mut pages[i], (addr % 4096) as usize, words)
+}
+
+/// Returns the pages of a new `Mem` for the ranges. There is room for all of them before the first
+/// one is made, so each is written where it stays.
+pub(crate) fn pages_of(alloc: Global, ranges: &[Range]) -> Result<Vec<Page>, NoMemory>
+    ensures pages { IfOk result (λ v. IsMem v.items) }
+    ensures bytes { IfOk result (λ v. HasBytes (memory_of v.items)) }
+    ensures zeros { IfOk result (λ v. IsMemoryOfZeros ranges.now (memory_of v.items)) }
+{
+    let numbers = page_numbers(alloc, ranges)?;
+    let mut pages = Vec::with_capacity(alloc, numbers.len())?;
+    for number in &numbers {
+        pages.push_reserved(page_of(*number, ranges));
+    }
+    Ok(pages)
 }

@@ -2,7 +2,7 @@
 ghost use Rattle.std.specs.Prelude.{◌≡◌, ◌≢◌, ◌<◌, All, IfSome, IfNone, map, length, slice_index, ◌≤◌, ◌+◌, ◌/◌, ℕ, Contains, IfOk, IsTrue, OnOk, Some, None};
 ghost use Rattle.std.specs.List.Sorted.{IsStrictlyIncreasing};
 ghost use Rattle.tc_mem.specs.Pages.{number_of};
-ghost use Rattle.tcd_base.specs.Ranges.{is_in};
+ghost use Rattle.tcd_base.specs.Ranges.{is_address_in_ranges};
 
 use crate::page::Page;
 use std::alloc::Global;
@@ -63,8 +63,8 @@ fn likely_place(pages: &[Page], number: u32, near: usize) -> usize {
     near
 }
 
-// Returns the place of the page with this number. `near` is a hint for pages that are neither in
-// sequence with the first one nor with the last one.
+/// Returns the place of the page with this number. `near` is a hint for pages that are neither in
+/// sequence with the first one nor with the last one.
 pub(crate) fn find_page(pages: &[Page], number: u32, near: usize) -> Option<usize>
     requires { IsStrictlyIncreasing (map number_of pages.now) }
     ensures within { IfSome result (λ i. i < length pages.now) }
@@ -75,7 +75,7 @@ pub(crate) fn find_page(pages: &[Page], number: u32, near: usize) -> Option<usiz
 }
 
 // Appends the numbers of the pages in which a range has bytes.
-fn add_numbers(numbers: &mut Vec<u32>, range: &Range) -> Result<(), NoMemory>
+fn add_page_numbers(numbers: &mut Vec<u32>, range: &Range) -> Result<(), NoMemory>
     ensures kept { OnOk result
         ((n : ℕ) → Contains numbers.old.items n → Contains numbers.new.items n) }
     ensures added { OnOk result
@@ -93,11 +93,11 @@ fn add_numbers(numbers: &mut Vec<u32>, range: &Range) -> Result<(), NoMemory>
 pub(crate) fn page_numbers(alloc: Global, ranges: &[Range]) -> Result<Vec<u32>, NoMemory>
     ensures rising { IfOk result (λ v. IsStrictlyIncreasing v.items) }
     ensures all { IfOk result
-        (λ v. (q : ℕ) → IsTrue (is_in ranges.now q) → Contains v.items (q / 4096)) }
+        (λ v. (q : ℕ) → IsTrue (is_address_in_ranges ranges.now q) → Contains v.items (q / 4096)) }
 {
     let mut numbers = Vec::new(alloc);
     for range in ranges {
-        add_numbers(&mut numbers, range)?;
+        add_page_numbers(&mut numbers, range)?;
     }
     numbers.sort_unstable();
     numbers.dedup();

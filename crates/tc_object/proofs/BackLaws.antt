@@ -7,12 +7,12 @@ use Rattle.std.specs.List.{flat_map}
 use Rattle.tcd_base.specs.declared.errors.FormErr.{FormErr}
 use Rattle.tcd_base.specs.Bytes.{bytes_of_half, bytes_of_word}
 use Rattle.tcd_base.specs.Place.{Place, place_between}
-use Rattle.tcd_base.specs.FieldReaders.{◌>>=◌, many_at}
+use Rattle.tcd_base.specs.FieldReaders.{◌>>=◌, many_fields_at}
 use Rattle.tcd_base.proofs.FieldReads.{u8_at-between, u16_at-between, u32_at-between, bytes_at-between}
 use Rattle.tc_object.specs.declared.relocs.Reloc.{Reloc}
-use Rattle.tc_object.specs.Names.{IsName, is_length}
-use Rattle.tc_object.specs.Objects.{SectionData, SymbolData, ObjectData, InTurn, IsSection, IsSymbol, IsReloc, IsObject, is_section_name, is_symbol_name, last_of, is_behind, size_at}
-use Rattle.tc_object.specs.Grammar.{is_not_below, name_length_at, name_bytes_at, name_after, section_after, section_with, kind_at, symbol_section_at, symbol_offset_at, symbol_after, symbol_with, symbol_named, reloc_section_at, reloc_offset_at, reloc_symbol_at, reloc_after, magic_at, section_count_at, parts_at, object_at, object_of}
+use Rattle.tc_object.specs.Names.{IsNewObjectName, is_name_length}
+use Rattle.tc_object.specs.Objects.{SectionData, SymbolData, ObjectData, InTurn, IsSection, IsSymbol, IsReloc, IsObject, is_section_name, is_symbol_name, last_reloc, is_behind, section_size_at}
+use Rattle.tc_object.specs.Grammar.{is_not_below, name_length_at, name_bytes_at, new_object_name_at, section_after, section_with, kind_at, symbol_section_at, symbol_offset_at, symbol_after, symbol_with, symbol_named, reloc_section_at, reloc_offset_at, reloc_symbol_at, reloc_after, magic_at, section_count_at, parts_at, object_at, object_of}
 use Rattle.tc_object.specs.Spelling.{bytes_of_name, bytes_of_section, bytes_of_symbol, bytes_of_reloc, bytes_of_header, bytes_of}
 
 -- a successful reading, and what follows it
@@ -24,10 +24,10 @@ checked_ok : {A : Type 0} (good : Bool) (x : A) (e : FormErr) → good ≡ true 
 checked_ok good x e h = rw h refl
 
 -- ---- names
-name_back : (used : List ℕ → Bool) (name : List ℕ) → IsName used name → (front rest : List ℕ) → name_after used (place_between front (bytes_of_name name ++ rest)) ≡ Ok (name, place_between (front ++ bytes_of_name name) rest)
-unfolding name_after name_length_at name_bytes_at bytes_of_name
+name_back : (used : List ℕ → Bool) (name : List ℕ) → IsNewObjectName used name → (front rest : List ℕ) → new_object_name_at used (place_between front (bytes_of_name name ++ rest)) ≡ Ok (name, place_between (front ++ bytes_of_name name) rest)
+unfolding new_object_name_at name_length_at name_bytes_at bytes_of_name
 name_back used name good front rest =
-    let long : is_length (length name) ≡ true = and_from _ _ (le-leb 1 (length name) good.some) (le-leb (length name) 64 good.few) in
+    let long : is_name_length (length name) ≡ true = and_from _ _ (le-leb 1 (length name) good.some) (le-leb (length name) 64 good.few) in
     then_ok _ _ _ _ (then_ok _ _ _ _ (u8_at-between front (length name) (name ++ rest)) (checked_ok _ _ _ long))
     (then_ok _ _ _ _ (then_ok _ _ _ _ (bytes_at-between (front ++ length name ∷ []) name rest) (checked_ok _ _ _ good.written))
     (checked_ok _ _ _ (ap not good.new) ∙ ap (λ (l : List ℕ). Ok (name, place_between l rest)) (append_assoc front (length name ∷ []) name)))
@@ -35,11 +35,11 @@ name_back used name good front rest =
 -- ---- many items
 many_back : {A : Type 0} (item : List A → Place → Result (A × Place) FormErr) (spell : A → List ℕ) (Good : List A → A → Type 0)
     → ((before : List A) (x : A) → Good before x → (front rest : List ℕ) → item before (place_between front (spell x ++ rest)) ≡ Ok (x, place_between (front ++ spell x) rest))
-    → (before xs : List A) (front rest : List ℕ) → InTurn Good before xs → many_at item (length xs) before (place_between front (flat_map spell xs ++ rest)) ≡ Ok (before ++ xs, place_between (front ++ flat_map spell xs) rest)
-unfolding many_at
+    → (before xs : List A) (front rest : List ℕ) → InTurn Good before xs → many_fields_at item (length xs) before (place_between front (flat_map spell xs ++ rest)) ≡ Ok (before ++ xs, place_between (front ++ flat_map spell xs) rest)
+unfolding many_fields_at
 many_back item spell Good each before [] front rest good = rw (append-nil before, append-nil front) refl
 many_back item spell Good each before (x ∷ xs) front rest good =
-    ap (λ (l : List ℕ). many_at item (suc (length xs)) before (place_between front l)) (append_assoc (spell x) (flat_map spell xs) rest)
+    ap (λ (l : List ℕ). many_fields_at item (suc (length xs)) before (place_between front l)) (append_assoc (spell x) (flat_map spell xs) rest)
     ∙ then_ok _ _ _ _ (each before x good.0 front (flat_map spell xs ++ rest))
     (many_back item spell Good each (before ++ x ∷ []) xs (front ++ spell x) rest good.1 ∙ rw (append_assoc before (x ∷ []) xs, append_assoc front (spell x) (flat_map spell xs)) refl)
 
@@ -91,9 +91,9 @@ reloc_back sections symbols before r few good front rest =
     let r1 : List ℕ = bytes_of_word r.offset ++ r2 in
     let inner : reloc_after sections symbols before (place_between front (bytes_of_half r.section ++ r1)) ≡ Ok (r, place_between (f4 ++ bytes_of_word r.addend) rest) =
     then_ok _ _ _ _ (then_ok _ _ _ _ (u16_at-between front r.section r1 good.half)
-    (then_ok _ _ _ _ (checked_ok _ _ _ (not_below_of_behind (last_of before) r.section r.offset good.behind)) (checked_ok _ _ _ (lt-ltb r.section (length sections) good.section))))
+    (then_ok _ _ _ _ (checked_ok _ _ _ (not_below_of_behind (last_reloc before) r.section r.offset good.behind)) (checked_ok _ _ _ (lt-ltb r.section (length sections) good.section))))
     (then_ok _ _ _ _ (then_ok _ _ _ _ (u32_at-between f1 r.offset r2 good.word)
-    (then_ok _ _ _ _ (checked_ok _ _ _ good.behind) (checked_ok _ _ _ (le-leb (r.offset + 4) (size_at sections r.section) good.room))))
+    (then_ok _ _ _ _ (checked_ok _ _ _ good.behind) (checked_ok _ _ _ (le-leb (r.offset + 4) (section_size_at sections r.section) good.room))))
     (then_ok _ _ _ _ (kind_back 1 7 r.kind good.some good.kind f2 r3)
     (then_ok _ _ _ _ (then_ok _ _ _ _ (u16_at-between f3 r.symbol r4 (omega (arith, good.symbol))) (checked_ok _ _ _ (lt-ltb r.symbol symbols good.symbol)))
     (then_ok _ _ _ _ (u32_at-between f4 r.addend rest good.addend) refl)))) in

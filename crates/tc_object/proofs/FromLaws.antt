@@ -7,12 +7,12 @@ use Rattle.std.specs.List.{flat_map}
 use Rattle.tcd_base.specs.declared.errors.FormErr.{FormErr}
 use Rattle.tcd_base.specs.Bytes.{bytes_of_half, bytes_of_word}
 use Rattle.tcd_base.specs.Place.{Place, place_between}
-use Rattle.tcd_base.specs.FieldReaders.{◌>>=◌, u8_at, u16_at, u32_at, bytes_at, many_at}
+use Rattle.tcd_base.specs.FieldReaders.{◌>>=◌, u8_at, u16_at, u32_at, field_bytes_at, many_fields_at}
 use Rattle.tcd_base.proofs.FieldReads.{bytes_at_ok, bind_ok}
 use Rattle.tc_object.specs.declared.relocs.Reloc.{Reloc}
-use Rattle.tc_object.specs.Names.{IsName, is_length, is_name}
-use Rattle.tc_object.specs.Objects.{SectionData, SymbolData, ObjectData, InTurn, IsSection, IsSymbol, IsReloc, IsObject, is_section_name, is_symbol_name, is_section_of, is_offset_of, last_of, is_behind, size_at}
-use Rattle.tc_object.specs.Grammar.{is_not_below, checked, name_length_at, name_bytes_at, name_after, section_after, section_with, kind_at, symbol_section_at, symbol_offset_at, symbol_after, symbol_with, symbol_named, reloc_section_at, reloc_offset_at, reloc_symbol_at, reloc_after, magic_at, section_count_at, parts_at, object_at, object_of}
+use Rattle.tc_object.specs.Names.{IsNewObjectName, is_name_length, is_object_name}
+use Rattle.tc_object.specs.Objects.{SectionData, SymbolData, ObjectData, InTurn, IsSection, IsSymbol, IsReloc, IsObject, is_section_name, is_symbol_name, is_symbol_section, is_symbol_offset, last_reloc, is_behind, section_size_at}
+use Rattle.tc_object.specs.Grammar.{is_not_below, checked_object_field, name_length_at, name_bytes_at, new_object_name_at, section_after, section_with, kind_at, symbol_section_at, symbol_offset_at, symbol_after, symbol_with, symbol_named, reloc_section_at, reloc_offset_at, reloc_symbol_at, reloc_after, magic_at, section_count_at, parts_at, object_at, object_of}
 use Rattle.tc_object.specs.Spelling.{bytes_of_name, bytes_of_section, bytes_of_symbol, bytes_of_reloc, bytes_of_header, bytes_of}
 use Rattle.tcd_base.proofs.PassedLaws.{AreBytes, bytes_from, Passed, passed_bytes, passed_both, ok_pair, passed_test, took_passed, byte_passed, half_passed, word_passed, many_passed}
 
@@ -31,7 +31,7 @@ turn_push good before (y ∷ ys) x h g = (h.0, turn_push good (before ++ y ∷ [
 
 -- ---- fields
 -- n bytes are read unchanged
-bytes_passed : (n : ℕ) (front rest xs : List ℕ) (q : Place) → bytes_at n (place_between front rest) ≡ Ok (xs, q) → Passed xs front rest q × (length xs ≡ n)
+bytes_passed : (n : ℕ) (front rest xs : List ℕ) (q : Place) → field_bytes_at n (place_between front rest) ≡ Ok (xs, q) → Passed xs front rest q × (length xs ≡ n)
 bytes_passed n front rest xs q e =
     let t = bytes_at_ok n (place_between front rest) xs q e in
     let same : xs ≡ take n rest = t.1 ∙ ap (take n) (drop-append_seam front rest) in
@@ -39,20 +39,20 @@ bytes_passed n front rest xs q e =
     (passed_as (sym same) refl (took_passed n front rest q t.0), ap length same ∙ length-take-le n rest within)
 
 -- a byte, two and four bytes that passed a test
-tested_byte : (kind : ℕ) (good : ℕ → Bool) (front rest : List ℕ) (x : ℕ) (q : Place) → AreBytes rest → (u8_at (place_between front rest) >>= λ v. checked kind (good v.0) (place_between front rest) v) ≡ Ok (x, q) → Passed (x ∷ []) front rest q × (good x ≡ true)
+tested_byte : (kind : ℕ) (good : ℕ → Bool) (front rest : List ℕ) (x : ℕ) (q : Place) → AreBytes rest → (u8_at (place_between front rest) >>= λ v. checked_object_field kind (good v.0) (place_between front rest) v) ≡ Ok (x, q) → Passed (x ∷ []) front rest q × (good x ≡ true)
 tested_byte kind good front rest x q bytes e =
     let b = bind_ok (u8_at (place_between front rest)) _ _ e in
     let t = passed_test (good b.0.0) b.0 (x, q) _ b.2 in
     ((byte_passed front rest x q bytes (b.1 ∙ ap (λ (v : ℕ × Place). Ok v) t.1)).0, subst (λ (v : ℕ × Place). good v.0 ≡ true) t.1 t.0)
 
-tested_half : (kind : ℕ) (good : ℕ → Bool) (front rest : List ℕ) (x : ℕ) (q : Place) → AreBytes rest → (u16_at (place_between front rest) >>= λ v. checked kind (good v.0) (place_between front rest) v) ≡ Ok (x, q) → Passed (bytes_of_half x) front rest q × (x < 2 ^ 16) × (good x ≡ true)
+tested_half : (kind : ℕ) (good : ℕ → Bool) (front rest : List ℕ) (x : ℕ) (q : Place) → AreBytes rest → (u16_at (place_between front rest) >>= λ v. checked_object_field kind (good v.0) (place_between front rest) v) ≡ Ok (x, q) → Passed (bytes_of_half x) front rest q × (x < 2 ^ 16) × (good x ≡ true)
 tested_half kind good front rest x q bytes e =
     let b = bind_ok (u16_at (place_between front rest)) _ _ e in
     let t = passed_test (good b.0.0) b.0 (x, q) _ b.2 in
     let h = half_passed front rest x q bytes (b.1 ∙ ap (λ (v : ℕ × Place). Ok v) t.1) in
     (h.0, h.1, subst (λ (v : ℕ × Place). good v.0 ≡ true) t.1 t.0)
 
-tested_word : (kind : ℕ) (good : ℕ → Bool) (front rest : List ℕ) (x : ℕ) (q : Place) → AreBytes rest → (u32_at (place_between front rest) >>= λ v. checked kind (good v.0) (place_between front rest) v) ≡ Ok (x, q) → Passed (bytes_of_word x) front rest q × (x < 2 ^ 32) × (good x ≡ true)
+tested_word : (kind : ℕ) (good : ℕ → Bool) (front rest : List ℕ) (x : ℕ) (q : Place) → AreBytes rest → (u32_at (place_between front rest) >>= λ v. checked_object_field kind (good v.0) (place_between front rest) v) ≡ Ok (x, q) → Passed (bytes_of_word x) front rest q × (x < 2 ^ 32) × (good x ≡ true)
 tested_word kind good front rest x q bytes e =
     let b = bind_ok (u32_at (place_between front rest)) _ _ e in
     let t = passed_test (good b.0.0) b.0 (x, q) _ b.2 in
@@ -68,19 +68,19 @@ not_true : (b : Bool) → not b ≡ true → b ≡ false
 not_true true h = sym h
 not_true false h = refl
 
-name_passed : (is_used : List ℕ → Bool) (front rest name : List ℕ) (q : Place) → AreBytes rest → name_after is_used (place_between front rest) ≡ Ok (name, q) → Passed (bytes_of_name name) front rest q × IsName is_used name
-unfolding name_after name_length_at name_bytes_at
+name_passed : (is_used : List ℕ → Bool) (front rest name : List ℕ) (q : Place) → AreBytes rest → new_object_name_at is_used (place_between front rest) ≡ Ok (name, q) → Passed (bytes_of_name name) front rest q × IsNewObjectName is_used name
+unfolding new_object_name_at name_length_at name_bytes_at
 name_passed is_used front rest name q bytes e =
     let count = bind_ok (name_length_at (place_between front rest)) _ _ e in
     let n : ℕ = count.0.0 in
-    let h1 = tested_byte 4 is_length front rest n count.0.1 bytes count.1 in
+    let h1 = tested_byte 4 is_name_length front rest n count.0.1 bytes count.1 in
     let limits = and_parts (leb 1 n) (leb n 64) h1.1 in
     let read = bind_ok (name_bytes_at n count.0.1) _ _ count.2 in
-    let raw = bind_ok (bytes_at n count.0.1) _ _ read.1 in
-    let t1 = passed_test (is_name raw.0.0) raw.0 read.0 _ raw.2 in
+    let raw = bind_ok (field_bytes_at n count.0.1) _ _ read.1 in
+    let t1 = passed_test (is_object_name raw.0.0) raw.0 read.0 _ raw.2 in
     let t2 = passed_test (not (is_used read.0.0)) read.0 (name, q) _ read.2 in
     let same = ok_pair raw.0.0 name raw.0.1 q (ap (λ (v : List ℕ × Place). Ok v) (t1.1 ∙ t2.1)) in
-    let h2 = bytes_passed n (front ++ n ∷ []) h1.0.after raw.0.0 raw.0.1 (next (bytes_at n) _ h1.0 raw.1) in
+    let h2 = bytes_passed n (front ++ n ∷ []) h1.0.after raw.0.0 raw.0.1 (next (field_bytes_at n) _ h1.0 raw.1) in
     let len : length name ≡ n = ap length (sym same.0) ∙ h2.1 in
     let some : 1 ≤ n = leb-true _ _ limits.0 in
     let few : n ≤ 64 = leb-true _ _ limits.1 in (
@@ -88,7 +88,7 @@ name_passed is_used front rest name q bytes e =
       record {
         some = omega arith;
         few = omega arith;
-        written = ap is_name (sym same.0) ∙ t1.0;
+        written = ap is_object_name (sym same.0) ∙ t1.0;
         new = not_true _ (ap (λ (v : List ℕ × Place). not (is_used v.0)) (sym t2.1) ∙ t2.0);
       },
     )
@@ -102,13 +102,13 @@ section_passed : (before : List SectionData) (front rest : List ℕ) (s : Sectio
     → Passed (bytes_of_section s) front rest q × InTurn IsSection [] (before ++ s ∷ [])
 unfolding section_after section_with
 section_passed before front rest s q bytes good e =
-    let name = bind_ok (name_after (is_section_name before) (place_between front rest)) _ _ e in
+    let name = bind_ok (new_object_name_at (is_section_name before) (place_between front rest)) _ _ e in
     let h1 = name_passed (is_section_name before) front rest name.0.0 name.0.1 bytes name.1 in
     let b1 = passed_bytes h1.0 bytes in
     let len = bind_ok (u32_at name.0.1) _ _ name.2 in
     let h2 = word_passed _ h1.0.after len.0.0 len.0.1 b1 (next u32_at _ h1.0 len.1) in
-    let part = bind_ok (bytes_at len.0.0 len.0.1) _ _ len.2 in
-    let h3 = bytes_passed len.0.0 _ h2.0.after part.0.0 part.0.1 (next (bytes_at len.0.0) _ h2.0 part.1) in
+    let part = bind_ok (field_bytes_at len.0.0 len.0.1) _ _ len.2 in
+    let h3 = bytes_passed len.0.0 _ h2.0.after part.0.0 part.0.1 (next (field_bytes_at len.0.0) _ h2.0 part.1) in
     let made : SectionData = record { name = name.0.0; bytes = part.0.0 } in
     let f = ok_pair made s part.0.1 q part.2 in
     let spelled : bytes_of_name made.name ++ (bytes_of_word len.0.0 ++ made.bytes) ≡ bytes_of_section s = ap (λ n. bytes_of_name made.name ++ (bytes_of_word n ++ made.bytes)) (sym h3.1) ∙ section_bytes made ∙ ap bytes_of_section f.0 in (
@@ -132,17 +132,17 @@ symbol_passed : (sections : List SectionData) (before : List SymbolData) (front 
     → Passed (bytes_of_symbol s) front rest q × InTurn (IsSymbol sections) [] (before ++ s ∷ [])
 unfolding symbol_after symbol_with symbol_named symbol_section_at symbol_offset_at
 symbol_passed sections before front rest s q bytes good e =
-    let name = bind_ok (name_after (is_symbol_name before) (place_between front rest)) _ _ e in
+    let name = bind_ok (new_object_name_at (is_symbol_name before) (place_between front rest)) _ _ e in
     let h1 = name_passed (is_symbol_name before) front rest name.0.0 name.0.1 bytes name.1 in
     let b1 = passed_bytes h1.0 bytes in
     let kind = bind_ok (kind_at 0 2 name.0.1) _ _ name.2 in
     let h2 = kind_passed 0 2 _ h1.0.after kind.0.0 kind.0.1 b1 (next (kind_at 0 2) _ h1.0 kind.1) in
     let b2 = passed_bytes h2.0 b1 in
     let section = bind_ok (symbol_section_at sections kind.0.0 kind.0.1) _ _ kind.2 in
-    let h3 = tested_half 4 (is_section_of sections kind.0.0) _ h2.0.after section.0.0 section.0.1 b2 (next (symbol_section_at sections kind.0.0) _ h2.0 section.1) in
+    let h3 = tested_half 4 (is_symbol_section sections kind.0.0) _ h2.0.after section.0.0 section.0.1 b2 (next (symbol_section_at sections kind.0.0) _ h2.0 section.1) in
     let b3 = passed_bytes h3.0 b2 in
     let offset = bind_ok (symbol_offset_at sections kind.0.0 section.0.0 section.0.1) _ _ section.2 in
-    let h4 = tested_word 4 (is_offset_of sections kind.0.0 section.0.0) _ h3.0.after offset.0.0 offset.0.1 b3 (next (symbol_offset_at sections kind.0.0 section.0.0) _ h3.0 offset.1) in
+    let h4 = tested_word 4 (is_symbol_offset sections kind.0.0 section.0.0) _ h3.0.after offset.0.0 offset.0.1 b3 (next (symbol_offset_at sections kind.0.0 section.0.0) _ h3.0 offset.1) in
     let made : SymbolData = record { name = name.0.0; kind = kind.0.0; section = section.0.0; offset = offset.0.0 } in
     let f = ok_pair made s offset.0.1 q offset.2 in (
       passed_as (symbol_bytes made ∙ ap bytes_of_symbol f.0) f.1 (passed_both h1.0 (passed_both h2.0 (passed_both h3.0 h4.0))),
@@ -158,25 +158,25 @@ reloc_section_passed : (sections : List SectionData) (before : List Reloc) (fron
 unfolding reloc_section_at
 reloc_section_passed sections before front rest x q bytes e =
     let b = bind_ok (u16_at (place_between front rest)) _ _ e in
-    let c = bind_ok (checked 3 (is_not_below (last_of before) b.0.0) (place_between front rest) b.0) _ _ b.2 in
-    let t1 = passed_test (is_not_below (last_of before) b.0.0) b.0 c.0 _ c.1 in
+    let c = bind_ok (checked_object_field 3 (is_not_below (last_reloc before) b.0.0) (place_between front rest) b.0) _ _ b.2 in
+    let t1 = passed_test (is_not_below (last_reloc before) b.0.0) b.0 c.0 _ c.1 in
     let t2 = passed_test (ltb c.0.0 (length sections)) c.0 (x, q) _ c.2 in
     let h = half_passed front rest x q bytes (b.1 ∙ ap (λ (v : ℕ × Place). Ok v) (t1.1 ∙ t2.1)) in
     (h.0, h.1, ltb-true _ _ (subst (λ (v : ℕ × Place). ltb v.0 (length sections) ≡ true) t2.1 t2.0))
 
 reloc_offset_passed : (sections : List SectionData) (before : List Reloc) (section : ℕ) (start : Place) (front rest : List ℕ) (x : ℕ) (q : Place) → AreBytes rest → reloc_offset_at sections before section start (place_between front rest) ≡ Ok (x, q)
-    → Passed (bytes_of_word x) front rest q × (x < 2 ^ 32) × (is_behind (last_of before) section x ≡ true) × (x + 4 ≤ size_at sections section)
+    → Passed (bytes_of_word x) front rest q × (x < 2 ^ 32) × (is_behind (last_reloc before) section x ≡ true) × (x + 4 ≤ section_size_at sections section)
 unfolding reloc_offset_at
 reloc_offset_passed sections before section start front rest x q bytes e =
     let b = bind_ok (u32_at (place_between front rest)) _ _ e in
-    let c = bind_ok (checked 3 (is_behind (last_of before) section b.0.0) start b.0) _ _ b.2 in
-    let t1 = passed_test (is_behind (last_of before) section b.0.0) b.0 c.0 _ c.1 in
-    let t2 = passed_test (leb (c.0.0 + 4) (size_at sections section)) c.0 (x, q) _ c.2 in
+    let c = bind_ok (checked_object_field 3 (is_behind (last_reloc before) section b.0.0) start b.0) _ _ b.2 in
+    let t1 = passed_test (is_behind (last_reloc before) section b.0.0) b.0 c.0 _ c.1 in
+    let t2 = passed_test (leb (c.0.0 + 4) (section_size_at sections section)) c.0 (x, q) _ c.2 in
     let h = word_passed front rest x q bytes (b.1 ∙ ap (λ (v : ℕ × Place). Ok v) (t1.1 ∙ t2.1)) in (
       h.0,
       h.1,
-      subst (λ (v : ℕ × Place). is_behind (last_of before) section v.0 ≡ true) (t1.1 ∙ t2.1) t1.0,
-      leb-true _ _ (subst (λ (v : ℕ × Place). leb (v.0 + 4) (size_at sections section) ≡ true) t2.1 t2.0),
+      subst (λ (v : ℕ × Place). is_behind (last_reloc before) section v.0 ≡ true) (t1.1 ∙ t2.1) t1.0,
+      leb-true _ _ (subst (λ (v : ℕ × Place). leb (v.0 + 4) (section_size_at sections section) ≡ true) t2.1 t2.0),
     )
 
 reloc_passed : (sections : List SectionData) (symbols : ℕ) (before : List Reloc) (front rest : List ℕ) (r : Reloc) (q : Place) → AreBytes rest → InTurn (IsReloc sections symbols) [] before → reloc_after sections symbols before (place_between front rest) ≡ Ok (r, q)
@@ -209,7 +209,7 @@ reloc_passed sections symbols before front rest r q bytes good e =
 -- many items, from an empty list on
 all_passed : {A : Type 0} (item : List A → Place → Result (A × Place) FormErr) (spell : A → List ℕ) (Good : List A → Type 0)
     → ((before : List A) (front rest : List ℕ) (x : A) (q : Place) → AreBytes rest → Good before → item before (place_between front rest) ≡ Ok (x, q) → Passed (spell x) front rest q × Good (before ++ x ∷ []))
-    → (n : ℕ) (xs : List A) (front rest : List ℕ) (q : Place) → AreBytes rest → Good [] → many_at item n [] (place_between front rest) ≡ Ok (xs, q) → Passed (flat_map spell xs) front rest q × (n ≡ length xs) × Good xs
+    → (n : ℕ) (xs : List A) (front rest : List ℕ) (q : Place) → AreBytes rest → Good [] → many_fields_at item n [] (place_between front rest) ≡ Ok (xs, q) → Passed (flat_map spell xs) front rest q × (n ≡ length xs) × Good xs
 all_passed item spell Good each n xs front rest q bytes good e =
     let m = many_passed item spell Good each n [] xs front rest q bytes good e in
     (passed_as (ap (flat_map spell) (sym m.is)) refl m.passed, sym (ap length m.is ∙ m.count), m.good)
@@ -227,14 +227,14 @@ record ArePartsOf (o : ObjectData) (n m k : ℕ) (front rest : List ℕ) (q : Pl
 parts_passed : (n m k : ℕ) (front rest : List ℕ) (o : ObjectData) (q : Place) → AreBytes rest → parts_at n m k (place_between front rest) ≡ Ok (o, q) → ArePartsOf o n m k front rest q
 unfolding parts_at
 parts_passed n m k front rest o q bytes e =
-    let sections = bind_ok (many_at section_after n [] (place_between front rest)) _ _ e in
+    let sections = bind_ok (many_fields_at section_after n [] (place_between front rest)) _ _ e in
     let h1 = all_passed section_after bytes_of_section (InTurn IsSection []) section_passed n sections.0.0 front rest sections.0.1 bytes tt sections.1 in
     let b1 = passed_bytes h1.0 bytes in
-    let symbols = bind_ok (many_at (symbol_after sections.0.0) m [] sections.0.1) _ _ sections.2 in
-    let h2 = all_passed (symbol_after sections.0.0) bytes_of_symbol (InTurn (IsSymbol sections.0.0) []) (symbol_passed sections.0.0) m symbols.0.0 _ h1.0.after symbols.0.1 b1 tt (next (many_at (symbol_after sections.0.0) m []) _ h1.0 symbols.1) in
+    let symbols = bind_ok (many_fields_at (symbol_after sections.0.0) m [] sections.0.1) _ _ sections.2 in
+    let h2 = all_passed (symbol_after sections.0.0) bytes_of_symbol (InTurn (IsSymbol sections.0.0) []) (symbol_passed sections.0.0) m symbols.0.0 _ h1.0.after symbols.0.1 b1 tt (next (many_fields_at (symbol_after sections.0.0) m []) _ h1.0 symbols.1) in
     let b2 = passed_bytes h2.0 b1 in
-    let relocs = bind_ok (many_at (reloc_after sections.0.0 m) k [] symbols.0.1) _ _ symbols.2 in
-    let h3 = all_passed (reloc_after sections.0.0 m) bytes_of_reloc (InTurn (IsReloc sections.0.0 m) []) (reloc_passed sections.0.0 m) k relocs.0.0 _ h2.0.after relocs.0.1 b2 tt (next (many_at (reloc_after sections.0.0 m) k []) _ h2.0 relocs.1) in
+    let relocs = bind_ok (many_fields_at (reloc_after sections.0.0 m) k [] symbols.0.1) _ _ symbols.2 in
+    let h3 = all_passed (reloc_after sections.0.0 m) bytes_of_reloc (InTurn (IsReloc sections.0.0 m) []) (reloc_passed sections.0.0 m) k relocs.0.0 _ h2.0.after relocs.0.1 b2 tt (next (many_fields_at (reloc_after sections.0.0 m) k []) _ h2.0 relocs.1) in
     let made : ObjectData = record { sections = sections.0.0; symbols = symbols.0.0; relocs = relocs.0.0 } in
     let f = ok_pair made o relocs.0.1 q relocs.2 in
     subst (λ (r : Place). ArePartsOf o n m k front rest r) f.1 (subst (λ (x : ObjectData). ArePartsOf x n m k front rest relocs.0.1) f.0 (record {

@@ -4,13 +4,13 @@ use Rattle.std.specs.Prelude.{nat_le, nat_lt, Option, Some, None, IsSome, ◌↔
 use Rattle.std.proofs.lemmas.Bool.{le-leb}
 use Rattle.std.proofs.lemmas.List.{get_or-take, get_or-drop}
 use Rattle.tcd_base.specs.declared.errors.FormErr.{FormErr}
-use Rattle.tcd_base.specs.Bytes.{half_at, word_at}
+use Rattle.tcd_base.specs.Bytes.{half_in_bytes, word_in_bytes}
 use Rattle.tcd_base.specs.Place.{Place}
 use Rattle.tcd_base.specs.FieldReaders.{◌>>=◌, u8_at, u16_at, u32_at}
 use Rattle.tc_object.specs.declared.relocs.Reloc.{Reloc}
-use Rattle.tc_object.specs.Objects.{SectionData, SymbolData, is_section_of, is_offset_of, last_of, is_behind, size_at}
-use Rattle.tc_object.specs.Grammar.{is_not_below, checked, kind_at, symbol_section_at, symbol_offset_at, symbol_named, reloc_section_at, reloc_offset_at, reloc_symbol_at, reloc_after}
-use Rattle.tc_object.specs.Faults.{unless_good, reloc_fault, symbol_fault}
+use Rattle.tc_object.specs.Objects.{SectionData, SymbolData, is_symbol_section, is_symbol_offset, last_reloc, is_behind, section_size_at}
+use Rattle.tc_object.specs.Grammar.{is_not_below, checked_object_field, kind_at, symbol_section_at, symbol_offset_at, symbol_named, reloc_section_at, reloc_offset_at, reloc_symbol_at, reloc_after}
+use Rattle.tc_object.specs.Faults.{object_field_fault, reloc_fault, symbol_fault}
 use Rattle.tcd_base.proofs.FieldReads.{chosen}
 use Rattle.tc_object.proofs.BackLaws.{then_ok}
 
@@ -18,13 +18,13 @@ use Rattle.tc_object.proofs.BackLaws.{then_ok}
 byte_in : (bytes : List ℕ) (place n i j : ℕ) → i < n → j ≡ place + i → get_or (take n (drop place bytes)) i 0 ≡ get_or bytes j 0
 byte_in bytes place n i j h e = get_or-take n (drop place bytes) i 0 h ∙ get_or-drop place bytes i 0 ∙ ap (λ k. get_or bytes k 0) (sym e)
 
-half_in : (bytes : List ℕ) (place n i j : ℕ) → i + 2 ≤ n → j ≡ place + i → half_at (take n (drop place bytes)) i ≡ half_at bytes j
+half_in : (bytes : List ℕ) (place n i j : ℕ) → i + 2 ≤ n → j ≡ place + i → half_in_bytes (take n (drop place bytes)) i ≡ half_in_bytes bytes j
 half_in bytes place n i j h e =
     let a = byte_in bytes place n i j (omega arith) e in
     let b = byte_in bytes place n (i + 1) (j + 1) (omega arith) (omega arith) in
     omega arith
 
-word_in : (bytes : List ℕ) (place n i j : ℕ) → i + 4 ≤ n → j ≡ place + i → word_at (take n (drop place bytes)) i ≡ word_at bytes j
+word_in : (bytes : List ℕ) (place n i j : ℕ) → i + 4 ≤ n → j ≡ place + i → word_in_bytes (take n (drop place bytes)) i ≡ word_in_bytes bytes j
 word_in bytes place n i j h e =
     let a = byte_in bytes place n i j (omega arith) e in
     let b = byte_in bytes place n (i + 1) (j + 1) (omega arith) (omega arith) in
@@ -41,11 +41,11 @@ byte_here : (p : Place) (n x : ℕ) → p.place + 1 ≤ length p.bytes → n ≡
 unfolding u8_at
 byte_here p n x h e f = rw (e, f) (chosen _ _ _ (le-leb _ _ h))
 
-half_here : (p : Place) (n x : ℕ) → p.place + 2 ≤ length p.bytes → n ≡ p.place + 2 → x ≡ half_at p.bytes p.place → u16_at p ≡ Ok (x, further p n)
+half_here : (p : Place) (n x : ℕ) → p.place + 2 ≤ length p.bytes → n ≡ p.place + 2 → x ≡ half_in_bytes p.bytes p.place → u16_at p ≡ Ok (x, further p n)
 unfolding u16_at
 half_here p n x h e f = rw (e, f) (chosen _ _ _ (le-leb _ _ h))
 
-word_here : (p : Place) (n x : ℕ) → p.place + 4 ≤ length p.bytes → n ≡ p.place + 4 → x ≡ word_at p.bytes p.place → u32_at p ≡ Ok (x, further p n)
+word_here : (p : Place) (n x : ℕ) → p.place + 4 ≤ length p.bytes → n ≡ p.place + 4 → x ≡ word_in_bytes p.bytes p.place → u32_at p ≡ Ok (x, further p n)
 unfolding u32_at
 word_here p n x h e f = rw (e, f) (chosen _ _ _ (le-leb _ _ h))
 
@@ -56,36 +56,36 @@ told None x = Ok x
 told (Some e) x = Err e
 
 one_test : {A B : Type 0} (good : Bool) (kind : ℕ) (p : Place) (x : A × Place) (f : A × Place → Result B FormErr) (next : Option FormErr) (y : B) → f x ≡ told next y
-    → (checked kind good p x >>= f) ≡ told (unless_good good kind p.place next) y
+    → (checked_object_field kind good p x >>= f) ≡ told (object_field_fault good kind p.place next) y
 one_test true kind p x f next y h = h
 one_test false kind p x f next y h = refl
 
 two_tests : {A B : Type 0} (a : Bool) (b : A × Place → Bool) (k l : ℕ) (p q : Place) (x : A × Place) (f : A × Place → Result B FormErr) (next : Option FormErr) (y : B) → f x ≡ told next y
-    → ((checked k a p x >>= λ v. checked l (b v) q v) >>= f) ≡ told (unless_good a k p.place (unless_good (b x) l q.place next)) y
+    → ((checked_object_field k a p x >>= λ v. checked_object_field l (b v) q v) >>= f) ≡ told (object_field_fault a k p.place (object_field_fault (b x) l q.place next)) y
 two_tests true b k l p q x f next y h = one_test (b x) l q x f next y h
 two_tests false b k l p q x f next y h = refl
 
 kind_then : {B : Type 0} (low high : ℕ) (p : Place) (n x : ℕ) (f : ℕ × Place → Result B FormErr) (next : Option FormErr) (y : B) → u8_at p ≡ Ok (x, further p n) → f (x, further p n) ≡ told next y
-    → (kind_at low high p >>= f) ≡ told (unless_good (nat_le low x && nat_le x high) 4 p.place next) y
+    → (kind_at low high p >>= f) ≡ told (object_field_fault (nat_le low x && nat_le x high) 4 p.place next) y
 unfolding kind_at
 kind_then low high p n x f next y h k = rw h (one_test (nat_le low x && nat_le x high) 4 p (x, further p n) f next y k)
 
 -- ---- relocations
 abbrev pub reloc_in : List ℕ → Reloc
-reloc_in bytes = record { section = half_at bytes 0; offset = word_at bytes 2; kind = get_or bytes 6 0; symbol = half_at bytes 7; addend = word_at bytes 9 }
+reloc_in bytes = record { section = half_in_bytes bytes 0; offset = word_in_bytes bytes 2; kind = get_or bytes 6 0; symbol = half_in_bytes bytes 7; addend = word_in_bytes bytes 9 }
 
 section_then : {B : Type 0} (sections : List SectionData) (before : List Reloc) (p : Place) (n x : ℕ) (f : ℕ × Place → Result B FormErr) (next : Option FormErr) (y : B) → u16_at p ≡ Ok (x, further p n) → f (x, further p n) ≡ told next y
-    → (reloc_section_at sections before p >>= f) ≡ told (unless_good (is_not_below (last_of before) x) 3 p.place (unless_good (nat_lt x (length sections)) 4 p.place next)) y
+    → (reloc_section_at sections before p >>= f) ≡ told (object_field_fault (is_not_below (last_reloc before) x) 3 p.place (object_field_fault (nat_lt x (length sections)) 4 p.place next)) y
 unfolding reloc_section_at
-section_then sections before p n x f next y h k = rw h (two_tests (is_not_below (last_of before) x) (λ s. nat_lt s.0 (length sections)) 3 4 p p (x, further p n) f next y k)
+section_then sections before p n x f next y h k = rw h (two_tests (is_not_below (last_reloc before) x) (λ s. nat_lt s.0 (length sections)) 3 4 p p (x, further p n) f next y k)
 
 offset_then : {B : Type 0} (sections : List SectionData) (before : List Reloc) (section : ℕ) (start p : Place) (n x : ℕ) (f : ℕ × Place → Result B FormErr) (next : Option FormErr) (y : B) → u32_at p ≡ Ok (x, further p n) → f (x, further p n) ≡ told next y
-    → (reloc_offset_at sections before section start p >>= f) ≡ told (unless_good (is_behind (last_of before) section x) 3 start.place (unless_good (nat_le (x + 4) (size_at sections section)) 4 p.place next)) y
+    → (reloc_offset_at sections before section start p >>= f) ≡ told (object_field_fault (is_behind (last_reloc before) section x) 3 start.place (object_field_fault (nat_le (x + 4) (section_size_at sections section)) 4 p.place next)) y
 unfolding reloc_offset_at
-offset_then sections before section start p n x f next y h k = rw h (two_tests (is_behind (last_of before) section x) (λ o. nat_le (o.0 + 4) (size_at sections section)) 3 4 start p (x, further p n) f next y k)
+offset_then sections before section start p n x f next y h k = rw h (two_tests (is_behind (last_reloc before) section x) (λ o. nat_le (o.0 + 4) (section_size_at sections section)) 3 4 start p (x, further p n) f next y k)
 
 symbol_then : {B : Type 0} (symbols : ℕ) (p : Place) (n x : ℕ) (f : ℕ × Place → Result B FormErr) (next : Option FormErr) (y : B) → u16_at p ≡ Ok (x, further p n) → f (x, further p n) ≡ told next y
-    → (reloc_symbol_at symbols p >>= f) ≡ told (unless_good (nat_lt x symbols) 4 p.place next) y
+    → (reloc_symbol_at symbols p >>= f) ≡ told (object_field_fault (nat_lt x symbols) 4 p.place next) y
 unfolding reloc_symbol_at
 symbol_then symbols p n x f next y h k = rw h (one_test (nat_lt x symbols) 4 p (x, further p n) f next y k)
 
@@ -109,17 +109,17 @@ whole_reloc sections symbols before p h =
 
 -- ---- symbols
 abbrev pub symbol_in : List ℕ → List ℕ → SymbolData
-symbol_in name bytes = record { name = name; kind = get_or bytes 0 0; section = half_at bytes 1; offset = word_at bytes 3 }
+symbol_in name bytes = record { name = name; kind = get_or bytes 0 0; section = half_in_bytes bytes 1; offset = word_in_bytes bytes 3 }
 
 place_then : {B : Type 0} (sections : List SectionData) (kind : ℕ) (p : Place) (n x : ℕ) (f : ℕ × Place → Result B FormErr) (next : Option FormErr) (y : B) → u16_at p ≡ Ok (x, further p n) → f (x, further p n) ≡ told next y
-    → (symbol_section_at sections kind p >>= f) ≡ told (unless_good (is_section_of sections kind x) 4 p.place next) y
+    → (symbol_section_at sections kind p >>= f) ≡ told (object_field_fault (is_symbol_section sections kind x) 4 p.place next) y
 unfolding symbol_section_at
-place_then sections kind p n x f next y h k = rw h (one_test (is_section_of sections kind x) 4 p (x, further p n) f next y k)
+place_then sections kind p n x f next y h k = rw h (one_test (is_symbol_section sections kind x) 4 p (x, further p n) f next y k)
 
 end_then : {B : Type 0} (sections : List SectionData) (kind section : ℕ) (p : Place) (n x : ℕ) (f : ℕ × Place → Result B FormErr) (next : Option FormErr) (y : B) → u32_at p ≡ Ok (x, further p n) → f (x, further p n) ≡ told next y
-    → (symbol_offset_at sections kind section p >>= f) ≡ told (unless_good (is_offset_of sections kind section x) 4 p.place next) y
+    → (symbol_offset_at sections kind section p >>= f) ≡ told (object_field_fault (is_symbol_offset sections kind section x) 4 p.place next) y
 unfolding symbol_offset_at
-end_then sections kind section p n x f next y h k = rw h (one_test (is_offset_of sections kind section x) 4 p (x, further p n) f next y k)
+end_then sections kind section p n x f next y h k = rw h (one_test (is_symbol_offset sections kind section x) 4 p (x, further p n) f next y k)
 
 -- a symbol whose bytes after the name are all there
 pub whole_symbol : (sections : List SectionData) (name : List ℕ) (p : Place) → p.place + 7 ≤ length p.bytes

@@ -3,52 +3,51 @@
 use Rattle.std.specs.Prelude.{◌+◌, ◌==◌, ◌&&◌, not, nat_lt, nat_le, if◌then◌else◌, ℕ, Bool, List, length, Result, Ok, true, Option, Some, None, []}
 use Rattle.tcd_base.specs.declared.errors.FormErr.{FormErr}
 use Rattle.tcd_base.specs.Place.{Place}
-use Rattle.tcd_base.specs.FieldReaders.{◌>>=◌, u8_at, u16_at, u32_at, bytes_at, many_at}
-use Rattle.tcd_base.specs.Refusing.{fault_at}
+use Rattle.tcd_base.specs.FieldReaders.{◌>>=◌, u8_at, u16_at, u32_at, field_bytes_at, many_fields_at, field_fault_at}
 use Rattle.tc_object.specs.declared.relocs.Reloc.{Reloc}
-use Rattle.tc_object.specs.Names.{is_length, is_name}
-use Rattle.tc_object.specs.Objects.{SectionData, SymbolData, ObjectData, is_section_name, is_symbol_name, size_at, is_section_of, is_offset_of, last_of, is_behind}
+use Rattle.tc_object.specs.Names.{is_name_length, is_object_name}
+use Rattle.tc_object.specs.Objects.{SectionData, SymbolData, ObjectData, is_section_name, is_symbol_name, section_size_at, is_symbol_section, is_symbol_offset, last_reloc, is_behind}
 
 -- ---- fields
 -- the value if the test holds, else the fault of this kind at this place
-abbrev pub checked : {A : Type 0} → ℕ → Bool → Place → A × Place → Result (A × Place) FormErr
-checked kind good p x = if good then Ok x else fault_at kind p
+abbrev pub checked_object_field : {A : Type 0} → ℕ → Bool → Place → A × Place → Result (A × Place) FormErr
+checked_object_field kind good p x = if good then Ok x else field_fault_at kind p
 
 -- ---- names: a field with the length, and a field with the bytes
 -- a name's length, from 1 to 64
 unfoldable pub name_length_at : Place → Result (ℕ × Place) FormErr
-name_length_at p = u8_at p >>= λ n. checked 4 (is_length n.0) p n
+name_length_at p = u8_at p >>= λ n. checked_object_field 4 (is_name_length n.0) p n
 
--- the bytes of a name of this length
+-- the field of an object file with the bytes of a name of this length
 unfoldable pub name_bytes_at : ℕ → Place → Result (List ℕ × Place) FormErr
-name_bytes_at n p = bytes_at n p >>= λ name. checked 4 (is_name name.0) p name
+name_bytes_at n p = field_bytes_at n p >>= λ name. checked_object_field 4 (is_object_name name.0) p name
 
 -- a name that isn't used yet; the fault of a used one is at its bytes
-unfoldable pub name_after : (List ℕ → Bool) → Place → Result (List ℕ × Place) FormErr
-name_after is_used p = name_length_at p >>= λ n. name_bytes_at n.0 n.1 >>= λ name. checked 4 (not (is_used name.0)) n.1 name
+unfoldable pub new_object_name_at : (List ℕ → Bool) → Place → Result (List ℕ × Place) FormErr
+new_object_name_at is_used p = name_length_at p >>= λ n. name_bytes_at n.0 n.1 >>= λ name. checked_object_field 4 (not (is_used name.0)) n.1 name
 
 -- ---- sections
 -- a section with a name that isn't used yet
 unfoldable pub section_with : (List ℕ → Bool) → Place → Result (SectionData × Place) FormErr
 section_with is_used p =
-    name_after is_used p >>= λ name. u32_at name.1 >>= λ len. bytes_at len.0 len.1 >>= λ bytes. Ok (record { name = name.0; bytes = bytes.0 }, bytes.1)
+    new_object_name_at is_used p >>= λ name. u32_at name.1 >>= λ len. field_bytes_at len.0 len.1 >>= λ bytes. Ok (record { name = name.0; bytes = bytes.0 }, bytes.1)
 
 -- a section after these, with a name that none of them has
 unfoldable pub section_after : List SectionData → Place → Result (SectionData × Place) FormErr
 section_after before p = section_with (is_section_name before) p
 
 -- ---- symbols
--- a kind from low to high
+-- the kind of a symbol or of a relocation, from low to high
 unfoldable pub kind_at : ℕ → ℕ → Place → Result (ℕ × Place) FormErr
-kind_at low high p = u8_at p >>= λ k. checked 4 (nat_le low k.0 && nat_le k.0 high) p k
+kind_at low high p = u8_at p >>= λ k. checked_object_field 4 (nat_le low k.0 && nat_le k.0 high) p k
 
 -- a symbol's section: 0 if it is undefined, else the number of a section of the object
 unfoldable pub symbol_section_at : List SectionData → ℕ → Place → Result (ℕ × Place) FormErr
-symbol_section_at sections kind p = u16_at p >>= λ s. checked 4 (is_section_of sections kind s.0) p s
+symbol_section_at sections kind p = u16_at p >>= λ s. checked_object_field 4 (is_symbol_section sections kind s.0) p s
 
 -- a symbol's offset: 0 if it is undefined, else within its section or at its end
 unfoldable pub symbol_offset_at : List SectionData → ℕ → ℕ → Place → Result (ℕ × Place) FormErr
-symbol_offset_at sections kind section p = u32_at p >>= λ o. checked 4 (is_offset_of sections kind section o.0) p o
+symbol_offset_at sections kind section p = u32_at p >>= λ o. checked_object_field 4 (is_symbol_offset sections kind section o.0) p o
 
 -- a symbol of this name: its kind, section and offset
 unfoldable pub symbol_named : List SectionData → List ℕ → Place → Result (SymbolData × Place) FormErr
@@ -59,7 +58,7 @@ symbol_named sections name p =
 
 -- a symbol with a name that isn't used yet
 unfoldable pub symbol_with : List SectionData → (List ℕ → Bool) → Place → Result (SymbolData × Place) FormErr
-symbol_with sections is_used p = name_after is_used p >>= λ name. symbol_named sections name.0 name.1
+symbol_with sections is_used p = new_object_name_at is_used p >>= λ name. symbol_named sections name.0 name.1
 
 -- a symbol after these, with a name that none of them has
 unfoldable pub symbol_after : List SectionData → List SymbolData → Place → Result (SymbolData × Place) FormErr
@@ -74,16 +73,16 @@ is_not_below (Some r) section = nat_le r.section section
 -- a section below that of the last relocation is out of order, whatever the offset
 unfoldable pub reloc_section_at : List SectionData → List Reloc → Place → Result (ℕ × Place) FormErr
 reloc_section_at sections before p =
-    u16_at p >>= λ s. checked 3 (is_not_below (last_of before) s.0) p s >>= λ s. checked 4 (nat_lt s.0 (length sections)) p s
+    u16_at p >>= λ s. checked_object_field 3 (is_not_below (last_reloc before) s.0) p s >>= λ s. checked_object_field 4 (nat_lt s.0 (length sections)) p s
 
 -- an offset in a section; the fault of a wrong order is at start, the relocation's section field
 unfoldable pub reloc_offset_at : List SectionData → List Reloc → ℕ → Place → Place → Result (ℕ × Place) FormErr
 reloc_offset_at sections before section start p =
-    u32_at p >>= λ o. checked 3 (is_behind (last_of before) section o.0) start o >>= λ o. checked 4 (nat_le (o.0 + 4) (size_at sections section)) p o
+    u32_at p >>= λ o. checked_object_field 3 (is_behind (last_reloc before) section o.0) start o >>= λ o. checked_object_field 4 (nat_le (o.0 + 4) (section_size_at sections section)) p o
 
 -- a symbol's number, below the number of symbols
 unfoldable pub reloc_symbol_at : ℕ → Place → Result (ℕ × Place) FormErr
-reloc_symbol_at symbols p = u16_at p >>= λ s. checked 4 (nat_lt s.0 symbols) p s
+reloc_symbol_at symbols p = u16_at p >>= λ s. checked_object_field 4 (nat_lt s.0 symbols) p s
 
 -- a relocation after these: section, offset, kind, symbol and addend
 unfoldable pub reloc_after : List SectionData → ℕ → List Reloc → Place → Result (Reloc × Place) FormErr
@@ -93,18 +92,18 @@ reloc_after sections symbols before p =
     Ok (record { section = section.0; offset = offset.0; kind = kind.0; symbol = symbol.0; addend = addend.0 }, addend.1)
 
 -- ---- objects
--- the bytes 54 43 4F 31
+-- the magic bytes of an object file, 54 43 4F 31
 unfoldable pub magic_at : Place → Result (ℕ × Place) FormErr
-magic_at p = u32_at p >>= λ magic. checked 2 (magic.0 == 0x314F4354) p magic
+magic_at p = u32_at p >>= λ magic. checked_object_field 2 (magic.0 == 0x314F4354) p magic
 
 -- the number of sections, at most 64
 unfoldable pub section_count_at : Place → Result (ℕ × Place) FormErr
-section_count_at p = u16_at p >>= λ n. checked 5 (nat_le n.0 64) p n
+section_count_at p = u16_at p >>= λ n. checked_object_field 5 (nat_le n.0 64) p n
 
 -- n sections, m symbols and k relocations
 unfoldable pub parts_at : ℕ → ℕ → ℕ → Place → Result (ObjectData × Place) FormErr
 parts_at n m k p =
-    many_at section_after n [] p >>= λ sections. many_at (symbol_after sections.0) m [] sections.1 >>= λ symbols. many_at (reloc_after sections.0 m) k [] symbols.1 >>= λ relocs.
+    many_fields_at section_after n [] p >>= λ sections. many_fields_at (symbol_after sections.0) m [] sections.1 >>= λ symbols. many_fields_at (reloc_after sections.0 m) k [] symbols.1 >>= λ relocs.
     Ok (record { sections = sections.0; symbols = symbols.0; relocs = relocs.0 }, relocs.1)
 
 -- an object: the magic bytes, the numbers of sections, symbols and relocations, and all of them
@@ -114,4 +113,4 @@ object_at p =
 
 -- the object that the bytes spell, or their first fault
 unfoldable pub object_of : List ℕ → Result ObjectData FormErr
-object_of bytes = object_at (record { bytes = bytes; place = 0 }) >>= λ o. if o.1.place == length bytes then Ok o.0 else fault_at 6 o.1
+object_of bytes = object_at (record { bytes = bytes; place = 0 }) >>= λ o. if o.1.place == length bytes then Ok o.0 else field_fault_at 6 o.1

@@ -5,20 +5,20 @@ use Rattle.std.specs.Bool.{then_some}
 use Rattle.tcd_base.specs.NameBytes.{is_name_byte, is_name_first}
 
 -- the bytes may stand in a name, and the first is no digit
-abbrev pub is_name : List ℕ → Bool
-is_name bs = not (length bs == 0) && (is_name_first (slice_index bs 0) && list_all is_name_byte bs)
+abbrev pub is_object_name : List ℕ → Bool
+is_object_name bs = not (length bs == 0) && (is_name_first (slice_index bs 0) && list_all is_name_byte bs)
 
--- the number of bytes that a name may have
-abbrev pub is_length : ℕ → Bool
-is_length n = nat_le 1 n && nat_le n 64
+-- this is a number of bytes that the name of an object's section or symbol may have: 1 to 64
+abbrev pub is_name_length : ℕ → Bool
+is_name_length n = nat_le 1 n && nat_le n 64
 
 -- the bytes as a name, if they are one
-abbrev pub name_of : List ℕ → Option (List ℕ)
-name_of bs = then_some (is_length (length bs) && is_name bs) bs
+abbrev pub object_name_of : List ℕ → Option (List ℕ)
+object_name_of bs = then_some (is_name_length (length bs) && is_object_name bs) bs
 
 -- a name that isn't used yet
-pub record IsName (is_used : List ℕ → Bool) (name : List ℕ) : Type 0 where
+pub record IsNewObjectName (is_used : List ℕ → Bool) (name : List ℕ) : Type 0 where
   pub some : 1 ≤ length name
   pub few : length name ≤ 64
-  pub written : is_name name ≡ true
+  pub written : is_object_name name ≡ true
   pub new : is_used name ≡ false

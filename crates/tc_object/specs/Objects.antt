@@ -3,7 +3,7 @@ use Rattle.std.specs.Prelude.{◌≡◌, ◌≤◌, ◌<◌, ◌+◌, ◌-◌, �
 use Rattle.tc_object.specs.declared.relocs.Reloc.{Reloc}
 use Rattle.std.specs.List.{list_any}
 use Rattle.std.specs.Str.{bytes_eq}
-use Rattle.tc_object.specs.Names.{IsName}
+use Rattle.tc_object.specs.Names.{IsNewObjectName}
 
 -- the kind of symbols that are used here and defined in another object
 abbrev pub undefined_symbol : ℕ
@@ -39,11 +39,12 @@ pub record ObjectData : Type 0 where
 abbrev pub is_section_name : List SectionData → List ℕ → Bool
 is_section_name ss name = list_any (λ s. bytes_eq name s.name) ss
 
--- some symbol has the name
+-- some symbol of an object has the name
 abbrev pub is_symbol_name : List SymbolData → List ℕ → Bool
 is_symbol_name ss name = list_any (λ s. bytes_eq name s.name) ss
 
--- each item has the property, given the items before it
+-- each item has the property, given the items before it: how an object's sections, symbols and
+-- relocations are valid
 abbrev pub InTurn : {A : Type 0} → (List A → A → Type 0) → List A → List A → Type 0
 InTurn good before [] = Unit {0}
 InTurn good before (x ∷ xs) = good before x × InTurn good (before ++ x ∷ []) xs
@@ -51,43 +52,46 @@ InTurn good before (x ∷ xs) = good before x × InTurn good (before ++ x ∷ []
 -- ---- sections
 -- a section whose name no earlier section has, and whose length fits 32 bits
 pub record IsSection (before : List SectionData) (s : SectionData) : Type 0 where
-  pub name : IsName (is_section_name before) s.name
+  pub name : IsNewObjectName (is_section_name before) s.name
   pub small : length s.bytes < 2 ^ 32
 
--- the length of a section, and 0 if there is none
-abbrev pub size_of : Option SectionData → ℕ
-size_of None = 0
-size_of (Some s) = length s.bytes
+-- the number of bytes of an object's section, and 0 if there is none
+abbrev pub section_size : Option SectionData → ℕ
+section_size None = 0
+section_size (Some s) = length s.bytes
 
--- the length of the section with this number
-abbrev pub size_at : List SectionData → ℕ → ℕ
-size_at ss n = size_of (slice_get ss n)
+-- the number of bytes of an object's section with this number, and 0 if there is none
+abbrev pub section_size_at : List SectionData → ℕ → ℕ
+section_size_at ss n = section_size (slice_get ss n)
 
 -- ---- symbols
--- the section of an undefined symbol is 0, that of a defined symbol is one of the object's
-abbrev pub is_section_of : List SectionData → ℕ → ℕ → Bool
-is_section_of ss kind section = if kind == undefined_symbol then section == 0 else nat_lt section (length ss)
+-- in a valid object: the section of an undefined symbol is 0, that of a defined symbol is one of
+-- the object's
+abbrev pub is_symbol_section : List SectionData → ℕ → ℕ → Bool
+is_symbol_section ss kind section = if kind == undefined_symbol then section == 0 else nat_lt section (length ss)
 
--- the offset of an undefined symbol is 0, that of a defined symbol is at most its section's length
-abbrev pub is_offset_of : List SectionData → ℕ → ℕ → ℕ → Bool
-is_offset_of ss kind section offset = if kind == undefined_symbol then offset == 0 else nat_le offset (size_at ss section)
+-- in a valid object: the offset of an undefined symbol is 0, that of a defined symbol is at most
+-- its section's length
+abbrev pub is_symbol_offset : List SectionData → ℕ → ℕ → ℕ → Bool
+is_symbol_offset ss kind section offset = if kind == undefined_symbol then offset == 0 else nat_le offset (section_size_at ss section)
 
 -- a symbol of a known kind, with a name that no earlier symbol has; a defined one has a section and
 -- an offset in it
 pub record IsSymbol (sections : List SectionData) (before : List SymbolData) (s : SymbolData) : Type 0 where
-  pub name : IsName (is_symbol_name before) s.name
+  pub name : IsNewObjectName (is_symbol_name before) s.name
   pub kind : s.kind ≤ global_symbol
-  pub section : is_section_of sections s.kind s.section ≡ true
-  pub offset : is_offset_of sections s.kind s.section s.offset ≡ true
+  pub section : is_symbol_section sections s.kind s.section ≡ true
+  pub offset : is_symbol_offset sections s.kind s.section s.offset ≡ true
   pub half : s.section < 2 ^ 16
   pub word : s.offset < 2 ^ 32
 
 -- ---- relocations
--- the last of these relocations, if there is one
-abbrev pub last_of : List Reloc → Option Reloc
-last_of rs = slice_get rs (length rs - 1)
+-- the last of an object's relocations, if there is one
+abbrev pub last_reloc : List Reloc → Option Reloc
+last_reloc rs = slice_get rs (length rs - 1)
 
--- a place comes after that of the last relocation: in a later section, or at a greater offset
+-- in a valid object: a relocation's place comes after that of the last one, in a later section or
+-- at a greater offset
 abbrev pub is_behind : Option Reloc → ℕ → ℕ → Bool
 is_behind None section offset = true
 is_behind (Some r) section offset = nat_lt r.section section || (r.section == section && nat_lt r.offset offset)
@@ -96,8 +100,8 @@ is_behind (Some r) section offset = nat_lt r.section section || (r.section == se
 -- number
 pub record IsReloc (sections : List SectionData) (symbols : ℕ) (before : List Reloc) (r : Reloc) : Type 0 where
   pub section : r.section < length sections
-  pub behind : is_behind (last_of before) r.section r.offset ≡ true
-  pub room : r.offset + 4 ≤ size_at sections r.section
+  pub behind : is_behind (last_reloc before) r.section r.offset ≡ true
+  pub room : r.offset + 4 ≤ section_size_at sections r.section
   pub some : 1 ≤ r.kind
   pub kind : r.kind ≤ 7
   pub symbol : r.symbol < symbols

@@ -5,7 +5,7 @@ use Rattle.tcd_base.specs.Bytes.{bytes_of_half, bytes_of_word}
 use Rattle.tc_object.specs.declared.relocs.Reloc.{Reloc}
 use Rattle.tc_object.specs.Objects.{SectionData, SymbolData, ObjectData}
 
--- the length, and the bytes
+-- a name in an object file: the length, and the bytes
 unfoldable pub bytes_of_name : List ℕ → List ℕ
 bytes_of_name name = length name ∷ name
 

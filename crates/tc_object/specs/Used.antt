@@ -5,5 +5,5 @@ use Rattle.std.specs.HashMap.{HashMap, get_by}
 use Rattle.std.specs.Str.{bytes_eq}
 
 -- the map has a key with these bytes
-abbrev pub is_among : {X S : Type 0} → HashMap (Bor (List ℕ)) X S → List ℕ → Bool
-is_among names q = is_some (get_by (λ k. bytes_eq q k.now) names)
+abbrev pub is_used_name : {X S : Type 0} → HashMap (Bor (List ℕ)) X S → List ℕ → Bool
+is_used_name names q = is_some (get_by (λ k. bytes_eq q k.now) names)

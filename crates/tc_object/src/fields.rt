@@ -1,9 +1,9 @@
 // Readers of single fields of an object file.
 ghost use Rattle.std.specs.Prelude.{◌≡◌, ◌≤◌, ◌^◌, ◌&&◌, nat_le, length};
-ghost use Rattle.tcd_base.specs.FieldReaders.{Reads};
+ghost use Rattle.tcd_base.specs.FieldReaders.{ReadsField};
 ghost use Rattle.tc_object.specs.Grammar.{magic_at, kind_at};
 
-use tcd_base::{BAD_MAGIC, BAD_VALUE, Cursor, FormErr, fault, read_u8, read_u32};
+use tcd_base::{BAD_MAGIC, BAD_VALUE, Cursor, FormErr, form_err_at, read_u8, read_u32};
 
 /// The magic bytes 54 43 4F 31 ("TCO1") as a little-endian word.
 pub(crate) const MAGIC: u32 = 0x314f_4354;
@@ -11,33 +11,33 @@ pub(crate) const MAGIC: u32 = 0x314f_4354;
 /// The most sections of an object.
 pub(crate) const MOST_SECTIONS: u16 = 64;
 
-/// Reads the magic bytes 54 43 4F 31 ("TCO1").
+/// Reads a single field: the magic bytes 54 43 4F 31 ("TCO1") of an object file.
 #[tactic(auto, unfolding(crate::specs::Grammar::magic_at))]
 pub(crate) fn read_magic(c: &mut Cursor<'_>) -> Result<u32, FormErr>
     requires { length c.old.bytes ≤ 2 ^ 30 }
-    ensures read { Reads result c.new (magic_at c.old) }
+    ensures read { ReadsField result c.new (magic_at c.old) }
     ensures bytes { c.new.bytes ≡ c.old.bytes }
 {
     let start = c.place();
     let magic = read_u32(c)?;
     if magic != MAGIC {
-        return Err(fault(BAD_MAGIC, start));
+        return Err(form_err_at(BAD_MAGIC, start));
     }
     Ok(magic)
 }
 
-/// Whether `kind` is in `low..=high`.
+/// Whether the kind of a symbol or of a relocation is in `low..=high`.
 pub(crate) fn is_kind(low: u8, high: u8, kind: u8) -> bool
     ensures { result ≡ (nat_le low kind && nat_le kind high) }
 {
     low <= kind && kind <= high
 }
 
-/// Reads a kind, which must be in `low..=high`.
+/// Reads the kind of a symbol or of a relocation, which must be in `low..=high`.
 #[tactic(auto, unfolding(crate::specs::Grammar::kind_at))]
 pub(crate) fn read_kind(c: &mut Cursor<'_>, low: u8, high: u8) -> Result<u8, FormErr>
     requires { length c.old.bytes ≤ 2 ^ 30 }
-    ensures read { Reads result c.new (kind_at low high c.old) }
+    ensures read { ReadsField result c.new (kind_at low high c.old) }
     ensures bytes { c.new.bytes ≡ c.old.bytes }
 {
     let start = c.place();
@@ -45,6 +45,6 @@ pub(crate) fn read_kind(c: &mut Cursor<'_>, low: u8, high: u8) -> Result<u8, For
     if is_kind(low, high, kind) {
         Ok(kind)
     } else {
-        Err(fault(BAD_VALUE, start))
+        Err(form_err_at(BAD_VALUE, start))
     }
 }

@@ -18,7 +18,7 @@ mod writing;
 
 pub use borrowed::ObjectRef;
 pub use errors::ObjErr;
-pub use names::name_of;
+pub use names::object_name_of;
 pub use objects::Object;
 pub use relocs::Reloc;
 pub use sections::{Section, SectionRef};

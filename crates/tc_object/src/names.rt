@@ -1,27 +1,27 @@
 // Names of sections and symbols: which bytes are one, and readers of them.
 ghost use Rattle.std.specs.Prelude.{◌≡◌, ◌≤◌, ◌^◌, length, true, Err, IfOk, IfErr, MatchResult};
-ghost use Rattle.tcd_base.specs.FieldReaders.{Reads};
+ghost use Rattle.tcd_base.specs.FieldReaders.{ReadsField};
 ghost use Rattle.std.specs.Option.{option_copied};
-ghost use Rattle.tc_object.specs.Names.{is_name, name_of};
+ghost use Rattle.tc_object.specs.Names.{is_object_name, object_name_of};
 ghost use Rattle.tc_object.specs.Grammar.{name_length_at, name_bytes_at};
 
 use tcd_base::{
-    BAD_VALUE, Cursor, FormErr, are_name_bytes, fault, is_name_first, read_bytes, read_u8,
+    BAD_VALUE, Cursor, FormErr, are_name_bytes, form_err_at, is_name_first, read_bytes, read_u8,
 };
 
-/// Whether these bytes are a name, apart from the bound on their number.
-fn is_name(bytes: &[u8]) -> bool
-    ensures { result ≡ is_name bytes.now }
+/// Whether these bytes are the name of a section or symbol, apart from the bound on their number.
+fn is_object_name(bytes: &[u8]) -> bool
+    ensures { result ≡ is_object_name bytes.now }
 {
     !bytes.is_empty() && is_name_first(bytes[0]) && are_name_bytes(bytes)
 }
 
 /// The bytes as a name: 1 to 64 letters, digits, `_`, `.` and `$`, of which the first is no digit.
-pub fn name_of(bytes: &[u8]) -> Option<&str>
-    ensures { option_copied result ≡ name_of bytes.now }
+pub fn object_name_of(bytes: &[u8]) -> Option<&str>
+    ensures { option_copied result ≡ object_name_of bytes.now }
 {
-    if 1 <= bytes.len() && bytes.len() <= 64 && is_name(bytes) {
-        Some(text_of(bytes))
+    if 1 <= bytes.len() && bytes.len() <= 64 && is_object_name(bytes) {
+        Some(object_name_text(bytes))
     } else {
         None
     }
@@ -31,7 +31,7 @@ pub fn name_of(bytes: &[u8]) -> Option<&str>
 #[tactic(auto, unfolding(crate::specs::Grammar::name_length_at))]
 pub(crate) fn read_name_length(c: &mut Cursor<'_>) -> Result<u8, FormErr>
     requires { length c.old.bytes ≤ 2 ^ 30 }
-    ensures read { Reads result c.new (name_length_at c.old) }
+    ensures read { ReadsField result c.new (name_length_at c.old) }
     ensures bytes { c.new.bytes ≡ c.old.bytes }
 {
     let start = c.place();
@@ -39,7 +39,7 @@ pub(crate) fn read_name_length(c: &mut Cursor<'_>) -> Result<u8, FormErr>
     if 1 <= count && count <= 64 {
         Ok(count)
     } else {
-        Err(fault(BAD_VALUE, start))
+        Err(form_err_at(BAD_VALUE, start))
     }
 }
 
@@ -53,15 +53,15 @@ pub(crate) fn read_name_bytes<'a>(c: &mut Cursor<'a>, count: u8) -> Result<&'a s
 {
     let start = c.place();
     let bytes = read_bytes(c, count as usize)?;
-    if !is_name(bytes) {
-        return Err(fault(BAD_VALUE, start));
+    if !is_object_name(bytes) {
+        return Err(form_err_at(BAD_VALUE, start));
     }
-    Ok(text_of(bytes))
+    Ok(object_name_text(bytes))
 }
 
 // The bytes of a name are ASCII, so they are a text.
-fn text_of(bytes: &[u8]) -> &str
-    requires { is_name bytes.now ≡ true }
+fn object_name_text(bytes: &[u8]) -> &str
+    requires { is_object_name bytes.now ≡ true }
     ensures { result.now ≡ bytes.now }
 {
     std::str::from_utf8(bytes).unwrap()

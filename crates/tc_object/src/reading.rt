@@ -9,7 +9,7 @@ use crate::section_reader::{read_section_count, read_sections};
 use crate::symbol_reader::read_symbols;
 use crate::{ObjErr, Reloc, SectionRef, SymbolRef};
 use std::alloc::Global;
-use tcd_base::{Cursor, TRAILING, fault, read_u16};
+use tcd_base::{Cursor, TRAILING, form_err_at, read_u16};
 
 /// What the bytes of an object hold, with names and bytes borrowed.
 #[derive(Drop)]
@@ -41,7 +41,7 @@ pub(crate) fn read_parts(alloc: Global, bytes: &[u8]) -> Result<Parts<'_>, ObjEr
     let relocs = read_relocs(alloc, &mut c, &sections, symbol_count, reloc_count)?;
     let end = c.place();
     if end != bytes.len() {
-        return Err(ObjErr::Bad(fault(TRAILING, end)));
+        return Err(ObjErr::Bad(form_err_at(TRAILING, end)));
     }
     Ok(Parts {
         sections,

@@ -1,16 +1,16 @@
 // Readers of relocations.
 ghost use Rattle.std.specs.Prelude.{◌≡◌, ◌≤◌, ◌+◌, ◌^◌, ◌-◌, [], length, slice_index, Ok, Err, Some, None, IfOk, IfErr, MatchResult};
-ghost use Rattle.tcd_base.specs.Bytes.{half_at, word_at};
-ghost use Rattle.tcd_base.specs.FieldReaders.{Reads, many_at};
+ghost use Rattle.tcd_base.specs.Bytes.{half_in_bytes, word_in_bytes};
+ghost use Rattle.tcd_base.specs.FieldReaders.{ReadsField, many_fields_at};
 ghost use Rattle.tc_object.specs.Faults.{IsFaultOf, reloc_fault};
-ghost use Rattle.tc_object.specs.Objects.{size_at, last_of, is_behind};
+ghost use Rattle.tc_object.specs.Objects.{section_size_at, last_reloc, is_behind};
 ghost use Rattle.tc_object.specs.Grammar.{is_not_below, reloc_section_at, reloc_offset_at, reloc_symbol_at, reloc_after};
 
 use crate::fields::{is_kind, read_kind};
-use crate::symbol_reader::size_at;
+use crate::section_reader::section_size_at;
 use crate::{ObjErr, Reloc, SectionRef};
 use std::alloc::Global;
-use tcd_base::{BAD_ORDER, BAD_VALUE, Cursor, FormErr, fault, read_u16, read_u32};
+use tcd_base::{BAD_ORDER, BAD_VALUE, Cursor, FormErr, form_err_at, read_u16, read_u32};
 
 // The least kind of relocations.
 const FIRST_KIND: u8 = 1;
@@ -23,7 +23,7 @@ const RELOC_BYTES: usize = 13;
 
 // Whether a section isn't below the section of the last relocation.
 fn is_not_below(before: &[Reloc], section: u16) -> bool
-    ensures { result ≡ is_not_below (last_of before.now) section }
+    ensures { result ≡ is_not_below (last_reloc before.now) section }
 {
     match before.last() {
         None => true,
@@ -33,7 +33,7 @@ fn is_not_below(before: &[Reloc], section: u16) -> bool
 
 // Whether an offset of a section comes after the place of the last relocation.
 fn is_behind(before: &[Reloc], section: u16, offset: u32) -> bool
-    ensures { result ≡ is_behind (last_of before.now) section offset }
+    ensures { result ≡ is_behind (last_reloc before.now) section offset }
 {
     match before.last() {
         None => true,
@@ -43,22 +43,22 @@ fn is_behind(before: &[Reloc], section: u16, offset: u32) -> bool
 
 /// Reads the section of the relocation after these.
 #[tactic(auto, unfolding(crate::specs::Grammar::reloc_section_at))]
-fn read_section_number(
+fn read_reloc_section(
     c: &mut Cursor<'_>,
     sections: &[SectionRef<'_>],
     before: &[Reloc],
 ) -> Result<u16, FormErr>
     requires { length c.old.bytes ≤ 2 ^ 30 }
-    ensures read { Reads result c.new (reloc_section_at sections.now before.now c.old) }
+    ensures read { ReadsField result c.new (reloc_section_at sections.now before.now c.old) }
     ensures bytes { c.new.bytes ≡ c.old.bytes }
 {
     let start = c.place();
     let section = read_u16(c)?;
     if !is_not_below(before, section) {
-        return Err(fault(BAD_ORDER, start));
+        return Err(form_err_at(BAD_ORDER, start));
     }
     if section as usize >= sections.len() {
-        return Err(fault(BAD_VALUE, start));
+        return Err(form_err_at(BAD_VALUE, start));
     }
     Ok(section)
 }
@@ -66,7 +66,7 @@ fn read_section_number(
 /// Reads the offset of the relocation after these. The fault of a wrong order is at `section_at`,
 /// the byte offset of the relocation's section field.
 #[tactic(auto, unfolding(crate::specs::Grammar::reloc_offset_at))]
-fn read_offset(
+fn read_reloc_offset(
     c: &mut Cursor<'_>,
     sections: &[SectionRef<'_>],
     before: &[Reloc],
@@ -75,7 +75,7 @@ fn read_offset(
 ) -> Result<u32, FormErr>
     requires short { length c.old.bytes ≤ 2 ^ 30 }
     requires start { section_at ≤ length c.old.bytes }
-    ensures read { Reads result c.new
+    ensures read { ReadsField result c.new
         (reloc_offset_at sections.now before.now section
         (record { bytes = c.old.bytes; place = section_at }) c.old) }
     ensures bytes { c.new.bytes ≡ c.old.bytes }
@@ -83,25 +83,25 @@ fn read_offset(
     let start = c.place();
     let offset = read_u32(c)?;
     if !is_behind(before, section, offset) {
-        return Err(fault(BAD_ORDER, section_at));
+        return Err(form_err_at(BAD_ORDER, section_at));
     }
-    if offset as usize + 4 > size_at(sections, section) {
-        return Err(fault(BAD_VALUE, start));
+    if offset as usize + 4 > section_size_at(sections, section) {
+        return Err(form_err_at(BAD_VALUE, start));
     }
     Ok(offset)
 }
 
 /// Reads the number of a symbol, which must be below `symbols`.
 #[tactic(auto, unfolding(crate::specs::Grammar::reloc_symbol_at))]
-fn read_symbol_number(c: &mut Cursor<'_>, symbols: u16) -> Result<u16, FormErr>
+fn read_reloc_symbol(c: &mut Cursor<'_>, symbols: u16) -> Result<u16, FormErr>
     requires { length c.old.bytes ≤ 2 ^ 30 }
-    ensures read { Reads result c.new (reloc_symbol_at symbols c.old) }
+    ensures read { ReadsField result c.new (reloc_symbol_at symbols c.old) }
     ensures bytes { c.new.bytes ≡ c.old.bytes }
 {
     let start = c.place();
     let symbol = read_u16(c)?;
     if symbol >= symbols {
-        return Err(fault(BAD_VALUE, start));
+        return Err(form_err_at(BAD_VALUE, start));
     }
     Ok(symbol)
 }
@@ -117,14 +117,14 @@ fn read_reloc_fields(
     before: &[Reloc],
 ) -> Result<Reloc, FormErr>
     requires { length c.old.bytes ≤ 2 ^ 30 }
-    ensures read { Reads result c.new (reloc_after sections.now symbols before.now c.old) }
+    ensures read { ReadsField result c.new (reloc_after sections.now symbols before.now c.old) }
     ensures bytes { c.new.bytes ≡ c.old.bytes }
 {
     let start = c.place();
-    let section = read_section_number(c, sections, before)?;
-    let offset = read_offset(c, sections, before, section, start)?;
+    let section = read_reloc_section(c, sections, before)?;
+    let offset = read_reloc_offset(c, sections, before, section, start)?;
     let kind = read_kind(c, FIRST_KIND, LAST_KIND)?;
-    let symbol = read_symbol_number(c, symbols)?;
+    let symbol = read_reloc_symbol(c, symbols)?;
     let addend = read_u32(c)?;
     Ok(Reloc {
         section,
@@ -139,11 +139,11 @@ fn read_reloc_fields(
 fn reloc_of(bytes: &[u8]) -> Reloc
     requires { length bytes.now ≡ 13 }
     ensures { result ≡ record {
-      section = half_at bytes.now 0;
-      offset = word_at bytes.now 2;
+      section = half_in_bytes bytes.now 0;
+      offset = word_in_bytes bytes.now 2;
       kind = slice_index bytes.now 6;
-      symbol = half_at bytes.now 7;
-      addend = word_at bytes.now 9;
+      symbol = half_in_bytes bytes.now 7;
+      addend = word_in_bytes bytes.now 9;
     } }
 {
     Reloc {
@@ -170,22 +170,22 @@ fn check_reloc(
         (λ e. reloc_fault sections.now symbols before.now reloc.now start ≡ Some e) }
 {
     if !is_not_below(before, reloc.section) {
-        return Err(fault(BAD_ORDER, start));
+        return Err(form_err_at(BAD_ORDER, start));
     }
     if reloc.section as usize >= sections.len() {
-        return Err(fault(BAD_VALUE, start));
+        return Err(form_err_at(BAD_VALUE, start));
     }
     if !is_behind(before, reloc.section, reloc.offset) {
-        return Err(fault(BAD_ORDER, start));
+        return Err(form_err_at(BAD_ORDER, start));
     }
-    if reloc.offset as usize + 4 > size_at(sections, reloc.section) {
-        return Err(fault(BAD_VALUE, start + 2));
+    if reloc.offset as usize + 4 > section_size_at(sections, reloc.section) {
+        return Err(form_err_at(BAD_VALUE, start + 2));
     }
     if !is_kind(FIRST_KIND, LAST_KIND, reloc.kind) {
-        return Err(fault(BAD_VALUE, start + 6));
+        return Err(form_err_at(BAD_VALUE, start + 6));
     }
     if reloc.symbol >= symbols {
-        return Err(fault(BAD_VALUE, start + 7));
+        return Err(form_err_at(BAD_VALUE, start + 7));
     }
     Ok(())
 }
@@ -198,7 +198,7 @@ fn read_reloc(
     before: &[Reloc],
 ) -> Result<Reloc, FormErr>
     requires { length c.old.bytes ≤ 2 ^ 30 }
-    ensures read { Reads result c.new (reloc_after sections.now symbols before.now c.old) }
+    ensures read { ReadsField result c.new (reloc_after sections.now symbols before.now c.old) }
     ensures bytes { c.new.bytes ≡ c.old.bytes }
 {
     let start = c.place();
@@ -221,9 +221,10 @@ pub(crate) fn read_relocs(
 ) -> Result<Vec<Reloc>, ObjErr>
     requires { length c.old.bytes ≤ 2 ^ 30 }
     ensures ok { IfOk result
-        (λ rs. many_at (reloc_after sections.now symbols) count [] c.old ≡ Ok (rs.items, c.new)) }
+        (λ rs. many_fields_at (reloc_after sections.now symbols) count [] c.old
+        ≡ Ok (rs.items, c.new)) }
     ensures err { IfErr result
-        (IsFaultOf (many_at (reloc_after sections.now symbols) count [] c.old)) }
+        (IsFaultOf (many_fields_at (reloc_after sections.now symbols) count [] c.old)) }
     ensures bytes { c.new.bytes ≡ c.old.bytes }
 {
     let mut relocs = Vec::with_capacity(alloc, count as usize)?;

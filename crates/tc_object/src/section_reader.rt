@@ -1,15 +1,17 @@
 // Readers of sections.
-ghost use Rattle.std.specs.Prelude.{◌≡◌, ◌≤◌, ◌^◌, ◌-◌, [], length, Ok, Err, IfOk, IfErr, MatchResult};
+ghost use Rattle.std.specs.Prelude.{◌≡◌, ◌≤◌, ◌^◌, ◌-◌, [], length, Ok, Err, IfOk, IfErr, MatchResult, Some, None};
 ghost use Rattle.tc_object.specs.Faults.{IsFaultOf};
-ghost use Rattle.tcd_base.specs.FieldReaders.{Reads, many_at};
-ghost use Rattle.tc_object.specs.Objects.{is_section_name};
-ghost use Rattle.tc_object.specs.Grammar.{name_after, section_after, section_count_at};
+ghost use Rattle.tcd_base.specs.FieldReaders.{ReadsField, many_fields_at};
+ghost use Rattle.tc_object.specs.Objects.{is_section_name, section_size_at};
+ghost use Rattle.tc_object.specs.Grammar.{new_object_name_at, section_after, section_count_at};
 
 use crate::fields::MOST_SECTIONS;
 use crate::names::{read_name_bytes, read_name_length};
 use crate::{ObjErr, SectionRef};
 use std::alloc::Global;
-use tcd_base::{ABOVE_LIMIT, BAD_VALUE, Cursor, FormErr, fault, read_bytes, read_u16, read_u32};
+use tcd_base::{
+    ABOVE_LIMIT, BAD_VALUE, Cursor, FormErr, form_err_at, read_bytes, read_u16, read_u32,
+};
 
 // Whether one of these sections has the name. A search by hand is enough: there are at most 64.
 fn is_section_name(sections: &[SectionRef<'_>], name: &str) -> bool
@@ -19,19 +21,19 @@ fn is_section_name(sections: &[SectionRef<'_>], name: &str) -> bool
 }
 
 /// Reads a name that none of these sections has.
-#[tactic(auto, unfolding(crate::specs::Grammar::name_after))]
+#[tactic(auto, unfolding(crate::specs::Grammar::new_object_name_at))]
 fn read_section_name<'a>(c: &mut Cursor<'a>, before: &[SectionRef<'_>]) -> Result<&'a str, FormErr>
     requires { length c.old.bytes ≤ 2 ^ 30 }
     ensures read { MatchResult result
-        (λ name. name_after (is_section_name before.now) c.old ≡ Ok (name.now, c.new))
-        (λ e. name_after (is_section_name before.now) c.old ≡ Err e) }
+        (λ name. new_object_name_at (is_section_name before.now) c.old ≡ Ok (name.now, c.new))
+        (λ e. new_object_name_at (is_section_name before.now) c.old ≡ Err e) }
     ensures bytes { c.new.bytes ≡ c.old.bytes }
 {
     let count = read_name_length(c)?;
     let start = c.place();
     let name = read_name_bytes(c, count)?;
     if is_section_name(before, name) {
-        return Err(fault(BAD_VALUE, start));
+        return Err(form_err_at(BAD_VALUE, start));
     }
     Ok(name)
 }
@@ -43,7 +45,7 @@ fn read_section<'a>(
     before: &[SectionRef<'_>],
 ) -> Result<SectionRef<'a>, FormErr>
     requires { length c.old.bytes ≤ 2 ^ 30 }
-    ensures read { Reads result c.new (section_after before.now c.old) }
+    ensures read { ReadsField result c.new (section_after before.now c.old) }
     ensures bytes { c.new.bytes ≡ c.old.bytes }
 {
     let name = read_section_name(c, before)?;
@@ -59,8 +61,9 @@ pub(crate) fn read_sections<'a>(
     count: u16,
 ) -> Result<Vec<SectionRef<'a>>, ObjErr>
     requires { length c.old.bytes ≤ 2 ^ 30 }
-    ensures ok { IfOk result (λ ss. many_at section_after count [] c.old ≡ Ok (ss.items, c.new)) }
-    ensures err { IfErr result (IsFaultOf (many_at section_after count [] c.old)) }
+    ensures ok { IfOk result (λ ss. many_fields_at section_after count [] c.old
+        ≡ Ok (ss.items, c.new)) }
+    ensures err { IfErr result (IsFaultOf (many_fields_at section_after count [] c.old)) }
     ensures bytes { c.new.bytes ≡ c.old.bytes }
 {
     let mut sections = Vec::with_capacity(alloc, count as usize)?;
@@ -75,13 +78,24 @@ pub(crate) fn read_sections<'a>(
 #[tactic(auto, unfolding(crate::specs::Grammar::section_count_at))]
 pub(crate) fn read_section_count(c: &mut Cursor<'_>) -> Result<u16, FormErr>
     requires { length c.old.bytes ≤ 2 ^ 30 }
-    ensures read { Reads result c.new (section_count_at c.old) }
+    ensures read { ReadsField result c.new (section_count_at c.old) }
     ensures bytes { c.new.bytes ≡ c.old.bytes }
 {
     let start = c.place();
     let count = read_u16(c)?;
     if count > MOST_SECTIONS {
-        return Err(fault(ABOVE_LIMIT, start));
+        return Err(form_err_at(ABOVE_LIMIT, start));
     }
     Ok(count)
+}
+
+/// Returns the length in bytes of the section with this number, among those that the reader has
+/// read, and 0 if there is none.
+pub(crate) fn section_size_at(sections: &[SectionRef<'_>], number: u16) -> usize
+    ensures { result ≡ section_size_at sections.now number }
+{
+    match sections.get(number as usize) {
+        Some(section) => section.bytes.len(),
+        None => 0,
+    }
 }

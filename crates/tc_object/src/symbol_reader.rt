@@ -1,36 +1,27 @@
 // Readers of symbols.
 ghost use Rattle.std.specs.Prelude.{◌≡◌, ◌≤◌, ◌+◌, ◌^◌, ◌-◌, ◌||◌, [], ℕ, List, length, slice_index, Ok, Err, Some, None, IfOk, IfErr, MatchResult};
-ghost use Rattle.tcd_base.specs.Bytes.{half_at, word_at};
+ghost use Rattle.tcd_base.specs.Bytes.{half_in_bytes, word_in_bytes};
 ghost use Rattle.std.specs.Str.{bytes_eq};
-ghost use Rattle.tcd_base.specs.FieldReaders.{Reads, many_at};
+ghost use Rattle.tcd_base.specs.FieldReaders.{ReadsField, many_fields_at};
 ghost use Rattle.tc_object.specs.Faults.{IsFaultOf, symbol_fault};
-ghost use Rattle.tc_object.specs.Objects.{size_at, is_section_of, is_offset_of};
+ghost use Rattle.tc_object.specs.Objects.{is_symbol_section, is_symbol_offset};
 ghost use Rattle.tc_object.specs.Grammar.{symbol_section_at, symbol_offset_at, symbol_named, symbol_with, symbol_after};
-ghost use Rattle.tc_object.specs.Used.{is_among};
+ghost use Rattle.tc_object.specs.Used.{is_used_name};
 
 use crate::fields::{is_kind, read_kind};
-use crate::used_names::{no_names, read_new_name};
+use crate::section_reader::section_size_at;
+use crate::used_names::{no_used_names, read_new_name};
 use crate::{GLOBAL_SYMBOL, ObjErr, SectionRef, SymbolRef, UNDEFINED_SYMBOL};
 use std::alloc::Global;
 use std::collections::HashMap;
-use tcd_base::{BAD_VALUE, Cursor, FormErr, fault, read_u16, read_u32};
+use tcd_base::{BAD_VALUE, Cursor, FormErr, form_err_at, read_u16, read_u32};
 
 // The size of a symbol's kind, section and offset in the file.
 const SYMBOL_BYTES: usize = 7;
 
-/// The length in bytes of the section with this number, and 0 if there is no such section.
-pub(crate) fn size_at(sections: &[SectionRef<'_>], number: u16) -> usize
-    ensures { result ≡ size_at sections.now number }
-{
-    match sections.get(number as usize) {
-        Some(section) => section.bytes.len(),
-        None => 0,
-    }
-}
-
 // Whether a symbol of this kind may have this section number.
-fn is_section_of(sections: &[SectionRef<'_>], kind: u8, section: u16) -> bool
-    ensures { result ≡ is_section_of sections.now kind section }
+fn is_symbol_section(sections: &[SectionRef<'_>], kind: u8, section: u16) -> bool
+    ensures { result ≡ is_symbol_section sections.now kind section }
 {
     match kind {
         UNDEFINED_SYMBOL => section == 0,
@@ -39,50 +30,50 @@ fn is_section_of(sections: &[SectionRef<'_>], kind: u8, section: u16) -> bool
 }
 
 // Whether a symbol of this kind may have this offset in the section.
-fn is_offset_of(sections: &[SectionRef<'_>], kind: u8, section: u16, offset: u32) -> bool
-    ensures { result ≡ is_offset_of sections.now kind section offset }
+fn is_symbol_offset(sections: &[SectionRef<'_>], kind: u8, section: u16, offset: u32) -> bool
+    ensures { result ≡ is_symbol_offset sections.now kind section offset }
 {
     match kind {
         UNDEFINED_SYMBOL => offset == 0,
-        _ => offset as usize <= size_at(sections, section),
+        _ => offset as usize <= section_size_at(sections, section),
     }
 }
 
 /// Reads the section number of a symbol of this kind.
 #[tactic(auto, unfolding(crate::specs::Grammar::symbol_section_at))]
-fn read_section_number(
+fn read_symbol_section(
     c: &mut Cursor<'_>,
     sections: &[SectionRef<'_>],
     kind: u8,
 ) -> Result<u16, FormErr>
     requires { length c.old.bytes ≤ 2 ^ 30 }
-    ensures read { Reads result c.new (symbol_section_at sections.now kind c.old) }
+    ensures read { ReadsField result c.new (symbol_section_at sections.now kind c.old) }
     ensures bytes { c.new.bytes ≡ c.old.bytes }
 {
     let start = c.place();
     let section = read_u16(c)?;
-    if !is_section_of(sections, kind, section) {
-        return Err(fault(BAD_VALUE, start));
+    if !is_symbol_section(sections, kind, section) {
+        return Err(form_err_at(BAD_VALUE, start));
     }
     Ok(section)
 }
 
 /// Reads the offset of a symbol of this kind in a section.
 #[tactic(auto, unfolding(crate::specs::Grammar::symbol_offset_at))]
-fn read_offset(
+fn read_symbol_offset(
     c: &mut Cursor<'_>,
     sections: &[SectionRef<'_>],
     kind: u8,
     section: u16,
 ) -> Result<u32, FormErr>
     requires { length c.old.bytes ≤ 2 ^ 30 }
-    ensures read { Reads result c.new (symbol_offset_at sections.now kind section c.old) }
+    ensures read { ReadsField result c.new (symbol_offset_at sections.now kind section c.old) }
     ensures bytes { c.new.bytes ≡ c.old.bytes }
 {
     let start = c.place();
     let offset = read_u32(c)?;
-    if !is_offset_of(sections, kind, section, offset) {
-        return Err(fault(BAD_VALUE, start));
+    if !is_symbol_offset(sections, kind, section, offset) {
+        return Err(form_err_at(BAD_VALUE, start));
     }
     Ok(offset)
 }
@@ -97,13 +88,13 @@ fn read_named_fields<'a>(
     name: &'a str,
 ) -> Result<SymbolRef<'a>, FormErr>
     requires { length c.old.bytes ≤ 2 ^ 30 }
-    ensures read { Reads result c.new (symbol_named sections.now name.now c.old) }
+    ensures read { ReadsField result c.new (symbol_named sections.now name.now c.old) }
     ensures name { IfOk result (λ s. s.name ≡ name.now) }
     ensures bytes { c.new.bytes ≡ c.old.bytes }
 {
     let kind = read_kind(c, UNDEFINED_SYMBOL, GLOBAL_SYMBOL)?;
-    let section = read_section_number(c, sections, kind)?;
-    let offset = read_offset(c, sections, kind, section)?;
+    let section = read_symbol_section(c, sections, kind)?;
+    let offset = read_symbol_offset(c, sections, kind, section)?;
     Ok(SymbolRef {
         name,
         kind,
@@ -118,8 +109,8 @@ fn symbol_of<'a>(bytes: &[u8], name: &'a str) -> SymbolRef<'a>
     ensures { result ≡ record {
       name = name.now;
       kind = slice_index bytes.now 0;
-      section = half_at bytes.now 1;
-      offset = word_at bytes.now 3;
+      section = half_in_bytes bytes.now 1;
+      offset = word_in_bytes bytes.now 3;
     } }
 {
     SymbolRef {
@@ -142,13 +133,13 @@ fn check_symbol(
         (λ e. symbol_fault sections.now symbol.now start ≡ Some e) }
 {
     if !is_kind(UNDEFINED_SYMBOL, GLOBAL_SYMBOL, symbol.kind) {
-        return Err(fault(BAD_VALUE, start));
+        return Err(form_err_at(BAD_VALUE, start));
     }
-    if !is_section_of(sections, symbol.kind, symbol.section) {
-        return Err(fault(BAD_VALUE, start + 1));
+    if !is_symbol_section(sections, symbol.kind, symbol.section) {
+        return Err(form_err_at(BAD_VALUE, start + 1));
     }
-    if !is_offset_of(sections, symbol.kind, symbol.section, symbol.offset) {
-        return Err(fault(BAD_VALUE, start + 3));
+    if !is_symbol_offset(sections, symbol.kind, symbol.section, symbol.offset) {
+        return Err(form_err_at(BAD_VALUE, start + 3));
     }
     Ok(())
 }
@@ -161,7 +152,7 @@ fn read_named<'a>(
     name: &'a str,
 ) -> Result<SymbolRef<'a>, FormErr>
     requires { length c.old.bytes ≤ 2 ^ 30 }
-    ensures read { Reads result c.new (symbol_named sections.now name.now c.old) }
+    ensures read { ReadsField result c.new (symbol_named sections.now name.now c.old) }
     ensures name { IfOk result (λ s. s.name ≡ name.now) }
     ensures bytes { c.new.bytes ≡ c.old.bytes }
 {
@@ -183,11 +174,12 @@ fn read_symbol<'a>(
 ) -> Result<SymbolRef<'a>, ObjErr>
     requires { length c.old.bytes ≤ 2 ^ 30 }
     ensures ok { IfOk result
-        (λ s. symbol_with sections.now (is_among names.old) c.old ≡ Ok (s, c.new)) }
-    ensures err { IfErr result (IsFaultOf (symbol_with sections.now (is_among names.old) c.old)) }
+        (λ s. symbol_with sections.now (is_used_name names.old) c.old ≡ Ok (s, c.new)) }
+    ensures err { IfErr result
+        (IsFaultOf (symbol_with sections.now (is_used_name names.old) c.old)) }
     ensures bytes { c.new.bytes ≡ c.old.bytes }
-    ensures names { IfOk result (λ s. (q : List ℕ) → is_among names.new q
-        ≡ (bytes_eq s.name q || is_among names.old q)) }
+    ensures names { IfOk result (λ s. (q : List ℕ) → is_used_name names.new q
+        ≡ (bytes_eq s.name q || is_used_name names.old q)) }
 {
     let name = read_new_name(c, names)?;
     let symbol = read_named(c, sections, name)?;
@@ -204,11 +196,12 @@ pub(crate) fn read_symbols<'a>(
 ) -> Result<Vec<SymbolRef<'a>>, ObjErr>
     requires { length c.old.bytes ≤ 2 ^ 30 }
     ensures ok { IfOk result
-        (λ ss. many_at (symbol_after sections.now) count [] c.old ≡ Ok (ss.items, c.new)) }
-    ensures err { IfErr result (IsFaultOf (many_at (symbol_after sections.now) count [] c.old)) }
+        (λ ss. many_fields_at (symbol_after sections.now) count [] c.old ≡ Ok (ss.items, c.new)) }
+    ensures err { IfErr result
+        (IsFaultOf (many_fields_at (symbol_after sections.now) count [] c.old)) }
     ensures bytes { c.new.bytes ≡ c.old.bytes }
 {
-    let mut names = no_names(alloc, count)?;
+    let mut names = no_used_names(alloc, count)?;
     let mut symbols = Vec::with_capacity(alloc, count as usize)?;
     for _i in 0..count {
         let symbol = read_symbol(c, sections, &mut names)?;

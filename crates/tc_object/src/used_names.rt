@@ -2,56 +2,59 @@
 ghost use Rattle.std.specs.Prelude.{◌≡◌, ◌≤◌, ◌^◌, ◌||◌, not, false, true, ℕ, List, length, Ok, Err, OnOk, IfOk, IfErr};
 ghost use Rattle.std.specs.Str.{bytes_eq};
 ghost use Rattle.tc_object.specs.Faults.{IsFaultOf};
-ghost use Rattle.tc_object.specs.Grammar.{name_after};
-ghost use Rattle.tc_object.specs.Used.{is_among};
+ghost use Rattle.tc_object.specs.Grammar.{new_object_name_at};
+ghost use Rattle.tc_object.specs.Used.{is_used_name};
 
 use crate::ObjErr;
 use crate::names::{read_name_bytes, read_name_length};
 use std::alloc::{AllocError, AllocFailed, Global};
 use std::collections::HashMap;
-use tcd_base::{BAD_VALUE, Cursor, fault};
+use tcd_base::{BAD_VALUE, Cursor, form_err_at};
 
 /// A map without names, with capacity for `count` of them.
-pub(crate) fn no_names<'a>(alloc: Global, count: u16) -> Result<HashMap<&'a str, ()>, AllocError>
-    ensures { IfOk result (λ names. (q : List ℕ) → is_among names q ≡ false) }
+pub(crate) fn no_used_names<'a>(
+    alloc: Global,
+    count: u16,
+) -> Result<HashMap<&'a str, ()>, AllocError>
+    ensures { IfOk result (λ names. (q : List ℕ) → is_used_name names q ≡ false) }
 {
     let names = HashMap::with_capacity(alloc, count as usize)?;
     Ok(names)
 }
 
 /// Adds a name, and returns whether it is new.
-fn add_name<'a>(
+fn add_used_name<'a>(
     names: &mut HashMap<&'a str, ()>,
     name: &'a str,
 ) -> Result<bool, AllocFailed<(&'a str, ())>>
-    ensures added { IfOk result (λ added. added ≡ not (is_among names.old name.now)) }
-    ensures names { OnOk result ((q : List ℕ) → is_among names.new q
-        ≡ (bytes_eq name.now q || is_among names.old q)) }
+    ensures added { IfOk result (λ added. added ≡ not (is_used_name names.old name.now)) }
+    ensures names { OnOk result ((q : List ℕ) → is_used_name names.new q
+        ≡ (bytes_eq name.now q || is_used_name names.old q)) }
 {
     let old = names.insert(name, ())?;
     Ok(old.is_none())
 }
 
 /// Reads a name that isn't used yet, and adds it to the used ones.
-#[tactic(auto, unfolding(crate::specs::Grammar::name_after))]
+#[tactic(auto, unfolding(crate::specs::Grammar::new_object_name_at))]
 pub(crate) fn read_new_name<'a>(
     c: &mut Cursor<'a>,
     names: &mut HashMap<&'a str, ()>,
 ) -> Result<&'a str, ObjErr>
     requires { length c.old.bytes ≤ 2 ^ 30 }
-    ensures ok { IfOk result (λ name. name_after (is_among names.old) c.old
+    ensures ok { IfOk result (λ name. new_object_name_at (is_used_name names.old) c.old
         ≡ Ok (name.now, c.new)) }
-    ensures err { IfErr result (IsFaultOf (name_after (is_among names.old) c.old)) }
+    ensures err { IfErr result (IsFaultOf (new_object_name_at (is_used_name names.old) c.old)) }
     ensures bytes { c.new.bytes ≡ c.old.bytes }
-    ensures names { IfOk result (λ name. (q : List ℕ) → is_among names.new q
-        ≡ (bytes_eq name.now q || is_among names.old q)) }
+    ensures names { IfOk result (λ name. (q : List ℕ) → is_used_name names.new q
+        ≡ (bytes_eq name.now q || is_used_name names.old q)) }
 {
     let count = read_name_length(c)?;
     let start = c.place();
     let name = read_name_bytes(c, count)?;
-    let is_new = add_name(names, name)?;
+    let is_new = add_used_name(names, name)?;
     if !is_new {
-        return Err(ObjErr::Bad(fault(BAD_VALUE, start)));
+        return Err(ObjErr::Bad(form_err_at(BAD_VALUE, start)));
     }
     Ok(name)
 }

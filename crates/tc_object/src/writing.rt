@@ -6,6 +6,7 @@ ghost use Rattle.tc_object.specs.Spelling.{bytes_of_name, bytes_of_section, byte
 use crate::{Reloc, Section, Symbol};
 use tcd_base::{NoMemory, put_u16, put_u32};
 
+/// Appends a name to an object file: its length, and its bytes.
 #[tactic(auto, unfolding(crate::specs::Spelling::bytes_of_name))]
 fn write_name(out: &mut Vec<u8>, name: &str) -> Result<(), NoMemory>
     requires { length name.now ≤ 64 }
@@ -16,6 +17,7 @@ fn write_name(out: &mut Vec<u8>, name: &str) -> Result<(), NoMemory>
     Ok(())
 }
 
+/// Appends a section to an object file: its name, its length, and its bytes.
 #[tactic(auto, unfolding(crate::specs::Spelling::bytes_of_section))]
 fn write_section(out: &mut Vec<u8>, section: &Section) -> Result<(), NoMemory>
     requires name { length section.now.name ≤ 64 }
@@ -28,6 +30,7 @@ fn write_section(out: &mut Vec<u8>, section: &Section) -> Result<(), NoMemory>
     Ok(())
 }
 
+/// Appends all sections of an object, in their one spelling, to an object file.
 pub(crate) fn write_sections(out: &mut Vec<u8>, sections: &[Section]) -> Result<(), NoMemory>
     requires names { All (λ s. length s.name ≤ 64) sections.now }
     requires small { All (λ s. length s.bytes < 2 ^ 32) sections.now }
@@ -40,6 +43,7 @@ pub(crate) fn write_sections(out: &mut Vec<u8>, sections: &[Section]) -> Result<
     Ok(())
 }
 
+/// Appends a symbol to an object file: its name, kind, section and offset.
 #[tactic(auto, unfolding(crate::specs::Spelling::bytes_of_symbol))]
 fn write_symbol(out: &mut Vec<u8>, symbol: &Symbol) -> Result<(), NoMemory>
     requires { length symbol.now.name ≤ 64 }
@@ -51,6 +55,7 @@ fn write_symbol(out: &mut Vec<u8>, symbol: &Symbol) -> Result<(), NoMemory>
     put_u32(out, symbol.offset)
 }
 
+/// Appends all symbols of an object, in their one spelling, to an object file.
 pub(crate) fn write_symbols(out: &mut Vec<u8>, symbols: &[Symbol]) -> Result<(), NoMemory>
     requires { All (λ s. length s.name ≤ 64) symbols.now }
     ensures { OnOk result (out.new.items ≡ out.old.items ++ flat_map bytes_of_symbol symbols.now) }
@@ -61,6 +66,7 @@ pub(crate) fn write_symbols(out: &mut Vec<u8>, symbols: &[Symbol]) -> Result<(),
     Ok(())
 }
 
+/// Appends a relocation to an object file: its section, offset, kind, symbol and addend.
 #[tactic(auto, unfolding(crate::specs::Spelling::bytes_of_reloc))]
 fn write_reloc(out: &mut Vec<u8>, reloc: &Reloc) -> Result<(), NoMemory>
     ensures { OnOk result (out.new.items ≡ out.old.items ++ bytes_of_reloc reloc.now) }
@@ -72,6 +78,7 @@ fn write_reloc(out: &mut Vec<u8>, reloc: &Reloc) -> Result<(), NoMemory>
     put_u32(out, reloc.addend)
 }
 
+/// Appends all relocations of an object, in their one spelling, to an object file.
 pub(crate) fn write_relocs(out: &mut Vec<u8>, relocs: &[Reloc]) -> Result<(), NoMemory>
     ensures { OnOk result (out.new.items ≡ out.old.items ++ flat_map bytes_of_reloc relocs.now) }
 {

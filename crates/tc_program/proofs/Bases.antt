@@ -5,15 +5,15 @@ use Rattle.std.specs.Option.{option_map_or, option_or}
 use Rattle.std.specs.Bool.{then_some}
 use Rattle.std.specs.Str.{bytes_eq}
 use Rattle.tc_object.specs.Objects.{SectionData, ObjectData}
-use Rattle.tc_link.specs.Layouts.{PlaceData, is_placed}
-use Rattle.tc_link.specs.Placing.{place_of, PlacedData, base_of, bases_after, placed_after}
-use Rattle.tc_link.specs.PlaceSizes.{round_up, taken_bytes}
+use Rattle.tc_link.specs.Layouts.{PlaceData, is_placed, place_of}
+use Rattle.tc_link.specs.Placing.{PlacedData, base_of, bases_after, placed_after}
+use Rattle.tc_link.specs.PlaceSizes.{round_up_place_size, taken_bytes}
 use Rattle.tc_link.specs.Placing as placing
-use Rattle.tc_link.specs.Refusals.{Refusal, no_place, first_at, has_symbol, no_place_of, no_place_in}
+use Rattle.tc_link.specs.Refusals.{Refusal, no_place, first_refusal_from, has_symbol, no_place_of, no_place_in}
 use Rattle.tc_asm.specs.Objects.{object_of}
 use Rattle.tc_asm.specs.Statements.{sections_in}
 use Rattle.tc_asm.specs.DraftedSources.{draft_in}
-use Rattle.tc_program.specs.Addresses.{sections_of, Begins}
+use Rattle.tc_program.specs.Addresses.{program_sections, SectionHasAddress}
 use Rattle.tc_asm.proofs.SourceParts.{sections_are}
 use Rattle.tc_program.proofs.Sections.{AreObjects, all_sections, objects_take}
 
@@ -22,23 +22,23 @@ pub none_parts : {B : Type 0} (a b : Option B) → option_or a b ≡ None → (a
 none_parts None b e = (refl, e)
 none_parts (Some x) b e = cc
 
-pub none_at : {A B : Type 0} (f : ℕ → A → Option B) (n : ℕ) (xs : List A) (i : ℕ) (x : A) → first_at f n xs ≡ None → slice_get xs i ≡ Some x → f (n + i) x ≡ None
-unfolding first_at
+pub none_at : {A B : Type 0} (f : ℕ → A → Option B) (n : ℕ) (xs : List A) (i : ℕ) (x : A) → first_refusal_from f n xs ≡ None → slice_get xs i ≡ Some x → f (n + i) x ≡ None
+unfolding first_refusal_from
 none_at f n [] i x e h = cc
 none_at {A} {B} f n (y ∷ ys) zero x e h =
     let same : y ≡ x = cc in
     let none : n + 0 ≡ n = omega arith in
-    ap (λ k. f k x) none ∙ ap (f n) (sym same) ∙ (none_parts (f n y) (first_at f (n + 1) ys) e).0
+    ap (λ k. f k x) none ∙ ap (f n) (sym same) ∙ (none_parts (f n y) (first_refusal_from f (n + 1) ys) e).0
 none_at {A} {B} f n (y ∷ ys) (suc i) x e h =
     let moved : n + suc i ≡ n + 1 + i = omega arith in
-    ap (λ k. f k x) moved ∙ none_at f (n + 1) ys i x (none_parts (f n y) (first_at f (n + 1) ys) e).1 h
+    ap (λ k. f k x) moved ∙ none_at f (n + 1) ys i x (none_parts (f n y) (first_refusal_from f (n + 1) ys) e).1 h
 
 -- ---- the objects at their addresses
 abbrev placed : ObjectData → List ℕ → PlacedData
 placed o bases = record { object = o; bases = bases }
 
 pub placed_at : (places : List PlaceData) (before : List SectionData) (objects : List ObjectData) (i : ℕ) (o : ObjectData) → slice_get objects i ≡ Some o →
-    slice_get (placed_after places before objects) i ≡ Some (record { object = o; bases = bases_after places (before ++ placing.sections_of (take i objects)) o.sections })
+    slice_get (placed_after places before objects) i ≡ Some (record { object = o; bases = bases_after places (before ++ placing.sections_to_link (take i objects)) o.sections })
 unfolding placed_after
 placed_at places before [] i o e = cc
 placed_at places before (x ∷ xs) zero o e =
@@ -47,10 +47,10 @@ placed_at places before (x ∷ xs) zero o e =
     ∙ ap (λ (b : List SectionData). Some (placed o (bases_after places b o.sections))) (sym (append-nil before))
 placed_at places before (x ∷ xs) (suc i) o e =
     placed_at places (before ++ x.sections) xs i o e
-    ∙ ap (λ (b : List SectionData). Some (placed o (bases_after places b o.sections))) (append_assoc before x.sections (placing.sections_of (take i xs)))
+    ∙ ap (λ (b : List SectionData). Some (placed o (bases_after places b o.sections))) (append_assoc before x.sections (placing.sections_to_link (take i xs)))
 
 pub placed_from : (places : List PlaceData) (before : List SectionData) (objects : List ObjectData) (i : ℕ) (p : PlacedData) → slice_get (placed_after places before objects) i ≡ Some p →
-    (o : ObjectData) × (slice_get objects i ≡ Some o) × (p ≡ record { object = o; bases = bases_after places (before ++ placing.sections_of (take i objects)) o.sections })
+    (o : ObjectData) × (slice_get objects i ≡ Some o) × (p ≡ record { object = o; bases = bases_after places (before ++ placing.sections_to_link (take i objects)) o.sections })
 unfolding placed_after
 placed_from places before [] i p e = cc
 placed_from places before (x ∷ xs) zero p e =
@@ -58,7 +58,7 @@ placed_from places before (x ∷ xs) zero p e =
     (x, refl, sym same ∙ ap (λ (b : List SectionData). placed x (bases_after places b x.sections)) (sym (append-nil before)))
 placed_from places before (x ∷ xs) (suc i) p e =
     let rest = placed_from places (before ++ x.sections) xs i p e in
-    (rest.0, rest.1, rest.2 ∙ ap (λ (b : List SectionData). placed rest.0 (bases_after places b rest.0.sections)) (append_assoc before x.sections (placing.sections_of (take i xs))))
+    (rest.0, rest.1, rest.2 ∙ ap (λ (b : List SectionData). placed rest.0 (bases_after places b rest.0.sections)) (append_assoc before x.sections (placing.sections_to_link (take i xs))))
 
 pub placed_take : (places : List PlaceData) (before : List SectionData) (objects : List ObjectData) (i : ℕ) → take i (placed_after places before objects) ≡ placed_after places before (take i objects)
 unfolding placed_after
@@ -94,7 +94,7 @@ pub place_for : (places : List PlaceData) (objects : List ObjectData) (i : ℕ) 
     (nat_lt 0 (length x.bytes) || has_symbol o.symbols s) ≡ true → (p : PlaceData) × (place_of places x.name ≡ Some p)
 unfolding no_place_in
 place_for places objects i o s x e at there needs =
-    let here : first_at (no_place_of places o.symbols) 0 o.sections ≡ None = none_at (λ n (q : ObjectData). first_at (no_place_of places q.symbols) 0 q.sections) 0 objects i o e at in
+    let here : first_refusal_from (no_place_of places o.symbols) 0 o.sections ≡ None = none_at (λ n (q : ObjectData). first_refusal_from (no_place_of places q.symbols) 0 q.sections) 0 objects i o e at in
     let own : no_place_of places o.symbols s x ≡ None
     = (let same : s ≡ 0 + s = omega arith in ap (λ k. no_place_of places o.symbols k x) same) ∙ none_at (no_place_of places o.symbols) 0 o.sections s x here there in
     place_there places x.name (refuted (nat_lt 0 (length x.bytes) || has_symbol o.symbols s) (is_placed places x.name) (no_place x.name) own needs)
@@ -102,10 +102,10 @@ place_for places objects i o s x e at there needs =
 -- ---- the base of a section
 pub begins_at : (places : List PlaceData) (sources : List (List ℕ)) (objects : List ObjectData) (i : ℕ) (source : List ℕ) (s : ℕ) (x : SectionData) (p : PlaceData) → AreObjects sources objects → slice_get sources i ≡ Some source →
     slice_get (sections_in source) s ≡ Some x → place_of places x.name ≡ Some p →
-    Begins places sources i s (slice_index (bases_after places (placing.sections_of (take i objects)) (object_of (draft_in source)).sections) s)
+    SectionHasAddress places sources i s (slice_index (bases_after places (placing.sections_to_link (take i objects)) (object_of (draft_in source)).sections) s)
 begins_at places sources objects i source s x p are at there is =
     let same : sections_in source ≡ (object_of (draft_in source)).sections = sections_are source in
-    let earlier : placing.sections_of (take i objects) ≡ sections_of (take i sources) = sym (all_sections (take i sources) (take i objects) (objects_take sources objects i are)) in
+    let earlier : placing.sections_to_link (take i objects) ≡ program_sections (take i sources) = sym (all_sections (take i sources) (take i objects) (objects_take sources objects i are)) in
     record {
       source = source;
       is_source = at;
@@ -113,8 +113,8 @@ begins_at places sources objects i source s x p are at there is =
       is_section = there;
       place = p;
       is_place = is;
-      is = ap (λ (l : List SectionData). slice_index (bases_after places (placing.sections_of (take i objects)) l) s) (sym same)
-          ∙ base_at places (placing.sections_of (take i objects)) (sections_in source) s x there
+      is = ap (λ (l : List SectionData). slice_index (bases_after places (placing.sections_to_link (take i objects)) l) s) (sym same)
+          ∙ base_at places (placing.sections_to_link (take i objects)) (sections_in source) s x there
           ∙ ap (λ (b : List SectionData). base_of places (b ++ take s (sections_in source)) x) earlier
-          ∙ ap (λ (o : Option PlaceData). option_map_or (λ q. q.at + round_up (taken_bytes x.name (sections_of (take i sources) ++ take s (sections_in source)))) o 0) is;
+          ∙ ap (λ (o : Option PlaceData). option_map_or (λ q. q.at + round_up_place_size (taken_bytes x.name (program_sections (take i sources) ++ take s (sections_in source)))) o 0) is;
     }

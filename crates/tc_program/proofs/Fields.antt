@@ -9,11 +9,11 @@ use Rattle.tc_object.specs.Objects.{SectionData}
 use Rattle.tc_asm.specs.Symbols.{SymbolData}
 use Rattle.tc_asm.specs.Drafts.{UseData, PartData}
 use Rattle.tc_asm.specs.Objects.{section_of, reloc_of, relocs_from}
-use Rattle.tc_asm.specs.Statements.{StatementData, section_bytes, offset_of, is_open}
-use Rattle.tc_reloc.specs.Fields.{content_of, field_at, with_field}
+use Rattle.tc_asm.specs.Statements.{StatementData, section_bytes, offset_of, is_open_statement}
+use Rattle.tc_reloc.specs.Fields.{reloc_field_number, with_reloc_field}
+use Rattle.tc_link.specs.Relocated.{reloc_field_at, field_place, reloc_value, with_relocation, with_reloc}
 use Rattle.tc_link.specs.Placing.{PlacedData}
 use Rattle.tc_link.specs.Names.{GlobalData}
-use Rattle.tc_link.specs.Relocated.{field_place, value_of, with_relocation, with_reloc}
 use Rattle.tc_stmt.proofs.ListItems.{seam_get, seam_set, take_behind, drop_behind}
 use Rattle.tc_asm.proofs.Uses.{use_at, uses_from, HaveFields}
 
@@ -69,8 +69,8 @@ module _ (g : List GlobalData) (p : PlacedData) (symbols : List SymbolData) wher
   abbrev pub filled_bytes : ℕ → ℕ → Option ReferenceData → List ℕ → List ℕ
   filled_bytes s n None bytes = bytes
   filled_bytes s n (Some r) bytes =
-      if is_open (Some r)
-      then with_field r.kind bytes (content_of r.kind (field_place p (reloc_of symbols s (record { offset = n; reference = r }))) (value_of g p (reloc_of symbols s (record { offset = n; reference = r }))))
+      if is_open_statement (Some r)
+      then with_reloc_field r.kind bytes (reloc_field_number r.kind (field_place p (reloc_of symbols s (record { offset = n; reference = r }))) (reloc_value g p (reloc_of symbols s (record { offset = n; reference = r }))))
       else bytes
 
   -- the statements of this section from this offset on, with their fields filled
@@ -80,7 +80,7 @@ module _ (g : List GlobalData) (p : PlacedData) (symbols : List SymbolData) wher
       if t.section == s then record t { bytes = filled_bytes s n t.reference t.bytes } ∷ filled_from s (n + length t.bytes) ts else t ∷ filled_from s n ts
 
   -- a single field
-  field_written : (name before bytes rest : List ℕ) (s : ℕ) (r : ReferenceData) → is_open (Some r) ≡ true → length bytes ≡ 4 →
+  field_written : (name before bytes rest : List ℕ) (s : ℕ) (r : ReferenceData) → is_open_statement (Some r) ≡ true → length bytes ≡ 4 →
       stepped s (record { name = name; bytes = before ++ (bytes ++ rest) }) (record { offset = length before; reference = r }) ≡ record { name = name; bytes = before ++ (filled_bytes s (length before) (Some r) bytes ++ rest) }
   field_written name before bytes rest s r waits four =
       let u : UseData = record { offset = length before; reference = r } in
@@ -88,22 +88,22 @@ module _ (g : List GlobalData) (p : PlacedData) (symbols : List SymbolData) wher
       let long : length before + 4 ≡ length before + length bytes = omega arith in
       let flat : length bytes ≡ length bytes + 0 = omega arith in
       let front : take (length before) (before ++ (bytes ++ rest)) ≡ before = take_behind before (bytes ++ rest) (length before) 0 none ∙ append-nil before in
-      let here : field_at (before ++ (bytes ++ rest)) (length before) ≡ bytes
+      let here : reloc_field_at (before ++ (bytes ++ rest)) (length before) ≡ bytes
       = ap (take 4) (drop_behind before (bytes ++ rest) (length before) 0 none)
       ∙ ap (λ k. take k (bytes ++ rest)) (sym four) ∙ take_behind bytes rest (length bytes) 0 flat ∙ append-nil bytes in
       let back : drop (length before + 4) (before ++ (bytes ++ rest)) ≡ rest = drop_behind before (bytes ++ rest) (length before + 4) (length bytes) long ∙ drop_behind bytes rest (length bytes) 0 flat in
-      let content : ℕ = content_of r.kind (field_place p (reloc_of symbols s u)) (value_of g p (reloc_of symbols s u)) in
-      ap (λ (bs : List ℕ). record { name = name; bytes = take (length before) (before ++ (bytes ++ rest)) ++ (with_field r.kind bs content ++ drop (length before + 4) (before ++ (bytes ++ rest))) }) here
-      ∙ ap (λ (bs : List ℕ). record { name = name; bytes = bs ++ (with_field r.kind bytes content ++ drop (length before + 4) (before ++ (bytes ++ rest))) }) front
-      ∙ ap (λ (bs : List ℕ). record { name = name; bytes = before ++ (with_field r.kind bytes content ++ bs) }) back
-      ∙ ap (λ b. record { name = name; bytes = before ++ (cond b (with_field r.kind bytes content) bytes ++ rest) }) (sym waits)
+      let content : ℕ = reloc_field_number r.kind (field_place p (reloc_of symbols s u)) (reloc_value g p (reloc_of symbols s u)) in
+      ap (λ (bs : List ℕ). record { name = name; bytes = take (length before) (before ++ (bytes ++ rest)) ++ (with_reloc_field r.kind bs content ++ drop (length before + 4) (before ++ (bytes ++ rest))) }) here
+      ∙ ap (λ (bs : List ℕ). record { name = name; bytes = bs ++ (with_reloc_field r.kind bytes content ++ drop (length before + 4) (before ++ (bytes ++ rest))) }) front
+      ∙ ap (λ (bs : List ℕ). record { name = name; bytes = before ++ (with_reloc_field r.kind bytes content ++ bs) }) back
+      ∙ ap (λ b. record { name = name; bytes = before ++ (cond b (with_reloc_field r.kind bytes content) bytes ++ rest) }) (sym waits)
 
-  filled_length : (s n : ℕ) (o : Option ReferenceData) (bytes : List ℕ) → (is_open o ≡ true → length bytes ≡ 4) → length (filled_bytes s n o bytes) ≡ length bytes
+  filled_length : (s n : ℕ) (o : Option ReferenceData) (bytes : List ℕ) → (is_open_statement o ≡ true → length bytes ≡ 4) → length (filled_bytes s n o bytes) ≡ length bytes
   filled_length s n None bytes four = refl
-  filled_length s n (Some r) bytes four = by (is_open (Some r)) refl
+  filled_length s n (Some r) bytes four = by (is_open_statement (Some r)) refl
     where
-      by : (b : Bool) → is_open (Some r) ≡ b
-          → length (cond b (with_field r.kind bytes (content_of r.kind (field_place p (reloc_of symbols s (record { offset = n; reference = r }))) (value_of g p (reloc_of symbols s (record { offset = n; reference = r }))))) bytes) ≡ length bytes
+      by : (b : Bool) → is_open_statement (Some r) ≡ b
+          → length (cond b (with_reloc_field r.kind bytes (reloc_field_number r.kind (field_place p (reloc_of symbols s (record { offset = n; reference = r }))) (reloc_value g p (reloc_of symbols s (record { offset = n; reference = r }))))) bytes) ≡ length bytes
       by true e = let l = four e in omega arith
       by false e = refl
 
@@ -115,7 +115,7 @@ module _ (g : List GlobalData) (p : PlacedData) (symbols : List SymbolData) wher
   fields_written name s [] before h = refl
   fields_written name s (t ∷ ts) before h = by (t.section == s) refl (λ b. fields_written name s ts b h.1)
     where
-      by_reference : (o : Option ReferenceData) (bytes : List ℕ) → (is_open o ≡ true → length bytes ≡ 4)
+      by_reference : (o : Option ReferenceData) (bytes : List ℕ) → (is_open_statement o ≡ true → length bytes ≡ 4)
           → ((b : List ℕ) → fold (stepped s) (record { name = name; bytes = b ++ section_bytes s ts }) (uses_from s (length b) ts) ≡ record { name = name; bytes = b ++ section_bytes s (filled_from s (length b) ts) })
           → fold (stepped s) (record { name = name; bytes = before ++ (bytes ++ section_bytes s ts) }) (use_at (length before) o ++ uses_from s (length before + length bytes) ts)
           ≡ record { name = name; bytes = before ++ (filled_bytes s (length before) o bytes ++ section_bytes s (filled_from s (length before + length bytes) ts)) }
@@ -125,17 +125,17 @@ module _ (g : List GlobalData) (p : PlacedData) (symbols : List SymbolData) wher
           ∙ rec (before ++ bytes)
           ∙ ap (λ n. whole name ((before ++ bytes) ++ section_bytes s (filled_from s n ts))) (length-append before bytes)
           ∙ ap (whole name) (append_assoc before bytes (section_bytes s (filled_from s (length before + length bytes) ts)))
-      by_reference (Some r) bytes four rec = by_open (is_open (Some r)) refl
+      by_reference (Some r) bytes four rec = by_open (is_open_statement (Some r)) refl
         where
           u : UseData
           u = record { offset = length before; reference = r }
 
           more : List ℕ
-          more = with_field r.kind bytes (content_of r.kind (field_place p (reloc_of symbols s (record { offset = length before; reference = r }))) (value_of g p (reloc_of symbols s (record { offset = length before; reference = r }))))
+          more = with_reloc_field r.kind bytes (reloc_field_number r.kind (field_place p (reloc_of symbols s (record { offset = length before; reference = r }))) (reloc_value g p (reloc_of symbols s (record { offset = length before; reference = r }))))
 
-          by_open : (b : Bool) → is_open (Some r) ≡ b
+          by_open : (b : Bool) → is_open_statement (Some r) ≡ b
               → fold (stepped s) (record { name = name; bytes = before ++ (bytes ++ section_bytes s ts) }) (cond b (record { offset = length before; reference = r } ∷ []) [] ++ uses_from s (length before + length bytes) ts)
-              ≡ record { name = name; bytes = before ++ (cond b (with_field r.kind bytes (content_of r.kind (field_place p (reloc_of symbols s (record { offset = length before; reference = r }))) (value_of g p (reloc_of symbols s (record { offset = length before; reference = r }))))) bytes ++ section_bytes s (filled_from s (length before + length bytes) ts)) }
+              ≡ record { name = name; bytes = before ++ (cond b (with_reloc_field r.kind bytes (reloc_field_number r.kind (field_place p (reloc_of symbols s (record { offset = length before; reference = r }))) (reloc_value g p (reloc_of symbols s (record { offset = length before; reference = r }))))) bytes ++ section_bytes s (filled_from s (length before + length bytes) ts)) }
           by_open false e =
               ap (λ (bs : List ℕ). fold (stepped s) (whole name bs) (uses_from s (length before + length bytes) ts)) (sym (append_assoc before bytes (section_bytes s ts)))
               ∙ ap (λ n. fold (stepped s) (whole name ((before ++ bytes) ++ section_bytes s ts)) (uses_from s n ts)) (sym (length-append before bytes))

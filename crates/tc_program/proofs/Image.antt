@@ -8,13 +8,12 @@ use Rattle.std.proofs.lemmas.List.{append-nil}
 use Rattle.std.proofs.lemmas.List.Sums.{fold-append}
 use Rattle.std.proofs.lemmas.Option.{slice_get_within}
 use Rattle.std.proofs.lemmas.Slice.Eq.{bytes_eq-Decides}
-use Rattle.elf_image.specs.Images.{SegmentData, holds, byte_in, are_apart, all_apart}
+use Rattle.elf_image.specs.Images.{SegmentData, is_held_by_segment, segments_byte, are_apart, all_apart}
 use Rattle.tc_object.specs.Objects.{SectionData, InTurn}
-use Rattle.tc_link.specs.Layouts.{PlaceData, IsPlaceAfter, is_placed}
-use Rattle.tc_link.specs.Placing.{place_of}
-use Rattle.tc_link.specs.PlaceSizes.{round_up, taken_bytes}
-use Rattle.tc_link.specs.Segments.{with_padding, with_section, joined_sections}
-use Rattle.tc_link.specs.Shapes.{Shape, shape_of}
+use Rattle.tc_link.specs.Layouts.{PlaceData, IsPlaceAfter, is_placed, place_of}
+use Rattle.tc_link.specs.PlaceSizes.{round_up_place_size, taken_bytes}
+use Rattle.tc_link.specs.Segments.{with_segment_padding, with_section, joined_sections}
+use Rattle.tc_link.specs.Shapes.{SectionShape, section_shape}
 use Rattle.tc_link.proofs.ShapeLaws.{length-joined, taken-shapes, padded_length}
 use Rattle.tc_stmt.proofs.ListItems.{get_short, in_front_or_rest, InRest, map_get, map_at, map_take}
 
@@ -29,33 +28,33 @@ stays name [] before = record { more = []; is = sym (append-nil before) }
 stays name (s ∷ ss) before = by (bytes_eq name s.name) refl (stays name ss (with_section name before s))
   where
     zeros : List ℕ
-    zeros = replicate (round_up (length before) - length before) 0
+    zeros = replicate (round_up_place_size (length before) - length before) 0
 
     by : (b : Bool) → bytes_eq name s.name ≡ b → Longer name (with_section name before s) ss → Longer name before (s ∷ ss)
     by true e h = record {
       more = zeros ++ (s.bytes ++ h.more);
-      is = h.is ∙ ap (λ b. cond b (with_padding before ++ s.bytes) before ++ h.more) e ∙ append_assoc (with_padding before) s.bytes h.more ∙ append_assoc before zeros (s.bytes ++ h.more);
+      is = h.is ∙ ap (λ b. cond b (with_segment_padding before ++ s.bytes) before ++ h.more) e ∙ append_assoc (with_segment_padding before) s.bytes h.more ∙ append_assoc before zeros (s.bytes ++ h.more);
     }
-    by false e h = record { more = h.more; is = h.is ∙ ap (λ b. cond b (with_padding before ++ s.bytes) before ++ h.more) e }
+    by false e h = record { more = h.more; is = h.is ∙ ap (λ b. cond b (with_segment_padding before ++ s.bytes) before ++ h.more) e }
 
 -- a section is after those of its name, at a multiple of 4
 pub record Stands (name : List ℕ) (before : List SectionData) (s : SectionData) (after : List SectionData) : Type 0 where
   pub front : List ℕ
   pub rest : List ℕ
   pub is : joined_sections name (before ++ s ∷ after) ≡ front ++ (s.bytes ++ rest)
-  pub place : length front ≡ round_up (taken_bytes name before)
+  pub place : length front ≡ round_up_place_size (taken_bytes name before)
 
 pub stands : (name : List ℕ) (before : List SectionData) (s : SectionData) (after : List SectionData) → bytes_eq name s.name ≡ true → Stands name before s after
 unfolding joined_sections
 stands name before s after e =
     let h = stays name after (with_section name (fold (with_section name) [] before) s) in
     record {
-      front = with_padding (fold (with_section name) [] before);
+      front = with_segment_padding (fold (with_section name) [] before);
       rest = h.more;
       is = fold-append (with_section name) [] before (s ∷ after) ∙ h.is
-          ∙ ap (λ b. cond b (with_padding (fold (with_section name) [] before) ++ s.bytes) (fold (with_section name) [] before) ++ h.more) e
-          ∙ append_assoc (with_padding (fold (with_section name) [] before)) s.bytes h.more;
-      place = padded_length (fold (with_section name) [] before) ∙ ap round_up (length-joined name before);
+          ∙ ap (λ b. cond b (with_segment_padding (fold (with_section name) [] before) ++ s.bytes) (fold (with_section name) [] before) ++ h.more) e
+          ∙ append_assoc (with_segment_padding (fold (with_section name) [] before)) s.bytes h.more;
+      place = padded_length (fold (with_section name) [] before) ∙ ap round_up_place_size (length-joined name before);
     }
 
 -- ---- the bytes of a place
@@ -74,15 +73,15 @@ zero_in (suc n) zero b e = cc
 zero_in (suc n) (suc k) b e = zero_in n k b e
 
 -- in the padding, or before it
-pad_byte : (before : List ℕ) (k b : ℕ) → slice_get (with_padding before) k ≡ Some b → (k < length before) ⊎ (b ≡ 0)
-pad_byte before k b e = by (in_front_or_rest before (replicate (round_up (length before) - length before) 0) k b e)
+pad_byte : (before : List ℕ) (k b : ℕ) → slice_get (with_segment_padding before) k ≡ Some b → (k < length before) ⊎ (b ≡ 0)
+pad_byte before k b e = by (in_front_or_rest before (replicate (round_up_place_size (length before) - length before) 0) k b e)
   where
-    by : (slice_get before k ≡ Some b) ⊎ InRest ℕ before (replicate (round_up (length before) - length before) 0) k b → (k < length before) ⊎ (b ≡ 0)
+    by : (slice_get before k ≡ Some b) ⊎ InRest ℕ before (replicate (round_up_place_size (length before) - length before) 0) k b → (k < length before) ⊎ (b ≡ 0)
     by (inl h) = inl (slice_get_within before k b h)
-    by (inr r) = inr (zero_in (round_up (length before) - length before) r.at b r.is)
+    by (inr r) = inr (zero_in (round_up_place_size (length before) - length before) r.at b r.is)
 
 abbrev starts_behind : List ℕ → List ℕ → List SectionData → ℕ
-starts_behind name before ss = round_up (length (fold (with_section name) before ss))
+starts_behind name before ss = round_up_place_size (length (fold (with_section name) before ss))
 
 in_joined : (name : List ℕ) (ss : List SectionData) (before : List ℕ) (k b : ℕ) → slice_get (fold (with_section name) before ss) k ≡ Some b →
     (k < length before) ⊎ ((b ≡ 0) ⊎ InSection name ss (starts_behind name before) k)
@@ -98,14 +97,14 @@ in_joined name (s ∷ ss) before k b e = by_rest (in_joined name ss (with_sectio
         let l = stays name ss (with_section name before s) in
         sym (get_short (with_section name before s) l.more k h) ∙ ap (λ (bs : List ℕ). slice_get bs k) (sym l.is) ∙ e
 
-    in_this : (t : Bool) → bytes_eq name s.name ≡ t → slice_get (cond t (with_padding before ++ s.bytes) before) k ≡ Some b → (k < length before) ⊎ ((b ≡ 0) ⊎ InSection name (s ∷ ss) (starts_behind name before) k)
-    in_this true named g = by_part (in_front_or_rest (with_padding before) s.bytes k b g)
+    in_this : (t : Bool) → bytes_eq name s.name ≡ t → slice_get (cond t (with_segment_padding before ++ s.bytes) before) k ≡ Some b → (k < length before) ⊎ ((b ≡ 0) ⊎ InSection name (s ∷ ss) (starts_behind name before) k)
+    in_this true named g = by_part (in_front_or_rest (with_segment_padding before) s.bytes k b g)
       where
         by_pad : (k < length before) ⊎ (b ≡ 0) → (k < length before) ⊎ ((b ≡ 0) ⊎ InSection name (s ∷ ss) (starts_behind name before) k)
         by_pad (inl h) = inl h
         by_pad (inr h) = inr (inl h)
 
-        by_part : (slice_get (with_padding before) k ≡ Some b) ⊎ InRest ℕ (with_padding before) s.bytes k b → (k < length before) ⊎ ((b ≡ 0) ⊎ InSection name (s ∷ ss) (starts_behind name before) k)
+        by_part : (slice_get (with_segment_padding before) k ≡ Some b) ⊎ InRest ℕ (with_segment_padding before) s.bytes k b → (k < length before) ⊎ ((b ≡ 0) ⊎ InSection name (s ∷ ss) (starts_behind name before) k)
         by_part (inl h) = by_pad (pad_byte before k b h)
         by_part (inr r) =
             let p = r.place in
@@ -120,44 +119,44 @@ in_joined name (s ∷ ss) before k b e = by_rest (in_joined name ss (with_sectio
     by_rest (inr (inl h)) = inr (inl h)
     by_rest (inr (inr r)) = inr (inr (record { at = suc r.at; section = r.section; is_section = r.is_section; named = r.named; low = r.low; high = r.high }))
 
-starts_same : (name : List ℕ) (ss : List SectionData) (k : ℕ) → InSection name ss (starts_behind name []) k → InSection name ss (λ before. round_up (taken_bytes name before)) k
+starts_same : (name : List ℕ) (ss : List SectionData) (k : ℕ) → InSection name ss (starts_behind name []) k → InSection name ss (λ before. round_up_place_size (taken_bytes name before)) k
 unfolding joined_sections
 starts_same name ss k h =
-    let same : starts_behind name [] (take h.at ss) ≡ round_up (taken_bytes name (take h.at ss)) = ap round_up (length-joined name (take h.at ss)) in
+    let same : starts_behind name [] (take h.at ss) ≡ round_up_place_size (taken_bytes name (take h.at ss)) = ap round_up_place_size (length-joined name (take h.at ss)) in
     let low = h.low in
     let high = h.high in
     record { at = h.at; section = h.section; is_section = h.is_section; named = h.named; low = omega arith; high = omega arith }
 
-pub joined_byte : (name : List ℕ) (ss : List SectionData) (k b : ℕ) → slice_get (joined_sections name ss) k ≡ Some b → (b ≡ 0) ⊎ InSection name ss (λ before. round_up (taken_bytes name before)) k
+pub joined_byte : (name : List ℕ) (ss : List SectionData) (k b : ℕ) → slice_get (joined_sections name ss) k ≡ Some b → (b ≡ 0) ⊎ InSection name ss (λ before. round_up_place_size (taken_bytes name before)) k
 unfolding joined_sections
 joined_byte name ss k b e = by (in_joined name ss [] k b e)
   where
-    by : (k < length {A = ℕ} []) ⊎ ((b ≡ 0) ⊎ InSection name ss (starts_behind name []) k) → (b ≡ 0) ⊎ InSection name ss (λ before. round_up (taken_bytes name before)) k
+    by : (k < length {A = ℕ} []) ⊎ ((b ≡ 0) ⊎ InSection name ss (starts_behind name []) k) → (b ≡ 0) ⊎ InSection name ss (λ before. round_up_place_size (taken_bytes name before)) k
     by (inl h) = absurd (omega arith)
     by (inr (inl h)) = inl h
     by (inr (inr r)) = inr (starts_same name ss k r)
 
 -- ---- the same of sections of the same shapes
-pub shaped_at : (ss ts : List SectionData) (i : ℕ) (s : SectionData) → map shape_of ss ≡ map shape_of ts → slice_get ss i ≡ Some s → (t : SectionData) × (slice_get ts i ≡ Some t) × (shape_of t ≡ shape_of s)
+pub shaped_at : (ss ts : List SectionData) (i : ℕ) (s : SectionData) → map section_shape ss ≡ map section_shape ts → slice_get ss i ≡ Some s → (t : SectionData) × (slice_get ts i ≡ Some t) × (section_shape t ≡ section_shape s)
 shaped_at ss ts i s e h =
-    let f = map_at shape_of ts i (shape_of s) (ap (λ (l : List Shape). slice_get l i) (sym e) ∙ map_get shape_of ss i s h) in
+    let f = map_at section_shape ts i (section_shape s) (ap (λ (l : List SectionShape). slice_get l i) (sym e) ∙ map_get section_shape ss i s h) in
     (f.item, f.is_item, f.is)
 
-pub taken_front : (name : List ℕ) (ss ts : List SectionData) (i : ℕ) → map shape_of ss ≡ map shape_of ts → taken_bytes name (take i ss) ≡ taken_bytes name (take i ts)
-taken_front name ss ts i e = taken-shapes name (take i ss) (take i ts) (map_take shape_of ss i ∙ ap (take i) e ∙ sym (map_take shape_of ts i))
+pub taken_front : (name : List ℕ) (ss ts : List SectionData) (i : ℕ) → map section_shape ss ≡ map section_shape ts → taken_bytes name (take i ss) ≡ taken_bytes name (take i ts)
+taken_front name ss ts i e = taken-shapes name (take i ss) (take i ts) (map_take section_shape ss i ∙ ap (take i) e ∙ sym (map_take section_shape ts i))
 
-pub in_shaped : (name : List ℕ) (ss ts : List SectionData) (k : ℕ) → map shape_of ss ≡ map shape_of ts → InSection name ss (λ before. round_up (taken_bytes name before)) k → InSection name ts (λ before. round_up (taken_bytes name before)) k
+pub in_shaped : (name : List ℕ) (ss ts : List SectionData) (k : ℕ) → map section_shape ss ≡ map section_shape ts → InSection name ss (λ before. round_up_place_size (taken_bytes name before)) k → InSection name ts (λ before. round_up_place_size (taken_bytes name before)) k
 in_shaped name ss ts k e h =
     let t = shaped_at ss ts h.at h.section e h.is_section in
-    let front = ap round_up (taken_front name ss ts h.at e) in
-    let size : length t.0.bytes ≡ length h.section.bytes = ap (λ (x : Shape). x.size) t.2 in
+    let front = ap round_up_place_size (taken_front name ss ts h.at e) in
+    let size : length t.0.bytes ≡ length h.section.bytes = ap (λ (x : SectionShape). x.size) t.2 in
     let low = h.low in
     let high = h.high in
     record {
       at = h.at;
       section = t.0;
       is_section = t.1;
-      named = ap (λ (x : Shape). bytes_eq name x.name) t.2 ∙ h.named;
+      named = ap (λ (x : SectionShape). bytes_eq name x.name) t.2 ∙ h.named;
       low = omega arith;
       high = omega arith;
     }
@@ -168,10 +167,10 @@ apart_all s [] i t all e = cc
 apart_all s (x ∷ xs) zero t all e = let same : x ≡ t = cc in ap (are_apart s) (sym same) ∙ (and_parts (are_apart s x) (list_all (are_apart s) xs) all).0
 apart_all s (x ∷ xs) (suc i) t all e = apart_all s xs i t (and_parts (are_apart s x) (list_all (are_apart s) xs) all).1 e
 
-not_both : (s t : SegmentData) (x : ℕ) → are_apart s t ≡ true → t.at ≤ x → x < t.at + length t.bytes → holds s x ≡ false
-not_both s t x apart low high = by (holds s x) refl (or_cases (nat_le (s.at + length s.bytes) t.at) (nat_le (t.at + length t.bytes) s.at) apart)
+not_both : (s t : SegmentData) (x : ℕ) → are_apart s t ≡ true → t.at ≤ x → x < t.at + length t.bytes → is_held_by_segment s x ≡ false
+not_both s t x apart low high = by (is_held_by_segment s x) refl (or_cases (nat_le (s.at + length s.bytes) t.at) (nat_le (t.at + length t.bytes) s.at) apart)
   where
-    by : (b : Bool) → holds s x ≡ b → (nat_le (s.at + length s.bytes) t.at ≡ true) ⊎ (nat_le (t.at + length t.bytes) s.at ≡ true) → b ≡ false
+    by : (b : Bool) → is_held_by_segment s x ≡ b → (nat_le (s.at + length s.bytes) t.at ≡ true) ⊎ (nat_le (t.at + length t.bytes) s.at ≡ true) → b ≡ false
     by false h o = refl
     by true h (inl l) =
         let p = and_parts (nat_le s.at x) (nat_lt x (s.at + length s.bytes)) h in
@@ -185,23 +184,23 @@ not_both s t x apart low high = by (holds s x) refl (or_cases (nat_le (s.at + le
         absurd (omega arith)
 
 -- if no two segments share an address, the byte at an address is that of the segment that holds it
-pub byte_here : (ss : List SegmentData) (i : ℕ) (t : SegmentData) (k b : ℕ) → all_apart ss ≡ true → slice_get ss i ≡ Some t → slice_get t.bytes k ≡ Some b → byte_in ss (t.at + k) ≡ Some b
+pub byte_here : (ss : List SegmentData) (i : ℕ) (t : SegmentData) (k b : ℕ) → all_apart ss ≡ true → slice_get ss i ≡ Some t → slice_get t.bytes k ≡ Some b → segments_byte ss (t.at + k) ≡ Some b
 byte_here [] i t k b apart e h = cc
 byte_here (s ∷ ss) zero t k b apart e h =
     let same : s ≡ t = cc in
     let within = slice_get_within t.bytes k b h in
     let low : nat_le t.at (t.at + k) ≡ true = le-leb t.at (t.at + k) (omega arith) in
     let high : nat_lt (t.at + k) (t.at + length t.bytes) ≡ true = lt-ltb (t.at + k) (t.at + length t.bytes) (omega arith) in
-    let there : holds t (t.at + k) ≡ true = and_from (nat_le t.at (t.at + k)) (nat_lt (t.at + k) (t.at + length t.bytes)) low high in
+    let there : is_held_by_segment t (t.at + k) ≡ true = and_from (nat_le t.at (t.at + k)) (nat_lt (t.at + k) (t.at + length t.bytes)) low high in
     let back : t.at + k - t.at ≡ k = omega arith in
-    ap (λ (x : SegmentData). cond (holds x (t.at + k)) (slice_get x.bytes (t.at + k - x.at)) (byte_in ss (t.at + k))) same
-    ∙ ap (λ b. cond b (slice_get t.bytes (t.at + k - t.at)) (byte_in ss (t.at + k))) there
+    ap (λ (x : SegmentData). cond (is_held_by_segment x (t.at + k)) (slice_get x.bytes (t.at + k - x.at)) (segments_byte ss (t.at + k))) same
+    ∙ ap (λ b. cond b (slice_get t.bytes (t.at + k - t.at)) (segments_byte ss (t.at + k))) there
     ∙ ap (slice_get t.bytes) back ∙ h
 byte_here (s ∷ ss) (suc i) t k b apart e h =
     let p = and_parts (list_all (are_apart s) ss) (all_apart ss) apart in
     let within = slice_get_within t.bytes k b h in
     let not_here = not_both s t (t.at + k) (apart_all s ss i t p.0 e) (omega arith) (omega arith) in
-    ap (λ b. cond b (slice_get s.bytes (t.at + k - s.at)) (byte_in ss (t.at + k))) not_here
+    ap (λ b. cond b (slice_get s.bytes (t.at + k - s.at)) (segments_byte ss (t.at + k))) not_here
     ∙ byte_here ss i t k b p.1 e h
 
 -- the segment that holds an address
@@ -212,11 +211,11 @@ pub record InSegment (ss : List SegmentData) (q b : ℕ) : Type 0 where
   pub low : segment.at ≤ q
   pub byte : slice_get segment.bytes (q - segment.at) ≡ Some b
 
-pub byte_from : (ss : List SegmentData) (q b : ℕ) → byte_in ss q ≡ Some b → InSegment ss q b
+pub byte_from : (ss : List SegmentData) (q b : ℕ) → segments_byte ss q ≡ Some b → InSegment ss q b
 byte_from [] q b e = cc
-byte_from (s ∷ ss) q b e = by (λ g. byte_from ss q b g) (holds s q) refl e
+byte_from (s ∷ ss) q b e = by (λ g. byte_from ss q b g) (is_held_by_segment s q) refl e
   where
-    by : (byte_in ss q ≡ Some b → InSegment ss q b) → (t : Bool) → holds s q ≡ t → cond t (slice_get s.bytes (q - s.at)) (byte_in ss q) ≡ Some b → InSegment (s ∷ ss) q b
+    by : (segments_byte ss q ≡ Some b → InSegment ss q b) → (t : Bool) → is_held_by_segment s q ≡ t → cond t (slice_get s.bytes (q - s.at)) (segments_byte ss q) ≡ Some b → InSegment (s ∷ ss) q b
     by rec true h g = record { at = 0; segment = s; is_segment = refl; low = leb-true s.at q (and_parts (nat_le s.at q) (nat_lt q (s.at + length s.bytes)) h).0; byte = g }
     by rec false h g = let r = rec g in record { at = suc r.at; segment = r.segment; is_segment = r.is_segment; low = r.low; byte = r.byte }
 

@@ -9,16 +9,16 @@ use Rattle.tc_link.specs.Layouts.{LayoutData}
 use Rattle.tc_link.specs.Names.{globals_of, global_address}
 use Rattle.tc_link.specs.Relocated.{relocated_sections, contents_of}
 use Rattle.tc_link.specs.Segments.{segments_of}
-use Rattle.tcd_base.specs.Refusing.{unless}
-use Rattle.tc_link.specs.Linked.{entry_of, made_of, image_of_objects}
+use Rattle.tcd_base.specs.Refusing.{unless_refused}
+use Rattle.tc_link.specs.Linked.{image_with_entry, made_of, image_of_objects}
 use Rattle.tc_link.specs.Refusals.{refused_early, Refusal, no_place_in, reloc_in}
 use Rattle.tc_link.specs.Placing.{placed_of}
-use Rattle.tc_link.specs.Shapes.{shape_of}
+use Rattle.tc_link.specs.Shapes.{section_shape}
 use Rattle.tc_link.proofs.RelocLaws.{contents_shapes}
 use Rattle.tc_asm.specs.DraftedSources.{draft_in}
-use Rattle.tc_program.specs.Addresses.{sections_of}
-use Rattle.tc_program.specs.Placed.{span_of}
-use Rattle.tc_program.specs.PlacementLaws.{AreAssembled, SegmentsLaw, EntryLaw}
+use Rattle.tc_program.specs.Addresses.{program_sections}
+use Rattle.tc_program.specs.Placed.{placed_segment_span}
+use Rattle.tc_program.specs.PlacementLaws.{AreProgramObjects, PlacedSegmentsLaw, PlacedEntryLaw}
 use Rattle.tc_program.proofs.Sections.{AreObjects, all_sections}
 use Rattle.tc_asm.proofs.SourceDrafts.{source_draft, source_object}
 use Rattle.tc_program.proofs.Names.{global_at}
@@ -26,19 +26,19 @@ use Rattle.tc_program.proofs.Spans.{spans}
 use Rattle.tc_program.proofs.Bases.{none_parts}
 
 -- ---- sources and their objects
-pub are_objects : (sources : List (List ℕ)) (objects : List ObjectData) → AreAssembled sources objects → AreObjects sources objects
+pub are_objects : (sources : List (List ℕ)) (objects : List ObjectData) → AreProgramObjects sources objects → AreObjects sources objects
 are_objects [] [] h = tt
 are_objects [] (o ∷ os) h = absurd h
 are_objects (x ∷ xs) [] h = absurd h
 are_objects (x ∷ xs) (o ∷ os) h = (h.0.1, are_objects xs os h.1)
 
-pub drafts_good : (sources : List (List ℕ)) (objects : List ObjectData) → AreAssembled sources objects → (i : ℕ) (source : List ℕ) → slice_get sources i ≡ Some source → IsDraft (draft_in source)
+pub drafts_good : (sources : List (List ℕ)) (objects : List ObjectData) → AreProgramObjects sources objects → (i : ℕ) (source : List ℕ) → slice_get sources i ≡ Some source → IsDraft (draft_in source)
 drafts_good [] objects h i source e = cc
 drafts_good (x ∷ xs) [] h i source e = absurd h
 drafts_good (x ∷ xs) (o ∷ os) h zero source e = let same : x ≡ source = cc in subst (λ (y : List ℕ). IsDraft (draft_in y)) same (source_draft x h.0.0)
 drafts_good (x ∷ xs) (o ∷ os) h (suc i) source e = drafts_good xs os h.1 i source e
 
-pub objects_good : (sources : List (List ℕ)) (objects : List ObjectData) → AreAssembled sources objects → (k : ℕ) (d : ObjectData) → k < length objects → IsObject (get_or objects k d)
+pub objects_good : (sources : List (List ℕ)) (objects : List ObjectData) → AreProgramObjects sources objects → (k : ℕ) (d : ObjectData) → k < length objects → IsObject (get_or objects k d)
 objects_good [] [] h k d less = absurd (omega arith)
 objects_good [] (o ∷ os) h k d less = absurd h
 objects_good (x ∷ xs) [] h k d less = absurd h
@@ -57,7 +57,7 @@ unfolding image_of_objects
 parts_of objects layout image e = by_early (refused_early layout objects) refl e
   where
     by_entry : (a : Option ℕ) → global_address (globals_of (placed_of layout objects)) layout.entry ≡ a → refused_early layout objects ≡ None
-        → reloc_in (globals_of (placed_of layout objects)) (placed_of layout objects) ≡ None → entry_of a layout.places (placed_of layout objects) ≡ Ok image → Parts objects layout image
+        → reloc_in (globals_of (placed_of layout objects)) (placed_of layout objects) ≡ None → image_with_entry a layout.places (placed_of layout objects) ≡ Ok image → Parts objects layout image
     by_entry None at early relocs f = cc
     by_entry (Some a) at early relocs f =
         let same : record { entry = a; segments = segments_of layout.places (contents_of (placed_of layout objects)) } ≡ image = cc in
@@ -69,11 +69,11 @@ parts_of objects layout image e = by_early (refused_early layout objects) refl e
         }
 
     by_reloc : (r : Option Refusal) → reloc_in (globals_of (placed_of layout objects)) (placed_of layout objects) ≡ r → refused_early layout objects ≡ None
-        → unless r (entry_of (global_address (globals_of (placed_of layout objects)) layout.entry) layout.places (placed_of layout objects)) ≡ Ok image → Parts objects layout image
+        → unless_refused r (image_with_entry (global_address (globals_of (placed_of layout objects)) layout.entry) layout.places (placed_of layout objects)) ≡ Ok image → Parts objects layout image
     by_reloc (Some x) is early f = cc
     by_reloc None is early f = by_entry (global_address (globals_of (placed_of layout objects)) layout.entry) refl early is f
 
-    by_early : (r : Option Refusal) → refused_early layout objects ≡ r → unless r (made_of layout (placed_of layout objects)) ≡ Ok image → Parts objects layout image
+    by_early : (r : Option Refusal) → refused_early layout objects ≡ r → unless_refused r (made_of layout (placed_of layout objects)) ≡ Ok image → Parts objects layout image
     by_early (Some x) is f = cc
     by_early None is f = by_reloc (reloc_in (globals_of (placed_of layout objects)) (placed_of layout objects)) refl is f
 
@@ -81,16 +81,16 @@ pub placeable : (objects : List ObjectData) (layout : LayoutData) → refused_ea
 placeable objects layout e = (none_parts _ _ (none_parts _ _ (none_parts _ _ e).1).1).0
 
 -- ---- the laws
-pub segments_law : SegmentsLaw
+pub segments_law : PlacedSegmentsLaw
 unfolding contents_of
 segments_law sources objects layout image are e =
     let parts = parts_of objects layout image e in
     let g = globals_of (placed_of layout objects) in
-    let shapes : map shape_of (flat_map (relocated_sections g) (placed_of layout objects)) ≡ map shape_of (sections_of sources)
-    = contents_shapes g layout.places [] objects (objects_good sources objects are) ∙ ap (map shape_of) (sym (all_sections sources objects (are_objects sources objects are))) in
-    ap (map span_of) parts.segments ∙ spans (flat_map (relocated_sections g) (placed_of layout objects)) (sections_of sources) layout.places shapes
+    let shapes : map section_shape (flat_map (relocated_sections g) (placed_of layout objects)) ≡ map section_shape (program_sections sources)
+    = contents_shapes g layout.places [] objects (objects_good sources objects are) ∙ ap (map section_shape) (sym (all_sections sources objects (are_objects sources objects are))) in
+    ap (map placed_segment_span) parts.segments ∙ spans (flat_map (relocated_sections g) (placed_of layout objects)) (program_sections sources) layout.places shapes
 
-pub entry_law : EntryLaw
+pub entry_law : PlacedEntryLaw
 entry_law sources objects layout image are e =
     let parts = parts_of objects layout image e in
     global_at layout.places sources objects (are_objects sources objects are) (placeable objects layout parts.early) (drafts_good sources objects are) layout.entry image.entry parts.entry

@@ -11,18 +11,18 @@ use Rattle.tc_object.specs.Objects.{SectionData, ObjectData, InTurn}
 use Rattle.tc_object.specs.Objects as object
 use Rattle.tc_asm.specs.declared.symbols.Place.{Place}
 use Rattle.tc_asm.specs.declared.symbols.Entry.{Entry}
-use Rattle.tc_asm.specs.Symbols.{SymbolData, entry_of, place_in}
+use Rattle.tc_asm.specs.Symbols.{SymbolData, entry_of, place_in, symbol_names}
 use Rattle.tc_asm.specs.Drafts.{PartData}
-use Rattle.tc_asm.specs.DraftInvariants.{Each, is_among, IsNew, AreNames, symbol_names, IsPlace, IsPlaced, IsDraft}
+use Rattle.tc_asm.specs.DraftInvariants.{EachInDraft, is_drafted_name, IsNewDraftName, AreDistinctDraftNames, IsLabelPlace, IsPlaced, IsDraft}
 use Rattle.tc_asm.specs.Objects.{section_of, symbol_at, symbol_of, object_of}
 use Rattle.tc_link.specs.Layouts.{PlaceData}
 use Rattle.tc_link.specs.Refusals.{has_symbol, no_place_in}
-use Rattle.tc_link.specs.Placing.{PlacedData, bases_after, placed_after, address_in}
+use Rattle.tc_link.specs.Placing.{PlacedData, bases_after, placed_after, address_in_section}
 use Rattle.tc_link.specs.Names.{GlobalData, is_global, global_data, globals_of, global_address}
 use Rattle.tc_link.specs.Placing as placing
 use Rattle.tc_asm.specs.Statements.{sections_in}
 use Rattle.tc_asm.specs.DraftedSources.{draft_in, symbols_in}
-use Rattle.tc_program.specs.Addresses.{Begins, HasLabel, HasGlobal}
+use Rattle.tc_program.specs.Addresses.{SectionHasAddress, LabelHasAddress, GlobalHasAddress}
 use Rattle.tc_stmt.proofs.ListItems.{flat_at, map_at, map_get, filter_at, find_at}
 use Rattle.tc_asm.proofs.SourceParts.{sections_are}
 use Rattle.tc_program.proofs.Sections.{AreObjects, object_at, source_at}
@@ -33,11 +33,11 @@ pub same_name : (bs : List ℕ) → bytes_eq bs bs ≡ true
 same_name bs = (bytes_eq-Decides bs bs).1 refl
 
 -- the names that are in turn differ from those before
-find_own : (before : List (List ℕ)) (ss : List SymbolData) (i : ℕ) (s : SymbolData) → InTurn IsNew before (symbol_names ss) → slice_get ss i ≡ Some s → (is_among before s.name ≡ false) × (find (λ (t : SymbolData). bytes_eq s.name t.name) ss ≡ Some s)
+find_own : (before : List (List ℕ)) (ss : List SymbolData) (i : ℕ) (s : SymbolData) → InTurn IsNewDraftName before (symbol_names ss) → slice_get ss i ≡ Some s → (is_drafted_name before s.name ≡ false) × (find (λ (t : SymbolData). bytes_eq s.name t.name) ss ≡ Some s)
 find_own before [] i s turn e = cc
 find_own before (x ∷ xs) zero s turn e =
     let same : x ≡ s = cc in (
-      ap (λ (y : SymbolData). is_among before y.name) (sym same) ∙ turn.0.new,
+      ap (λ (y : SymbolData). is_drafted_name before y.name) (sym same) ∙ turn.0.new,
       ap (λ (y : SymbolData). cond (bytes_eq s.name y.name) (Some y) (find (λ (t : SymbolData). bytes_eq s.name t.name) xs)) same
           ∙ ap (λ b. cond b (Some s) (find (λ (t : SymbolData). bytes_eq s.name t.name) xs)) (same_name s.name),
     )
@@ -51,15 +51,15 @@ find_own before (x ∷ xs) (suc i) s turn e =
     or_left true b f = cc
     or_left false b f = refl
 
-    among_parts : (xs ys : List (List ℕ)) (n : List ℕ) → is_among (xs ++ ys) n ≡ false → (is_among xs n ≡ false) × (is_among ys n ≡ false)
+    among_parts : (xs ys : List (List ℕ)) (n : List ℕ) → is_drafted_name (xs ++ ys) n ≡ false → (is_drafted_name xs n ≡ false) × (is_drafted_name ys n ≡ false)
     among_parts [] ys n f = (refl, f)
     among_parts (z ∷ zs) ys n f = by (bytes_eq n z) f (among_parts zs ys n)
       where
-        by : (b : Bool) → (b || is_among (zs ++ ys) n) ≡ false → (is_among (zs ++ ys) n ≡ false → (is_among zs n ≡ false) × (is_among ys n ≡ false)) → ((b || is_among zs n) ≡ false) × (is_among ys n ≡ false)
+        by : (b : Bool) → (b || is_drafted_name (zs ++ ys) n) ≡ false → (is_drafted_name (zs ++ ys) n ≡ false → (is_drafted_name zs n ≡ false) × (is_drafted_name ys n ≡ false)) → ((b || is_drafted_name zs n) ≡ false) × (is_drafted_name ys n ≡ false)
         by true g rec = cc
         by false g rec = rec g
 
-pub entry_at : (ss : List SymbolData) (i : ℕ) (s : SymbolData) → AreNames (symbol_names ss) → slice_get ss i ≡ Some s → entry_of ss s.name ≡ s.entry
+pub entry_at : (ss : List SymbolData) (i : ℕ) (s : SymbolData) → AreDistinctDraftNames (symbol_names ss) → slice_get ss i ≡ Some s → entry_of ss s.name ≡ s.entry
 entry_at ss i s names e = ap (λ (o : Option SymbolData). unwrap_or (option_map (λ (t : SymbolData). t.entry) o) (record { place = None; is_global = false })) (find_own [] ss i s names e).1
 
 -- ---- symbols of objects
@@ -75,7 +75,7 @@ name_of_symbol s = by s.name s.entry.is_global s.entry.place
     by name g None = refl
     by name g (Some p) = refl
 
-pub each_at : {A : Type 0} (P : A → Type 0) (xs : List A) (i : ℕ) (x : A) → Each P xs → slice_get xs i ≡ Some x → P x
+pub each_at : {A : Type 0} (P : A → Type 0) (xs : List A) (i : ℕ) (x : A) → EachInDraft P xs → slice_get xs i ≡ Some x → P x
 each_at P [] i x h e = cc
 each_at {A} P (y ∷ ys) zero x h e = let same : y ≡ x = cc in subst P same h.0
 each_at P (y ∷ ys) (suc i) x h e = each_at P ys i x h.1 e
@@ -98,15 +98,15 @@ part_there (p ∷ ps) (suc n) h = part_there ps n (omega arith)
 module _ (layout_places : List PlaceData) (sources : List (List ℕ)) (objects : List ObjectData) (are : AreObjects sources objects) (placeable : no_place_in layout_places objects ≡ None)
     (good : (i : ℕ) (source : List ℕ) → slice_get sources i ≡ Some source → IsDraft (draft_in source)) where
   abbrev pub bases : ℕ → List ℕ → List ℕ
-  bases i source = bases_after layout_places (placing.sections_of (take i objects)) (object_of (draft_in source)).sections
+  bases i source = bases_after layout_places (placing.sections_to_link (take i objects)) (object_of (draft_in source)).sections
 
   -- a section with a label has a base
   labelled : (i : ℕ) (source : List ℕ) (k : ℕ) (s : SymbolData) (p : Place) → slice_get sources i ≡ Some source → slice_get (draft_in source).symbols k ≡ Some s → s.entry.place ≡ Some p →
-      Begins layout_places sources i p.section (slice_index (bases i source) p.section)
+      SectionHasAddress layout_places sources i p.section (slice_index (bases i source) p.section)
   labelled i source k s p at there placed =
       let draft = good i source at in
       let P : Option Place → Type 0 = λ o. IsPlaced (draft_in source).parts o in
-      let stands : IsPlace (draft_in source).parts p = subst P placed (each_at (λ (x : SymbolData). IsPlaced (draft_in source).parts x.entry.place) (draft_in source).symbols k s draft.places there) in
+      let stands : IsLabelPlace (draft_in source).parts p = subst P placed (each_at (λ (x : SymbolData). IsPlaced (draft_in source).parts x.entry.place) (draft_in source).symbols k s draft.places there) in
       let part = part_there (draft_in source).parts p.section stands.section in
       let section : slice_get (map section_of (draft_in source).parts) p.section ≡ Some (section_of part.0) = map_get section_of (draft_in source).parts p.section part.0 part.1 in
       let own : slice_get (sections_in source) p.section ≡ Some (section_of part.0) = ap (λ (l : List SectionData). slice_get l p.section) (sections_are source) ∙ section in
@@ -125,7 +125,7 @@ module _ (layout_places : List PlaceData) (sources : List (List ℕ)) (objects :
 
   -- the address of a label
   pub label_at : (i : ℕ) (source : List ℕ) (k : ℕ) (s : SymbolData) (p : Place) → slice_get sources i ≡ Some source → slice_get (draft_in source).symbols k ≡ Some s → s.entry.place ≡ Some p →
-      HasLabel layout_places sources i s.name (address_in (bases i source) p.section p.offset)
+      LabelHasAddress layout_places sources i s.name (address_in_section (bases i source) p.section p.offset)
   label_at i source k s p at there placed = record {
     source = source;
     is_source = at;
@@ -137,7 +137,7 @@ module _ (layout_places : List PlaceData) (sources : List (List ℕ)) (objects :
   }
 
   -- ---- global symbols
-  pub global_at : (name : List ℕ) (address : ℕ) → global_address (globals_of (placed_after layout_places [] objects)) name ≡ Some address → HasGlobal layout_places sources name address
+  pub global_at : (name : List ℕ) (address : ℕ) → global_address (globals_of (placed_after layout_places [] objects)) name ≡ Some address → GlobalHasAddress layout_places sources name address
   unfolding globals_of
   global_at name address e =
       let f : PlacedData → List GlobalData = λ q. map (global_data q.bases) (filter is_global q.object.symbols) in
@@ -149,15 +149,15 @@ module _ (layout_places : List PlaceData) (sources : List (List ℕ)) (objects :
       let item = map_at (global_data flat.item.bases) (filter is_global flat.item.object.symbols) flat.inner g.0 flat.is_inner in
       let passed = filter_at is_global flat.item.object.symbols flat.inner item.item item.is_item in
       let object_is : flat.item.object ≡ object_of (draft_in own.0) = ap (λ (q : PlacedData). q.object) lent.2 ∙ own.2 in
-      let bases_are : flat.item.bases ≡ bases flat.outer own.0 = ap (λ (q : PlacedData). q.bases) lent.2 ∙ ap (λ (o : ObjectData). bases_after layout_places (placing.sections_of (take flat.outer objects)) o.sections) own.2 in
+      let bases_are : flat.item.bases ≡ bases flat.outer own.0 = ap (λ (q : PlacedData). q.bases) lent.2 ∙ ap (λ (o : ObjectData). bases_after layout_places (placing.sections_to_link (take flat.outer objects)) o.sections) own.2 in
       let symbol = map_at symbol_of (draft_in own.0).symbols passed.at item.item (ap (λ (o : ObjectData). slice_get o.symbols passed.at) (sym object_is) ∙ passed.is_item) in
       let kind = kind_of symbol.item.name symbol.item.entry.is_global symbol.item.entry.place ((Decides-eqb (symbol_of symbol.item).kind 2).0 (ap is_global symbol.is ∙ passed.holds)) in
       let same : name ≡ symbol.item.name
       = (bytes_eq-Decides name g.0.name).0 found.holds ∙ ap (λ (x : GlobalData). x.name) (sym item.is) ∙ ap (λ (x : object.SymbolData). x.name) (sym symbol.is) ∙ name_of_symbol symbol.item in
-      let where_is : address_in (bases flat.outer own.0) kind.0.section kind.0.offset ≡ address
-      = ap (λ (o : Option Place). address_in (bases flat.outer own.0) (symbol_at symbol.item.name symbol.item.entry.is_global o).section (symbol_at symbol.item.name symbol.item.entry.is_global o).offset) (sym kind.1)
-      ∙ ap (λ (x : object.SymbolData). address_in (bases flat.outer own.0) x.section x.offset) symbol.is
-      ∙ ap (λ (b : List ℕ). address_in b item.item.section item.item.offset) (sym bases_are)
+      let where_is : address_in_section (bases flat.outer own.0) kind.0.section kind.0.offset ≡ address
+      = ap (λ (o : Option Place). address_in_section (bases flat.outer own.0) (symbol_at symbol.item.name symbol.item.entry.is_global o).section (symbol_at symbol.item.name symbol.item.entry.is_global o).offset) (sym kind.1)
+      ∙ ap (λ (x : object.SymbolData). address_in_section (bases flat.outer own.0) x.section x.offset) symbol.is
+      ∙ ap (λ (b : List ℕ). address_in_section b item.item.section item.item.offset) (sym bases_are)
       ∙ ap (λ (x : GlobalData). x.address) item.is ∙ g.2 in
       let entry = entry_at (draft_in own.0).symbols passed.at symbol.item (good flat.outer own.0 own.1).symbols_named symbol.is_item in
       record {

@@ -5,7 +5,7 @@ use Rattle.tc_object.specs.Objects.{SectionData, ObjectData}
 use Rattle.tc_asm.specs.Objects.{object_of}
 use Rattle.tc_link.specs.Placing as placing
 use Rattle.tc_asm.specs.DraftedSources.{draft_in}
-use Rattle.tc_program.specs.Addresses.{sections_of}
+use Rattle.tc_program.specs.Addresses.{program_sections}
 use Rattle.tc_asm.proofs.SourceParts.{sections_are}
 
 -- the objects of sources, one for each source
@@ -16,12 +16,12 @@ AreObjects (x ∷ xs) [] = ⊥
 AreObjects (x ∷ xs) (o ∷ os) = (o ≡ object_of (draft_in x)) × AreObjects xs os
 
 -- those of all
-pub all_sections : (sources : List (List ℕ)) (objects : List ObjectData) → AreObjects sources objects → sections_of sources ≡ placing.sections_of objects
+pub all_sections : (sources : List (List ℕ)) (objects : List ObjectData) → AreObjects sources objects → program_sections sources ≡ placing.sections_to_link objects
 all_sections [] [] h = refl
 all_sections [] (o ∷ os) h = absurd h
 all_sections (x ∷ xs) [] h = absurd h
 all_sections (x ∷ xs) (o ∷ os) h =
-    ap (λ (ss : List SectionData). ss ++ sections_of xs) (sections_are x ∙ ap (λ (p : ObjectData). p.sections) (sym h.0))
+    ap (λ (ss : List SectionData). ss ++ program_sections xs) (sections_are x ∙ ap (λ (p : ObjectData). p.sections) (sym h.0))
     ∙ ap (λ (ss : List SectionData). o.sections ++ ss) (all_sections xs os h.1)
 
 pub objects_take : (sources : List (List ℕ)) (objects : List ObjectData) (i : ℕ) → AreObjects sources objects → AreObjects (take i sources) (take i objects)

@@ -5,12 +5,12 @@ use Rattle.tc_object.specs.Objects.{SectionData}
 use Rattle.tc_link.specs.Layouts.{PlaceData}
 use Rattle.tc_link.specs.PlaceSizes.{taken_bytes}
 use Rattle.tc_link.specs.Segments.{joined_sections, segment_of, segments_of}
-use Rattle.tc_link.specs.Shapes.{shape_of}
+use Rattle.tc_link.specs.Shapes.{section_shape}
 use Rattle.tc_link.proofs.ShapeLaws.{length-joined, taken-shapes}
-use Rattle.tc_program.specs.Placed.{SpanData, span_of, place_span}
+use Rattle.tc_program.specs.Placed.{PlacedSpanData, placed_segment_span, place_span}
 
-pub spans : (contents sections : List SectionData) (places : List PlaceData) → map shape_of contents ≡ map shape_of sections →
-    map span_of (segments_of places contents) ≡ filter (λ (s : SpanData). nat_lt 0 s.size) (map (place_span sections) places)
+pub spans : (contents sections : List SectionData) (places : List PlaceData) → map section_shape contents ≡ map section_shape sections →
+    map placed_segment_span (segments_of places contents) ≡ filter (λ (s : PlacedSpanData). nat_lt 0 s.size) (map (place_span sections) places)
 unfolding segments_of
 spans contents sections [] same = refl
 spans contents sections (p ∷ ps) same =
@@ -18,10 +18,10 @@ spans contents sections (p ∷ ps) same =
     by (nat_lt 0 (length (joined_sections p.section contents))) (nat_lt 0 (taken_bytes p.section sections)) (ap (nat_lt 0) size) size (spans contents sections ps same)
   where
     by : (a b : Bool) → a ≡ b → length (joined_sections p.section contents) ≡ taken_bytes p.section sections
-        → map span_of (segments_of ps contents) ≡ filter (λ (s : SpanData). nat_lt 0 s.size) (map (place_span sections) ps)
-        → map span_of (cond a (segment_of contents p ∷ filter (λ s. nat_lt 0 (length s.bytes)) (map (segment_of contents) ps)) (filter (λ s. nat_lt 0 (length s.bytes)) (map (segment_of contents) ps)))
-        ≡ cond b (place_span sections p ∷ filter (λ (s : SpanData). nat_lt 0 s.size) (map (place_span sections) ps)) (filter (λ (s : SpanData). nat_lt 0 s.size) (map (place_span sections) ps))
-    by true true e size rec = ap (λ n. record { at = p.at; size = n } ∷ map span_of (segments_of ps contents)) size ∙ ap (λ (ss : List SpanData). place_span sections p ∷ ss) rec
+        → map placed_segment_span (segments_of ps contents) ≡ filter (λ (s : PlacedSpanData). nat_lt 0 s.size) (map (place_span sections) ps)
+        → map placed_segment_span (cond a (segment_of contents p ∷ filter (λ s. nat_lt 0 (length s.bytes)) (map (segment_of contents) ps)) (filter (λ s. nat_lt 0 (length s.bytes)) (map (segment_of contents) ps)))
+        ≡ cond b (place_span sections p ∷ filter (λ (s : PlacedSpanData). nat_lt 0 s.size) (map (place_span sections) ps)) (filter (λ (s : PlacedSpanData). nat_lt 0 s.size) (map (place_span sections) ps))
+    by true true e size rec = ap (λ n. record { at = p.at; size = n } ∷ map placed_segment_span (segments_of ps contents)) size ∙ ap (λ (ss : List PlacedSpanData). place_span sections p ∷ ss) rec
     by true false e size rec = cc
     by false true e size rec = cc
     by false false e size rec = rec

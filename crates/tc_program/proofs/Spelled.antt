@@ -7,64 +7,64 @@ use Rattle.tc_isa.specs.Rows.{RowData}
 use Rattle.tc_isa.specs.Spelling.{spelling}
 use Rattle.tc_isa.proofs.TableFacts.{row_at}
 use Rattle.tc_stmt.specs.Items.{ReferenceData, ItemData, code, bytes, zeros}
-use Rattle.tc_reloc.specs.Fields.{with_field}
+use Rattle.tc_reloc.specs.Fields.{with_reloc_field}
 use Rattle.tc_stmt.specs.Lines.{lines_in, items_in}
 use Rattle.tc_asm.specs.Symbols.{SymbolData}
-use Rattle.tc_asm.specs.Drafts.{DraftData, start, spelled_code, resolved, code_bytes, stepped}
+use Rattle.tc_asm.specs.Drafts.{DraftData, start, assembled_row_code, row_fields_with_target, code_bytes, draft_after_item}
 use Rattle.tc_isa.specs.Relocations.{is_reloc}
 use Rattle.tc_asm.specs.DraftedSources.{symbols_of}
-use Rattle.tc_asm.specs.DraftInvariants.{Each}
-use Rattle.tc_asm.specs.Statements.{StatementData, content_of, standing, statements_from}
-use Rattle.tc_program.specs.PlacementLaws.{FillsRow, FieldsLaw}
+use Rattle.tc_asm.specs.DraftInvariants.{EachInDraft}
+use Rattle.tc_asm.specs.Statements.{StatementData, content_of, standing_statement, statements_from}
+use Rattle.tc_program.specs.PlacementLaws.{SourceFieldFillsRow, SourceFieldsLaw}
 use Rattle.tc_stmt.proofs.ListItems.{InRest, in_front_or_rest}
-use Rattle.tc_asm.specs.AddedItems.{IsCode, IsItem}
+use Rattle.tc_asm.specs.AddedItems.{IsAddedCode, IsAddedItem}
 use Rattle.tc_asm.proofs.SourceItems.{source_are}
 use Rattle.tc_asm.proofs.CodeSizes.{fits_true, resolved_fits}
 use Rattle.tc_reloc.proofs.FilledRows.{filled_row, filled_fits}
 
 -- ---- statements
-code_fills : (labels : List SymbolData) (d : DraftData) (k : ℕ) (f : Fields) (o : Option ReferenceData) (r : ReferenceData) → IsCode k f o → o ≡ Some r → is_reloc r.kind ≡ true → FillsRow r.kind (code_bytes labels d k f o)
-unfolding code_bytes spelled_code
+code_fills : (labels : List SymbolData) (d : DraftData) (k : ℕ) (f : Fields) (o : Option ReferenceData) (r : ReferenceData) → IsAddedCode k f o → o ≡ Some r → is_reloc r.kind ≡ true → SourceFieldFillsRow r.kind (code_bytes labels d k f o)
+unfolding code_bytes assembled_row_code
 code_fills labels d k f o r c is waits =
     let fit = resolved_fits labels d k f o c.row c.at c.symbols c.fits in
     let takes = (c.symbols.some r is).long waits in
-    let bytes_are : code_bytes labels d k f o ≡ spelling c.row (resolved labels d k f o).fields
-    = ap (λ (q : Option RowData). option_map_or (λ row. spelled_code row (resolved labels d k f o).fields) q []) c.at
-    ∙ ap (λ b. cond b (spelling c.row (resolved labels d k f o).fields) []) (fits_true c.row (resolved labels d k f o).fields fit) in
+    let bytes_are : code_bytes labels d k f o ≡ spelling c.row (row_fields_with_target labels d k f o).fields
+    = ap (λ (q : Option RowData). option_map_or (λ row. assembled_row_code row (row_fields_with_target labels d k f o).fields) q []) c.at
+    ∙ ap (λ b. cond b (spelling c.row (row_fields_with_target labels d k f o).fields) []) (fits_true c.row (row_fields_with_target labels d k f o).fields fit) in
     record {
       place = k;
       row = c.row;
       is_row = c.at;
-      fields = (resolved labels d k f o).fields;
+      fields = (row_fields_with_target labels d k f o).fields;
       fits = fit;
       spelled = bytes_are;
-      filled = λ n room. (filled_fits k c.row (resolved labels d k f o).fields r.kind n c.at fit takes.1 room, ap (λ (bs : List ℕ). with_field r.kind bs n) bytes_are ∙ filled_row c.row (resolved labels d k f o).fields r.kind n (row_at k c.row c.at) fit takes.0 takes.1 room);
+      filled = λ n room. (filled_fits k c.row (row_fields_with_target labels d k f o).fields r.kind n c.at fit takes.1 room, ap (λ (bs : List ℕ). with_reloc_field r.kind bs n) bytes_are ∙ filled_row c.row (row_fields_with_target labels d k f o).fields r.kind n (row_at k c.row c.at) fit takes.0 takes.1 room);
     }
 
 -- a statement that waits for an address is a word of data, or an instruction with a constant to
 -- fill
 record Waits (t : StatementData) : Type 0 where
-  so : (r : ReferenceData) → t.reference ≡ Some r → is_reloc r.kind ≡ true → (r.kind ≡ 7) ⊎ FillsRow r.kind t.bytes
+  so : (r : ReferenceData) → t.reference ≡ Some r → is_reloc r.kind ≡ true → (r.kind ≡ 7) ⊎ SourceFieldFillsRow r.kind t.bytes
 
 standing_waits : (b : Bool) (t : StatementData) → Waits t → (j : ℕ) (x : StatementData) → slice_get (cond b (t ∷ []) []) j ≡ Some x → Waits x
 standing_waits true t h zero x e = let same : t ≡ x = cc in subst Waits same h
 standing_waits true t h (suc j) x e = cc
 standing_waits false t h j x e = cc
 
-item_waits : (labels : List SymbolData) (d : DraftData) (i : ItemData) → IsItem i → (j : ℕ) (x : StatementData) → slice_get (standing d (content_of labels d i)) j ≡ Some x → Waits x
+item_waits : (labels : List SymbolData) (d : DraftData) (i : ItemData) → IsAddedItem i → (j : ℕ) (x : StatementData) → slice_get (standing_statement d (content_of labels d i)) j ≡ Some x → Waits x
 item_waits labels d (code k f o) h j x e = standing_waits _ _ (record { so = λ r is waits. inr (code_fills labels d k f o r h is waits) }) j x e
 item_waits labels d (bytes bs o) h j x e = standing_waits _ _ (record { so = λ r is waits. inl (h.kind r is) }) j x e
 item_waits labels d (zeros n) h j x e = standing_waits _ _ (record { so = λ r is waits. cc }) j x e
 item_waits labels d _ h j x e = cc
 
-items_wait : (labels : List SymbolData) (is : List ItemData) (d : DraftData) → Each IsItem is → (j : ℕ) (x : StatementData) → slice_get (statements_from labels d is) j ≡ Some x → Waits x
+items_wait : (labels : List SymbolData) (is : List ItemData) (d : DraftData) → EachInDraft IsAddedItem is → (j : ℕ) (x : StatementData) → slice_get (statements_from labels d is) j ≡ Some x → Waits x
 items_wait labels [] d h j x e = cc
-items_wait labels (i ∷ is) d h j x e = by (in_front_or_rest (standing d (content_of labels d i)) (statements_from labels (stepped labels d i) is) j x e) (λ k g. items_wait labels is (stepped labels d i) h.1 k x g)
+items_wait labels (i ∷ is) d h j x e = by (in_front_or_rest (standing_statement d (content_of labels d i)) (statements_from labels (draft_after_item labels d i) is) j x e) (λ k g. items_wait labels is (draft_after_item labels d i) h.1 k x g)
   where
-    by : (slice_get (standing d (content_of labels d i)) j ≡ Some x) ⊎ InRest StatementData (standing d (content_of labels d i)) (statements_from labels (stepped labels d i) is) j x
-        → ((k : ℕ) → slice_get (statements_from labels (stepped labels d i) is) k ≡ Some x → Waits x) → Waits x
+    by : (slice_get (standing_statement d (content_of labels d i)) j ≡ Some x) ⊎ InRest StatementData (standing_statement d (content_of labels d i)) (statements_from labels (draft_after_item labels d i) is) j x
+        → ((k : ℕ) → slice_get (statements_from labels (draft_after_item labels d i) is) k ≡ Some x → Waits x) → Waits x
     by (inl g) rec = item_waits labels d i h.0 j x g
     by (inr r) rec = rec r.at r.is
 
-pub fields_law : FieldsLaw
+pub fields_law : SourceFieldsLaw
 fields_law source index t r at is waits = (items_wait (symbols_of (lines_in source)) (items_in (lines_in source)) start (source_are source) index t at).so r is waits

@@ -9,41 +9,41 @@ use Rattle.std.proofs.lemmas.Bool.Decides.{Decides-eqb}
 use Rattle.std.proofs.lemmas.List.{length-append, map-append}
 use Rattle.std.proofs.lemmas.Option.{slice_get_within, slice_get-get_or}
 use Rattle.std.proofs.lemmas.Slice.Eq.{bytes_eq-Decides}
-use Rattle.elf_image.specs.Images.{SegmentData, ImageData, is_segment, byte_in, image_byte, HoldsFrom}
+use Rattle.elf_image.specs.Images.{SegmentData, ImageData, is_segment, segments_byte, image_byte, HoldsFrom}
 use Rattle.tc_object.specs.declared.relocs.Reloc.{Reloc}
 use Rattle.tc_object.specs.Objects.{SectionData, ObjectData, IsObject}
 use Rattle.tc_object.specs.Objects as obj
 use Rattle.tc_stmt.specs.Items.{ReferenceData}
 use Rattle.tc_reloc.specs.declared.refusals.RelocErr.{RelocErr}
-use Rattle.tc_reloc.specs.Refusals.{refusal_of}
-use Rattle.tc_reloc.specs.Fields.{content_of, with_field}
+use Rattle.tc_reloc.specs.Refusals.{reloc_value_refusal}
+use Rattle.tc_reloc.specs.Fields.{reloc_field_number, with_reloc_field}
 use Rattle.tc_stmt.specs.Lines.{lines_in, items_in}
-use Rattle.tc_asm.specs.Symbols.{SymbolData, number_of}
-use Rattle.tc_asm.specs.Drafts.{UseData, PartData, start}
+use Rattle.tc_asm.specs.Symbols.{SymbolData, symbol_number, symbol_names}
+use Rattle.tc_asm.specs.Drafts.{UseData, PartData, start, bytes_at}
 use Rattle.tc_isa.specs.Relocations.{is_reloc}
 use Rattle.tc_asm.specs.DraftedSources.{KeepsRules, symbols_of, draft_in}
 use Rattle.tc_asm.specs.Rules.{items_rule}
-use Rattle.tc_asm.specs.DraftInvariants.{is_among, symbol_names, IsUse, IsPart}
-use Rattle.tc_asm.specs.Objects.{section_of, symbol_of, addend_of, reloc_of, relocs_from, object_of}
-use Rattle.tc_asm.specs.Statements.{StatementData, section_bytes, offset_of, bytes_at, statements_in, is_open}
+use Rattle.tc_asm.specs.DraftInvariants.{is_drafted_name, IsUse, IsPart}
+use Rattle.tc_asm.specs.Objects.{section_of, symbol_of, assembled_addend, reloc_of, relocs_from, object_of}
+use Rattle.tc_asm.specs.Statements.{StatementData, section_bytes, offset_of, statements_in, is_open_statement}
 use Rattle.tc_asm.proofs.LaidLaws.{drafted-bytes, stands}
 use Rattle.tc_asm.proofs.ListLaws.{position_first}
-use Rattle.tc_link.specs.Layouts.{PlaceData, LayoutData, IsLayout}
-use Rattle.tc_link.specs.Placing.{place_of, PlacedData, bases_after, placed_of}
+use Rattle.tc_link.specs.Layouts.{PlaceData, LayoutData, IsLayout, place_of}
+use Rattle.tc_link.specs.Placing.{PlacedData, bases_after, placed_of}
 use Rattle.tc_link.specs.Names.{GlobalData, globals_of}
-use Rattle.tc_link.specs.PlaceSizes.{round_up, taken_bytes}
-use Rattle.tc_link.specs.Relocated.{symbol_address, relocated_sections, field_place, value_of, contents_of}
-use Rattle.tc_link.specs.Refusals.{reloc_refusal, Refusal, reloc, missing_in, is_used, has_symbol, refusal_at, reloc_in, first_at, refused_early}
+use Rattle.tc_link.specs.PlaceSizes.{round_up_place_size, taken_bytes}
+use Rattle.tc_link.specs.Relocated.{symbol_address, relocated_sections, field_place, reloc_value, contents_of}
+use Rattle.tc_link.specs.Refusals.{reloc_refusal, Refusal, reloc, missing_in, is_used_by_relocs, has_symbol, refusal_at, reloc_in, first_refusal_from, refused_early}
 use Rattle.tc_link.specs.Placing as placing
 use Rattle.tc_link.specs.Segments.{joined_sections, segment_of, segments_of}
-use Rattle.tc_link.specs.Shapes.{Shape, shape_of}
+use Rattle.tc_link.specs.Shapes.{SectionShape, section_shape}
 use Rattle.tc_link.proofs.ShapeLaws.{taken-shapes}
 use Rattle.tc_link.proofs.RelocLaws.{relocated_shapes, contents_shapes}
 use Rattle.tc_link.proofs.ImageLaws.{KeepsLimits}
 use Rattle.tc_link.proofs.LinkLaws.{linked_image}
-use Rattle.tc_program.specs.Addresses.{Begins, Means}
-use Rattle.tc_program.specs.Placed.{value_at, plain, filled, StandsAt}
-use Rattle.tc_program.specs.PlacementLaws.{AreAssembled}
+use Rattle.tc_program.specs.Addresses.{SectionHasAddress, NameHasAddress}
+use Rattle.tc_program.specs.Placed.{placed_symbol_value, plain, filled, StatementIsPlaced}
+use Rattle.tc_program.specs.PlacementLaws.{AreProgramObjects}
 use Rattle.tc_stmt.proofs.ListItems.{IsIn, get_front, get_behind, map_get, map_take, filter_in, find_at, flat_parted}
 use Rattle.tc_asm.proofs.SourceParts.{sections_are, part_bytes, part_is, have}
 use Rattle.tc_program.proofs.Sections.{object_at}
@@ -117,11 +117,11 @@ first_is {A} p (x ∷ xs) h = by (p x) refl h (first_is p xs)
         let next : 1 + position_or_len p xs ≡ suc (position_or_len p xs) = omega arith in
         (r.0, ap (slice_get (x ∷ xs)) next ∙ r.1, r.2)
 
-among_any : (ss : List SymbolData) (name : List ℕ) → is_among (symbol_names ss) name ≡ list_any (λ (s : SymbolData). bytes_eq name s.name) ss
+among_any : (ss : List SymbolData) (name : List ℕ) → is_drafted_name (symbol_names ss) name ≡ list_any (λ (s : SymbolData). bytes_eq name s.name) ss
 among_any [] name = refl
 among_any (s ∷ ss) name = ap (λ b. bytes_eq name s.name || b) (among_any ss name)
 
-number_known : (ss : List SymbolData) (name : List ℕ) → is_among (symbol_names ss) name ≡ true → (s : SymbolData) × (slice_get ss (number_of ss name) ≡ Some s) × (s.name ≡ name)
+number_known : (ss : List SymbolData) (name : List ℕ) → is_drafted_name (symbol_names ss) name ≡ true → (s : SymbolData) × (slice_get ss (symbol_number ss name) ≡ Some s) × (s.name ≡ name)
 number_known ss name e =
     let p : SymbolData → Bool = λ s. bytes_eq name s.name in
     let some : list_any (λ (s : SymbolData). bytes_eq name s.name) ss ≡ true = sym (among_any ss name) ∙ e in
@@ -129,13 +129,13 @@ number_known ss name e =
     (f.0, ap (λ o. slice_get ss (unwrap_or o 0)) (position_first (λ (s : SymbolData). bytes_eq name s.name) ss some) ∙ f.1, sym ((bytes_eq-Decides name f.0.name).0 f.2))
 
 -- ---- sources
-pub rules_at : (sources : List (List ℕ)) (objects : List ObjectData) → AreAssembled sources objects → (i : ℕ) (source : List ℕ) → slice_get sources i ≡ Some source → KeepsRules (lines_in source) (length (lines_in source))
+pub rules_at : (sources : List (List ℕ)) (objects : List ObjectData) → AreProgramObjects sources objects → (i : ℕ) (source : List ℕ) → slice_get sources i ≡ Some source → KeepsRules (lines_in source) (length (lines_in source))
 rules_at [] objects h i source e = cc
 rules_at (x ∷ xs) [] h i source e = absurd h
 rules_at (x ∷ xs) (o ∷ os) h zero source e = let same : x ≡ source = cc in subst (λ (y : List ℕ). KeepsRules (lines_in y) (length (lines_in y))) same h.0.0
 rules_at (x ∷ xs) (o ∷ os) h (suc i) source e = rules_at xs os h.1 i source e
 
-assembled_take : (sources : List (List ℕ)) (objects : List ObjectData) (i : ℕ) → AreAssembled sources objects → AreAssembled (take i sources) (take i objects)
+assembled_take : (sources : List (List ℕ)) (objects : List ObjectData) (i : ℕ) → AreProgramObjects sources objects → AreProgramObjects (take i sources) (take i objects)
 assembled_take [] [] zero h = tt
 assembled_take [] [] (suc i) h = tt
 assembled_take [] (o ∷ os) i h = absurd h
@@ -143,7 +143,7 @@ assembled_take (x ∷ xs) [] i h = absurd h
 assembled_take (x ∷ xs) (o ∷ os) zero h = tt
 assembled_take (x ∷ xs) (o ∷ os) (suc i) h = (h.0, assembled_take xs os i h.1)
 
-object_good : (sources : List (List ℕ)) (objects : List ObjectData) → AreAssembled sources objects → (i : ℕ) (o : ObjectData) → slice_get objects i ≡ Some o → IsObject o
+object_good : (sources : List (List ℕ)) (objects : List ObjectData) → AreProgramObjects sources objects → (i : ℕ) (o : ObjectData) → slice_get objects i ≡ Some o → IsObject o
 object_good sources objects are i o e =
     let within = slice_get_within objects i o e in
     let same : o ≡ get_or objects i o = got (slice_get-get_or objects i o within) in
@@ -170,7 +170,7 @@ part_some (p ∷ ps) zero h = (p, refl)
 part_some (p ∷ ps) (suc s) h = part_some ps s h
 
 -- ---- one source of an image
-module _ (sources : List (List ℕ)) (objects : List ObjectData) (layout : LayoutData) (image : ImageData) (good : IsLayout layout) (are : AreAssembled sources objects) (parts : Parts objects layout image)
+module _ (sources : List (List ℕ)) (objects : List ObjectData) (layout : LayoutData) (image : ImageData) (good : IsLayout layout) (are : AreProgramObjects sources objects) (parts : Parts objects layout image)
     (number : ℕ) (source : List ℕ) (is_source : slice_get sources number ≡ Some source) where
   abbrev globals : List GlobalData
   globals = globals_of (placed_of layout objects)
@@ -179,7 +179,7 @@ module _ (sources : List (List ℕ)) (objects : List ObjectData) (layout : Layou
   object = object_of (draft_in source)
 
   abbrev bases : List ℕ
-  bases = bases_after layout.places (placing.sections_of (take number objects)) (object_of (draft_in source)).sections
+  bases = bases_after layout.places (placing.sections_to_link (take number objects)) (object_of (draft_in source)).sections
 
   abbrev own : PlacedData
   own = record { object = object; bases = bases }
@@ -222,7 +222,7 @@ module _ (sources : List (List ℕ)) (objects : List ObjectData) (layout : Layou
         place_for layout.places objects number object s (section_of q) (placeable objects layout parts.early) object_there section_there
         (ap (λ b. b || has_symbol (object_of (draft_in source)).symbols s) (lt-ltb 0 (length q.bytes) some))
 
-    begins : Begins layout.places sources number s (slice_index bases s)
+    begins : SectionHasAddress layout.places sources number s (slice_index bases s)
     begins =
         begins_at layout.places sources objects number source s (section_of q) placed.0 (are_objects sources objects are) is_source
         (ap (λ (l : List SectionData). slice_get l s) (sections_are source) ∙ section_there) placed.1
@@ -230,21 +230,21 @@ module _ (sources : List (List ℕ)) (objects : List ObjectData) (layout : Layou
     stood : Stands q.name before done after
     stood = image_laws.stands q.name before done after (same_name q.name)
 
-    earlier : map shape_of before ≡ map shape_of (placing.sections_of (take number objects) ++ take s object.sections)
+    earlier : map section_shape before ≡ map section_shape (placing.sections_to_link (take number objects) ++ take s object.sections)
     earlier =
-        map-append shape_of (flat_map (relocated_sections globals) (take number (placed_of layout objects))) (take s (relocated_sections globals own))
-        ∙ ap (λ (l : List PlacedData). map shape_of (flat_map (relocated_sections globals) l) ++ map shape_of (take s (relocated_sections globals own))) (placed_take layout.places [] objects number)
-        ∙ ap (λ (l : List Shape). l ++ map shape_of (take s (relocated_sections globals own)))
+        map-append section_shape (flat_map (relocated_sections globals) (take number (placed_of layout objects))) (take s (relocated_sections globals own))
+        ∙ ap (λ (l : List PlacedData). map section_shape (flat_map (relocated_sections globals) l) ++ map section_shape (take s (relocated_sections globals own))) (placed_take layout.places [] objects number)
+        ∙ ap (λ (l : List SectionShape). l ++ map section_shape (take s (relocated_sections globals own)))
         (contents_shapes globals layout.places [] (take number objects) (objects_good (take number sources) (take number objects) (assembled_take sources objects number are)))
-        ∙ ap (λ (l : List Shape). map shape_of (placing.sections_of (take number objects)) ++ l)
-        (map_take shape_of (relocated_sections globals own) s ∙ ap (take s) (relocated_shapes globals own (object_good sources objects are number object object_there)) ∙ sym (map_take shape_of object.sections s))
-        ∙ sym (map-append shape_of (placing.sections_of (take number objects)) (take s object.sections))
+        ∙ ap (λ (l : List SectionShape). map section_shape (placing.sections_to_link (take number objects)) ++ l)
+        (map_take section_shape (relocated_sections globals own) s ∙ ap (take s) (relocated_shapes globals own (object_good sources objects are number object object_there)) ∙ sym (map_take section_shape object.sections s))
+        ∙ sym (map-append section_shape (placing.sections_to_link (take number objects)) (take s object.sections))
 
     base_is : slice_index bases s ≡ placed.0.at + length stood.front
     base_is =
-        base_at layout.places (placing.sections_of (take number objects)) object.sections s (section_of q) section_there
-        ∙ ap (λ (o : Option PlaceData). option_map_or (λ p. p.at + round_up (taken_bytes q.name (placing.sections_of (take number objects) ++ take s object.sections))) o 0) placed.1
-        ∙ ap (λ n. placed.0.at + round_up n) (sym (taken-shapes q.name before (placing.sections_of (take number objects) ++ take s object.sections) earlier))
+        base_at layout.places (placing.sections_to_link (take number objects)) object.sections s (section_of q) section_there
+        ∙ ap (λ (o : Option PlaceData). option_map_or (λ p. p.at + round_up_place_size (taken_bytes q.name (placing.sections_to_link (take number objects) ++ take s object.sections))) o 0) placed.1
+        ∙ ap (λ n. placed.0.at + round_up_place_size n) (sym (taken-shapes q.name before (placing.sections_to_link (take number objects) ++ take s object.sections) earlier))
         ∙ ap (λ n. placed.0.at + n) (sym stood.place)
 
     -- the segment of the section's place has its bytes
@@ -270,8 +270,8 @@ module _ (sources : List (List ℕ)) (objects : List ObjectData) (layout : Layou
         let i = segment_there m b h in
         let base = base_is in
         let far : slice_index bases s + m ≡ placed.0.at + (length stood.front + m) = omega arith in
-        ap (λ (ss : List SegmentData). byte_in ss (slice_index bases s + m)) parts.segments
-        ∙ ap (byte_in (segments_of layout.places contents)) far
+        ap (λ (ss : List SegmentData). segments_byte ss (slice_index bases s + m)) parts.segments
+        ∙ ap (segments_byte (segments_of layout.places contents)) far
         ∙ byte_here (segments_of layout.places contents) i.at (segment_of contents placed.0) (length stood.front + m) b limits.apart i.is (in_segment m b h)
 
     small_there : (m b : ℕ) → slice_get done.bytes m ≡ Some b → slice_index bases s + m < 2 ^ 32
@@ -321,12 +321,12 @@ module _ (sources : List (List ℕ)) (objects : List ObjectData) (layout : Layou
         ap (image_byte image) far ∙ byte_there t.section part.0 part.1 part_long (off + k) b (byte_at k b h)
 
     -- without a symbol that waits
-    held_plain : (o : Option ReferenceData) → is_open o ≡ false → filled_bytes globals own (draft_in source).symbols t.section (0 + off) o t.bytes ≡ t.bytes
+    held_plain : (o : Option ReferenceData) → is_open_statement o ≡ false → filled_bytes globals own (draft_in source).symbols t.section (0 + off) o t.bytes ≡ t.bytes
     held_plain None e = refl
     held_plain (Some r) e =
-        ap (λ b. cond b (with_field r.kind t.bytes (content_of r.kind (field_place own (reloc_of (draft_in source).symbols t.section (a_use (0 + off) r))) (value_of globals own (reloc_of (draft_in source).symbols t.section (a_use (0 + off) r))))) t.bytes) e
+        ap (λ b. cond b (with_reloc_field r.kind t.bytes (reloc_field_number r.kind (field_place own (reloc_of (draft_in source).symbols t.section (a_use (0 + off) r))) (reloc_value globals own (reloc_of (draft_in source).symbols t.section (a_use (0 + off) r))))) t.bytes) e
 
-    plain_stands : is_open t.reference ≡ false → StandsAt layout.places sources image number j (statements_in source) t
+    plain_stands : is_open_statement t.reference ≡ false → StatementIsPlaced layout.places sources image number j (statements_in source) t
     plain_stands e = record {
       base = base;
       begins = begins t.section part.0 part.1 part_long;
@@ -351,91 +351,91 @@ module _ (sources : List (List ℕ)) (objects : List ObjectData) (layout : Layou
           let P : ℕ → Type 0 = λ n. IsIn Reloc (relocs_from (draft_in source).symbols 0 (draft_in source).parts) (reloc_of (draft_in source).symbols n (a_use (0 + off) r)) in
           subst P same (reloc_there (draft_in source).symbols 0 t.section (draft_in source).parts part.0 (a_use (0 + off) r) part.1 used)
 
-      known : is_among (symbol_names (draft_in source).symbols) r.name ≡ true
+      known : is_drafted_name (symbol_names (draft_in source).symbols) r.name ≡ true
       known =
           let draft = drafts_good sources objects are number source is_source in
           let p = each_at (IsPart (symbol_names (draft_in source).symbols) (draft_in source).total) (draft_in source).parts t.section part.0 draft.parts part.1 in
           (each_at (IsUse (symbol_names (draft_in source).symbols)) part.0.uses used.at (a_use (0 + off) r) p.uses used.is).known
 
-      symbol : (s : SymbolData) × (slice_get (draft_in source).symbols (number_of (draft_in source).symbols r.name) ≡ Some s) × (s.name ≡ r.name)
+      symbol : (s : SymbolData) × (slice_get (draft_in source).symbols (symbol_number (draft_in source).symbols r.name) ≡ Some s) × (s.name ≡ r.name)
       symbol = number_known (draft_in source).symbols r.name known
 
       abbrev address : ℕ
       address = symbol_address globals bases (symbol_of symbol.0)
 
-      means : Means layout.places sources number r.name address
+      means : NameHasAddress layout.places sources number r.name address
       means =
-          let n : ℕ = number_of (draft_in source).symbols r.name in
-          let is_there : is_used object.relocs (number_of (draft_in source).symbols r.name) ≡ true
-          = any_at (λ (x : Reloc). x.symbol == number_of (draft_in source).symbols r.name) object.relocs field_there.at field field_there.is
-          ((Decides-eqb (number_of (draft_in source).symbols r.name) (number_of (draft_in source).symbols r.name)).1 refl) in
-          subst (λ (name : List ℕ). Means layout.places sources number name address) symbol.2
+          let n : ℕ = symbol_number (draft_in source).symbols r.name in
+          let is_there : is_used_by_relocs object.relocs (symbol_number (draft_in source).symbols r.name) ≡ true
+          = any_at (λ (x : Reloc). x.symbol == symbol_number (draft_in source).symbols r.name) object.relocs field_there.at field field_there.is
+          ((Decides-eqb (symbol_number (draft_in source).symbols r.name) (symbol_number (draft_in source).symbols r.name)).1 refl) in
+          subst (λ (name : List ℕ). NameHasAddress layout.places sources number name address) symbol.2
           (means_at layout.places sources objects (are_objects sources objects are) (placeable objects layout parts.early) (drafts_good sources objects are) (none_missing objects layout parts.early) number source
-          (number_of (draft_in source).symbols r.name) symbol.0 is_source symbol.1 is_there)
+          (symbol_number (draft_in source).symbols r.name) symbol.0 is_source symbol.1 is_there)
 
       four : length t.bytes ≡ 4
-      four = (has_at (statements_in source) j t (have source (source_good source) rules) at).four (ap is_open is ∙ waits)
+      four = (has_at (statements_in source) j t (have source (source_good source) rules) at).four (ap is_open_statement is ∙ waits)
 
       abbrev whole : ℕ → ℕ → List ℕ
-      whole place value = with_field r.kind t.bytes (content_of r.kind place value)
+      whole place value = with_reloc_field r.kind t.bytes (reloc_field_number r.kind place value)
 
-      held_filled : held ≡ whole (field_place own field) (value_of globals own field)
+      held_filled : held ≡ whole (field_place own field) (reloc_value globals own field)
       held_filled =
           ap (λ (o : Option ReferenceData). filled_bytes globals own (draft_in source).symbols t.section (0 + off) o t.bytes) is
-          ∙ ap (λ b. cond b (whole (field_place own field) (value_of globals own field)) t.bytes) waits
+          ∙ ap (λ b. cond b (whole (field_place own field) (reloc_value globals own field)) t.bytes) waits
 
       small : base + off < 2 ^ 32
       small =
-          let bs : List ℕ = whole (field_place own field) (value_of globals own field) in
-          let first = slice_get-get_or (whole (field_place own field) (value_of globals own field)) 0 0 (omega arith) in
-          let less = small_there t.section part.0 part.1 part_long (off + 0) (get_or (whole (field_place own field) (value_of globals own field)) 0 0)
-          (byte_at 0 (get_or (whole (field_place own field) (value_of globals own field)) 0 0) (ap (λ (bs : List ℕ). slice_get bs 0) held_filled ∙ first)) in
+          let bs : List ℕ = whole (field_place own field) (reloc_value globals own field) in
+          let first = slice_get-get_or (whole (field_place own field) (reloc_value globals own field)) 0 0 (omega arith) in
+          let less = small_there t.section part.0 part.1 part_long (off + 0) (get_or (whole (field_place own field) (reloc_value globals own field)) 0 0)
+          (byte_at 0 (get_or (whole (field_place own field) (reloc_value globals own field)) 0 0) (ap (λ (bs : List ℕ). slice_get bs 0) held_filled ∙ first)) in
           omega arith
 
       place_is : field_place own field ≡ base + off
       place_is = let less = small in omega arith
 
-      value_is : value_of globals own field ≡ value_at address r
+      value_is : reloc_value globals own field ≡ placed_symbol_value address r
       value_is =
-          ap (λ (o : Option obj.SymbolData). (option_map_or (symbol_address globals bases) o 0 + addend_of r) % 2 ^ 32)
-          (map_get symbol_of (draft_in source).symbols (number_of (draft_in source).symbols r.name) symbol.0 symbol.1)
+          ap (λ (o : Option obj.SymbolData). (option_map_or (symbol_address globals bases) o 0 + assembled_addend r) % 2 ^ 32)
+          (map_get symbol_of (draft_in source).symbols (symbol_number (draft_in source).symbols r.name) symbol.0 symbol.1)
 
       unrefused : reloc_refusal globals own field ≡ None
       unfolding reloc_in
       unrefused =
-          let here : first_at (refusal_at globals (0 + number) own) 0 object.relocs ≡ None
-          = none_at (λ n (x : PlacedData). first_at (refusal_at globals n x) 0 x.object.relocs) 0 (placed_of layout objects) number own parts.relocs own_there in
+          let here : first_refusal_from (refusal_at globals (0 + number) own) 0 object.relocs ≡ None
+          = none_at (λ n (x : PlacedData). first_refusal_from (refusal_at globals n x) 0 x.object.relocs) 0 (placed_of layout objects) number own parts.relocs own_there in
           none_of (reloc_refusal globals own field) (none_at (refusal_at globals (0 + number) own) 0 object.relocs field_there.at field here field_there.is)
         where
           none_of : (o : Option RelocErr) → option_map (λ e. reloc (0 + number) field.section field.offset e) o ≡ None → o ≡ None
           none_of None e = refl
           none_of (Some x) e = cc
 
-      fits : refusal_of r.kind (base + off) (value_at address r) ≡ None
+      fits : reloc_value_refusal r.kind (base + off) (placed_symbol_value address r) ≡ None
       fits =
-          ap (λ n. refusal_of r.kind n (value_at address r)) (sym place_is)
-          ∙ ap (refusal_of r.kind (field_place own field)) (sym value_is)
+          ap (λ n. reloc_value_refusal r.kind n (placed_symbol_value address r)) (sym place_is)
+          ∙ ap (reloc_value_refusal r.kind (field_place own field)) (sym value_is)
           ∙ unrefused
 
-      filled_stands : StandsAt layout.places sources image number j (statements_in source) t
+      filled_stands : StatementIsPlaced layout.places sources image number j (statements_in source) t
       filled_stands =
-          let held_is : held ≡ whole (base + off) (value_at address r)
-          = held_filled ∙ ap (λ n. whole n (value_of globals own field)) place_is ∙ ap (whole (base + off)) value_is in
+          let held_is : held ≡ whole (base + off) (placed_symbol_value address r)
+          = held_filled ∙ ap (λ n. whole n (reloc_value globals own field)) place_is ∙ ap (whole (base + off)) value_is in
           record {
             base = base;
             begins = begins t.section part.0 part.1 part_long;
-            bytes = whole (base + off) (value_at address r);
+            bytes = whole (base + off) (placed_symbol_value address r);
             are = filled r address is waits four means fits;
             there = subst (λ (bs : List ℕ). HoldsFrom image (base + off) bs) held_is there;
           }
 
-    pub statement_stands : StandsAt layout.places sources image number j (statements_in source) t
+    pub statement_stands : StatementIsPlaced layout.places sources image number j (statements_in source) t
     statement_stands = by t.reference refl
       where
-        by_open : (r : ReferenceData) (b : Bool) → t.reference ≡ Some r → is_reloc r.kind ≡ b → StandsAt layout.places sources image number j (statements_in source) t
+        by_open : (r : ReferenceData) (b : Bool) → t.reference ≡ Some r → is_reloc r.kind ≡ b → StatementIsPlaced layout.places sources image number j (statements_in source) t
         by_open r true e f = filled_stands r e f
-        by_open r false e f = plain_stands (ap is_open e ∙ f)
+        by_open r false e f = plain_stands (ap is_open_statement e ∙ f)
 
-        by : (o : Option ReferenceData) → t.reference ≡ o → StandsAt layout.places sources image number j (statements_in source) t
-        by None e = plain_stands (ap is_open e)
+        by : (o : Option ReferenceData) → t.reference ≡ o → StatementIsPlaced layout.places sources image number j (statements_in source) t
+        by None e = plain_stands (ap is_open_statement e)
         by (Some r) e = by_open r (is_reloc r.kind) e refl

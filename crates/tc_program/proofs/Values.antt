@@ -15,12 +15,12 @@ use Rattle.tc_asm.specs.Symbols.{SymbolData, place_in}
 use Rattle.tc_asm.specs.DraftInvariants.{IsDraft}
 use Rattle.tc_asm.specs.Objects.{symbol_at, symbol_of, object_of}
 use Rattle.tc_link.specs.Layouts.{PlaceData}
-use Rattle.tc_link.specs.Refusals.{Refusal, missing, first_at, is_used, missing_of, missing_in, no_place_in}
-use Rattle.tc_link.specs.Names.{has_global_name, globals_named, symbols_of, GlobalData, is_global, global_data, globals_of, global_address}
-use Rattle.tc_link.specs.Placing.{placed_after, bases_after, address_in}
+use Rattle.tc_link.specs.Refusals.{Refusal, missing, first_refusal_from, is_used_by_relocs, missing_of, missing_in, no_place_in}
+use Rattle.tc_link.specs.Names.{has_global_name, globals_named, symbols_to_link, GlobalData, is_global, global_data, globals_of, global_address}
+use Rattle.tc_link.specs.Placing.{placed_after, bases_after, address_in_section}
 use Rattle.tc_link.specs.Relocated.{symbol_address}
 use Rattle.tc_asm.specs.DraftedSources.{draft_in, symbols_in}
-use Rattle.tc_program.specs.Addresses.{Means, own, other}
+use Rattle.tc_program.specs.Addresses.{NameHasAddress, own, other}
 use Rattle.tc_stmt.proofs.ListItems.{map_get}
 use Rattle.tc_program.proofs.Bases.{none_at, none_parts}
 use Rattle.tc_program.proofs.Sections.{AreObjects, object_at}
@@ -52,7 +52,7 @@ none_all name places before (o ∷ os) e =
     let parts = none_parts (find (is_named name) first) (find (is_named name) rest) (sym (find-append (is_named name) first rest) ∙ e) in
     let here = none_in name (bases_after places before o.sections) o.symbols parts.0 in
     let more = none_all name places (before ++ o.sections) os parts.1 in
-    sum_by-append (λ x. cond (has_global_name name x) 1 0) o.symbols (symbols_of os) ∙ omega arith
+    sum_by-append (λ x. cond (has_global_name name x) 1 0) o.symbols (symbols_to_link os) ∙ omega arith
 
 unused : (a b c : Bool) (r : Refusal) → then_some (a && b && c) r ≡ None → a ≡ true → b ≡ true → c ≡ false
 unused true true true r e h k = cc
@@ -61,13 +61,13 @@ unused true false c r e h k = cc
 unused false b c r e h k = cc
 
 global_there : (places : List PlaceData) (objects : List ObjectData) (i : ℕ) (o : ObjectData) (k : ℕ) (x : object.SymbolData) → missing_in objects ≡ None → slice_get objects i ≡ Some o → slice_get o.symbols k ≡ Some x → x.kind ≡ 0 →
-    is_used o.relocs k ≡ true → (a : ℕ) × (global_address (globals_of (placed_after places [] objects)) x.name ≡ Some a)
+    is_used_by_relocs o.relocs k ≡ true → (a : ℕ) × (global_address (globals_of (placed_after places [] objects)) x.name ≡ Some a)
 unfolding missing_in
 global_there places objects i o k x e at there kind uses =
-    let here : first_at (missing_of objects o.relocs) 0 o.symbols ≡ None = none_at (λ n (q : ObjectData). first_at (missing_of objects q.relocs) 0 q.symbols) 0 objects i o e at in
+    let here : first_refusal_from (missing_of objects o.relocs) 0 o.symbols ≡ None = none_at (λ n (q : ObjectData). first_refusal_from (missing_of objects q.relocs) 0 q.symbols) 0 objects i o e at in
     let same : k ≡ 0 + k = omega arith in
     let mine : missing_of objects o.relocs k x ≡ None = ap (λ n. missing_of objects o.relocs n x) same ∙ none_at (missing_of objects o.relocs) 0 o.symbols k x here there in
-    let some : (globals_named objects x.name == 0) ≡ false = unused (x.kind == 0) (is_used o.relocs k) (globals_named objects x.name == 0) (missing x.name) mine ((Decides-eqb x.kind 0).1 kind) uses in
+    let some : (globals_named objects x.name == 0) ≡ false = unused (x.kind == 0) (is_used_by_relocs o.relocs k) (globals_named objects x.name == 0) (missing x.name) mine ((Decides-eqb x.kind 0).1 kind) uses in
     by (find (is_named x.name) (globals_of (placed_after places [] objects))) refl some
   where
     never : (n : ℕ) → n ≡ 0 → (n == 0) ≡ false → ⊥
@@ -87,18 +87,18 @@ module _ (layout_places : List PlaceData) (sources : List (List ℕ)) (objects :
   abbrev own_bases : ℕ → List ℕ → List ℕ
   own_bases i source = bases layout_places sources objects are placeable good i source
 
-  pub means_at : (i : ℕ) (source : List ℕ) (k : ℕ) (s : SymbolData) → slice_get sources i ≡ Some source → slice_get (draft_in source).symbols k ≡ Some s → is_used (object_of (draft_in source)).relocs k ≡ true →
-      Means layout_places sources i s.name (symbol_address globals (own_bases i source) (symbol_of s))
+  pub means_at : (i : ℕ) (source : List ℕ) (k : ℕ) (s : SymbolData) → slice_get sources i ≡ Some source → slice_get (draft_in source).symbols k ≡ Some s → is_used_by_relocs (object_of (draft_in source)).relocs k ≡ true →
+      NameHasAddress layout_places sources i s.name (symbol_address globals (own_bases i source) (symbol_of s))
   means_at i source k s at there uses = by s.entry.place refl
     where
-      by_global : (g : Bool) (p : Place) → address_in (own_bases i source) p.section p.offset ≡ symbol_address globals (own_bases i source) (symbol_at s.name g (Some p))
+      by_global : (g : Bool) (p : Place) → address_in_section (own_bases i source) p.section p.offset ≡ symbol_address globals (own_bases i source) (symbol_at s.name g (Some p))
       by_global true p = refl
       by_global false p = refl
 
-      by : (o : Option Place) → s.entry.place ≡ o → Means layout_places sources i s.name (symbol_address globals (own_bases i source) (symbol_at s.name s.entry.is_global o))
+      by : (o : Option Place) → s.entry.place ≡ o → NameHasAddress layout_places sources i s.name (symbol_address globals (own_bases i source) (symbol_at s.name s.entry.is_global o))
       by (Some p) e =
-          let M : ℕ → Type 0 = λ n. Means layout_places sources i s.name n in
-          subst M (by_global s.entry.is_global p) (own (address_in (own_bases i source) p.section p.offset) (label_at layout_places sources objects are placeable good i source k s p at there e))
+          let M : ℕ → Type 0 = λ n. NameHasAddress layout_places sources i s.name n in
+          subst M (by_global s.entry.is_global p) (own (address_in_section (own_bases i source) p.section p.offset) (label_at layout_places sources objects are placeable good i source k s p at there e))
       by None e =
           let symbol = map_get symbol_of (draft_in source).symbols k s there in
           let x : object.SymbolData = symbol_of s in
@@ -106,7 +106,7 @@ module _ (layout_places : List PlaceData) (sources : List (List ℕ)) (objects :
           let name : x.name ≡ s.name = ap (λ (o : Option Place). (symbol_at s.name s.entry.is_global o).name) e in
           let g = global_there layout_places objects i (object_of (draft_in source)) k x known (object_at sources objects i source are at) symbol kind uses in
           let there_is : global_address globals s.name ≡ Some g.0 = ap (global_address globals) (sym name) ∙ g.1 in
-          let M : ℕ → Type 0 = λ n. Means layout_places sources i s.name n in
+          let M : ℕ → Type 0 = λ n. NameHasAddress layout_places sources i s.name n in
           let nowhere : place_in (symbols_in source) s.name ≡ None = ap (λ (y : Entry). y.place) (entry_at (draft_in source).symbols k s (good i source at).symbols_named there) ∙ e in
           subst M (sym (ap (λ (o : Option ℕ). option_map_or (λ a. a) o 0) there_is))
           (other source g.0 at nowhere (global_at layout_places sources objects are placeable good s.name g.0 there_is))

@@ -5,24 +5,24 @@ use Rattle.std.proofs.lemmas.Bool.{ltb-false, ltb-true}
 use Rattle.std.proofs.lemmas.Bool.Decides.{Decides-eqb}
 use Rattle.std.proofs.lemmas.List.{length-append}
 use Rattle.std.proofs.lemmas.Slice.Eq.{bytes_eq-Decides}
-use Rattle.elf_image.specs.Images.{SegmentData, ImageData, byte_in, image_byte}
+use Rattle.elf_image.specs.Images.{SegmentData, ImageData, segments_byte, image_byte}
 use Rattle.tc_object.specs.Objects.{SectionData, ObjectData}
 use Rattle.tc_stmt.specs.Lines.{lines_in}
 use Rattle.tc_asm.specs.DraftedSources.{symbols_of, draft_in}
 use Rattle.tc_asm.specs.Objects.{section_of}
 use Rattle.tc_asm.specs.Statements.{StatementData, section_bytes, offset_of, statements_in, sections_in}
 use Rattle.tc_asm.proofs.LaidLaws.{drafted-bytes}
-use Rattle.tc_link.specs.Layouts.{PlaceData, LayoutData, IsLayout}
-use Rattle.tc_link.specs.Placing.{place_of, placed_of}
+use Rattle.tc_link.specs.Layouts.{PlaceData, LayoutData, IsLayout, place_of}
+use Rattle.tc_link.specs.Placing.{placed_of}
 use Rattle.tc_link.specs.Names.{globals_of}
-use Rattle.tc_link.specs.PlaceSizes.{round_up, taken_bytes}
+use Rattle.tc_link.specs.PlaceSizes.{round_up_place_size, taken_bytes}
 use Rattle.tc_link.specs.Segments.{segment_of, segments_of}
 use Rattle.tc_link.specs.Relocated.{contents_of}
-use Rattle.tc_link.specs.Shapes.{shape_of}
+use Rattle.tc_link.specs.Shapes.{section_shape}
 use Rattle.tc_link.proofs.RelocLaws.{contents_shapes}
-use Rattle.tc_program.specs.Addresses.{sections_of, Begins}
-use Rattle.tc_program.specs.Placed.{IsCovered}
-use Rattle.tc_program.specs.PlacementLaws.{AreAssembled}
+use Rattle.tc_program.specs.Addresses.{program_sections, SectionHasAddress}
+use Rattle.tc_program.specs.Placed.{IsInPlacedStatement}
+use Rattle.tc_program.specs.PlacementLaws.{AreProgramObjects}
 use Rattle.tc_stmt.proofs.ListItems.{FlatAt, flat_at, map_at, filter_at}
 use Rattle.tc_asm.proofs.SourceParts.{sections_are, part_bytes}
 use Rattle.tc_program.proofs.Sections.{all_sections}
@@ -75,23 +75,23 @@ section_is source s x e =
 -- ---- the bytes of places
 module _ (sources : List (List ℕ)) (layout : LayoutData) (good : IsLayout layout) where
   -- an address in a section with a place is in a statement
-  in_statement : (place : PlaceData) (i q : ℕ) → slice_get layout.places i ≡ Some place → place.at ≤ q → InSection place.section (sections_of sources) (λ before. round_up (taken_bytes place.section before)) (q - place.at) → IsCovered layout.places sources q
+  in_statement : (place : PlaceData) (i q : ℕ) → slice_get layout.places i ≡ Some place → place.at ≤ q → InSection place.section (program_sections sources) (λ before. round_up_place_size (taken_bytes place.section before)) (q - place.at) → IsInPlacedStatement layout.places sources q
   in_statement place i q is_place above h = by (flat_at sections_in sources h.at h.section h.is_section)
     where
       name : place.section ≡ h.section.name
       name = (bytes_eq-Decides place.section h.section.name).0 h.named
 
-      by : FlatAt (List ℕ) SectionData sections_in sources h.at h.section → IsCovered layout.places sources q
+      by : FlatAt (List ℕ) SectionData sections_in sources h.at h.section → IsInPlacedStatement layout.places sources q
       by f =
-          let behind : List SectionData = sections_of (take f.outer sources) ++ take f.inner (sections_in f.item) in
-          let start : ℕ = place.at + round_up (taken_bytes h.section.name (sections_of (take f.outer sources) ++ take f.inner (sections_in f.item))) in
-          let same : round_up (taken_bytes place.section (take h.at (sections_of sources))) ≡ round_up (taken_bytes h.section.name (sections_of (take f.outer sources) ++ take f.inner (sections_in f.item)))
-          = ap (λ (l : List SectionData). round_up (taken_bytes place.section l)) f.front ∙ ap (λ (n : List ℕ). round_up (taken_bytes n (sections_of (take f.outer sources) ++ take f.inner (sections_in f.item)))) name in
+          let behind : List SectionData = program_sections (take f.outer sources) ++ take f.inner (sections_in f.item) in
+          let start : ℕ = place.at + round_up_place_size (taken_bytes h.section.name (program_sections (take f.outer sources) ++ take f.inner (sections_in f.item))) in
+          let same : round_up_place_size (taken_bytes place.section (take h.at (program_sections sources))) ≡ round_up_place_size (taken_bytes h.section.name (program_sections (take f.outer sources) ++ take f.inner (sections_in f.item)))
+          = ap (λ (l : List SectionData). round_up_place_size (taken_bytes place.section l)) f.front ∙ ap (λ (n : List ℕ). round_up_place_size (taken_bytes n (program_sections (take f.outer sources) ++ take f.inner (sections_in f.item)))) name in
           inside f start refl same (covering f.inner (statements_in f.item) (q - start) (within f start refl same))
         where
           within : (f : FlatAt (List ℕ) SectionData sections_in sources h.at h.section) (start : ℕ)
-              → start ≡ place.at + round_up (taken_bytes h.section.name (sections_of (take f.outer sources) ++ take f.inner (sections_in f.item)))
-              → round_up (taken_bytes place.section (take h.at (sections_of sources))) ≡ round_up (taken_bytes h.section.name (sections_of (take f.outer sources) ++ take f.inner (sections_in f.item)))
+              → start ≡ place.at + round_up_place_size (taken_bytes h.section.name (program_sections (take f.outer sources) ++ take f.inner (sections_in f.item)))
+              → round_up_place_size (taken_bytes place.section (take h.at (program_sections sources))) ≡ round_up_place_size (taken_bytes h.section.name (program_sections (take f.outer sources) ++ take f.inner (sections_in f.item)))
               → q - start < length (section_bytes f.inner (statements_in f.item))
           within f start is same =
               let low = h.low in
@@ -100,12 +100,12 @@ module _ (sources : List (List ℕ)) (layout : LayoutData) (good : IsLayout layo
               omega arith
 
           inside : (f : FlatAt (List ℕ) SectionData sections_in sources h.at h.section) (start : ℕ)
-              → start ≡ place.at + round_up (taken_bytes h.section.name (sections_of (take f.outer sources) ++ take f.inner (sections_in f.item)))
-              → round_up (taken_bytes place.section (take h.at (sections_of sources))) ≡ round_up (taken_bytes h.section.name (sections_of (take f.outer sources) ++ take f.inner (sections_in f.item)))
-              → Covering f.inner (statements_in f.item) (q - start) → IsCovered layout.places sources q
+              → start ≡ place.at + round_up_place_size (taken_bytes h.section.name (program_sections (take f.outer sources) ++ take f.inner (sections_in f.item)))
+              → round_up_place_size (taken_bytes place.section (take h.at (program_sections sources))) ≡ round_up_place_size (taken_bytes h.section.name (program_sections (take f.outer sources) ++ take f.inner (sections_in f.item)))
+              → Covering f.inner (statements_in f.item) (q - start) → IsInPlacedStatement layout.places sources q
           inside f start is same c =
               let first = h.low in
-              let begins : Begins layout.places sources f.outer f.inner start = record {
+              let begins : SectionHasAddress layout.places sources f.outer f.inner start = record {
                 source = f.item;
                 is_source = f.is_item;
                 data_of = h.section;
@@ -125,25 +125,25 @@ module _ (sources : List (List ℕ)) (layout : LayoutData) (good : IsLayout layo
                 statement = c.statement;
                 is_statement = c.is;
                 base = start;
-                begins = subst (λ n. Begins layout.places sources f.outer n start) (sym c.section) begins;
+                begins = subst (λ n. SectionHasAddress layout.places sources f.outer n start) (sym c.section) begins;
                 low = omega arith;
                 high = omega arith;
               }
 
-  module _ (objects : List ObjectData) (image : ImageData) (are : AreAssembled sources objects) (parts : Parts objects layout image) where
+  module _ (objects : List ObjectData) (image : ImageData) (are : AreProgramObjects sources objects) (parts : Parts objects layout image) where
     abbrev contents : List SectionData
     contents = contents_of (placed_of layout objects)
 
-    shapes : map shape_of contents ≡ map shape_of (sections_of sources)
+    shapes : map section_shape contents ≡ map section_shape (program_sections sources)
     unfolding contents_of
     shapes =
         contents_shapes (globals_of (placed_of layout objects)) layout.places [] objects (objects_good sources objects are)
-        ∙ ap (map shape_of) (sym (all_sections sources objects (are_objects sources objects are)))
+        ∙ ap (map section_shape) (sym (all_sections sources objects (are_objects sources objects are)))
 
-    pub zero_else : (q b : ℕ) → image_byte image q ≡ Some b → IsCovered layout.places sources q ⊎ (b ≡ 0)
+    pub zero_else : (q b : ℕ) → image_byte image q ≡ Some b → IsInPlacedStatement layout.places sources q ⊎ (b ≡ 0)
     unfolding segments_of
     zero_else q b e =
-        let i = byte_from (segments_of layout.places contents) q b (ap (λ (ss : List SegmentData). byte_in ss q) (sym parts.segments) ∙ e) in
+        let i = byte_from (segments_of layout.places contents) q b (ap (λ (ss : List SegmentData). segments_byte ss q) (sym parts.segments) ∙ e) in
         let f = filter_at (λ (x : SegmentData). nat_lt 0 (length x.bytes)) (map (segment_of contents) layout.places) i.at i.segment i.is_segment in
         let m = map_at (segment_of contents) layout.places f.at i.segment f.is_item in
         let same : m.item.at ≡ i.segment.at = ap (λ (s : SegmentData). s.at) m.is in
@@ -152,6 +152,6 @@ module _ (sources : List (List ℕ)) (layout : LayoutData) (good : IsLayout layo
         by m.item f.at m.is_item above
         (joined_byte m.item.section contents (q - m.item.at) b (ap (λ (s : SegmentData). slice_get s.bytes (q - s.at)) m.is ∙ i.byte))
       where
-        by : (place : PlaceData) (k : ℕ) → slice_get layout.places k ≡ Some place → place.at ≤ q → (b ≡ 0) ⊎ InSection place.section contents (λ before. round_up (taken_bytes place.section before)) (q - place.at) → IsCovered layout.places sources q ⊎ (b ≡ 0)
+        by : (place : PlaceData) (k : ℕ) → slice_get layout.places k ≡ Some place → place.at ≤ q → (b ≡ 0) ⊎ InSection place.section contents (λ before. round_up_place_size (taken_bytes place.section before)) (q - place.at) → IsInPlacedStatement layout.places sources q ⊎ (b ≡ 0)
         by place k is above (inl z) = inr z
-        by place k is above (inr h) = inl (in_statement place k q is above (in_shaped place.section contents (sections_of sources) (q - place.at) shapes h))
+        by place k is above (inr h) = inl (in_statement place k q is above (in_shaped place.section contents (program_sections sources) (q - place.at) shapes h))

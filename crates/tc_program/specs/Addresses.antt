@@ -7,44 +7,43 @@ use Rattle.tc_asm.specs.declared.symbols.Place.{Place}
 use Rattle.tc_asm.specs.Symbols.{entry_of, place_in}
 use Rattle.tc_asm.specs.Statements.{sections_in}
 use Rattle.tc_asm.specs.DraftedSources.{symbols_in}
-use Rattle.tc_link.specs.Layouts.{PlaceData}
-use Rattle.tc_link.specs.Placing.{place_of}
-use Rattle.tc_link.specs.PlaceSizes.{round_up, taken_bytes}
+use Rattle.tc_link.specs.Layouts.{PlaceData, place_of}
+use Rattle.tc_link.specs.PlaceSizes.{round_up_place_size, taken_bytes}
 
 -- the sections of all sources, in order
-abbrev pub sections_of : List (List ℕ) → List SectionData
-sections_of sources = flat_map sections_in sources
+abbrev pub program_sections : List (List ℕ) → List SectionData
+program_sections sources = flat_map sections_in sources
 
 -- The address of a section of a source: in the place for its name, after the sections of this name
 -- in earlier sources, at a multiple of 4.
-pub record Begins (places : List PlaceData) (sources : List (List ℕ)) (number section base : ℕ) : Type 0 where
+pub record SectionHasAddress (places : List PlaceData) (sources : List (List ℕ)) (number section base : ℕ) : Type 0 where
   pub source : List ℕ
   pub is_source : slice_get sources number ≡ Some source
   pub data_of : SectionData
   pub is_section : slice_get (sections_in source) section ≡ Some data_of
   pub place : PlaceData
   pub is_place : place_of places data_of.name ≡ Some place
-  pub is : base ≡ place.at + round_up (taken_bytes data_of.name (sections_of (take number sources) ++ take section (sections_in source)))
+  pub is : base ≡ place.at + round_up_place_size (taken_bytes data_of.name (program_sections (take number sources) ++ take section (sections_in source)))
 
 -- a label of a source has an address
-pub record HasLabel (places : List PlaceData) (sources : List (List ℕ)) (number : ℕ) (name : List ℕ) (address : ℕ) : Type 0 where
+pub record LabelHasAddress (places : List PlaceData) (sources : List (List ℕ)) (number : ℕ) (name : List ℕ) (address : ℕ) : Type 0 where
   pub source : List ℕ
   pub is_source : slice_get sources number ≡ Some source
   pub label : Place
   pub is_label : place_in (symbols_in source) name ≡ Some label
   pub base : ℕ
-  pub begins : Begins places sources number label.section base
+  pub begins : SectionHasAddress places sources number label.section base
   pub is : address ≡ (base + label.offset) % 2 ^ 32
 
 -- a global label of some source has an address
-pub record HasGlobal (places : List PlaceData) (sources : List (List ℕ)) (name : List ℕ) (address : ℕ) : Type 0 where
+pub record GlobalHasAddress (places : List PlaceData) (sources : List (List ℕ)) (name : List ℕ) (address : ℕ) : Type 0 where
   pub number : ℕ
-  pub stands : HasLabel places sources number name address
+  pub stands : LabelHasAddress places sources number name address
   pub is_global : (entry_of (symbols_in stands.source) name).is_global ≡ true
 
 -- the address of a name in a source: that of its own label, or else that of a global one
-pub data Means (places : List PlaceData) (sources : List (List ℕ)) (number : ℕ) (name : List ℕ) : ℕ → Type 0 where
-  own : (address : ℕ) → HasLabel places sources number name address → Means places sources number name address
+pub data NameHasAddress (places : List PlaceData) (sources : List (List ℕ)) (number : ℕ) (name : List ℕ) : ℕ → Type 0 where
+  own : (address : ℕ) → LabelHasAddress places sources number name address → NameHasAddress places sources number name address
   other :
       (source : List ℕ) (address : ℕ) → slice_get sources number ≡ Some source → place_in (symbols_in source) name ≡ None
-      → HasGlobal places sources name address → Means places sources number name address
+      → GlobalHasAddress places sources name address → NameHasAddress places sources number name address

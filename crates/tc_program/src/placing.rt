@@ -1,5 +1,5 @@
 // Public laws of sources and of the images that are linked from their objects.
-ghost use Rattle.tc_program.specs.PlacementLaws.{SegmentsLaw, EntryLaw, SymbolsLaw, FieldsLaw, JumpsLaw, PlacedLaw};
+ghost use Rattle.tc_program.specs.PlacementLaws.{PlacedSegmentsLaw, PlacedEntryLaw, SourceSymbolsLaw, SourceFieldsLaw, PlacedJumpsLaw, PlacedLaw};
 
 /// Laws of an image that is linked from the objects of sources, if the sources break no rule.
 ///
@@ -13,10 +13,10 @@ ghost use Rattle.tc_program.specs.PlacementLaws.{SegmentsLaw, EntryLaw, SymbolsL
 /// The symbols of jumps of 16 bits are those of the whole source. The displacement of each such
 /// jump reaches the address of its name.
 pub fn placing_laws()
-    ensures segments { SegmentsLaw }
-    ensures entry { EntryLaw }
-    ensures symbols { SymbolsLaw }
-    ensures fields { FieldsLaw }
-    ensures jumps { JumpsLaw }
+    ensures segments { PlacedSegmentsLaw }
+    ensures entry { PlacedEntryLaw }
+    ensures symbols { SourceSymbolsLaw }
+    ensures fields { SourceFieldsLaw }
+    ensures jumps { PlacedJumpsLaw }
     ensures placed { PlacedLaw }
 {}

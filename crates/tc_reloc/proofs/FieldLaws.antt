@@ -1,17 +1,17 @@
 -- A written field holds its number, keeps all other bits, and reaches the value.
 use Rattle.std.proofs.Common.{◌≡◌, ◌+◌, ◌^◌, ◌<◌, ◌≤◌, ℕ, None, arith}
 use Rattle.std.proofs.lemmas.Bool.Decides.{nat_tests}
-use Rattle.tc_reloc.specs.Refusals.{refusal_of}
-use Rattle.tc_reloc.specs.Fields.{content_of, room_of, spread_of, rest_of}
-use Rattle.tc_reloc.specs.Held.{held_of, reached_by}
+use Rattle.tc_reloc.specs.Refusals.{reloc_value_refusal}
+use Rattle.tc_reloc.specs.Fields.{reloc_field_number, reloc_field_bound, reloc_field_bits, bits_outside_reloc_field}
+use Rattle.tc_reloc.specs.Held.{held_reloc_number, address_reached_by_reloc}
 use Rattle.tc_reloc.proofs.EachKind.{EachKind, at_kind}
 
 module _ (w k : ℕ) (word : w < 2 ^ 32) where
   abbrev Fits : ℕ → Type 0
-  Fits kind = k < room_of kind → rest_of kind w + spread_of kind k < 2 ^ 32
+  Fits kind = k < reloc_field_bound kind → bits_outside_reloc_field kind w + reloc_field_bits kind k < 2 ^ 32
 
   fits_each : EachKind Fits
-  unfolding room_of spread_of rest_of
+  unfolding reloc_field_bound reloc_field_bits bits_outside_reloc_field
   fits_each = record {
     rel24 = λ h. omega arith;
     abs24 = λ h. omega arith;
@@ -23,14 +23,14 @@ module _ (w k : ℕ) (word : w < 2 ^ 32) where
   }
 
   -- a word with a written field is a word
-  pub written_below : (kind : ℕ) → 1 ≤ kind → kind ≤ 7 → k < room_of kind → rest_of kind w + spread_of kind k < 2 ^ 32
+  pub written_below : (kind : ℕ) → 1 ≤ kind → kind ≤ 7 → k < reloc_field_bound kind → bits_outside_reloc_field kind w + reloc_field_bits kind k < 2 ^ 32
   written_below kind some most = at_kind Fits fits_each kind some most
 
   abbrev Held : ℕ → Type 0
-  Held kind = k < room_of kind → held_of kind (rest_of kind w + spread_of kind k) ≡ k
+  Held kind = k < reloc_field_bound kind → held_reloc_number kind (bits_outside_reloc_field kind w + reloc_field_bits kind k) ≡ k
 
   held_each : EachKind Held
-  unfolding room_of spread_of rest_of held_of
+  unfolding reloc_field_bound reloc_field_bits bits_outside_reloc_field held_reloc_number
   held_each = record {
     rel24 = λ h. omega arith;
     abs24 = λ h. omega arith;
@@ -42,14 +42,14 @@ module _ (w k : ℕ) (word : w < 2 ^ 32) where
   }
 
   -- the field holds the number that was written
-  pub held_of-written : (kind : ℕ) → 1 ≤ kind → kind ≤ 7 → k < room_of kind → held_of kind (rest_of kind w + spread_of kind k) ≡ k
+  pub held_of-written : (kind : ℕ) → 1 ≤ kind → kind ≤ 7 → k < reloc_field_bound kind → held_reloc_number kind (bits_outside_reloc_field kind w + reloc_field_bits kind k) ≡ k
   held_of-written kind some most = at_kind Held held_each kind some most
 
   abbrev Stays : ℕ → Type 0
-  Stays kind = k < room_of kind → rest_of kind (rest_of kind w + spread_of kind k) ≡ rest_of kind w
+  Stays kind = k < reloc_field_bound kind → bits_outside_reloc_field kind (bits_outside_reloc_field kind w + reloc_field_bits kind k) ≡ bits_outside_reloc_field kind w
 
   stays_each : EachKind Stays
-  unfolding room_of spread_of rest_of
+  unfolding reloc_field_bound reloc_field_bits bits_outside_reloc_field
   stays_each = record {
     rel24 = λ h. omega arith;
     abs24 = λ h. omega arith;
@@ -61,15 +61,15 @@ module _ (w k : ℕ) (word : w < 2 ^ 32) where
   }
 
   -- and all other bits stay
-  pub rest_of-written : (kind : ℕ) → 1 ≤ kind → kind ≤ 7 → k < room_of kind → rest_of kind (rest_of kind w + spread_of kind k) ≡ rest_of kind w
+  pub rest_of-written : (kind : ℕ) → 1 ≤ kind → kind ≤ 7 → k < reloc_field_bound kind → bits_outside_reloc_field kind (bits_outside_reloc_field kind w + reloc_field_bits kind k) ≡ bits_outside_reloc_field kind w
   rest_of-written kind some most = at_kind Stays stays_each kind some most
 
 module _ (place value : ℕ) (place_word : place < 2 ^ 32) (value_word : value < 2 ^ 32) where
   abbrev Below : ℕ → Type 0
-  Below kind = content_of kind place value < room_of kind
+  Below kind = reloc_field_number kind place value < reloc_field_bound kind
 
   below_each : EachKind Below
-  unfolding content_of room_of
+  unfolding reloc_field_number reloc_field_bound
   below_each = record {
     rel24 = omega arith;
     abs24 = omega arith;
@@ -81,14 +81,14 @@ module _ (place value : ℕ) (place_word : place < 2 ^ 32) (value_word : value <
   }
 
   -- the number fits the field
-  pub content_below : (kind k : ℕ) → k ≡ content_of kind place value → 1 ≤ kind → kind ≤ 7 → k < room_of kind
+  pub content_below : (kind k : ℕ) → k ≡ reloc_field_number kind place value → 1 ≤ kind → kind ≤ 7 → k < reloc_field_bound kind
   content_below kind k is some most = rw is (at_kind Below below_each kind some most)
 
   abbrev Reaches : ℕ → Type 0
-  Reaches kind = refusal_of kind place value ≡ None → reached_by kind place value (content_of kind place value) ≡ value
+  Reaches kind = reloc_value_refusal kind place value ≡ None → address_reached_by_reloc kind place value (reloc_field_number kind place value) ≡ value
 
   reaches_each : EachKind Reaches
-  unfolding content_of reached_by refusal_of
+  unfolding reloc_field_number address_reached_by_reloc reloc_value_refusal
   reaches_each = record {
     rel24 = λ h. grind (arith, nat_tests);
     abs24 = λ h. grind (arith, nat_tests);
@@ -100,10 +100,10 @@ module _ (place value : ℕ) (place_word : place < 2 ^ 32) (value_word : value <
   }
 
   -- if nothing is refused, the written number reaches the value
-  pub reached_by-content_of : (kind : ℕ) → 1 ≤ kind → kind ≤ 7 → refusal_of kind place value ≡ None → reached_by kind place value (content_of kind place value) ≡ value
+  pub reached_by-content_of : (kind : ℕ) → 1 ≤ kind → kind ≤ 7 → reloc_value_refusal kind place value ≡ None → address_reached_by_reloc kind place value (reloc_field_number kind place value) ≡ value
   reached_by-content_of kind some most = at_kind Reaches reaches_each kind some most
 
 -- a whole word becomes the value, and keeps none of its bits
-pub whole_word : (w place value : ℕ) → value ≡ rest_of 7 w + spread_of 7 (content_of 7 place value)
-unfolding content_of rest_of spread_of
+pub whole_word : (w place value : ℕ) → value ≡ bits_outside_reloc_field 7 w + reloc_field_bits 7 (reloc_field_number 7 place value)
+unfolding reloc_field_number bits_outside_reloc_field reloc_field_bits
 whole_word w place value = omega arith

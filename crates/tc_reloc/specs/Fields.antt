@@ -1,19 +1,19 @@
 -- The number that a relocation writes, and the bits of the little-endian word that hold it.
 -- The fields are those of the TriCore 1 architecture manual, volume 2, instruction formats.
-use Rattle.std.specs.Prelude.{◌+◌, ◌*◌, ◌/◌, ◌%◌, ◌^◌, ◌==◌, ◌||◌, if◌then◌else◌, ℕ, List, take, drop}
+use Rattle.std.specs.Prelude.{◌+◌, ◌*◌, ◌/◌, ◌%◌, ◌^◌, ◌==◌, ◌||◌, if◌then◌else◌, ℕ, List}
 use Rattle.tc_isa.specs.Relocations.{rel24, abs24, rel15, hi16, lo16, offset16, word32}
-use Rattle.tc_reloc.specs.Refusals.{distance}
-use Rattle.tcd_base.specs.Bytes.{word_at, bytes_of_word}
+use Rattle.tc_reloc.specs.Refusals.{reloc_distance}
+use Rattle.tcd_base.specs.Bytes.{word_in_bytes, bytes_of_word}
 
 -- the number in the field
-unfoldable pub content_of : ℕ → ℕ → ℕ → ℕ
-content_of kind place value =
+unfoldable pub reloc_field_number : ℕ → ℕ → ℕ → ℕ
+reloc_field_number kind place value =
     -- the displacement in halfwords, of 24 bits
-    if kind == rel24 then distance place value / 2 % 2 ^ 24
+    if kind == rel24 then reloc_distance place value / 2 % 2 ^ 24
     -- bits 31:28 and 20:1 of the address
     else if kind == abs24 then value / 2 ^ 28 * 2 ^ 20 + value / 2 % 2 ^ 20
     -- the displacement in halfwords, of 15 bits
-    else if kind == rel15 then distance place value / 2 % 2 ^ 15
+    else if kind == rel15 then reloc_distance place value / 2 % 2 ^ 15
     -- the upper half, plus one if the lower half is negative as a signed number
     else if kind == hi16 then (value + 0x8000) / 2 ^ 16 % 2 ^ 16
     -- the lower half
@@ -22,16 +22,16 @@ content_of kind place value =
     else value
 
 -- the numbers that the field can hold are those below this
-unfoldable pub room_of : ℕ → ℕ
-room_of kind =
+unfoldable pub reloc_field_bound : ℕ → ℕ
+reloc_field_bound kind =
     if kind == rel24 || kind == abs24 then 2 ^ 24
     else if kind == rel15 then 2 ^ 15
     else if kind == word32 then 2 ^ 32
     else 2 ^ 16
 
 -- a number in the field, and zeros elsewhere
-unfoldable pub spread_of : ℕ → ℕ → ℕ
-spread_of kind k =
+unfoldable pub reloc_field_bits : ℕ → ℕ → ℕ
+reloc_field_bits kind k =
     -- form B: k[15:0] in 31:16, k[23:16] in 15:8
     if kind == rel24 || kind == abs24 then k / 2 ^ 16 * 2 ^ 8 + k % 2 ^ 16 * 2 ^ 16
     -- forms BRR and BRC: k in 30:16
@@ -44,18 +44,14 @@ spread_of kind k =
     else k
 
 -- the word with zeros in the field
-unfoldable pub rest_of : ℕ → ℕ → ℕ
-rest_of kind w =
+unfoldable pub bits_outside_reloc_field : ℕ → ℕ → ℕ
+bits_outside_reloc_field kind w =
     if kind == rel24 || kind == abs24 then w % 2 ^ 8
     else if kind == rel15 then w % 2 ^ 16 + w / 2 ^ 31 * 2 ^ 31
     else if kind == hi16 || kind == lo16 then w % 2 ^ 12 + w / 2 ^ 28 * 2 ^ 28
     else if kind == offset16 then w % 2 ^ 16
     else 0
 
--- the four bytes at an offset
-abbrev pub field_at : List ℕ → ℕ → List ℕ
-field_at bytes at = take 4 (drop at bytes)
-
 -- four bytes with a number in the field of this kind; all other bits keep their values
-abbrev pub with_field : ℕ → List ℕ → ℕ → List ℕ
-with_field kind field k = bytes_of_word (rest_of kind (word_at field 0) + spread_of kind k)
+abbrev pub with_reloc_field : ℕ → List ℕ → ℕ → List ℕ
+with_reloc_field kind field k = bytes_of_word (bits_outside_reloc_field kind (word_in_bytes field 0) + reloc_field_bits kind k)

@@ -4,19 +4,19 @@ use Rattle.tc_isa.specs.declared.fields.Fields.{Fields}
 use Rattle.tc_isa.specs.Rows.{RowData, listed, is_long}
 use Rattle.tc_isa.specs.ValidRows.{Fits}
 use Rattle.tc_isa.specs.Spelling.{spelling}
-use Rattle.tc_isa.specs.Relocations.{fills}
-use Rattle.tc_reloc.specs.Fields.{room_of, with_field}
+use Rattle.tc_isa.specs.Relocations.{can_relocation_fill}
+use Rattle.tc_reloc.specs.Fields.{reloc_field_bound, with_reloc_field}
 
 -- the instruction of a listed row with another constant
-abbrev pub with_constant : Fields → ℕ → Fields
-with_constant f n = record f { k = n }
+abbrev pub with_filled_constant : Fields → ℕ → Fields
+with_filled_constant f n = record f { k = n }
 
 -- if the field of a relocation can hold a number, writing it there changes the constant of the
 -- instruction and nothing else
-abbrev pub WrittenLaw : Type 0
-WrittenLaw = (place : ℕ) (row : RowData) (f : Fields) (kind n : ℕ) → slice_get listed place ≡ Some row → Fits row f → is_long row ≡ true → fills row.form kind ≡ true → n < room_of kind
-    → with_field kind (spelling row f) n ≡ spelling row (with_constant f n)
+abbrev pub FilledConstantLaw : Type 0
+FilledConstantLaw = (place : ℕ) (row : RowData) (f : Fields) (kind n : ℕ) → slice_get listed place ≡ Some row → Fits row f → is_long row ≡ true → can_relocation_fill row.form kind ≡ true → n < reloc_field_bound kind
+    → with_reloc_field kind (spelling row f) n ≡ spelling row (with_filled_constant f n)
 
 -- if the field of a relocation can hold a number, the instruction with that constant is valid
-abbrev pub FitsLaw : Type 0
-FitsLaw = (place : ℕ) (row : RowData) (f : Fields) (kind n : ℕ) → slice_get listed place ≡ Some row → Fits row f → fills row.form kind ≡ true → n < room_of kind → Fits row (with_constant f n)
+abbrev pub FilledRowFitsLaw : Type 0
+FilledRowFitsLaw = (place : ℕ) (row : RowData) (f : Fields) (kind n : ℕ) → slice_get listed place ≡ Some row → Fits row f → can_relocation_fill row.form kind ≡ true → n < reloc_field_bound kind → Fits row (with_filled_constant f n)

@@ -4,30 +4,31 @@ use Rattle.tc_isa.specs.Relocations.{rel24, rel15, abs24}
 use Rattle.tc_reloc.specs.declared.refusals.RelocErr.{RelocErr}
 use Rattle.tc_reloc.specs.declared.refusals.RelocErr.TheVariants.{Odd, FarOff, Segment}
 
--- the distance from a place to a value, modulo 2^32
-abbrev pub distance : ℕ → ℕ → ℕ
-distance place value = (value + 2 ^ 32 - place) % 2 ^ 32
+-- the distance from a relocation's place to its value, modulo 2^32
+abbrev pub reloc_distance : ℕ → ℕ → ℕ
+reloc_distance place value = (value + 2 ^ 32 - place) % 2 ^ 32
 
--- half of a distance, as a signed word, is a signed number of this many bits
-abbrev pub is_near : ℕ → ℕ → Bool
-is_near bits d = nat_lt d (2 ^ bits) || nat_le (2 ^ 32 - 2 ^ bits) d
+-- a relocation's distance is in reach: half of it, as a signed word, is a signed number of this
+-- many bits
+abbrev pub is_reloc_in_reach : ℕ → ℕ → Bool
+is_reloc_in_reach bits d = nat_lt d (2 ^ bits) || nat_le (2 ^ 32 - 2 ^ bits) d
 
 -- kinds 1 and 3 jump over an even distance, kind 2 to an even address
-abbrev pub is_odd : ℕ → ℕ → ℕ → Bool
-is_odd kind place value = ((kind == rel24 || kind == rel15) && distance place value % 2 == 1) || (kind == abs24 && value % 2 == 1)
+abbrev pub is_reloc_target_odd : ℕ → ℕ → ℕ → Bool
+is_reloc_target_odd kind place value = ((kind == rel24 || kind == rel15) && reloc_distance place value % 2 == 1) || (kind == abs24 && value % 2 == 1)
 
 -- a displacement has 24 bits in kind 1, 15 bits in kind 3
-abbrev pub is_far : ℕ → ℕ → ℕ → Bool
-is_far kind place value = (kind == rel24 && not (is_near 24 (distance place value))) || (kind == rel15 && not (is_near 15 (distance place value)))
+abbrev pub is_reloc_target_far : ℕ → ℕ → ℕ → Bool
+is_reloc_target_far kind place value = (kind == rel24 && not (is_reloc_in_reach 24 (reloc_distance place value))) || (kind == rel15 && not (is_reloc_in_reach 15 (reloc_distance place value)))
 
 -- an absolute jump reaches the first 2^21 bytes of each segment of 2^28: bits 27:21 are zero
-abbrev pub is_outside : ℕ → ℕ → Bool
-is_outside kind value = kind == abs24 && nat_lt 0 (value / 2 ^ 21 % 2 ^ 7)
+abbrev pub is_reloc_target_outside : ℕ → ℕ → Bool
+is_reloc_target_outside kind value = kind == abs24 && nat_lt 0 (value / 2 ^ 21 % 2 ^ 7)
 
 -- the first refusal, if there is one
-unfoldable pub refusal_of : ℕ → ℕ → ℕ → Option RelocErr
-refusal_of kind place value =
-    if is_odd kind place value then Some Odd
-    else if is_far kind place value then Some FarOff
-    else if is_outside kind value then Some Segment
+unfoldable pub reloc_value_refusal : ℕ → ℕ → ℕ → Option RelocErr
+reloc_value_refusal kind place value =
+    if is_reloc_target_odd kind place value then Some Odd
+    else if is_reloc_target_far kind place value then Some FarOff
+    else if is_reloc_target_outside kind value then Some Segment
     else None

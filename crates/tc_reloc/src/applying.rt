@@ -1,13 +1,12 @@
 // Writes the value of a relocation into its field.
 ghost use Rattle.std.specs.Prelude.{◌≡◌, ◌≤◌, ◌+◌, OnOk, IfOk};
-ghost use Rattle.tcd_base.specs.Bytes.{word_at};
-ghost use Rattle.tc_reloc.specs.Fields.{content_of, rest_of, spread_of};
-ghost use Rattle.tc_reloc.specs.Held.{held_of, reached_by};
+ghost use Rattle.tcd_base.specs.Bytes.{word_in_bytes};
+ghost use Rattle.tc_reloc.specs.Fields.{reloc_field_number, bits_outside_reloc_field, reloc_field_bits};
+ghost use Rattle.tc_reloc.specs.Held.{held_reloc_number, address_reached_by_reloc};
 ghost use Rattle.tc_reloc.specs.Applied.{applied};
-ghost use Rattle.tc_reloc.specs.Refusals.{distance};
 
-use crate::fields::{content, rest, spread};
-use crate::refusals::{RelocErr, refusal};
+use crate::fields::{bits_outside_reloc_field, reloc_field_bits, reloc_field_number};
+use crate::refusals::{RelocErr, reloc_value_refusal};
 use tc_isa::WORD32;
 
 /// The four bytes of a field at `place`, with `value` written in the way of this kind. All other
@@ -21,35 +20,32 @@ pub fn apply(kind: u8, field: [u8; 4], place: u32, value: u32) -> Result<[u8; 4]
     ensures applied { result ≡ applied kind field place value }
 
     // The field holds the number that reaches the value, and all bits outside it keep their values.
-    ensures held { IfOk result (λ new. held_of kind (word_at new 0) ≡ content_of kind place value) }
+    ensures held { IfOk result (λ new. held_reloc_number kind (word_in_bytes new 0)
+        ≡ reloc_field_number kind place value) }
     ensures reached { OnOk result
-        (reached_by kind place value (content_of kind place value) ≡ value) }
+        (address_reached_by_reloc kind place value (reloc_field_number kind place value) ≡ value) }
     ensures rest { IfOk result
-        (λ new. rest_of kind (word_at new 0) ≡ rest_of kind (word_at field 0)) }
+        (λ new. bits_outside_reloc_field kind (word_in_bytes new 0)
+        ≡ bits_outside_reloc_field kind (word_in_bytes field 0)) }
 {
-    if let Some(err) = refusal(kind, place, value) {
+    if let Some(err) = reloc_value_refusal(kind, place, value) {
         return Err(err);
     }
-    let word = fill_field(kind, u32::from_le_bytes(field), place, value);
+    let word = fill_reloc_field(kind, u32::from_le_bytes(field), place, value);
     Ok(word.to_le_bytes())
 }
 
 // The word with the value in its field. A whole word is its own field, so none of its old bits
 // remain.
-fn fill_field(kind: u8, word: u32, place: u32, value: u32) -> u32
+fn fill_reloc_field(kind: u8, word: u32, place: u32, value: u32) -> u32
     requires some { 1 ≤ kind }
     requires most { kind ≤ 7 }
-    ensures { result ≡ rest_of kind word + spread_of kind (content_of kind place value) }
+    ensures { result ≡ bits_outside_reloc_field kind word + reloc_field_bits kind
+        (reloc_field_number kind place value) }
 {
     if kind == WORD32 {
         return value;
     }
-    rest(kind, word) + spread(kind, content(kind, place, value))
-}
-
-/// The distance from a place to a value, modulo 2^32.
-pub(crate) fn distance(place: u32, value: u32) -> u32
-    ensures { result ≡ distance place value }
-{
-    value.wrapping_sub(place)
+    bits_outside_reloc_field(kind, word)
+        + reloc_field_bits(kind, reloc_field_number(kind, place, value))
 }

@@ -1,19 +1,19 @@
 // The fields of relocations: the number to write, and the bits that hold it.
 ghost use Rattle.std.specs.Prelude.{◌≡◌, ◌<◌};
-ghost use Rattle.tc_reloc.specs.Fields.{content_of, rest_of, spread_of, room_of};
+ghost use Rattle.tc_reloc.specs.Fields.{reloc_field_number, bits_outside_reloc_field, reloc_field_bits, reloc_field_bound};
 
-use crate::applying::distance;
+use crate::refusals::reloc_distance;
 use tc_isa::{ABS24, HI16, LO16, OFFSET16, REL15, REL24};
 
 /// The number that goes into the field.
-#[tactic(auto, unfolding(crate::specs::Fields::content_of))]
-pub(crate) fn content(kind: u8, place: u32, value: u32) -> u32
-    ensures { result ≡ content_of kind place value }
+#[tactic(auto, unfolding(crate::specs::Fields::reloc_field_number))]
+pub(crate) fn reloc_field_number(kind: u8, place: u32, value: u32) -> u32
+    ensures { result ≡ reloc_field_number kind place value }
 {
     match kind {
-        REL24 => distance(place, value) / 2 % 0x100_0000,
+        REL24 => reloc_distance(place, value) / 2 % 0x100_0000,
         ABS24 => value / 0x1000_0000 * 0x10_0000 + value / 2 % 0x10_0000,
-        REL15 => distance(place, value) / 2 % 0x8000,
+        REL15 => reloc_distance(place, value) / 2 % 0x8000,
         HI16 => ((u64::from(value) + 0x8000) / 0x1_0000 % 0x1_0000) as u32,
         LO16 | OFFSET16 => value % 0x1_0000,
         _ => value,
@@ -21,9 +21,9 @@ pub(crate) fn content(kind: u8, place: u32, value: u32) -> u32
 }
 
 /// The bits outside the field.
-#[tactic(auto, unfolding(crate::specs::Fields::rest_of))]
-pub(crate) fn rest(kind: u8, word: u32) -> u32
-    ensures { result ≡ rest_of kind word }
+#[tactic(auto, unfolding(crate::specs::Fields::bits_outside_reloc_field))]
+pub(crate) fn bits_outside_reloc_field(kind: u8, word: u32) -> u32
+    ensures { result ≡ bits_outside_reloc_field kind word }
 {
     match kind {
         REL24 | ABS24 => word % 0x100,
@@ -35,10 +35,10 @@ pub(crate) fn rest(kind: u8, word: u32) -> u32
 }
 
 /// The word with this number in the field and zeros elsewhere.
-#[tactic(auto, unfolding(crate::specs::Fields::spread_of, crate::specs::Fields::room_of))]
-pub(crate) fn spread(kind: u8, content: u32) -> u32
-    requires { content < room_of kind }
-    ensures { result ≡ spread_of kind content }
+#[tactic(auto, unfolding(crate::specs::Fields::reloc_field_bits, crate::specs::Fields::reloc_field_bound))]
+pub(crate) fn reloc_field_bits(kind: u8, content: u32) -> u32
+    requires { content < reloc_field_bound kind }
+    ensures { result ≡ reloc_field_bits kind content }
 {
     match kind {
         REL24 | ABS24 => content / 0x1_0000 * 0x100 + content % 0x1_0000 * 0x1_0000,

@@ -1,10 +1,10 @@
 // Public laws of relocations and of the instructions whose constants they fill.
-ghost use Rattle.tc_reloc.specs.FillingLaws.{FitsLaw, WrittenLaw};
+ghost use Rattle.tc_reloc.specs.FillingLaws.{FilledRowFitsLaw, FilledConstantLaw};
 
 /// If the field of a relocation can hold a number, that number fits the constant of each
 /// instruction whose constant the relocation fills. Writing it into the field gives the spelling of
 /// the instruction with that constant.
 pub fn filling_laws()
-    ensures fits { FitsLaw }
-    ensures written { WrittenLaw }
+    ensures fits { FilledRowFitsLaw }
+    ensures written { FilledConstantLaw }
 {}

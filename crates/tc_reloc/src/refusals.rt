@@ -1,8 +1,7 @@
 // The reasons why a value can't be written into a field.
 ghost use Rattle.std.specs.Prelude.{◌≡◌, ◌≤◌};
-ghost use Rattle.tc_reloc.specs.Refusals.{distance, is_near, refusal_of};
+ghost use Rattle.tc_reloc.specs.Refusals.{reloc_distance, is_reloc_in_reach, reloc_value_refusal};
 
-use crate::applying::distance;
 use tc_isa::{ABS24, REL15, REL24};
 
 /// Why a value can't be written into its field, in the order of the tests.
@@ -17,26 +16,33 @@ pub enum RelocErr {
 }
 
 // Whether half of a distance is a signed number of `bits` bits.
-fn is_near(bits: u8, distance: u32) -> bool
+fn is_reloc_in_reach(bits: u8, distance: u32) -> bool
     requires { bits ≤ 31 }
-    ensures { result ≡ is_near bits distance }
+    ensures { result ≡ is_reloc_in_reach bits distance }
 {
     let reach = 1u64 << bits;
     u64::from(distance) < reach || 4_294_967_296 - reach <= u64::from(distance)
 }
 
 /// The first reason why this kind can't take the value at the place, if there is one.
-#[tactic(auto, unfolding(crate::specs::Refusals::refusal_of))]
-pub(crate) fn refusal(kind: u8, place: u32, value: u32) -> Option<RelocErr>
-    ensures { result ≡ refusal_of kind place value }
+#[tactic(auto, unfolding(crate::specs::Refusals::reloc_value_refusal))]
+pub(crate) fn reloc_value_refusal(kind: u8, place: u32, value: u32) -> Option<RelocErr>
+    ensures { result ≡ reloc_value_refusal kind place value }
 {
-    let distance = distance(place, value);
+    let distance = reloc_distance(place, value);
     match kind {
         REL24 | REL15 if distance % 2 == 1 => Some(RelocErr::Odd),
-        REL24 if !is_near(24, distance) => Some(RelocErr::FarOff),
-        REL15 if !is_near(15, distance) => Some(RelocErr::FarOff),
+        REL24 if !is_reloc_in_reach(24, distance) => Some(RelocErr::FarOff),
+        REL15 if !is_reloc_in_reach(15, distance) => Some(RelocErr::FarOff),
         ABS24 if value % 2 == 1 => Some(RelocErr::Odd),
         ABS24 if value / 0x20_0000 % 0x80 != 0 => Some(RelocErr::Segment),
         _ => None,
     }
+}
+
+/// Returns the distance from a relocation's place to its value, modulo 2^32.
+pub(crate) fn reloc_distance(place: u32, value: u32) -> u32
+    ensures { result ≡ reloc_distance place value }
+{
+    value.wrapping_sub(place)
 }

@@ -3,7 +3,7 @@ use Rattle.std.proofs.Common.{◌≡◌, ◌≢◌, ℕ, zero, suc, ◌+◌, ◌
 use Rattle.std.specs.Bool.{OnTrue}
 use Rattle.std.specs.Option.{option_map}
 use Rattle.std.proofs.lemmas.Bool.{cond_both, cond-true, cond-false, eqb-false}
-use Rattle.csa_chain.specs.MemoryBytes.{Memory, with_words, with_bytes, load_number, extend}
+use Rattle.csa_chain.specs.MemoryBytes.{Memory, with_words, with_bytes, load_number, extend_loaded_bytes}
 use Rattle.csa_chain.specs.Chain.{link_in, link_address, is_area, area_word, chain}
 use Rattle.csa_chain.specs.ChainLaws.{MissesAreas}
 use Rattle.csa_chain.specs.ContextWords.{pcxi_word_of}
@@ -22,25 +22,25 @@ use Rattle.tc_machine.specs.declared.events.Event.{Event}
 use Rattle.tc_machine.specs.declared.events.End.{End}
 use Rattle.tc_machine.specs.declared.events.End.TheVariants.{Running, Dead}
 use Rattle.tc_machine.specs.declared.state.Machine.{Machine}
-use Rattle.tc_machine.specs.Machine.{reg, with_reg, died, then_, goes_on}
-use Rattle.tc_machine.specs.Instructions.{with_status, advanced, does, misaligned, with_base, access_address, traps_at}
-use Rattle.tc_machine.specs.Stepping.{interrupt, is_taken, executed, done, step, used_of}
+use Rattle.tc_machine.specs.Machine.{reg, with_reg, died, then_, goes_on, psw_with_status}
+use Rattle.tc_machine.specs.Instructions.{advanced, does, misaligned, with_base, access_address, is_trapping_access}
+use Rattle.tc_machine.specs.Stepping.{interrupt, is_taken, executed, machine_after_event, step, used_of}
 use Rattle.tc_machine.specs.SavesAndRestores.{context_of, saved, save, has_kind, restored, restore}
-use Rattle.tc_machine.specs.Fetching.{fetched, mapped_bytes, shaped}
-use Rattle.tc_machine.specs.InstructionKinds.{keeps_of}
+use Rattle.tc_machine.specs.Fetching.{fetched, mapped_bytes, fetched_shape}
+use Rattle.tc_machine.specs.InstructionKinds.{is_area_keeping_shape}
 use Rattle.tc_machine.proofs.Kept.{Same, same_does}
 use Rattle.tc_machine.proofs.Saves.{then_-running, length-context_of}
 use Rattle.tc_script.specs.declared.area_counts.AreasUsed.{AreasUsed}
 use Rattle.tc_script.specs.declared.area_counts.Effect.{Effect}
 use Rattle.tc_script.specs.declared.area_counts.Effect.TheVariants.{Stays, Saves, Restores, Unknown}
-use Rattle.tc_script.specs.AreasInSequence.{row_of, AreInRow, IsCounted, HasSaved, HasRestored, HasStored, HasStayed, EffectHolds, IsEffectOf}
+use Rattle.tc_script.specs.AreasInSequence.{links_in_sequence, AreAreasInSequence, IsCounted, HasSaved, HasRestored, HasStored, HasStayed, AreaEffectHolds, IsAreaEffectOf}
 
 -- ---- rows
-row_length : (first n : ℕ) → length (row_of first n) ≡ n
+row_length : (first n : ℕ) → length (links_in_sequence first n) ≡ n
 row_length first zero = refl
 row_length first (suc n) = omega (arith, row_length first n)
 
-pub used_in_row : (m : Machine) (first n : ℕ) → AreInRow first n m → n ≡ unwrap_or (used_of m) 0
+pub used_in_row : (m : Machine) (first n : ℕ) → AreAreasInSequence first n m → n ≡ unwrap_or (used_of m) 0
 used_in_row m first n row = sym (ap (λ (o : Option (List ℕ)). unwrap_or (option_map length o) 0) row ∙ row_length first n)
 
 on_true : {P : Type 0} (b : Bool) → P → OnTrue b P
@@ -52,11 +52,11 @@ from_true true e p = p
 from_true false e p = cc
 
 -- such a row is counted
-pub counted_row : (u : AreasUsed) (m : Machine) → u.first < 2 ^ 20 → AreInRow u.first u.count m → IsCounted u m
+pub counted_row : (u : AreasUsed) (m : Machine) → u.first < 2 ^ 20 → AreAreasInSequence u.first u.count m → IsCounted u m
 counted_row u m small row = record { count = used_in_row m u.first u.count row; first = small; row = on_true u.in_row row }
 
 -- the row that is counted
-pub the_row : (u : AreasUsed) (m : Machine) → IsCounted u m → u.in_row ≡ true → AreInRow u.first u.count m
+pub the_row : (u : AreasUsed) (m : Machine) → IsCounted u m → u.in_row ≡ true → AreAreasInSequence u.first u.count m
 the_row u m h is = from_true u.in_row is h.row
 
 -- no area is in use if PCXI has no link
@@ -67,11 +67,11 @@ pub counted_anew : (m : Machine) (u : AreasUsed) → u.count ≡ unwrap_or (used
 counted_anew m u count first none = record {
   count = count;
   first = (let e = first in omega arith);
-  row = elim u.in_row as (λ b. (b ≡ true → link_in m.pcxi ≡ 0) → OnTrue b (AreInRow u.first u.count m)) [
+  row = elim u.in_row as (λ b. (b ≡ true → link_in m.pcxi ≡ 0) → OnTrue b (AreAreasInSequence u.first u.count m)) [
     | true ↦ λ h.
         let empty = none_used m (h refl) in
         let zero_count : u.count ≡ 0 = count ∙ ap (λ (o : Option (List ℕ)). unwrap_or (option_map length o) 0) empty in
-        empty ∙ ap (λ n. Some (row_of u.first n)) (sym zero_count)
+        empty ∙ ap (λ n. Some (links_in_sequence u.first n)) (sym zero_count)
     | false ↦ λ h. tt
   ] none;
 }
@@ -83,19 +83,19 @@ counted_same u m n s h =
     record {
       count = h.count ∙ ap (λ (o : Option (List ℕ)). unwrap_or (option_map length o) 0) (sym e);
       first = h.first;
-      row = elim u.in_row as (λ b. OnTrue b (AreInRow u.first u.count m) → OnTrue b (AreInRow u.first u.count n)) [ true ↦ λ r. e ∙ r | false ↦ λ r. tt ] h.row;
+      row = elim u.in_row as (λ b. OnTrue b (AreAreasInSequence u.first u.count m) → OnTrue b (AreAreasInSequence u.first u.count n)) [ true ↦ λ r. e ∙ r | false ↦ λ r. tt ] h.row;
     }
 
-pub told_same : (effect : Effect) (u : AreasUsed) (m n : Machine) → Same m n → EffectHolds effect u m → EffectHolds effect u n
+pub told_same : (effect : Effect) (u : AreasUsed) (m n : Machine) → Same m n → AreaEffectHolds effect u m → AreaEffectHolds effect u n
 told_same Stays u m n s h = counted_same u m n s h
 told_same Unknown u m n s h = tt
 told_same _ u m n s h = (h.0, counted_same _ m n s h.1)
 
-pub as_told : (effect other : Effect) (u : AreasUsed) (n : Machine) → effect ≡ other → EffectHolds effect u n → EffectHolds other u n
-as_told effect other u n is h = subst (λ x. EffectHolds x u n) is h
+pub as_told : (effect other : Effect) (u : AreasUsed) (n : Machine) → effect ≡ other → AreaEffectHolds effect u n → AreaEffectHolds other u n
+as_told effect other u n is h = subst (λ x. AreaEffectHolds x u n) is h
 
 -- ---- saves and restores
-avoids_row : (first k n : ℕ) → n ≤ k → Avoids (first + k) (row_of first n)
+avoids_row : (first k n : ℕ) → n ≤ k → Avoids (first + k) (links_in_sequence first n)
 avoids_row first k zero h = tt
 avoids_row first k (suc n) h = ((λ e. omega arith), avoids_row first k n (omega arith))
 
@@ -103,11 +103,11 @@ first_word : (m : Machine) (upper : Bool) → get_or (context_of m upper) 0 0 �
 first_word m true = refl
 first_word m false = refl
 
-pub told_save : (u : AreasUsed) (m after : Machine) → IsCounted u m → u.in_row ≡ true → m.pcxi < 2 ^ 32 → u.count < 4096 → m.fcx % 2 ^ 20 ≡ u.first + u.count → HasSaved m after → EffectHolds Saves u after
+pub told_save : (u : AreasUsed) (m after : Machine) → IsCounted u m → u.in_row ≡ true → m.pcxi < 2 ^ 32 → u.count < 4096 → m.fcx % 2 ^ 20 ≡ u.first + u.count → HasSaved m after → AreaEffectHolds Saves u after
 told_save u m after h is small few next s =
     let f = link_in m.fcx in
     let at : f ≡ u.first + u.count = next in
-    let used = row_of u.first u.count in
+    let used = links_in_sequence u.first u.count in
     let links = (Links-chain_within m.mem 4096 m.pcxi used (the_row u m h is)).0 in
     let avoids : Avoids f used = subst (λ l. Avoids l used) (sym at) (avoids_row u.first u.count u.count (omega arith)) in
     let word = pcxi_word_of m.core m.ccpn m.ie s.upper f in
@@ -117,12 +117,12 @@ told_save u m after h is small few next s =
     let long = row_length u.first u.count in
     let row : chain (saved m s.upper).mem word ≡ Some (f ∷ used) = chain_within-Links _ 4096 word (f ∷ used) more (omega arith) in
     let there : chain after.mem after.pcxi ≡ Some (f ∷ used) = ap (λ (mem : Memory). chain mem after.pcxi) s.mem ∙ ap (λ (w : ℕ). chain (saved m s.upper).mem w) s.pcxi ∙ row in
-    let whole : AreInRow u.first (suc u.count) after = there ∙ ap (λ l. Some (l ∷ used)) at in
-    (few, counted_row (record u { count = u.count + 1 }) after h.first (subst (λ n. AreInRow u.first n after) (sym (add-one u.count)) whole))
+    let whole : AreAreasInSequence u.first (suc u.count) after = there ∙ ap (λ l. Some (l ∷ used)) at in
+    (few, counted_row (record u { count = u.count + 1 }) after h.first (subst (λ n. AreAreasInSequence u.first n after) (sym (add-one u.count)) whole))
 
-restored_row : (m after : Machine) (first n : ℕ) (s : HasRestored m after) → AreInRow first (suc n) m → AreInRow first n after
+restored_row : (m after : Machine) (first n : ℕ) (s : HasRestored m after) → AreAreasInSequence first (suc n) m → AreAreasInSequence first n after
 restored_row m after first n s row =
-    let used = row_of first n in
+    let used = links_in_sequence first n in
     let both = Links-chain_within m.mem 4096 m.pcxi ((first + n) ∷ used) row in
     let links = both.0 in
     let few : suc (length used) ≤ 4096 = both.1 in
@@ -132,35 +132,35 @@ restored_row m after first n s row =
     let avoids : Avoids l used = subst (λ x. Avoids x used) (sym at) (avoids_row first n n (omega arith)) in
     let rest = used_after_restore m.mem m.pcxi l used m.fcx links' avoids in
     let is = chain_within-Links (with_words m.mem (link_address l) (m.fcx ∷ [])) 4096 (area_word m.mem l 0) used rest (omega arith) in
-    elim s.upper as (λ b. after.mem ≡ (restored m b).mem → after.pcxi ≡ (restored m b).pcxi → AreInRow first n after) [
+    elim s.upper as (λ b. after.mem ≡ (restored m b).mem → after.pcxi ≡ (restored m b).pcxi → AreAreasInSequence first n after) [
       | true ↦ λ mem pcxi. ap (λ (x : Memory). chain x after.pcxi) mem ∙ ap (λ (w : ℕ). chain (with_words m.mem (link_address l) (m.fcx ∷ [])) w) pcxi ∙ is
       | false ↦ λ mem pcxi. ap (λ (x : Memory). chain x after.pcxi) mem ∙ ap (λ (w : ℕ). chain (with_words m.mem (link_address l) (m.fcx ∷ [])) w) pcxi ∙ is
     ] s.mem s.pcxi
 
-less_row : (m after : Machine) (first n : ℕ) → HasRestored m after → 1 ≤ n → AreInRow first n m → AreInRow first (n - 1) after
+less_row : (m after : Machine) (first n : ℕ) → HasRestored m after → 1 ≤ n → AreAreasInSequence first n m → AreAreasInSequence first (n - 1) after
 less_row m after first zero s some row = absurd (omega arith)
-less_row m after first (suc n) s some row = let e : n ≡ suc n - 1 = omega arith in subst (λ k. AreInRow first k after) e (restored_row m after first n s row)
+less_row m after first (suc n) s some row = let e : n ≡ suc n - 1 = omega arith in subst (λ k. AreAreasInSequence first k after) e (restored_row m after first n s row)
 
-pub told_restore : (u : AreasUsed) (m after : Machine) → IsCounted u m → u.in_row ≡ true → 1 ≤ u.count → HasRestored m after → EffectHolds Restores u after
+pub told_restore : (u : AreasUsed) (m after : Machine) → IsCounted u m → u.in_row ≡ true → 1 ≤ u.count → HasRestored m after → AreaEffectHolds Restores u after
 told_restore u m after h is some s = (some, counted_row (record u { count = u.count - 1 }) after h.first (less_row m after u.first u.count s some (the_row u m h is)))
 
 -- ---- stores
 address_up : (l k : ℕ) → l ≤ k → link_address l ≤ link_address k
 address_up l k h = omega arith
 
-below_row : (x size first n : ℕ) → x + size ≤ link_address first → MissesAreas x size (row_of first n)
+below_row : (x size first n : ℕ) → x + size ≤ link_address first → MissesAreas x size (links_in_sequence first n)
 below_row x size first zero h = tt
 below_row x size first (suc n) h = let up = address_up first (first + n) (omega arith) in (inl (omega arith), below_row x size first n h)
 
-above_row : (x size first n last : ℕ) → n ≤ last → link_address (first + last) + 64 ≤ x → MissesAreas x size (row_of first n)
+above_row : (x size first n last : ℕ) → n ≤ last → link_address (first + last) + 64 ≤ x → MissesAreas x size (links_in_sequence first n)
 above_row x size first zero last le h = tt
 above_row x size first (suc n) last le h = let up = address_up (first + n) (first + last) (omega arith) in (inr (omega arith), above_row x size first n last (omega arith) h)
 
 -- the row ends with the area that PCXI names
-last_link : (m : Machine) (first n : ℕ) → AreInRow first (suc n) m → link_in m.pcxi ≡ first + n
-last_link m first n row = (Links-chain_within m.mem 4096 m.pcxi ((first + n) ∷ row_of first n) row).0.1
+last_link : (m : Machine) (first n : ℕ) → AreAreasInSequence first (suc n) m → link_in m.pcxi ≡ first + n
+last_link m first n row = (Links-chain_within m.mem 4096 m.pcxi ((first + n) ∷ links_in_sequence first n) row).0.1
 
-misses : (x size first n : ℕ) (m : Machine) → AreInRow first n m → (n ≡ 0) ⊎ ((x + size ≤ link_address first) ⊎ (link_address (link_in m.pcxi) + 64 ≤ x)) → MissesAreas x size (row_of first n)
+misses : (x size first n : ℕ) (m : Machine) → AreAreasInSequence first n m → (n ≡ 0) ⊎ ((x + size ≤ link_address first) ⊎ (link_address (link_in m.pcxi) + 64 ≤ x)) → MissesAreas x size (links_in_sequence first n)
 misses x size first zero m row out = tt
 misses x size first (suc n) m row (inl none) = absurd (omega arith)
 misses x size first (suc n) m row (inr (inl below)) = below_row x size first (suc n) below
@@ -169,11 +169,11 @@ misses x size first (suc n) m row (inr (inr above)) =
     let high = subst (λ l. link_address l + 64 ≤ x) at above in
     (inr high, above_row x size first n n (omega arith) high)
 
-pub told_store : (u : AreasUsed) (m after : Machine) (x size : ℕ) → IsCounted u m → u.in_row ≡ true → x + size ≤ 2 ^ 32 → (u.count ≡ 0) ⊎ ((x + size ≤ link_address u.first) ⊎ (link_address (link_in m.pcxi) + 64 ≤ x)) → HasStored x size m after → EffectHolds Stays u after
+pub told_store : (u : AreasUsed) (m after : Machine) (x size : ℕ) → IsCounted u m → u.in_row ≡ true → x + size ≤ 2 ^ 32 → (u.count ≡ 0) ⊎ ((x + size ≤ link_address u.first) ⊎ (link_address (link_in m.pcxi) + 64 ≤ x)) → HasStored x size m after → AreaEffectHolds Stays u after
 told_store u m after x size h is fits out s =
     let row = the_row u m h is in
     let miss = misses x size u.first u.count m row out in
-    let same = (store_misses m.mem x s.word size m.pcxi m.pcxi (row_of u.first u.count) (row_of u.first u.count) fits row row miss miss).0 in
+    let same = (store_misses m.mem x s.word size m.pcxi m.pcxi (links_in_sequence u.first u.count) (links_in_sequence u.first u.count) fits row row miss miss).0 in
     counted_row u after h.first (ap (λ (mem : Memory). chain mem after.pcxi) s.mem ∙ ap (λ (w : ℕ). chain (with_bytes m.mem x s.word size) w) s.pcxi ∙ same)
 
 -- ---- instructions
@@ -279,13 +279,13 @@ misaligned_saves : (m : Machine) → (misaligned m).end ≡ Running → HasSaved
 misaligned_saves m run = saves_then m true _ (λ s. record { mem = refl; pcxi = refl }) run
 
 module _ (m : Machine) (e : Event) where
-  pub load_traps : (dst : ℕ) (base : Arg) (offset size : ℕ) (signed after : Bool) (n : ℕ) → traps_at e (access_address m base offset after) size ≡ true → (does m e (Load dst base offset size signed after) n).end ≡ Running → HasSaved m (does m e (Load dst base offset size signed after) n)
+  pub load_traps : (dst : ℕ) (base : Arg) (offset size : ℕ) (signed after : Bool) (n : ℕ) → is_trapping_access e (access_address m base offset after) size ≡ true → (does m e (Load dst base offset size signed after) n).end ≡ Running → HasSaved m (does m e (Load dst base offset size signed after) n)
   unfolding does
   load_traps dst base offset size signed after n t run =
       let is : does m e (Load dst base offset size signed after) n ≡ misaligned m = cond-true _ _ _ t in
       subst (HasSaved m) (sym is) (misaligned_saves m (subst (λ (k : Machine). k.end ≡ Running) is run))
 
-  pub store_traps : (src : ℕ) (base : Arg) (offset size : ℕ) (after : Bool) (n : ℕ) → traps_at e (access_address m base offset after) size ≡ true → (does m e (Store src base offset size after) n).end ≡ Running → HasSaved m (does m e (Store src base offset size after) n)
+  pub store_traps : (src : ℕ) (base : Arg) (offset size : ℕ) (after : Bool) (n : ℕ) → is_trapping_access e (access_address m base offset after) size ≡ true → (does m e (Store src base offset size after) n).end ≡ Running → HasSaved m (does m e (Store src base offset size after) n)
   unfolding does
   store_traps src base offset size after n t run =
       let is : does m e (Store src base offset size after) n ≡ misaligned m = cond-true _ _ _ t in
@@ -299,16 +299,16 @@ module _ (m : Machine) (e : Event) where
   same_base (Reg r) offset false = record { mem = refl; pcxi = refl }
   same_base (Word w) offset after = record { mem = refl; pcxi = refl }
 
-  pub load_same : (dst : ℕ) (base : Arg) (offset size : ℕ) (signed after : Bool) (n : ℕ) → traps_at e (access_address m base offset after) size ≡ false → Same m (does m e (Load dst base offset size signed after) n)
+  pub load_same : (dst : ℕ) (base : Arg) (offset size : ℕ) (signed after : Bool) (n : ℕ) → is_trapping_access e (access_address m base offset after) size ≡ false → Same m (does m e (Load dst base offset size signed after) n)
   unfolding does
   load_same dst base offset size signed after n t =
       let b = same_base base offset after in
-      let loaded = extend signed size (load_number m.mem e.input (access_address m base offset after) size) in
+      let loaded = extend_loaded_bytes signed size (load_number m.mem e.input (access_address m base offset after) size) in
       let r = same_reg (with_base m base offset after) dst loaded in
       let is : does m e (Load dst base offset size signed after) n ≡ advanced n (with_reg (with_base m base offset after) dst loaded) = cond-false _ _ _ t in
       subst (Same m) (sym is) (record { mem = r.mem ∙ b.mem; pcxi = r.pcxi ∙ b.pcxi })
 
-  pub store_stores : (src : ℕ) (base : Arg) (offset size : ℕ) (after : Bool) (n : ℕ) → traps_at e (access_address m base offset after) size ≡ false → HasStored (access_address m base offset after) size m (does m e (Store src base offset size after) n)
+  pub store_stores : (src : ℕ) (base : Arg) (offset size : ℕ) (after : Bool) (n : ℕ) → is_trapping_access e (access_address m base offset after) size ≡ false → HasStored (access_address m base offset after) size m (does m e (Store src base offset size after) n)
   unfolding does
   store_stores src base offset size after n t =
       let b = same_base base offset after in
@@ -346,98 +346,98 @@ module _ (m : Machine) (e : Event) where
 
 -- ---- what an effect says of an instruction
 module _ (effect : Effect) (u : AreasUsed) (m : Machine) (e : Event) where
-  pub told_call : (s : Shape) {to : Target} → s ≡ Call to → ((k : Machine) → HasSaved m k → EffectHolds effect u k) → IsEffectOf effect u m e s
-  told_call s {to = to} is tells = subst (λ x. IsEffectOf effect u m e x) (sym is) (λ n run. tells (does m e (Call to) n) (call_saves m e to n run))
+  pub told_call : (s : Shape) {to : Target} → s ≡ Call to → ((k : Machine) → HasSaved m k → AreaEffectHolds effect u k) → IsAreaEffectOf effect u m e s
+  told_call s {to = to} is tells = subst (λ x. IsAreaEffectOf effect u m e x) (sym is) (λ n run. tells (does m e (Call to) n) (call_saves m e to n run))
 
-  pub told_svlcx : (s : Shape) → s ≡ Svlcx → ((k : Machine) → HasSaved m k → EffectHolds effect u k) → IsEffectOf effect u m e s
-  told_svlcx s is tells = subst (λ x. IsEffectOf effect u m e x) (sym is) (λ n run. tells (does m e Svlcx n) (svlcx_saves m e n run))
+  pub told_svlcx : (s : Shape) → s ≡ Svlcx → ((k : Machine) → HasSaved m k → AreaEffectHolds effect u k) → IsAreaEffectOf effect u m e s
+  told_svlcx s is tells = subst (λ x. IsAreaEffectOf effect u m e x) (sym is) (λ n run. tells (does m e Svlcx n) (svlcx_saves m e n run))
 
-  pub told_bisr : (s : Shape) {c : ℕ} → s ≡ Bisr c → ((k : Machine) → HasSaved m k → EffectHolds effect u k) → IsEffectOf effect u m e s
-  told_bisr s {c = c} is tells = subst (λ x. IsEffectOf effect u m e x) (sym is) (λ n run. tells (does m e (Bisr c) n) (bisr_saves m e c n run))
+  pub told_bisr : (s : Shape) {c : ℕ} → s ≡ Bisr c → ((k : Machine) → HasSaved m k → AreaEffectHolds effect u k) → IsAreaEffectOf effect u m e s
+  told_bisr s {c = c} is tells = subst (λ x. IsAreaEffectOf effect u m e x) (sym is) (λ n run. tells (does m e (Bisr c) n) (bisr_saves m e c n run))
 
-  pub told_syscall : (s : Shape) {tin : ℕ} → s ≡ Syscall tin → ((k : Machine) → HasSaved m k → EffectHolds effect u k) → IsEffectOf effect u m e s
-  told_syscall s {tin = tin} is tells = subst (λ x. IsEffectOf effect u m e x) (sym is) (λ n run. tells (does m e (Syscall tin) n) (syscall_saves m e tin n run))
+  pub told_syscall : (s : Shape) {tin : ℕ} → s ≡ Syscall tin → ((k : Machine) → HasSaved m k → AreaEffectHolds effect u k) → IsAreaEffectOf effect u m e s
+  told_syscall s {tin = tin} is tells = subst (λ x. IsAreaEffectOf effect u m e x) (sym is) (λ n run. tells (does m e (Syscall tin) n) (syscall_saves m e tin n run))
 
-  pub told_ret : (s : Shape) → s ≡ Ret → ((k : Machine) → HasRestored m k → EffectHolds effect u k) → IsEffectOf effect u m e s
-  told_ret s is tells = subst (λ x. IsEffectOf effect u m e x) (sym is) (λ n run. tells (does m e Ret n) (ret_restores m e n run))
+  pub told_ret : (s : Shape) → s ≡ Ret → ((k : Machine) → HasRestored m k → AreaEffectHolds effect u k) → IsAreaEffectOf effect u m e s
+  told_ret s is tells = subst (λ x. IsAreaEffectOf effect u m e x) (sym is) (λ n run. tells (does m e Ret n) (ret_restores m e n run))
 
-  pub told_rfe : (s : Shape) → s ≡ Rfe → ((k : Machine) → HasRestored m k → EffectHolds effect u k) → IsEffectOf effect u m e s
-  told_rfe s is tells = subst (λ x. IsEffectOf effect u m e x) (sym is) (λ n run. tells (does m e Rfe n) (rfe_restores m e n run))
+  pub told_rfe : (s : Shape) → s ≡ Rfe → ((k : Machine) → HasRestored m k → AreaEffectHolds effect u k) → IsAreaEffectOf effect u m e s
+  told_rfe s is tells = subst (λ x. IsAreaEffectOf effect u m e x) (sym is) (λ n run. tells (does m e Rfe n) (rfe_restores m e n run))
 
-  pub told_rslcx : (s : Shape) → s ≡ Rslcx → ((k : Machine) → HasRestored m k → EffectHolds effect u k) → IsEffectOf effect u m e s
-  told_rslcx s is tells = subst (λ x. IsEffectOf effect u m e x) (sym is) (λ n run. tells (does m e Rslcx n) (rslcx_restores m e n run))
+  pub told_rslcx : (s : Shape) → s ≡ Rslcx → ((k : Machine) → HasRestored m k → AreaEffectHolds effect u k) → IsAreaEffectOf effect u m e s
+  told_rslcx s is tells = subst (λ x. IsAreaEffectOf effect u m e x) (sym is) (λ n run. tells (does m e Rslcx n) (rslcx_restores m e n run))
 
   pub told_load : (s : Shape) {dst : ℕ} {base : Arg} {offset size : ℕ} {signed after : Bool} (x : ℕ) → s ≡ Load dst base offset size signed after → x ≡ access_address m base offset after →
-      ((k : Machine) → (traps_at e x size ≡ true → HasSaved m k) → (traps_at e x size ≡ false → HasStayed m k) → EffectHolds effect u k) → IsEffectOf effect u m e s
+      ((k : Machine) → (is_trapping_access e x size ≡ true → HasSaved m k) → (is_trapping_access e x size ≡ false → HasStayed m k) → AreaEffectHolds effect u k) → IsAreaEffectOf effect u m e s
   told_load s {dst = dst} {base = base} {offset = offset} {size = size} {signed = signed} {after = after} x is at tells =
-      subst (λ y. IsEffectOf effect u m e y) (sym is)
+      subst (λ y. IsAreaEffectOf effect u m e y) (sym is)
       (λ n run.
-      let traps : traps_at e (access_address m base offset after) size ≡ traps_at e x size = ap (λ (y : ℕ). traps_at e y size) (sym at) in
+      let traps : is_trapping_access e (access_address m base offset after) size ≡ is_trapping_access e x size = ap (λ (y : ℕ). is_trapping_access e y size) (sym at) in
       tells (does m e (Load dst base offset size signed after) n)
       (λ t. load_traps m e dst base offset size signed after n (traps ∙ t) run)
       (λ t. let same = load_same m e dst base offset size signed after n (traps ∙ t) in record { mem = same.mem; pcxi = same.pcxi }))
 
   pub told_any_store : (s : Shape) {src : ℕ} {base : Arg} {offset size : ℕ} {after : Bool} (x : ℕ) → s ≡ Store src base offset size after → x ≡ access_address m base offset after →
-      ((k : Machine) → (traps_at e x size ≡ true → HasSaved m k) → (traps_at e x size ≡ false → HasStored x size m k) → EffectHolds effect u k) → IsEffectOf effect u m e s
+      ((k : Machine) → (is_trapping_access e x size ≡ true → HasSaved m k) → (is_trapping_access e x size ≡ false → HasStored x size m k) → AreaEffectHolds effect u k) → IsAreaEffectOf effect u m e s
   told_any_store s {src = src} {base = base} {offset = offset} {size = size} {after = after} x is at tells =
-      subst (λ y. IsEffectOf effect u m e y) (sym is)
+      subst (λ y. IsAreaEffectOf effect u m e y) (sym is)
       (λ n run.
-      let traps : traps_at e (access_address m base offset after) size ≡ traps_at e x size = ap (λ (y : ℕ). traps_at e y size) (sym at) in
+      let traps : is_trapping_access e (access_address m base offset after) size ≡ is_trapping_access e x size = ap (λ (y : ℕ). is_trapping_access e y size) (sym at) in
       tells (does m e (Store src base offset size after) n)
       (λ t. store_traps m e src base offset size after n (traps ∙ t) run)
       (λ t. subst (λ y. HasStored y size m (does m e (Store src base offset size after) n)) (sym at) (store_stores m e src base offset size after n (traps ∙ t))))
 
 -- what leaves the memory and PCXI
-pub told_stayed : (u : AreasUsed) (m n : Machine) → IsCounted u m → HasStayed m n → EffectHolds Stays u n
+pub told_stayed : (u : AreasUsed) (m n : Machine) → IsCounted u m → HasStayed m n → AreaEffectHolds Stays u n
 told_stayed u m n h s = counted_same u m n (record { mem = s.mem; pcxi = s.pcxi }) h
 
-pub told_plain : (u : AreasUsed) (m : Machine) (e : Event) (s t : Shape) → s ≡ t → keeps_of e t ≡ true → IsCounted u m → IsEffectOf Stays u m e s
-told_plain u m e s t is k h = subst (λ x. IsEffectOf Stays u m e x) (sym is) (λ n run. counted_same u m (does m e t n) (same_does e t k m n) h)
+pub told_plain : (u : AreasUsed) (m : Machine) (e : Event) (s t : Shape) → s ≡ t → is_area_keeping_shape e t ≡ true → IsCounted u m → IsAreaEffectOf Stays u m e s
+told_plain u m e s t is k h = subst (λ x. IsAreaEffectOf Stays u m e x) (sym is) (λ n run. counted_same u m (does m e t n) (same_does e t k m n) h)
 
 -- ---- events
-end_same : (k : Machine) (e : Event) (end : End) → k.end ≡ end → Same k (goes_on end k (λ n. record n { psw = with_status n.psw e.status }))
+end_same : (k : Machine) (e : Event) (end : End) → k.end ≡ end → Same k (goes_on end k (λ n. record n { psw = psw_with_status n.psw e.status }))
 end_same k e Running is = record { mem = refl; pcxi = refl }
 end_same k e (Dead cause) is = record { mem = refl; pcxi = refl }
 
 -- the effect of an event on a machine that runs before and after it
 record Went (m : Machine) (e : Event) : Type 0 where
-  running : (done m e).end ≡ Running
-  same : Same (done m e) (step m e)
+  running : (machine_after_event m e).end ≡ Running
+  same : Same (machine_after_event m e) (step m e)
 
 went : (m : Machine) (e : Event) → m.end ≡ Running → (step m e).end ≡ Running → Went m e
 unfolding step
 went m e here run =
-    let next = λ (n : Machine). record n { psw = with_status n.psw e.status } in
-    let is : step m e ≡ then_ (done m e) next = then_-running m (λ m. then_ (done m e) next) here in
-    let both = from_running (done m e) next (subst (λ (k : Machine). k.end ≡ Running) is run) in
-    record { running = both.0; same = subst (Same (done m e)) (sym is) (end_same (done m e) e (done m e).end refl) }
+    let next = λ (n : Machine). record n { psw = psw_with_status n.psw e.status } in
+    let is : step m e ≡ then_ (machine_after_event m e) next = then_-running m (λ m. then_ (machine_after_event m e) next) here in
+    let both = from_running (machine_after_event m e) next (subst (λ (k : Machine). k.end ≡ Running) is run) in
+    record { running = both.0; same = subst (Same (machine_after_event m e)) (sym is) (end_same (machine_after_event m e) e (machine_after_event m e).end refl) }
 
 -- an interrupt
-pub told_interrupt : (effect : Effect) (u : AreasUsed) (m : Machine) (e : Event) → m.end ≡ Running → is_taken m e ≡ true → ((after : Machine) → HasSaved m after → EffectHolds effect u after) → (step m e).end ≡ Running → EffectHolds effect u (step m e)
+pub told_interrupt : (effect : Effect) (u : AreasUsed) (m : Machine) (e : Event) → m.end ≡ Running → is_taken m e ≡ true → ((after : Machine) → HasSaved m after → AreaEffectHolds effect u after) → (step m e).end ≡ Running → AreaEffectHolds effect u (step m e)
 told_interrupt effect u m e here taken tells run =
     let w = went m e here run in
-    let is : done m e ≡ interrupt m e.irq = cond-true _ _ _ taken in
-    told_same effect u (done m e) (step m e) w.same (tells (done m e) (subst (HasSaved m) (sym is) (interrupt_saves m e.irq (subst (λ (k : Machine). k.end ≡ Running) is w.running))))
+    let is : machine_after_event m e ≡ interrupt m e.irq = cond-true _ _ _ taken in
+    told_same effect u (machine_after_event m e) (step m e) w.same (tells (machine_after_event m e) (subst (HasSaved m) (sym is) (interrupt_saves m e.irq (subst (λ (k : Machine). k.end ≡ Running) is w.running))))
 
 -- the instruction at pc
-pub told_found : (effect : Effect) (u : AreasUsed) (m : Machine) (e : Event) (shape : Shape) (n : ℕ) → m.end ≡ Running → is_taken m e ≡ false → Ok (shape, n) ≡ shaped (decoded_of (mapped_bytes 4 m.mem m.pc)) → ((does m e shape n).end ≡ Running → EffectHolds effect u (does m e shape n)) → (step m e).end ≡ Running → EffectHolds effect u (step m e)
+pub told_found : (effect : Effect) (u : AreasUsed) (m : Machine) (e : Event) (shape : Shape) (n : ℕ) → m.end ≡ Running → is_taken m e ≡ false → Ok (shape, n) ≡ fetched_shape (decoded_of (mapped_bytes 4 m.mem m.pc)) → ((does m e shape n).end ≡ Running → AreaEffectHolds effect u (does m e shape n)) → (step m e).end ≡ Running → AreaEffectHolds effect u (step m e)
 unfolding fetched
 told_found effect u m e shape n here free at tells run =
     let w = went m e here run in
-    let found = shaped (decoded_of (mapped_bytes 4 m.mem m.pc)) in
-    elim (m.pc % 2 == 0) as (λ t. m.pc % 2 == 0 ≡ t → EffectHolds effect u (step m e)) [
+    let found = fetched_shape (decoded_of (mapped_bytes 4 m.mem m.pc)) in
+    elim (m.pc % 2 == 0) as (λ t. m.pc % 2 == 0 ≡ t → AreaEffectHolds effect u (step m e)) [
       | true ↦ λ even.
-          let is : done m e ≡ does m e shape n = cond-false _ _ _ free ∙ ap (λ t. executed m e (cond t found (Err NoCode))) even ∙ ap (executed m e) (sym at) in
-          told_same effect u (done m e) (step m e) w.same (subst (EffectHolds effect u) (sym is) (tells (subst (λ (k : Machine). k.end ≡ Running) is w.running)))
+          let is : machine_after_event m e ≡ does m e shape n = cond-false _ _ _ free ∙ ap (λ t. executed m e (cond t found (Err NoCode))) even ∙ ap (executed m e) (sym at) in
+          told_same effect u (machine_after_event m e) (step m e) w.same (subst (AreaEffectHolds effect u) (sym is) (tells (subst (λ (k : Machine). k.end ≡ Running) is w.running)))
       | false ↦ λ odd.
-          let is : done m e ≡ died NoCode m = cond-false _ _ _ free ∙ ap (λ t. executed m e (cond t found (Err NoCode))) odd in
+          let is : machine_after_event m e ≡ died NoCode m = cond-false _ _ _ free ∙ ap (λ t. executed m e (cond t found (Err NoCode))) odd in
           dead_running NoCode (ap (λ (k : Machine). k.end) (sym is) ∙ w.running)
     ] refl
 
 -- if the areas in use aren't known to be consecutive, their number alone stays
-pub told_kept : (u : AreasUsed) (m n : Machine) → IsCounted u m → u.in_row ≡ false → used_of n ≡ used_of m → EffectHolds Stays u n
+pub told_kept : (u : AreasUsed) (m n : Machine) → IsCounted u m → u.in_row ≡ false → used_of n ≡ used_of m → AreaEffectHolds Stays u n
 told_kept u m n h off same = record {
   count = h.count ∙ ap (λ (o : Option ℕ). unwrap_or o 0) (sym same);
   first = h.first;
-  row = subst (λ b. OnTrue b (AreInRow u.first u.count n)) (sym off) tt;
+  row = subst (λ b. OnTrue b (AreAreasInSequence u.first u.count n)) (sym off) tt;
 }

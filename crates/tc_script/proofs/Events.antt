@@ -17,52 +17,52 @@ use Rattle.tc_machine.specs.declared.events.Event.{Event}
 use Rattle.tc_machine.specs.declared.events.End.{End}
 use Rattle.tc_machine.specs.declared.events.End.TheVariants.{Running, Dead}
 use Rattle.tc_machine.specs.declared.state.Machine.{Machine}
-use Rattle.tc_machine.specs.Fetching.{mapped_bytes, shaped, fetched}
-use Rattle.tcd_base.specs.Ranges.{IsWithin, is_within}
+use Rattle.tc_machine.specs.Fetching.{mapped_bytes, fetched_shape, fetched}
+use Rattle.tcd_base.specs.Ranges.{IsWithinRange, is_within_range}
 use Rattle.tcd_base.proofs.RangeLaws.{within_true, true_within}
 use Rattle.tc_machine.specs.Safe.{Fits}
 use Rattle.tc_machine.specs.Stepping.{where_running, load_in, load_at_pc, next_load_of}
 use Rattle.tc_machine.proofs.ShapeWords.{IsSize, IsShape, shape_of-suits}
 use Rattle.tc_script.specs.declared.scripts.Turn.{Turn}
-use Rattle.tc_script.specs.Ports.{IsAskable, IsBounded}
-use Rattle.tc_script.specs.DrivenRuns.{Answers, IsInput, IsEventOf}
+use Rattle.tc_script.specs.Ports.{ArePortsAskable, ArePortsBounded}
+use Rattle.tc_script.specs.DrivenRuns.{DeviceAnswers, IsDrivenInput, IsEventOfTurn}
 use Rattle.tcd_plan.specs.Regions.{IsInDevice, AnswersAt, AnswersLoad}
 
 -- ---- ranges
 abbrev pub in_one : ℕ → ℕ → List Device → Bool
-in_one x n ds = list_any (λ d. is_within x n d.range) ds
+in_one x n ds = list_any (λ d. is_within_range x n d.range) ds
 
 pub inside : (x n : ℕ) (ds : List Device) → in_one x n ds ≡ true → IsInDevice x n ds
 inside x n [] is = absurd (false≢true is)
-inside x n (d ∷ ds) is = elim (or_cases (is_within x n d.range) (in_one x n ds) is) [ inl here ↦ inl (within_true x n d.range here) | inr there ↦ inr (inside x n ds there) ]
+inside x n (d ∷ ds) is = elim (or_cases (is_within_range x n d.range) (in_one x n ds) is) [ inl here ↦ inl (within_true x n d.range here) | inr there ↦ inr (inside x n ds there) ]
 
 pub in_one-true : (x n : ℕ) (ds : List Device) → IsInDevice x n ds → in_one x n ds ≡ true
 in_one-true x n [] is = absurd is
-in_one-true x n (d ∷ ds) (inl here) = or_left (is_within x n d.range) (in_one x n ds) (true_within x n d.range here)
-in_one-true x n (d ∷ ds) (inr there) = or_right (is_within x n d.range) (in_one x n ds) (in_one-true x n ds there)
+in_one-true x n (d ∷ ds) (inl here) = or_left (is_within_range x n d.range) (in_one x n ds) (true_within x n d.range here)
+in_one-true x n (d ∷ ds) (inr there) = or_right (is_within_range x n d.range) (in_one x n ds) (in_one-true x n ds there)
 
 pub outside : (x n : ℕ) (ds : List Device) → in_one x n ds ≡ false → IsInDevice x n ds → ⊥
 outside x n ds is h = false≢true (sym is ∙ in_one-true x n ds h)
 
 -- ---- asking
 -- the first byte of the access may be asked for
-pub asked : (can : ℕ → ℕ → Type 0) (x n t : ℕ) (ds : List Device) → IsAskable can ds → 1 ≤ n → t < 2 ^ 32 → IsInDevice x n ds → can x t
+pub asked : (can : ℕ → ℕ → Type 0) (x n t : ℕ) (ds : List Device) → ArePortsAskable can ds → 1 ≤ n → t < 2 ^ 32 → IsInDevice x n ds → can x t
 asked can x n t [] all some small is = absurd is
 asked can x n t (d ∷ ds) all some small (inl here) = all 0 d (omega arith) x t (here.0, omega (arith, here.1)) small
-asked can x n t (d ∷ ds) all some small (inr there) = asked can x n t ds (All-tail (λ d. (addr t : ℕ) → IsWithin addr 1 d.range → t < 2 ^ 32 → can addr t) d ds all) some small there
+asked can x n t (d ∷ ds) all some small (inr there) = asked can x n t ds (All-tail (λ d. (addr t : ℕ) → IsWithinRange addr 1 d.range → t < 2 ^ 32 → can addr t) d ds all) some small there
 
 abbrev Lies : ℕ → Device → Type 0
 Lies w d = (d.lo ≤ w) × (w ≤ d.hi)
 
 none_within : (x w : ℕ) (ds : List Device) → (IsInDevice x 4 ds → ⊥) → AnswersAt x w ds
-none_within x w [] out = All-nil (λ d. IsWithin x 4 d.range → Lies w d)
-none_within x w (d ∷ ds) out = All-cons (λ d. IsWithin x 4 d.range → Lies w d) d ds (λ here. absurd (out (inl here))) (none_within x w ds (λ there. out (inr there)))
+none_within x w [] out = All-nil (λ d. IsWithinRange x 4 d.range → Lies w d)
+none_within x w (d ∷ ds) out = All-cons (λ d. IsWithinRange x 4 d.range → Lies w d) d ds (λ here. absurd (out (inl here))) (none_within x w ds (λ there. out (inr there)))
 
-all_within : (answers : Answers) (x t w : ℕ) (ds : List Device) → IsBounded answers ds → t < 2 ^ 32 → w < 2 ^ 32 → answers x t w → AnswersAt x w ds
+all_within : (answers : DeviceAnswers) (x t w : ℕ) (ds : List Device) → ArePortsBounded answers ds → t < 2 ^ 32 → w < 2 ^ 32 → answers x t w → AnswersAt x w ds
 all_within answers x t w ds all early small gives =
-    All-weaker (λ d. (addr t w : ℕ) → IsWithin addr 1 d.range → t < 2 ^ 32 → w < 2 ^ 32 → answers addr t w → Lies w d) (λ d. IsWithin x 4 d.range → Lies w d) (λ d h here. h x t w (here.0, omega (arith, here.1)) early small gives) ds all
+    All-weaker (λ d. (addr t w : ℕ) → IsWithinRange addr 1 d.range → t < 2 ^ 32 → w < 2 ^ 32 → answers addr t w → Lies w d) (λ d. IsWithinRange x 4 d.range → Lies w d) (λ d h here. h x t w (here.0, omega (arith, here.1)) early small gives) ds all
 
-input_lies : (answers : Answers) (ds : List Device) (t : ℕ) (load : Option (ℕ × ℕ)) (w : ℕ) → IsBounded answers ds → t < 2 ^ 32 → w < 2 ^ 32 → IsInput ds answers t load w → IfSome load (λ l. l.1 ≡ 4 → AnswersAt l.0 w ds)
+input_lies : (answers : DeviceAnswers) (ds : List Device) (t : ℕ) (load : Option (ℕ × ℕ)) (w : ℕ) → ArePortsBounded answers ds → t < 2 ^ 32 → w < 2 ^ 32 → IsDrivenInput ds answers t load w → IfSome load (λ l. l.1 ≡ 4 → AnswersAt l.0 w ds)
 input_lies answers ds t None w all early small is = tt
 input_lies answers ds t (Some load) w all early small (inl is) = λ four. all_within answers load.0 t w ds all early small is.1
 input_lies answers ds t (Some load) w all early small (inr is) = λ four. none_within load.0 w ds (λ h. is.0 (subst (λ n. IsInDevice load.0 n ds) (sym four) h))
@@ -71,14 +71,14 @@ input_lies answers ds t (Some load) w all early small (inr is) = λ four. none_w
 abbrev decoded_at : Machine → Result (InstData × ℕ) DecodeErr
 decoded_at m = decoded_of (mapped_bytes 4 m.mem m.pc)
 
-next_load-running : (m : Machine) → m.end ≡ Running → next_load_of m ≡ load_in m (shaped (decoded_at m))
-next_load-running m is = ap (λ end. where_running end (load_in m (shaped (decoded_at m)))) is
+next_load-running : (m : Machine) → m.end ≡ Running → next_load_of m ≡ load_in m (fetched_shape (decoded_at m))
+next_load-running m is = ap (λ end. where_running end (load_in m (fetched_shape (decoded_at m)))) is
 
-at_pc : (plan : PlanData) (m : Machine) (w : ℕ) → AnswersLoad plan w (load_in m (shaped (decoded_at m))) → AnswersLoad plan w (load_at_pc m)
+at_pc : (plan : PlanData) (m : Machine) (w : ℕ) → AnswersLoad plan w (load_in m (fetched_shape (decoded_at m))) → AnswersLoad plan w (load_at_pc m)
 unfolding fetched
-at_pc plan m w h = cond_both (m.pc % 2 == 0) (shaped (decoded_at m)) (Err NoCode) (λ r. AnswersLoad plan w (load_in m r)) (λ even. h) (λ odd. tt)
+at_pc plan m w h = cond_both (m.pc % 2 == 0) (fetched_shape (decoded_at m)) (Err NoCode) (λ r. AnswersLoad plan w (load_in m r)) (λ even. h) (λ odd. tt)
 
-pub fits_event : (plan : PlanData) (answers : Answers) (t : ℕ) (turn : Turn) (m : Machine) (e : Event) → m.end ≡ Running → IsEventOf plan.devices answers t turn m e → IsBounded answers plan.devices → (turn.irq ≡ 0) ⊎ Contains plan.irqs turn.irq → t < 2 ^ 32 → e.input < 2 ^ 32 → Fits plan m e
+pub fits_event : (plan : PlanData) (answers : DeviceAnswers) (t : ℕ) (turn : Turn) (m : Machine) (e : Event) → m.end ≡ Running → IsEventOfTurn plan.devices answers t turn m e → ArePortsBounded answers plan.devices → (turn.irq ≡ 0) ⊎ Contains plan.irqs turn.irq → t < 2 ^ 32 → e.input < 2 ^ 32 → Fits plan m e
 fits_event plan answers t turn m e running is all source early small = record {
   irq = subst (λ n. (n ≡ 0) ⊎ Contains plan.irqs n) (sym is.irq) source;
   input = small;
@@ -99,7 +99,7 @@ sized_shape : (m : Machine) (shape : Shape) (n : ℕ) → IsShape shape → HasB
 sized_shape m (Load dst base offset size signed after) n h = some_size size h
 sized_shape m _ n h = tt
 
-sized : (m : Machine) (r : Result (InstData × ℕ) DecodeErr) → ((i : InstData) (n : ℕ) → r ≡ Ok (i, n) → IsInst i) → HasBytesOf (load_in m (shaped r))
+sized : (m : Machine) (r : Result (InstData × ℕ) DecodeErr) → ((i : InstData) (n : ℕ) → r ≡ Ok (i, n) → IsInst i) → HasBytesOf (load_in m (fetched_shape r))
 sized m (Ok found) h = sized_shape m _ found.1 (shape_of-suits found.0 (h found.0 found.1 refl))
 sized m (Err e) h = tt
 

@@ -7,7 +7,7 @@ use Rattle.std.specs.Str.{bytes_eq}
 use Rattle.std.proofs.lemmas.Bool.{and_parts, leb-true, eqb-true, or_cases, cond_both, false≢true}
 use Rattle.std.proofs.lemmas.List.{length-set, length-map}
 use Rattle.std.proofs.lemmas.List.Elements.{All-nil, All-append, All-replicate}
-use Rattle.tcd_text.specs.Lines.{words_of}
+use Rattle.tcd_text.specs.Lines.{line_words}
 use Rattle.tcd_text.proofs.LineLaws.{more_words}
 use Rattle.tcd_plan.specs.declared.plans.Device.{Device}
 use Rattle.tcd_plan.specs.PlanData.{PlanData, IsPlan, is_device, is_range, is_source}
@@ -17,52 +17,52 @@ use Rattle.tc_script.specs.declared.reading.Draft.{Draft}
 use Rattle.tc_script.specs.declared.scripts.AnswerRange.{AnswerRange}
 use Rattle.tc_script.specs.declared.statements.Statement.{Statement}
 use Rattle.tc_script.specs.declared.statements.Statement.TheVariants.{Step, Irq, Aln, In}
-use Rattle.tc_script.specs.Numbers.{number_of}
-use Rattle.tc_script.specs.Statements.{some_if, of_one_number, of_three_numbers, statement_of, is_blank, IsOrdered}
+use Rattle.tc_script.specs.Numbers.{script_number}
+use Rattle.tc_script.specs.Statements.{statement_if, statement_of_one_number, statement_of_three_numbers, script_statement_of, statement_of_one_word, HasOrderedBounds}
 use Rattle.tc_script.specs.ScriptsFitPlans.{AreInside, FitsPlan}
-use Rattle.tc_script.specs.ScriptText.{begun, with_turns, holds_bounds, with_bounds, stated, if_said, line_read, then_read, lines_read}
+use Rattle.tc_script.specs.ScriptText.{begun_script, with_turns, holds_bounds, with_bounds, script_after_statement, if_said, line_read, then_read, lines_read}
 use Rattle.tc_script.specs.Ports.{own_bounds}
 
 -- ---- bounds in order
 abbrev IsOrderedIf : Option Statement → Type 0
-IsOrderedIf o = IfSome o IsOrdered
+IsOrderedIf o = IfSome o HasOrderedBounds
 
-ordered_if : (test : Bool) (said : Statement) → (test ≡ true → IsOrdered said) → IsOrderedIf (some_if test said)
+ordered_if : (test : Bool) (said : Statement) → (test ≡ true → HasOrderedBounds said) → IsOrderedIf (statement_if test said)
 ordered_if true said h = h refl
 ordered_if false said h = tt
 
-three_ordered : (verb : List ℕ) (device lo hi : ℕ) → IsOrderedIf (of_three_numbers verb device lo hi)
-three_ordered verb device lo hi = cond_both (bytes_eq verb (codes "in")) (some_if (nat_le lo hi) (In device lo hi)) None IsOrderedIf (λ _. ordered_if (nat_le lo hi) (In device lo hi) (λ is. leb-true lo hi is)) (λ _. tt)
+three_ordered : (verb : List ℕ) (device lo hi : ℕ) → IsOrderedIf (statement_of_three_numbers verb device lo hi)
+three_ordered verb device lo hi = cond_both (bytes_eq verb (codes "in")) (statement_if (nat_le lo hi) (In device lo hi)) None IsOrderedIf (λ _. ordered_if (nat_le lo hi) (In device lo hi) (λ is. leb-true lo hi is)) (λ _. tt)
 
-one_ordered : (verb : List ℕ) (n : ℕ) → IsOrderedIf (of_one_number verb n)
+one_ordered : (verb : List ℕ) (n : ℕ) → IsOrderedIf (statement_of_one_number verb n)
 one_ordered verb n =
     cond_both (bytes_eq verb (codes "step")) _ _ IsOrderedIf (λ _. ordered_if (nat_le 1 n && nat_le n 100000) (Step n) (λ _. tt))
     (λ _. cond_both (bytes_eq verb (codes "irq")) _ _ IsOrderedIf (λ _. ordered_if (nat_le n 255) (Irq n) (λ _. tt))
-    (λ _. cond_both (bytes_eq verb (codes "aln")) (some_if (nat_le n 1) (Aln (n == 1))) None IsOrderedIf (λ _. ordered_if (nat_le n 1) (Aln (n == 1)) (λ _. tt)) (λ _. tt)))
+    (λ _. cond_both (bytes_eq verb (codes "aln")) (statement_if (nat_le n 1) (Aln (n == 1))) None IsOrderedIf (λ _. ordered_if (nat_le n 1) (Aln (n == 1)) (λ _. tt)) (λ _. tt)))
 
 then_ordered : (o : Option ℕ) (f : ℕ → Option Statement) → ((n : ℕ) → IsOrderedIf (f n)) → IsOrderedIf (option_and_then f o)
 then_ordered None f h = tt
 then_ordered (Some n) f h = h n
 
-blank_ordered : (word : List ℕ) → IsOrderedIf (is_blank word)
+blank_ordered : (word : List ℕ) → IsOrderedIf (statement_of_one_word word)
 blank_ordered [] = tt
 blank_ordered (c ∷ cs) = tt
 
 -- the bounds of a statement are in order
-pub statement_ordered : (words : List (List ℕ)) → IsOrderedIf (statement_of words)
-unfolding statement_of
+pub statement_ordered : (words : List (List ℕ)) → IsOrderedIf (script_statement_of words)
+unfolding script_statement_of
 statement_ordered [] = tt
 statement_ordered (word ∷ []) = blank_ordered word
-statement_ordered (verb ∷ x ∷ []) = then_ordered (number_of x) (of_one_number verb) (one_ordered verb)
+statement_ordered (verb ∷ x ∷ []) = then_ordered (script_number x) (statement_of_one_number verb) (one_ordered verb)
 statement_ordered (verb ∷ x ∷ y ∷ []) = tt
 statement_ordered (verb ∷ x ∷ y ∷ z ∷ []) =
-    then_ordered (number_of x) _ (λ device. then_ordered (number_of y) _ (λ lo. then_ordered (number_of z) _ (λ hi. three_ordered verb device lo hi)))
+    then_ordered (script_number x) _ (λ device. then_ordered (script_number y) _ (λ lo. then_ordered (script_number z) _ (λ hi. three_ordered verb device lo hi)))
 statement_ordered (verb ∷ x ∷ y ∷ z ∷ w ∷ words) = tt
 
 -- more than four words are no statement
-pub more_words_say_nothing : (words : List (List ℕ)) → 4 < length words → statement_of words ≡ None
-unfolding statement_of
-more_words_say_nothing words = more_words statement_of None (λ a b c d e words. refl) words
+pub more_words_say_nothing : (words : List (List ℕ)) → 4 < length words → script_statement_of words ≡ None
+unfolding script_statement_of
+more_words_say_nothing words = more_words script_statement_of None (λ a b c d e words. refl) words
 
 -- ---- what is said fits
 abbrev Fits : PlanData → Draft → Type 0
@@ -100,8 +100,8 @@ bounds_set (d ∷ ds) [] i lo hi ordered holds h = absurd h
 bounds_set (d ∷ ds) (b ∷ bs) zero lo hi ordered holds h = let both = holds_parts (Some d) d lo hi refl holds in ((both.0, ordered, both.1), h.1)
 bounds_set (d ∷ ds) (b ∷ bs) (suc i) lo hi ordered holds h = (h.0, bounds_set ds bs i lo hi ordered holds h.1)
 
-stated_fits : (plan : PlanData) (line : ℕ) (said : Statement) (d : Draft) → IsOrdered said → Fits plan d → FitsIf plan (stated plan line said d)
-unfolding stated
+stated_fits : (plan : PlanData) (line : ℕ) (said : Statement) (d : Draft) → HasOrderedBounds said → Fits plan d → FitsIf plan (script_after_statement plan line said d)
+unfolding script_after_statement
 stated_fits plan line (Step n) d ordered h = turns_fit plan line n 0 d (inl refl) h
 stated_fits plan line (Irq irq) d ordered h =
     cond_both (is_source plan irq) _ _ (FitsIf plan) (λ is. turns_fit plan line 1 irq d (inr (source_contained irq plan.irqs is)) h) (λ _. tt)
@@ -123,7 +123,7 @@ lines_fit : (plan : PlanData) (n : ℕ) (lines : List (List ℕ)) (d : Draft) �
 unfolding lines_read
 lines_fit plan n [] d h = h
 lines_fit plan n (line ∷ lines) d h =
-    then_fits plan (line_read plan n line d) _ (said_fits plan n (statement_of (words_of line)) d (statement_ordered (words_of line)) h) (λ d k. lines_fit plan (n + 1) lines d k)
+    then_fits plan (line_read plan n line d) _ (said_fits plan n (script_statement_of (line_words line)) d (statement_ordered (line_words line)) h) (λ d k. lines_fit plan (n + 1) lines d k)
 
 own_inside : (ds : List Device) → list_all is_device ds ≡ true → AreInside ds (map own_bounds ds)
 own_inside [] all = tt
@@ -134,9 +134,9 @@ own_inside (d ∷ ds) all =
     let lies = leb-true d.lo d.hi more.1 in
     ((omega arith, omega arith, lies), own_inside ds both.1)
 
-begun_fits : (plan : PlanData) → IsPlan plan → Fits plan (begun plan)
+begun_fits : (plan : PlanData) → IsPlan plan → Fits plan (begun_script plan)
 begun_fits plan ok = record { sources = All-nil (λ turn. (turn.irq ≡ 0) ⊎ Contains plan.irqs turn.irq); devices = length-map plan.devices own_bounds; bounds = own_inside plan.devices ok.ranges.devices }
 
 -- the script that is read fits the plan
-pub script_fits : (plan : PlanData) (lines : List (List ℕ)) (d : Draft) → IsPlan plan → lines_read plan 1 lines (begun plan) ≡ Ok d → FitsPlan plan d.script
-script_fits plan lines d ok is = subst (FitsIf plan) is (lines_fit plan 1 lines (begun plan) (begun_fits plan ok))
+pub script_fits : (plan : PlanData) (lines : List (List ℕ)) (d : Draft) → IsPlan plan → lines_read plan 1 lines (begun_script plan) ≡ Ok d → FitsPlan plan d.script
+script_fits plan lines d ok is = subst (FitsIf plan) is (lines_fit plan 1 lines (begun_script plan) (begun_fits plan ok))

@@ -15,21 +15,22 @@ use Rattle.tc_script.specs.declared.area_counts.Effect.{Effect}
 use Rattle.tc_script.specs.declared.area_counts.Effect.TheVariants.{Stays, Saves, Restores, Unknown}
 
 -- the links of n consecutive areas, of which this is the first one; the last area's link is first
-abbrev pub row_of : ℕ → ℕ → List ℕ
-row_of first zero = []
-row_of first (suc n) = (first + n) ∷ row_of first n
+abbrev pub links_in_sequence : ℕ → ℕ → List ℕ
+links_in_sequence first zero = []
+links_in_sequence first (suc n) = (first + n) ∷ links_in_sequence first n
 
 -- the areas in use are n consecutive ones
-abbrev pub AreInRow : ℕ → ℕ → Machine → Type 0
-AreInRow first n m = chain m.mem m.pcxi ≡ Some (row_of first n)
+abbrev pub AreAreasInSequence : ℕ → ℕ → Machine → Type 0
+AreAreasInSequence first n m = chain m.mem m.pcxi ≡ Some (links_in_sequence first n)
 
 -- this number of areas is in use, and they are consecutive if the count says so
 pub record IsCounted (u : AreasUsed) (m : Machine) : Type 0 where
   pub count : u.count ≡ unwrap_or (used_of m) 0
   pub first : u.first < 2 ^ 20
-  pub row : OnTrue u.in_row (AreInRow u.first u.count m)
+  pub row : OnTrue u.in_row (AreAreasInSequence u.first u.count m)
 
--- the machine after a save of a context, up to changes that keep the memory and PCXI
+-- for the effect of an event on the areas in use: the machine after a save of a context, up to
+-- changes that keep the memory and PCXI
 pub record HasSaved (m after : Machine) : Type 0 where
   pub upper : Bool
   pub some : link_in m.fcx ≢ 0
@@ -37,31 +38,35 @@ pub record HasSaved (m after : Machine) : Type 0 where
   pub mem : after.mem ≡ (saved m upper).mem
   pub pcxi : after.pcxi ≡ (saved m upper).pcxi
 
--- the machine after a restore of a context, up to changes that keep the memory and PCXI
+-- for the effect of an event on the areas in use: the machine after a restore of a context, up to
+-- changes that keep the memory and PCXI
 pub record HasRestored (m after : Machine) : Type 0 where
   pub upper : Bool
   pub some : link_in m.pcxi ≢ 0
   pub mem : after.mem ≡ (restored m upper).mem
   pub pcxi : after.pcxi ≡ (restored m upper).pcxi
 
--- the machine after a store of size bytes, up to changes that keep the memory and PCXI
+-- for the effect of an event on the areas in use: the machine after a store of size bytes, up to
+-- changes that keep the memory and PCXI
 pub record HasStored (x size : ℕ) (m after : Machine) : Type 0 where
   pub word : ℕ
   pub mem : after.mem ≡ with_bytes m.mem x word size
   pub pcxi : after.pcxi ≡ m.pcxi
 
--- a machine with the memory and PCXI of the one before
+-- for the effect of an event on the areas in use: a machine with the memory and PCXI of the one
+-- before
 pub record HasStayed (m after : Machine) : Type 0 where
   pub mem : after.mem ≡ m.mem
   pub pcxi : after.pcxi ≡ m.pcxi
 
 -- What an effect says of the machine after an event, by the areas in use before it.
-abbrev pub EffectHolds : Effect → AreasUsed → Machine → Type 0
-EffectHolds Stays u after = IsCounted u after
-EffectHolds Saves u after = (u.count < 4096) × IsCounted (record u { count = u.count + 1 }) after
-EffectHolds Restores u after = (1 ≤ u.count) × IsCounted (record u { count = u.count - 1 }) after
-EffectHolds Unknown u after = Unit {0}
+abbrev pub AreaEffectHolds : Effect → AreasUsed → Machine → Type 0
+AreaEffectHolds Stays u after = IsCounted u after
+AreaEffectHolds Saves u after = (u.count < 4096) × IsCounted (record u { count = u.count + 1 }) after
+AreaEffectHolds Restores u after = (1 ≤ u.count) × IsCounted (record u { count = u.count - 1 }) after
+AreaEffectHolds Unknown u after = Unit {0}
 
--- what this effect says is true of an instruction that leaves the machine running
-abbrev pub IsEffectOf : Effect → AreasUsed → Machine → Event → Shape → Type 0
-IsEffectOf effect u m e shape = (n : ℕ) → (does m e shape n).end ≡ Running → EffectHolds effect u (does m e shape n)
+-- what this effect says of the areas in use is true of an instruction that leaves the machine
+-- running
+abbrev pub IsAreaEffectOf : Effect → AreasUsed → Machine → Event → Shape → Type 0
+IsAreaEffectOf effect u m e shape = (n : ℕ) → (does m e shape n).end ≡ Running → AreaEffectHolds effect u (does m e shape n)

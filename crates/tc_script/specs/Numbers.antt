@@ -4,7 +4,7 @@ use Rattle.std.specs.Char.{is_ascii_digit}
 use Rattle.std.specs.List.{list_all}
 use Rattle.std.specs.Str.Parse.{digits_value}
 
--- digits, at least one; the first is 0 only if it is the only one
+-- a script's word is digits, at least one; the first is 0 only if it is the only one
 abbrev pub is_decimal : List ℕ → Bool
 is_decimal word =
     if length word == 0 then false
@@ -12,5 +12,5 @@ is_decimal word =
     else false
 
 -- the number below 2^32 that a word spells
-unfoldable pub number_of : List ℕ → Option ℕ
-number_of word = if is_decimal word && nat_lt (digits_value 10 word) (2 ^ 32) then Some (digits_value 10 word) else None
+unfoldable pub script_number : List ℕ → Option ℕ
+script_number word = if is_decimal word && nat_lt (digits_value 10 word) (2 ^ 32) then Some (digits_value 10 word) else None

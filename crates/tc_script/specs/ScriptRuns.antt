@@ -13,49 +13,49 @@ use Rattle.tc_script.specs.declared.driving.Peak.{Peak}
 use Rattle.tc_script.specs.declared.scripts.Turn.{Turn}
 use Rattle.tc_script.specs.declared.scripts.AnswerRange.{AnswerRange}
 use Rattle.tc_script.specs.ScriptData.{ScriptData}
-use Rattle.tcd_base.specs.Ranges.{is_within}
-use Rattle.tc_script.specs.DrivenRuns.{Answers, ScriptedRun, peak_of}
-use Rattle.tc_script.specs.Ports.{answer_at}
+use Rattle.tcd_base.specs.Ranges.{is_within_range}
+use Rattle.tc_script.specs.DrivenRuns.{DeviceAnswers, AreDrivenEvents, driven_peak}
+use Rattle.tc_script.specs.Ports.{device_answer_at}
 
--- the input at an event: the answer at the load's address if the load is wholly inside one device
--- range, else 0
-abbrev pub input_of : List Device → List AnswerRange → ℕ → Option (ℕ × ℕ) → ℕ
-input_of devices bounds t None = 0
-input_of devices bounds t (Some load) = if list_any (λ d. is_within load.0 load.1 d.range) devices then answer_at devices bounds load.0 t else 0
+-- in a run by a script, the input at an event: the answer at the load's address if the load is
+-- wholly inside one device range, else 0
+abbrev pub script_input_of : List Device → List AnswerRange → ℕ → Option (ℕ × ℕ) → ℕ
+script_input_of devices bounds t None = 0
+script_input_of devices bounds t (Some load) = if list_any (λ d. is_within_range load.0 load.1 d.range) devices then device_answer_at devices bounds load.0 t else 0
 
 -- the event of a turn
-abbrev pub event_of : List Device → List AnswerRange → ℕ → Turn → Machine → Event
-event_of devices bounds t turn m = record { irq = turn.irq; input = input_of devices bounds t (next_load_of m); status = 0; aln = turn.aln }
+abbrev pub script_event_of : List Device → List AnswerRange → ℕ → Turn → Machine → Event
+script_event_of devices bounds t turn m = record { irq = turn.irq; input = script_input_of devices bounds t (next_load_of m); status = 0; aln = turn.aln }
 
--- these events if the machine runs, none if it is dead
-abbrev pub while_running : End → List Event → List Event
-while_running Running events = events
-while_running (Dead cause) events = []
+-- the events of a script from a machine on: these if the machine runs, none if it is dead
+abbrev pub events_while_running : End → List Event → List Event
+events_while_running Running events = events
+events_while_running (Dead cause) events = []
 
 -- the events of these turns until the machine is dead or the turns end; the first one has this
 -- number
 abbrev pub events_of : List Device → List AnswerRange → ℕ → List Turn → Machine → List Event
 events_of devices bounds t [] m = []
 events_of devices bounds t (turn ∷ turns) m =
-    let e = event_of devices bounds t turn m in
-    while_running m.end (e ∷ events_of devices bounds (t + 1) turns (step m e))
+    let e = script_event_of devices bounds t turn m in
+    events_while_running m.end (e ∷ events_of devices bounds (t + 1) turns (step m e))
 
 -- all events of a script
 abbrev pub script_events : PlanData → ScriptData → Machine → List Event
 script_events plan script m = events_of plan.devices script.bounds 0 script.turns m
 
 -- the answers of the devices by a script
-abbrev pub answers_by : PlanData → ScriptData → Answers
-answers_by plan script = λ x t w. w ≡ answer_at plan.devices script.bounds x t
+abbrev pub answers_by : PlanData → ScriptData → DeviceAnswers
+answers_by plan script = λ x t w. w ≡ device_answer_at plan.devices script.bounds x t
 
 -- the events are one for each turn of the script, until the machine is dead or the turns end, with
 -- the script's answers
 abbrev pub IsOfScript : PlanData → ScriptData → Machine → List Event → Type 0
-IsOfScript plan script m es = ScriptedRun plan (answers_by plan script) 0 script.turns m es
+IsOfScript plan script m es = AreDrivenEvents plan (answers_by plan script) 0 script.turns m es
 
--- there is one such list of events
-abbrev pub HasOneRun : Type 0
-HasOneRun = (plan : PlanData) (script : ScriptData) (m : Machine) (es : List Event) → IsOfScript plan script m es → es ≡ script_events plan script m
+-- from a machine, a script has one list of events
+abbrev pub ScriptHasOneRun : Type 0
+ScriptHasOneRun = (plan : PlanData) (script : ScriptData) (m : Machine) (es : List Event) → IsOfScript plan script m es → es ≡ script_events plan script m
 
 -- the machine is driven by a script
 pub record IsScriptRun (plan : PlanData) (script : ScriptData) (old new : Machine) (done : Peak) : Type 0 where
@@ -63,4 +63,4 @@ pub record IsScriptRun (plan : PlanData) (script : ScriptData) (old new : Machin
   pub fits : AllFit plan old (script_events plan script old)
   pub after : new ≡ run old (script_events plan script old)
   pub count : done.events ≡ length (script_events plan script old)
-  pub peak : done.peak ≡ peak_of old (script_events plan script old)
+  pub peak : done.peak ≡ driven_peak old (script_events plan script old)

@@ -1,6 +1,6 @@
 -- The lines of a script, one after another.
 use Rattle.std.specs.Prelude.{◌≡◌, ℕ, ◌+◌, ◌&&◌, nat_le, Bool, false, if◌then◌else◌, List, ◌∷◌, ◌++◌, length, map, replicate, slice_set, slice_get, Option, Some, None, Result, Ok, Err, []}
-use Rattle.tcd_text.specs.Lines.{lines_of, words_of}
+use Rattle.tcd_text.specs.Lines.{text_lines, line_words}
 use Rattle.tcd_plan.specs.declared.plans.Device.{Device}
 use Rattle.tcd_plan.specs.PlanData.{PlanData, is_source}
 use Rattle.tc_script.specs.declared.errors.ScriptErr.{ScriptErr}
@@ -9,12 +9,12 @@ use Rattle.tc_script.specs.declared.reading.Draft.{Draft}
 use Rattle.tc_script.specs.declared.statements.Statement.{Statement}
 use Rattle.tc_script.specs.declared.statements.Statement.TheVariants.{Blank, Step, Irq, Aln, In}
 use Rattle.tc_script.specs.ScriptData.{ScriptData}
-use Rattle.tc_script.specs.Statements.{statement_of}
+use Rattle.tc_script.specs.Statements.{script_statement_of}
 use Rattle.tc_script.specs.Ports.{own_bounds}
 
 -- before the first line: no turns, and misaligned accesses don't trap
-abbrev pub begun : PlanData → Draft
-begun plan = record { script = record { turns = []; bounds = map own_bounds plan.devices }; aln = false }
+abbrev pub begun_script : PlanData → Draft
+begun_script plan = record { script = record { turns = []; bounds = map own_bounds plan.devices }; aln = false }
 
 -- n more turns with this interrupt, on the line with this number
 abbrev pub with_turns : ℕ → ℕ → ℕ → Draft → Result Draft ScriptErr
@@ -33,23 +33,23 @@ abbrev pub with_bounds : ℕ → ℕ → ℕ → Draft → Draft
 with_bounds device lo hi d = record d { script = record d.script { bounds = slice_set d.script.bounds device (record { lo = lo; hi = hi }) } }
 
 -- the draft after a statement, on the line with this number
-unfoldable pub stated : PlanData → ℕ → Statement → Draft → Result Draft ScriptErr
-stated plan line Blank d = Ok d
-stated plan line (Step n) d = with_turns line n 0 d
-stated plan line (Irq irq) d = if is_source plan irq then with_turns line 1 irq d else Err (NoSource line)
-stated plan line (Aln aln) d = Ok (record d { aln = aln })
-stated plan line (In device lo hi) d = if holds_bounds (slice_get plan.devices device) lo hi then Ok (with_bounds device lo hi d) else Err (OutOfRange line)
+unfoldable pub script_after_statement : PlanData → ℕ → Statement → Draft → Result Draft ScriptErr
+script_after_statement plan line Blank d = Ok d
+script_after_statement plan line (Step n) d = with_turns line n 0 d
+script_after_statement plan line (Irq irq) d = if is_source plan irq then with_turns line 1 irq d else Err (NoSource line)
+script_after_statement plan line (Aln aln) d = Ok (record d { aln = aln })
+script_after_statement plan line (In device lo hi) d = if holds_bounds (slice_get plan.devices device) lo hi then Ok (with_bounds device lo hi d) else Err (OutOfRange line)
 
 -- the draft after a line, by its statement; a line without a statement is bad
 abbrev pub if_said : PlanData → ℕ → Option Statement → Draft → Result Draft ScriptErr
 if_said plan line None d = Err (BadLine line)
-if_said plan line (Some said) d = stated plan line said d
+if_said plan line (Some said) d = script_after_statement plan line said d
 
 -- the draft after a line
 abbrev pub line_read : PlanData → ℕ → List ℕ → Draft → Result Draft ScriptErr
-line_read plan number line d = if_said plan number (statement_of (words_of line)) d
+line_read plan number line d = if_said plan number (script_statement_of (line_words line)) d
 
--- what is read next, if no line was refused
+-- what is read next of a script, if no line was refused
 abbrev pub then_read : Result Draft ScriptErr → (Draft → Result Draft ScriptErr) → Result Draft ScriptErr
 then_read (Ok d) next = next d
 then_read (Err e) next = Err e
@@ -66,22 +66,22 @@ script_in (Err e) = Err e
 
 -- the script that the bytes of a file give, or the refusal of the first bad line
 abbrev pub script_of : PlanData → List ℕ → Result ScriptData ScriptErr
-script_of plan bytes = script_in (lines_read plan 1 (lines_of bytes) (begun plan))
+script_of plan bytes = script_in (lines_read plan 1 (text_lines bytes) (begun_script plan))
 
 -- a refusal; out of memory is always possible
-abbrev pub Refuses : {A : Type 0} → ScriptErr → Result A ScriptErr → Type 0
-Refuses (BadLine n) answer = answer ≡ Err (BadLine n)
-Refuses (NoSource n) answer = answer ≡ Err (NoSource n)
-Refuses (OutOfRange n) answer = answer ≡ Err (OutOfRange n)
-Refuses (TooMany n) answer = answer ≡ Err (TooMany n)
-Refuses NoMemory answer = Unit {0}
+abbrev pub RefusesScript : {A : Type 0} → ScriptErr → Result A ScriptErr → Type 0
+RefusesScript (BadLine n) answer = answer ≡ Err (BadLine n)
+RefusesScript (NoSource n) answer = answer ≡ Err (NoSource n)
+RefusesScript (OutOfRange n) answer = answer ≡ Err (OutOfRange n)
+RefusesScript (TooMany n) answer = answer ≡ Err (TooMany n)
+RefusesScript NoMemory answer = Unit {0}
 
--- a draft that is changed in place, or a refusal
-abbrev pub Takes : Result Unit ScriptErr → Draft → Result Draft ScriptErr → Type 0
-Takes (Ok done) new answer = answer ≡ Ok new
-Takes (Err e) new answer = Refuses e answer
+-- the draft of a script that is changed in place, or a refusal of the script
+abbrev pub TakesScriptDraft : Result Unit ScriptErr → Draft → Result Draft ScriptErr → Type 0
+TakesScriptDraft (Ok done) new answer = answer ≡ Ok new
+TakesScriptDraft (Err e) new answer = RefusesScript e answer
 
 -- a script, or a refusal
-abbrev pub Gives : Result ScriptData ScriptErr → Result ScriptData ScriptErr → Type 0
-Gives (Ok script) answer = answer ≡ Ok script
-Gives (Err e) answer = Refuses e answer
+abbrev pub GivesScript : Result ScriptData ScriptErr → Result ScriptData ScriptErr → Type 0
+GivesScript (Ok script) answer = answer ≡ Ok script
+GivesScript (Err e) answer = RefusesScript e answer

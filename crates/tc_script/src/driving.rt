@@ -3,15 +3,15 @@ ghost use Rattle.std.specs.Prelude.{◌≡◌, ◌<◌, ◌^◌, IfOk};
 ghost use Rattle.std.specs.Bool.{MatchBool};
 ghost use Rattle.tc_isa.specs.InBounds.{IsShape};
 ghost use Rattle.tc_encode.specs.Decoding.{decoded_of};
-ghost use Rattle.tc_machine.specs.Fetching.{mapped_bytes, shaped};
+ghost use Rattle.tc_machine.specs.Fetching.{mapped_bytes, fetched_shape};
 ghost use Rattle.tc_script.specs.ScriptsFitPlans.{HasSources};
-ghost use Rattle.tc_script.specs.Ports.{IsAskable, IsBounded};
-ghost use Rattle.tc_script.specs.DrivenRuns.{IsEventOf, IsDriven};
+ghost use Rattle.tc_script.specs.Ports.{ArePortsAskable, ArePortsBounded};
+ghost use Rattle.tc_script.specs.DrivenRuns.{IsEventOfTurn, IsDriven};
 ghost use Rattle.tc_machine.specs.Machine.{IsDead};
 
 use crate::area_counts::{count_areas, effect_of_event, used_after};
 use crate::known_words::KnownWords;
-use crate::ports::{Ports, input};
+use crate::ports::{Ports, port_input};
 use crate::{Script, Turn};
 use tc_isa::Shape;
 use tc_machine::{Cause, End, Event, Machine};
@@ -24,8 +24,8 @@ pub struct Peak {
     pub peak: u32,
 }
 
-/// Returns true if the machine runs.
-fn is_running(m: &Machine) -> bool
+/// Returns true if the machine runs, so that the script can drive it on.
+fn is_machine_drivable(m: &Machine) -> bool
     ensures { MatchBool result (m.now.end ≡ End.Running) (IsDead m.now.end) }
 {
     match m.end {
@@ -35,20 +35,20 @@ fn is_running(m: &Machine) -> bool
 }
 
 /// Returns the event of a turn; `found` is what the bytes at pc do.
-fn event<F: Fn(u32, u32) -> u32>(
+fn event_of_turn<F: Fn(u32, u32) -> u32>(
     ports: &Ports<F>,
     m: &Machine,
     found: &Result<(Shape, u32), Cause>,
     turn: Turn,
     t: u32,
 ) -> Event
-    requires askable { IsAskable (F.pre ports.now.answer) ports.now.devices }
-    requires found { found.now ≡ shaped (decoded_of (mapped_bytes 4 m.now.mem m.now.pc)) }
+    requires askable { ArePortsAskable (F.pre ports.now.answer) ports.now.devices }
+    requires found { found.now ≡ fetched_shape (decoded_of (mapped_bytes 4 m.now.mem m.now.pc)) }
     requires bounded { IfOk found.now (λ it. IsShape it.0) }
-    ensures event { IsEventOf ports.now.devices (F.post ports.now.answer) t turn m.now result }
+    ensures event { IsEventOfTurn ports.now.devices (F.post ports.now.answer) t turn m.now result }
     ensures word { result.input < 2 ^ 32 }
 {
-    let input = input(ports, m.load_by(found), t);
+    let input = port_input(ports, m.load_by(found), t);
     Event {
         irq: turn.irq,
         input,
@@ -68,8 +68,8 @@ pub fn drive<F: Fn(u32, u32) -> u32>(
 ) -> Peak
     requires devices { ports.now.devices ≡ plan.now.devices }
     requires sources { HasSources plan.now script.now.turns }
-    requires askable { IsAskable (F.pre ports.now.answer) plan.now.devices }
-    requires bounded { IsBounded (F.post ports.now.answer) plan.now.devices }
+    requires askable { ArePortsAskable (F.pre ports.now.answer) plan.now.devices }
+    requires bounded { ArePortsBounded (F.post ports.now.answer) plan.now.devices }
     ensures { IsDriven plan.now (F.post ports.now.answer) script.now.turns m.old m.new result }
 {
     let mut areas = count_areas(m);
@@ -79,12 +79,12 @@ pub fn drive<F: Fn(u32, u32) -> u32>(
         peak: areas.count,
     };
     for t in 0..script.len() {
-        if !is_running(m) {
+        if !is_machine_drivable(m) {
             return done;
         }
         let place = words.place_at_pc(m);
         let found = &words.words[place].found;
-        let event = event(ports, m, found, script.turn(t), t);
+        let event = event_of_turn(ports, m, found, script.turn(t), t);
         let effect = effect_of_event(m, &event, found, areas);
         m.step_by(&event, *found);
         used_after(m, &mut areas, effect);

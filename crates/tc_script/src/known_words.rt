@@ -2,7 +2,7 @@
 ghost use Rattle.std.specs.Prelude.{◌≡◌, ◌<◌, All, IfSome};
 ghost use Rattle.tcd_base.specs.Bytes.{bytes_of_word};
 ghost use Rattle.tc_machine.specs.Fetching.{mapped_bytes};
-ghost use Rattle.tc_script.specs.KnownWords.{IsKnown, StandsAt};
+ghost use Rattle.tc_script.specs.KnownWords.{IsKnownWord, KnownWordStandsAt};
 
 use tc_isa::{Arg, Op, Shape};
 use tc_machine::{Cause, Machine};
@@ -23,15 +23,16 @@ pub(crate) struct KnownWords {
 
 /// Returns the place of a word: the highest ten bits of its product with 2^32 divided by the golden
 /// ratio, which spreads words that differ by equal steps.
-fn place_of(word: u32) -> usize
+fn known_word_place(word: u32) -> usize
     ensures { result < 1024 }
 {
     (word.wrapping_mul(0x9E37_79B9) / 0x40_0000) as usize
 }
 
-/// Returns an entry without a word. It is all zeros, so that a table of them is filled at once.
-fn no_word() -> KnownWord
-    ensures { IsKnown result }
+/// Returns an entry of the cache of known words without a word. It is all zeros, so that a table of
+/// them is filled at once.
+fn no_known_word() -> KnownWord
+    ensures { IsKnownWord result }
 {
     let shape = Shape::Compute {
         op: Op::Second,
@@ -48,10 +49,10 @@ fn no_word() -> KnownWord
 impl KnownWords {
     /// Returns a cache without words.
     pub(crate) fn new() -> KnownWords
-        ensures { All IsKnown result.words }
+        ensures { All IsKnownWord result.words }
     {
         KnownWords {
-            words: [no_word(); 1024],
+            words: [no_known_word(); 1024],
         }
     }
 
@@ -59,10 +60,11 @@ impl KnownWords {
     #[inline(never)]
     fn learn(&mut self, m: &Machine, place: usize, word: Option<u32>)
         requires place { place < 1024 }
-        requires known { All IsKnown self.old.words }
+        requires known { All IsKnownWord self.old.words }
         requires word { IfSome word (λ w. bytes_of_word w ≡ mapped_bytes 4 m.now.mem m.now.pc) }
-        ensures known { All IsKnown self.new.words }
-        ensures stands { StandsAt self.new.words place (mapped_bytes 4 m.now.mem m.now.pc) }
+        ensures known { All IsKnownWord self.new.words }
+        ensures stands { KnownWordStandsAt self.new.words place
+            (mapped_bytes 4 m.now.mem m.now.pc) }
     {
         let found = m.shape_at_pc();
         self.words[place] = KnownWord { word, found };
@@ -71,16 +73,17 @@ impl KnownWords {
     /// Returns the place of the table that holds what the bytes at pc do. If none does yet, the
     /// bytes are decoded into it.
     pub(crate) fn place_at_pc(&mut self, m: &Machine) -> usize
-        requires { All IsKnown self.old.words }
+        requires { All IsKnownWord self.old.words }
         ensures place { result < 1024 }
-        ensures known { All IsKnown self.new.words }
-        ensures stands { StandsAt self.new.words result (mapped_bytes 4 m.now.mem m.now.pc) }
+        ensures known { All IsKnownWord self.new.words }
+        ensures stands { KnownWordStandsAt self.new.words result
+            (mapped_bytes 4 m.now.mem m.now.pc) }
     {
         let Some(word) = m.mem.word(m.pc) else {
             self.learn(m, 0, None);
             return 0;
         };
-        let place = place_of(word);
+        let place = known_word_place(word);
         if self.words[place].word == Some(word) {
             return place;
         }

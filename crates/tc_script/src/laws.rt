@@ -1,7 +1,7 @@
 // Laws of scripts.
-ghost use Rattle.tc_script.specs.ScriptRuns.{HasOneRun};
+ghost use Rattle.tc_script.specs.ScriptRuns.{ScriptHasOneRun};
 
 /// The law of scripts: from a machine, a script has one list of events.
 pub fn script_laws()
-    ensures { HasOneRun }
+    ensures { ScriptHasOneRun }
 {}

@@ -3,16 +3,16 @@ ghost use Rattle.std.specs.Prelude.{◌≡◌, ◌^◌, min, true, IsTrue};
 ghost use Rattle.std.specs.Char.{is_ascii_digit};
 ghost use Rattle.std.specs.List.{list_all};
 ghost use Rattle.std.specs.Str.Parse.{digits_value};
-ghost use Rattle.tc_script.specs.Numbers.{is_decimal, number_of};
+ghost use Rattle.tc_script.specs.Numbers.{is_decimal, script_number};
 
-/// Returns true if all bytes are decimal digits.
+/// Returns true if all bytes of a script's word are decimal digits.
 fn all_digits(word: &[u8]) -> bool
     ensures { result ≡ list_all is_ascii_digit word.now }
 {
     word.iter().all(|c| c.is_ascii_digit())
 }
 
-/// Returns true if a word is decimal digits without leading zeros.
+/// Returns true if a script's word is decimal digits without leading zeros.
 fn is_decimal(word: &[u8]) -> bool
     ensures value { result ≡ is_decimal word.now }
     ensures digits { IsTrue result → list_all is_ascii_digit word.now ≡ true }
@@ -27,7 +27,7 @@ fn is_decimal(word: &[u8]) -> bool
 }
 
 /// Returns the number that decimal digits spell, or 2^32 for all numbers above it.
-fn value(word: &[u8]) -> u64
+fn script_digits_value(word: &[u8]) -> u64
     requires { list_all is_ascii_digit word.now ≡ true }
     ensures { result ≡ min (digits_value 10 word.now) (2 ^ 32) }
 {
@@ -38,13 +38,13 @@ fn value(word: &[u8]) -> u64
     value
 }
 
-/// Returns the number that a word spells in decimal without leading zeros, at most 2^32 - 1.
-#[tactic(auto, unfolding(crate::specs::Numbers::number_of))]
-pub(crate) fn number(word: &[u8]) -> Option<u32>
-    ensures { result ≡ number_of word.now }
+/// Returns the number that a script's word spells: decimal, no leading zeros, below 2^32.
+#[tactic(auto, unfolding(crate::specs::Numbers::script_number))]
+pub(crate) fn script_number(word: &[u8]) -> Option<u32>
+    ensures { result ≡ script_number word.now }
 {
     if !is_decimal(word) {
         return None;
     }
-    u32::try_from(value(word)).ok()
+    u32::try_from(script_digits_value(word)).ok()
 }

@@ -1,9 +1,9 @@
 // The answers of devices: the ports that a run is driven with.
 ghost use Rattle.std.specs.Prelude.{◌≡◌, ◌<◌, ◌≤◌, Some, IfSome};
-ghost use Rattle.tcd_base.specs.Ranges.{is_within};
+ghost use Rattle.tcd_base.specs.Ranges.{is_within_range};
 ghost use Rattle.std.specs.List.{list_any};
-ghost use Rattle.tc_script.specs.Ports.{IsAskable, IsBounded, answer_of};
-ghost use Rattle.tc_script.specs.DrivenRuns.{IsInput};
+ghost use Rattle.tc_script.specs.Ports.{ArePortsAskable, ArePortsBounded, device_answer};
+ghost use Rattle.tc_script.specs.DrivenRuns.{IsDrivenInput};
 
 use crate::scripts::AnswerRange;
 use arrayvec::ArrayVec;
@@ -31,12 +31,12 @@ impl<F: Fn(u32, u32) -> u32> Model for Ports<F> {
 impl<F: Fn(u32, u32) -> u32> Ports<F> {
     /// Returns the ports of a plan's devices.
     pub fn new(plan: &Plan, answer: F) -> Ports<F>
-        requires askable { IsAskable (F.pre answer) plan.now.devices }
-        requires bounded { IsBounded (F.post answer) plan.now.devices }
+        requires askable { ArePortsAskable (F.pre answer) plan.now.devices }
+        requires bounded { ArePortsBounded (F.post answer) plan.now.devices }
         ensures devices { result.devices ≡ plan.now.devices }
         ensures answer { result.answer ≡ answer }
-        ensures askable { IsAskable (F.pre result.answer) plan.now.devices }
-        ensures bounded { IsBounded (F.post result.answer) plan.now.devices }
+        ensures askable { ArePortsAskable (F.pre result.answer) plan.now.devices }
+        ensures bounded { ArePortsBounded (F.post result.answer) plan.now.devices }
     {
         let mut devices = ArrayVec::new();
         devices
@@ -47,7 +47,7 @@ impl<F: Fn(u32, u32) -> u32> Ports<F> {
 
     /// Returns true if the bytes from an address on are wholly inside one device range.
     pub(crate) fn holds(&self, addr: u32, size: u8) -> bool
-        ensures { result ≡ list_any (λ d. is_within addr size d.range) self.now.devices }
+        ensures { result ≡ list_any (λ d. is_within_range addr size d.range) self.now.devices }
     {
         self.devices
             .iter()
@@ -65,10 +65,11 @@ impl<F: Fn(u32, u32) -> u32> Ports<F> {
 
 /// Returns the input of an event with this load: the closure's answer if the load is wholly inside
 /// one device range, else 0.
-fn input_at<F: Fn(u32, u32) -> u32>(ports: &Ports<F>, addr: u32, size: u8, t: u32) -> u32
+fn port_input_at<F: Fn(u32, u32) -> u32>(ports: &Ports<F>, addr: u32, size: u8, t: u32) -> u32
     requires some { 1 ≤ size }
-    requires askable { IsAskable (F.pre ports.now.answer) ports.now.devices }
-    ensures { IsInput ports.now.devices (F.post ports.now.answer) t (Some (addr, size)) result }
+    requires askable { ArePortsAskable (F.pre ports.now.answer) ports.now.devices }
+    ensures { IsDrivenInput ports.now.devices (F.post ports.now.answer) t
+        (Some (addr, size)) result }
 {
     if ports.holds(addr, size) {
         ports.ask(addr, t)
@@ -78,26 +79,26 @@ fn input_at<F: Fn(u32, u32) -> u32>(ports: &Ports<F>, addr: u32, size: u8, t: u3
 }
 
 /// Returns the input of an event, 0 if it loads nothing.
-pub(crate) fn input<F: Fn(u32, u32) -> u32>(
+pub(crate) fn port_input<F: Fn(u32, u32) -> u32>(
     ports: &Ports<F>,
     load: Option<(u32, u8)>,
     t: u32,
 ) -> u32
     requires some { IfSome load (λ l. 1 ≤ l.1) }
-    requires askable { IsAskable (F.pre ports.now.answer) ports.now.devices }
-    ensures { IsInput ports.now.devices (F.post ports.now.answer) t load result }
+    requires askable { ArePortsAskable (F.pre ports.now.answer) ports.now.devices }
+    ensures { IsDrivenInput ports.now.devices (F.post ports.now.answer) t load result }
 {
     match load {
-        Some((addr, size)) => input_at(ports, addr, size, t),
+        Some((addr, size)) => port_input_at(ports, addr, size, t),
         None => 0,
     }
 }
 
-/// Returns the answer at an event, numbered from 0: the words from `lo` to `hi`, in turn and over
-/// again.
-pub(crate) fn answer(bounds: AnswerRange, at: u32) -> u32
+/// Returns the answer of a device at an event, numbered from 0: the words from `lo` to `hi`, in
+/// turn and over again.
+pub(crate) fn device_answer(bounds: AnswerRange, at: u32) -> u32
     requires { bounds.lo ≤ bounds.hi }
-    ensures { result ≡ answer_of bounds at }
+    ensures { result ≡ device_answer bounds at }
 {
     let count = u64::from(bounds.hi - bounds.lo) + 1;
     (u64::from(bounds.lo) + u64::from(at) % count) as u32

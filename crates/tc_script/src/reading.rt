@@ -2,11 +2,11 @@
 ghost use Rattle.std.specs.Prelude.{◌≡◌, ◌<◌, ◌≤◌, ◌^◌, IsTrue, IfOk, length, map, slice_get};
 ghost use Rattle.tcd_plan.specs.PlanData.{IsPlan, is_source};
 ghost use Rattle.tc_script.specs.ScriptsFitPlans.{FitsPlan};
-ghost use Rattle.tc_script.specs.Statements.{IsOrdered};
-ghost use Rattle.tc_script.specs.ScriptText.{begun, with_turns, holds_bounds, with_bounds, stated, line_read, Takes, script_of, Gives};
+ghost use Rattle.tc_script.specs.Statements.{HasOrderedBounds};
+ghost use Rattle.tc_script.specs.ScriptText.{begun_script, with_turns, holds_bounds, with_bounds, script_after_statement, line_read, TakesScriptDraft, script_of, GivesScript};
 ghost use Rattle.tc_script.specs.Ports.{own_bounds};
 
-use crate::statements::{Statement, statement_in};
+use crate::statements::{Statement, script_statement_in};
 use crate::{AnswerRange, Script, ScriptErr, Turn};
 use arrayvec::ArrayVec;
 use std::alloc::Global;
@@ -20,7 +20,8 @@ pub(crate) struct Draft {
     pub(crate) aln: bool,
 }
 
-fn bounds_of(devices: &[Device]) -> ArrayVec<AnswerRange, 16>
+/// Returns each device's bounds before a line of the script states others: its `lo` alone.
+fn script_bounds_of(devices: &[Device]) -> ArrayVec<AnswerRange, 16>
     requires { length devices.now ≤ 16 }
     ensures { result.items ≡ map own_bounds devices.now }
 {
@@ -34,14 +35,15 @@ fn bounds_of(devices: &[Device]) -> ArrayVec<AnswerRange, 16>
     bounds
 }
 
-/// Returns true if an interrupt is one of the plan's.
+/// Returns true if a line `irq` of a script can be read: its interrupt is one of the plan's.
 fn is_source(plan: &Plan, irq: u8) -> bool
     ensures { result ≡ is_source plan.now irq }
 {
     plan.irqs.iter().any(|q| *q == irq)
 }
 
-/// Returns true if the device exists, and these bounds are inside its own.
+/// Returns true if a line `in` of a script can be read: the plan has its device, and its bounds are
+/// inside the device's own.
 fn holds_bounds(devices: &[Device], device: usize, lo: u32, hi: u32) -> bool
     ensures value { result ≡ holds_bounds (slice_get devices.now device) lo hi }
     ensures there { IsTrue result → device < length devices.now }
@@ -53,15 +55,15 @@ fn holds_bounds(devices: &[Device], device: usize, lo: u32, hi: u32) -> bool
 }
 
 impl Draft {
-    /// Returns the draft before the first line.
+    /// Returns the draft of a script before its first line is read.
     fn new(alloc: Global, plan: &Plan) -> Draft
-        ensures begun { result ≡ begun plan.now }
+        ensures begun { result ≡ begun_script plan.now }
         ensures plan { IsPlan plan.now }
     {
         Draft {
             script: Script {
                 turns: Vec::new(alloc),
-                bounds: bounds_of(plan.devices.as_slice()),
+                bounds: script_bounds_of(plan.devices.as_slice()),
             },
             aln: false,
         }
@@ -69,7 +71,7 @@ impl Draft {
 
     /// Adds `count` turns with this interrupt.
     fn add_turns(&mut self, line: u32, count: u32, irq: u8) -> Result<(), ScriptErr>
-        ensures turns { Takes result self.new (with_turns line count irq self.old) }
+        ensures turns { TakesScriptDraft result self.new (with_turns line count irq self.old) }
         ensures devices { length self.new.script.bounds ≡ length self.old.script.bounds }
     {
         let before = self.script.turns.len();
@@ -93,11 +95,12 @@ impl Draft {
     }
 
     /// Applies a statement.
-    #[tactic(auto, unfolding(crate::specs::ScriptText::stated))]
+    #[tactic(auto, unfolding(crate::specs::ScriptText::script_after_statement))]
     fn state(&mut self, plan: &Plan, line: u32, said: Statement) -> Result<(), ScriptErr>
-        requires ordered { IsOrdered said }
+        requires ordered { HasOrderedBounds said }
         requires devices { length self.old.script.bounds ≡ length plan.now.devices }
-        ensures stated { Takes result self.new (stated plan.now line said self.old) }
+        ensures stated { TakesScriptDraft result self.new
+            (script_after_statement plan.now line said self.old) }
         ensures devices { length self.new.script.bounds ≡ length self.old.script.bounds }
     {
         match said {
@@ -127,10 +130,11 @@ impl Draft {
     /// Reads a line and applies its statement.
     fn read_line(&mut self, plan: &Plan, number: u32, line: &[u8]) -> Result<(), ScriptErr>
         requires { length self.old.script.bounds ≡ length plan.now.devices }
-        ensures read { Takes result self.new (line_read plan.now number line.now self.old) }
+        ensures read { TakesScriptDraft result self.new
+            (line_read plan.now number line.now self.old) }
         ensures devices { length self.new.script.bounds ≡ length self.old.script.bounds }
     {
-        match statement_in(line) {
+        match script_statement_in(line) {
             Some(said) => self.state(plan, number, said),
             None => Err(ScriptErr::BadLine(number)),
         }
@@ -143,7 +147,7 @@ impl Script {
     /// that of the first bad line, and there the first one in the order of `ScriptErr`.
     pub fn read(alloc: Global, bytes: &[u8], plan: &Plan) -> Result<Script, ScriptErr>
         requires { length bytes.now ≤ 2 ^ 30 }
-        ensures script { Gives result (script_of plan.now bytes.now) }
+        ensures script { GivesScript result (script_of plan.now bytes.now) }
         ensures fits { IfOk result (FitsPlan plan.now) }
     {
         let mut draft = Draft::new(alloc, plan);

@@ -2,16 +2,16 @@
 ghost use Rattle.std.specs.Prelude.{◌≡◌, length};
 ghost use Rattle.tc_script.specs.ScriptsFitPlans.{FitsPlan};
 ghost use Rattle.tc_script.specs.ScriptRuns.{IsScriptRun};
-ghost use Rattle.tc_script.specs.Ports.{answer_at};
+ghost use Rattle.tc_script.specs.Ports.{device_answer_at};
 
 use crate::{Peak, Ports, Script, drive};
 use tc_machine::Machine;
 use tcd_plan::{Device, Plan};
 
 /// Returns what the device at an address answers at an event, or 0 if no device is there.
-fn answer_at(devices: &[Device], script: &Script, addr: u32, t: u32) -> u32
+fn device_answer_at(devices: &[Device], script: &Script, addr: u32, t: u32) -> u32
     requires { length script.now.bounds ≡ length devices.now }
-    ensures { result ≡ answer_at devices.now script.now.bounds addr t }
+    ensures { result ≡ device_answer_at devices.now script.now.bounds addr t }
 {
     for (i, device) in devices.iter().enumerate() {
         if device.range.holds(addr, 1) {
@@ -32,8 +32,8 @@ pub fn drive_by_script(m: &mut Machine, plan: &Plan, script: &Script) -> Peak
         plan,
         |addr: u32, t: u32| -> u32
             requires { length script.now.bounds ≡ length devices.now }
-            ensures { result ≡ answer_at devices.entry.now script.entry.now.bounds addr t }
-        { answer_at(devices, script, addr, t) },
+            ensures { result ≡ device_answer_at devices.entry.now script.entry.now.bounds addr t }
+        { device_answer_at(devices, script, addr, t) },
     );
     drive(m, plan, script, &ports)
 }

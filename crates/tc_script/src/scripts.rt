@@ -1,8 +1,8 @@
 // Scripts as data.
 ghost use Rattle.std.specs.Prelude.{◌≡◌, ◌<◌, ◌≤◌, length, slice_get, Some, option_map};
-ghost use Rattle.tc_script.specs.Ports.{answer_of};
+ghost use Rattle.tc_script.specs.Ports.{device_answer};
 
-use crate::ports::answer;
+use crate::ports::device_answer;
 use arrayvec::ArrayVec;
 use std::marker::Model;
 
@@ -59,9 +59,9 @@ impl Script {
     /// `lo` to its `hi`, in turn and over again.
     pub fn answer(&self, device: usize, at: u32) -> u32
         requires { device < length self.now.bounds }
-        ensures { option_map (λ b. answer_of b at) (slice_get self.now.bounds device)
+        ensures { option_map (λ b. device_answer b at) (slice_get self.now.bounds device)
             ≡ Some result }
     {
-        answer(self.bounds.as_slice()[device], at)
+        device_answer(self.bounds.as_slice()[device], at)
     }
 }

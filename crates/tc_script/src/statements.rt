@@ -1,9 +1,9 @@
 // Reads the statement of a line.
 ghost use Rattle.std.specs.Prelude.{◌≡◌, [], ◌∷◌, IfSome};
-ghost use Rattle.tcd_text.specs.Lines.{words_of};
-ghost use Rattle.tc_script.specs.Statements.{of_one_number, of_three_numbers, statement_of, IsOrdered};
+ghost use Rattle.tcd_text.specs.Lines.{line_words};
+ghost use Rattle.tc_script.specs.Statements.{statement_of_one_number, statement_of_three_numbers, script_statement_of, HasOrderedBounds};
 
-use crate::numbers::number;
+use crate::numbers::script_number;
 use tcd_text::{Words, words_in};
 
 /// The statement of a line: nothing; a number of turns without an interrupt; one turn with an
@@ -18,8 +18,10 @@ pub(crate) enum Statement {
     In { device: u32, lo: u32, hi: u32 },
 }
 
-fn of_one_number(verb: &[u8], n: u32) -> Option<Statement>
-    ensures { result ≡ of_one_number verb.now n }
+/// Returns a script's statement `step N`, `irq P`, `aln 0` or `aln 1`, if its number is within its
+/// bounds.
+fn statement_of_one_number(verb: &[u8], n: u32) -> Option<Statement>
+    ensures { result ≡ statement_of_one_number verb.now n }
 {
     match verb {
         b"step" if 1 <= n && n <= 100_000 => Some(Statement::Step(n)),
@@ -29,8 +31,9 @@ fn of_one_number(verb: &[u8], n: u32) -> Option<Statement>
     }
 }
 
-fn of_three_numbers(verb: &[u8], device: u32, lo: u32, hi: u32) -> Option<Statement>
-    ensures { result ≡ of_three_numbers verb.now device lo hi }
+/// Returns a script's statement `in DEVICE LO HI`, with LO at most HI.
+fn statement_of_three_numbers(verb: &[u8], device: u32, lo: u32, hi: u32) -> Option<Statement>
+    ensures { result ≡ statement_of_three_numbers verb.now device lo hi }
 {
     match verb {
         b"in" if lo <= hi => Some(Statement::In { device, lo, hi }),
@@ -38,10 +41,11 @@ fn of_three_numbers(verb: &[u8], device: u32, lo: u32, hi: u32) -> Option<Statem
     }
 }
 
-/// Returns the statement of a line of one word.
-#[tactic(auto, unfolding(crate::specs::Statements::statement_of))]
-fn of_one_word(word: &[u8]) -> Option<Statement>
-    ensures { result ≡ statement_of (word.now ∷ []) }
+/// Returns the statement of a script's line of one word: the blank one if the word is empty, else
+/// none.
+#[tactic(auto, unfolding(crate::specs::Statements::script_statement_of))]
+fn statement_of_one_word(word: &[u8]) -> Option<Statement>
+    ensures { result ≡ script_statement_of (word.now ∷ []) }
 {
     if word.is_empty() {
         Some(Statement::Blank)
@@ -50,39 +54,46 @@ fn of_one_word(word: &[u8]) -> Option<Statement>
     }
 }
 
-/// Returns the statement of a line of two words.
-#[tactic(auto, unfolding(crate::specs::Statements::statement_of))]
-fn of_two_words(verb: &[u8], word: &[u8]) -> Option<Statement>
-    ensures { result ≡ statement_of (verb.now ∷ word.now ∷ []) }
+/// Returns the statement of a script's line of two words: a verb and a number.
+#[tactic(auto, unfolding(crate::specs::Statements::script_statement_of))]
+fn statement_of_two_words(verb: &[u8], word: &[u8]) -> Option<Statement>
+    ensures { result ≡ script_statement_of (verb.now ∷ word.now ∷ []) }
 {
-    match number(word) {
-        Some(n) => of_one_number(verb, n),
+    match script_number(word) {
+        Some(n) => statement_of_one_number(verb, n),
         None => None,
     }
 }
 
-/// Returns the statement of a line of four words.
-#[tactic(auto, unfolding(crate::specs::Statements::statement_of))]
-fn of_four_words(verb: &[u8], first: &[u8], second: &[u8], third: &[u8]) -> Option<Statement>
-    ensures { result ≡ statement_of (verb.now ∷ first.now ∷ second.now ∷ third.now ∷ []) }
+/// Returns the statement of a script's line of four words: a verb and three numbers.
+#[tactic(auto, unfolding(crate::specs::Statements::script_statement_of))]
+fn statement_of_four_words(
+    verb: &[u8],
+    first: &[u8],
+    second: &[u8],
+    third: &[u8],
+) -> Option<Statement>
+    ensures { result ≡ script_statement_of (verb.now ∷ first.now ∷ second.now ∷ third.now ∷ []) }
 {
-    let device = number(first)?;
-    let lo = number(second)?;
-    let hi = number(third)?;
-    of_three_numbers(verb, device, lo, hi)
+    let device = script_number(first)?;
+    let lo = script_number(second)?;
+    let hi = script_number(third)?;
+    statement_of_three_numbers(verb, device, lo, hi)
 }
 
-/// Returns the statement of a line.
-#[tactic(auto, using(crate::proofs::Inside::more_words_say_nothing), unfolding(crate::specs::Statements::statement_of))]
-pub(crate) fn statement_in(line: &[u8]) -> Option<Statement>
-    ensures said { result ≡ statement_of (words_of line.now) }
-    ensures ordered { IfSome result IsOrdered }
+/// Returns the statement of a script's line.
+#[tactic(auto, using(crate::proofs::Inside::more_words_say_nothing), unfolding(crate::specs::Statements::script_statement_of))]
+pub(crate) fn script_statement_in(line: &[u8]) -> Option<Statement>
+    ensures said { result ≡ script_statement_of (line_words line.now) }
+    ensures ordered { IfSome result HasOrderedBounds }
 {
     match words_in(line) {
-        Words::One(word) => of_one_word(word),
-        Words::Two(verb, word) => of_two_words(verb, word),
+        Words::One(word) => statement_of_one_word(word),
+        Words::Two(verb, word) => statement_of_two_words(verb, word),
         Words::Three(_, _, _) => None,
-        Words::Four(verb, first, second, third) => of_four_words(verb, first, second, third),
+        Words::Four(verb, first, second, third) => statement_of_four_words(
+            verb, first, second, third,
+        ),
         Words::More => None,
     }
 }

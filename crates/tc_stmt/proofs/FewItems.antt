@@ -9,7 +9,7 @@ use Rattle.std.proofs.lemmas.List.Splits.{length-slice_split}
 use Rattle.std.proofs.lemmas.List.Sums.{count_by-le-length}
 use Rattle.tc_lex.specs.declared.kinds.Token.{Token}
 use Rattle.tc_lex.specs.declared.kinds.TokenKind.TheVariants as kind
-use Rattle.tc_lex.specs.Cut.{tokens_of, IsFault, AreTokens}
+use Rattle.tc_lex.specs.Cut.{tokens_of, IsCutFault, AreTokens}
 use Rattle.tc_lex.proofs.LineLaws.{cut_reads, fault_reads}
 use Rattle.tc_lex.specs.Pieces.{PieceData, is_kind, text_at}
 use Rattle.tc_lex.specs.Operands.{OperandData, operand, operands, is_comma}
@@ -18,7 +18,7 @@ use Rattle.tc_stmt.specs.StatementRow.{statement}
 use Rattle.tc_stmt.proofs.Cases.{by_test}
 use Rattle.tc_stmt.specs.Items.{ItemData, section, global}
 use Rattle.tc_stmt.specs.DataDirectives.{value_item}
-use Rattle.tc_stmt.specs.Lines.{LineData, line_data, word_of, named_line, space_line, values_line, code_line, stated_line, line_from, has_label, pieces_line, piece_in, label_of, label_before, cut_line, line_in}
+use Rattle.tc_stmt.specs.Lines.{LineData, line_data, only_operand_name, named_line, space_line, values_line, code_line, stated_line, line_from, has_label, pieces_line, line_token_with_text, label_of, label_before, cut_line, line_in}
 
 -- a line that adds at most this many items
 record Few (most : ℕ) (l : LineData) : Type 0 where
@@ -30,7 +30,7 @@ word_few make (Some name) = record { items = omega arith }
 
 named_few : (make : List ℕ → ItemData) (os : List OperandData) → Few 65 (named_line make os)
 unfolding named_line
-named_few make os = let h = word_few make (word_of os) in record { items = omega (arith, h.items) }
+named_few make os = let h = word_few make (only_operand_name os) in record { items = omega (arith, h.items) }
 
 space_few : (os : List OperandData) → Few 65 (space_line os)
 unfolding space_line
@@ -84,11 +84,11 @@ unfolding label_of
 label_few ps = by_test (λ (is : List ItemData). Few 66 (line_data 1 is)) (has_label ps) _ _ (λ e. record { items = omega arith }) (λ e. record { items = omega arith })
 
 before_few : (text : List ℕ) (q : Result (List Token) ℕ) → Few 66 (line_data 1 (label_before text q))
-before_few text (Ok ts) = label_few (map (piece_in text) ts)
+before_few text (Ok ts) = label_few (map (line_token_with_text text) ts)
 before_few text (Err at) = record { items = omega arith }
 
 cut_few : (line : List ℕ) (q : Result (List Token) ℕ) → tokens_of line ≡ q → Few 66 (cut_line line q)
-cut_few line (Ok ts) e = let c = cut_reads line ts e in pieces_few (map (piece_in line) ts) (omega (arith, c.few, length-map ts (piece_in line)))
+cut_few line (Ok ts) e = let c = cut_reads line ts e in pieces_few (map (line_token_with_text line) ts) (omega (arith, c.few, length-map ts (line_token_with_text line)))
 cut_few line (Err at) e = before_few (take at line) (tokens_of (take at line))
 
 pub line_few : (line : List ℕ) → length (line_in line).items ≤ 66
@@ -99,7 +99,7 @@ tokens_within : (line : List ℕ) (low stop : ℕ) (ts : List Token) → AreToke
 tokens_within line low stop [] h = h.within
 tokens_within line low stop (t ∷ ts) h = tokens_within line t.to stop ts h.1
 
-fault_within : (line : List ℕ) (at : ℕ) → IsFault line 0 64 at → at ≤ length line
+fault_within : (line : List ℕ) (at : ℕ) → IsCutFault line 0 64 at → at ≤ length line
 fault_within line at h = tokens_within line 0 at h.before h.tokens
 
 pub uncut_within : (line : List ℕ) (at : ℕ) → tokens_of line ≡ Err at → at ≤ length line

@@ -12,7 +12,7 @@ use Rattle.tc_isa.specs.declared.fields.Uses.{Uses}
 use Rattle.tc_isa.specs.Rows.{RowData, listed, is_long}
 use Rattle.tc_isa.specs.Forms.{bounds, form_index}
 use Rattle.tc_isa.specs.InBounds.{IsBelow}
-use Rattle.tc_isa.specs.ValidRows.{IsRow, uses_of, rest_is_zero, is_apart}
+use Rattle.tc_isa.specs.ValidRows.{IsRow, uses_of, rest_is_zero, are_registers_apart}
 use Rattle.tc_isa.proofs.TableFacts.{row_at}
 use Rattle.tc_lex.specs.declared.operand.Shape.{Shape}
 use Rattle.tc_lex.specs.declared.operand.Shape.TheVariants as shape
@@ -21,18 +21,18 @@ use Rattle.tc_stmt.specs.declared.want.Field.TheVariants.{C, S1, S2, N, K}
 use Rattle.tc_stmt.specs.declared.want.Want.{Want}
 use Rattle.tc_stmt.specs.declared.want.Want.TheVariants.{Reg, A10, Number, Target, Absolute, Memory}
 use Rattle.tc_stmt.specs.declared.tally.Tally.{Tally}
-use Rattle.tc_stmt.specs.Names.{is_name}
+use Rattle.tc_stmt.specs.Names.{is_source_name}
 use Rattle.tc_lex.specs.Operands.{ValueData, OperandData}
 use Rattle.tc_stmt.specs.Wants.{want_of, wants_of}
 use Rattle.tc_stmt.specs.RowFields.{RowFieldsData, no_fields, with_rule, set_field, field_of, with_value}
 use Rattle.tc_stmt.specs.Items.{ReferenceData}
-use Rattle.tc_stmt.specs.Filling.{put_register, put_number, symbol_rule, reference, with_symbol, half_kind, fill_value, fill_memory, fill_target, put_absolute, fill_absolute, fill_register, fill_a10, fill_plain, fill, fill_all, kept_apart, fields_of_row}
-use Rattle.tc_stmt.specs.Displacements.{is_far, is_odd, displacement_rule, with_displacement, target_kind}
-use Rattle.tc_stmt.specs.OperandForms.{shape_index, register_of, fits, wrap, is_symbol, is_half}
-use Rattle.tc_stmt.specs.StatementRow.{after_row, outcome, or_next, statement}
+use Rattle.tc_stmt.specs.Filling.{put_register, put_number, symbol_rule, reference, with_symbol, half_operand_relocation, fill_value, fill_memory, fill_target, put_absolute, fill_absolute, fill_register, fill_a10, fill_plain, fill, fill_all, check_registers_apart, fields_of_row, is_within_field_bound}
+use Rattle.tc_stmt.specs.Displacements.{is_far_displacement, is_odd_displacement, displacement_rule, with_displacement, target_operand_relocation}
+use Rattle.tc_stmt.specs.OperandForms.{shape_index, register_by_name, wrap_into_field, is_symbol_operand, is_half_operand}
+use Rattle.tc_stmt.specs.StatementRow.{after_row, statement_outcome, or_next, statement}
 use Rattle.tc_stmt.specs.StatementRow as judging
-use Rattle.tc_isa.specs.Relocations.{is_reloc, fills}
-use Rattle.tc_stmt.specs.StatedRows.{is_short_jump, TakesSymbol, Symbols, Stated, IsStated, StatedLaw}
+use Rattle.tc_isa.specs.Relocations.{is_reloc, can_relocation_fill}
+use Rattle.tc_stmt.specs.StatedRows.{is_short_jump, TakesSymbol, TakesAnySymbol, FitsStatedRow, IsStatedRow, StatedLaw}
 use Rattle.tc_stmt.proofs.Cases.{by_test, one_passes}
 use Rattle.tc_stmt.proofs.ZeroConstants.{zero_judged}
 
@@ -50,19 +50,19 @@ abbrev suits : RowData → Want → Bool
 suits r (Reg bank field) = is_used field (uses_of r) && nat_le 16 (field_of field (bounds r.form))
 suits r A10 = true
 suits r (Number signed field) = is_used field (uses_of r)
-suits r Target = (uses_of r).k && cond (is_long r) (fills r.form (target_kind r)) (is_short_jump r.form)
-suits r Absolute = (uses_of r).k && nat_le (cond (form_index r.form == 8) (2 ^ 18) (2 ^ 24)) (bounds r.form).k && (form_index r.form == 8 || (is_long r && fills r.form 2))
+suits r Target = (uses_of r).k && cond (is_long r) (can_relocation_fill r.form (target_operand_relocation r)) (is_short_jump r.form)
+suits r Absolute = (uses_of r).k && nat_le (cond (form_index r.form == 8) (2 ^ 18) (2 ^ 24)) (bounds r.form).k && (form_index r.form == 8 || (is_long r && can_relocation_fill r.form 2))
 suits r (Memory plus offset) = (uses_of r).s2 && nat_le 16 (bounds r.form).s2 && (not offset || (uses_of r).k)
 
 -- only rows of four bytes take a half of a symbol
 abbrev halves_long : RowData → Bool
-halves_long r = (half_kind r shape.High == 0 || (is_long r && fills r.form (half_kind r shape.High))) && (half_kind r shape.Low == 0 || (is_long r && fills r.form (half_kind r shape.Low)))
+halves_long r = (half_operand_relocation r shape.High == 0 || (is_long r && can_relocation_fill r.form (half_operand_relocation r shape.High))) && (half_operand_relocation r shape.Low == 0 || (is_long r && can_relocation_fill r.form (half_operand_relocation r shape.Low)))
 
 abbrev row_suits : RowData → Bool
 row_suits r = list_all (suits r) (wants_of r) && halves_long r
 
 all_suit : list_all row_suits listed ≡ true
-unfolding wants_of want_of bounds form_index field_of half_kind shape_index target_kind fills
+unfolding wants_of want_of bounds form_index field_of half_operand_relocation shape_index target_operand_relocation can_relocation_fill
 all_suit = refl
 
 row_suit : (k : ℕ) (r : RowData) → slice_get listed k ≡ Some r → (list_all (suits r) (wants_of r) ≡ true) × (halves_long r ≡ true)
@@ -72,7 +72,7 @@ row_suit k r at = and_parts (list_all (suits r) (wants_of r)) (halves_long r) (o
 pub record Sound (r : RowData) (f : RowFieldsData) : Type 0 where
   pub below : IsBelow f.fields (bounds r.form)
   pub zero : rest_is_zero (uses_of r) f.fields ≡ true
-  pub symbols : Symbols r f.reference
+  pub symbols : TakesAnySymbol r f.reference
 
 record IfSound (r : RowData) (o : Option RowFieldsData) : Type 0 where
   some : (f : RowFieldsData) → o ≡ Some f → Sound r f
@@ -144,14 +144,14 @@ more_than_none S2 b f s = let h = s.s2 in omega arith
 more_than_none N b f s = let h = s.n in omega arith
 more_than_none K b f s = let h = s.k in omega arith
 
-wrapped_below : (bound : ℕ) (minus : Bool) (size : ℕ) → 0 < bound → (minus ≡ false → size < bound) → wrap bound minus size < bound
+wrapped_below : (bound : ℕ) (minus : Bool) (size : ℕ) → 0 < bound → (minus ≡ false → size < bound) → wrap_into_field bound minus size < bound
 wrapped_below bound false size p h = h refl
 wrapped_below bound true zero p h = p
 wrapped_below bound true (suc n) p h = rw (eqb-suc-zero n) (omega arith)
 
 -- ---- numbers and registers
-fits_plus : (signed : Bool) (bound size : ℕ) → fits signed bound false size ≡ true → size < bound
-unfolding fits
+fits_plus : (signed : Bool) (bound size : ℕ) → is_within_field_bound signed bound false size ≡ true → size < bound
+unfolding is_within_field_bound
 fits_plus true bound size e = let h = ltb-true size (bound / 2) e in omega arith
 fits_plus false bound size e = ltb-true size bound e
 
@@ -159,10 +159,10 @@ sound_number : (r : RowData) (signed : Bool) (field : Field) (minus : Bool) (siz
 unfolding put_number
 sound_number r signed field minus size f used s =
     let bound : ℕ = field_of field (bounds r.form) in
-    by_test (Sound r) (fits signed (field_of field (bounds r.form)) minus size) _ _
-    (λ b. sound_put r field (wrap (field_of field (bounds r.form)) minus size) f used
+    by_test (Sound r) (is_within_field_bound signed (field_of field (bounds r.form)) minus size) _ _
+    (λ b. sound_put r field (wrap_into_field (field_of field (bounds r.form)) minus size) f used
     (wrapped_below (field_of field (bounds r.form)) minus size (more_than_none field (bounds r.form) f.fields s.below)
-    (λ e. fits_plus signed (field_of field (bounds r.form)) size (ap (λ m. fits signed (field_of field (bounds r.form)) m size) (sym e) ∙ b))) s)
+    (λ e. fits_plus signed (field_of field (bounds r.form)) size (ap (λ m. is_within_field_bound signed (field_of field (bounds r.form)) m size) (sym e) ∙ b))) s)
     (λ b. sound_broken r 5 f s)
 
 sound_register : (r : RowData) (bank : Bool) (field : Field) (name : List ℕ) (f : RowFieldsData) → is_used field (uses_of r) ≡ true → nat_le 16 (field_of field (bounds r.form)) ≡ true → Sound r f → Sound r (put_register bank field name f)
@@ -170,23 +170,23 @@ unfolding put_register
 sound_register r bank field name f used wide s =
     let bound = leb-true 16 (field_of field (bounds r.form)) wide in
     by_test (Sound r) _ _ _
-    (λ b. sound_put r field (register_of name % 16) f used (small (register_of name) (field_of field (bounds r.form)) bound) s)
+    (λ b. sound_put r field (register_by_name name % 16) f used (small (register_by_name name) (field_of field (bounds r.form)) bound) s)
     (λ b. sound_broken r 4 f s)
   where
     small : (n b : ℕ) → 16 ≤ b → n % 16 < b
     small n b h = omega arith
 
 -- ---- symbols
-symbol_named : (v : ValueData) → (symbol_rule v == 15) ≡ true → is_name v.name ≡ true
+symbol_named : (v : ValueData) → (symbol_rule v == 15) ≡ true → is_source_name v.name ≡ true
 unfolding symbol_rule
-symbol_named v e = by (v.wide || nat_le (2 ^ 32) v.size) (is_name v.name) e
+symbol_named v e = by (v.wide || nat_le (2 ^ 32) v.size) (is_source_name v.name) e
   where
     by : (a b : Bool) → (cond a 5 (cond b 15 9) == 15) ≡ true → b ≡ true
     by true b e = cc
     by false true e = refl
     by false false e = cc
 
-sound_symbol : (r : RowData) (kind : ℕ) (v : ValueData) (f : RowFieldsData) → (is_reloc kind ≡ true → (is_long r ≡ true) × (fills r.form kind ≡ true)) → (kind ≡ 0 → ((uses_of r).k ≡ true) × (is_short_jump r.form ≡ true)) → Sound r f → Sound r (with_symbol kind v f)
+sound_symbol : (r : RowData) (kind : ℕ) (v : ValueData) (f : RowFieldsData) → (is_reloc kind ≡ true → (is_long r ≡ true) × (can_relocation_fill r.form kind ≡ true)) → (kind ≡ 0 → ((uses_of r).k ≡ true) × (is_short_jump r.form ≡ true)) → Sound r f → Sound r (with_symbol kind v f)
 unfolding with_symbol
 sound_symbol r kind v f long target s =
     by_test (Sound r) (symbol_rule v == 15) _ _
@@ -203,14 +203,14 @@ taken_half : (a b c : Bool) → (a || (b && c)) ≡ true → a ≡ false → (b 
 taken_half true b c e f = cc
 taken_half false b c e f = and_parts b c e
 
-half_long : (r : RowData) (s : Shape) → halves_long r ≡ true → is_half (shape_index s) ≡ true → (half_kind r s == 0) ≡ false → (is_long r ≡ true) × (fills r.form (half_kind r s) ≡ true)
+half_long : (r : RowData) (s : Shape) → halves_long r ≡ true → is_half_operand (shape_index s) ≡ true → (half_operand_relocation r s == 0) ≡ false → (is_long r ≡ true) × (can_relocation_fill r.form (half_operand_relocation r s) ≡ true)
 unfolding shape_index
 half_long r shape.Absent all half some = cc
 half_long r shape.Number all half some = cc
 half_long r shape.Word all half some = cc
 half_long r shape.Sum all half some = cc
-half_long r shape.High all half some = taken_half (half_kind r shape.High == 0) (is_long r) (fills r.form (half_kind r shape.High)) (and_parts _ (half_kind r shape.Low == 0 || (is_long r && fills r.form (half_kind r shape.Low))) all).0 some
-half_long r shape.Low all half some = taken_half (half_kind r shape.Low == 0) (is_long r) (fills r.form (half_kind r shape.Low)) (and_parts (half_kind r shape.High == 0 || (is_long r && fills r.form (half_kind r shape.High))) _ all).1 some
+half_long r shape.High all half some = taken_half (half_operand_relocation r shape.High == 0) (is_long r) (can_relocation_fill r.form (half_operand_relocation r shape.High)) (and_parts _ (half_operand_relocation r shape.Low == 0 || (is_long r && can_relocation_fill r.form (half_operand_relocation r shape.Low))) all).0 some
+half_long r shape.Low all half some = taken_half (half_operand_relocation r shape.Low == 0) (is_long r) (can_relocation_fill r.form (half_operand_relocation r shape.Low)) (and_parts (half_operand_relocation r shape.High == 0 || (is_long r && can_relocation_fill r.form (half_operand_relocation r shape.High))) _ all).1 some
 half_long r shape.Bad all half some = cc
 half_long r shape.Huge all half some = cc
 
@@ -220,10 +220,10 @@ unfolding fill_value
 sound_value r signed field v f halves used s =
     by_test (IfSound r) (shape_index v.shape == 1) _ _ (λ e. sound_some r _ (sound_number r signed field v.minus v.size f used s))
     (λ e. by_test (IfSound r) (shape_index v.shape == 7) _ _ (λ e. sound_some r _ (sound_broken r 5 f s))
-    (λ e. by_test (IfSound r) (is_symbol (shape_index v.shape)) _ _ (λ e. sound_some r _ (sound_broken r _ f s))
-    (λ e. by_test (IfSound r) (is_half (shape_index v.shape)) _ _
-    (λ half. by_test (IfSound r) (half_kind r v.shape == 0) _ _ (λ e. sound_some r _ (sound_broken r _ f s))
-    (λ some. sound_some r _ (sound_symbol r (half_kind r v.shape) v f (λ k. half_long r v.shape halves half some) (λ z. absurd (never (half_kind r v.shape) z some)) s)))
+    (λ e. by_test (IfSound r) (is_symbol_operand (shape_index v.shape)) _ _ (λ e. sound_some r _ (sound_broken r _ f s))
+    (λ e. by_test (IfSound r) (is_half_operand (shape_index v.shape)) _ _
+    (λ half. by_test (IfSound r) (half_operand_relocation r v.shape == 0) _ _ (λ e. sound_some r _ (sound_broken r _ f s))
+    (λ some. sound_some r _ (sound_symbol r (half_operand_relocation r v.shape) v f (λ k. half_long r v.shape halves half some) (λ z. absurd (never (half_operand_relocation r v.shape) z some)) s)))
     (λ e. sound_none r))))
 
 sound_memory : (r : RowData) (plus offset : Bool) (o : OperandData) (f : RowFieldsData) → halves_long r ≡ true → suits r (Memory plus offset) ≡ true → Sound r f → IfSound r (fill_memory r plus offset o f)
@@ -244,7 +244,7 @@ sound_memory r plus offset o f halves suit s =
 -- ---- targets
 near : (r : RowData) (size : ℕ) → (displacement_rule r false size == 15) ≡ true → 0 < (bounds r.form).k → size / 2 < (bounds r.form).k
 unfolding displacement_rule
-near r size e some = by_form (form_index r.form == 13) (bounds r.form).k some (by_far (is_far r.form (bounds r.form).k false size) (is_long r) (is_odd size) e)
+near r size e some = by_form (form_index r.form == 13) (bounds r.form).k some (by_far (is_far_displacement r.form (bounds r.form).k false size) (is_long r) (is_odd_displacement size) e)
   where
     by_far : (far long odd : Bool) → (min (cond far (cond long 5 11) 15) (cond odd 6 15) == 15) ≡ true → far ≡ false
     by_far true true true e = cc
@@ -262,28 +262,28 @@ unfolding with_displacement field_of
 sound_displaced r minus size f used s =
     let some : 0 < (bounds r.form).k = more_than_none K (bounds r.form) f.fields s.below in
     by_test (Sound r) (displacement_rule r minus size == 15) _ _
-    (λ b. sound_put r K (wrap (bounds r.form).k minus (size / 2)) f used (wrapped_below (bounds r.form).k minus (size / 2) some (λ e. near r size (ap (λ m. displacement_rule r m size == 15) (sym e) ∙ b) some)) s)
+    (λ b. sound_put r K (wrap_into_field (bounds r.form).k minus (size / 2)) f used (wrapped_below (bounds r.form).k minus (size / 2) some (λ e. near r size (ap (λ m. displacement_rule r m size == 15) (sym e) ∙ b) some)) s)
     (λ b. sound_broken r (displacement_rule r minus size) f s)
 
-is_target : (r : RowData) → is_reloc (target_kind r) ≡ true → is_long r ≡ true
-unfolding target_kind
+is_target : (r : RowData) → is_reloc (target_operand_relocation r) ≡ true → is_long r ≡ true
+unfolding target_operand_relocation
 is_target r e = by_long (is_long r) (cond (form_index r.form == 7) 1 3) e
   where
     by_long : (b : Bool) (n : ℕ) → is_reloc (cond b n 0) ≡ true → b ≡ true
     by_long true n e = refl
     by_long false n e = cc
 
-target_long : (r : RowData) → cond (is_long r) (fills r.form (target_kind r)) (is_short_jump r.form) ≡ true → is_reloc (target_kind r) ≡ true → (is_long r ≡ true) × (fills r.form (target_kind r) ≡ true)
-target_long r fit e = let long = is_target r e in (long, by (is_long r) (fills r.form (target_kind r)) (is_short_jump r.form) long fit)
+target_long : (r : RowData) → cond (is_long r) (can_relocation_fill r.form (target_operand_relocation r)) (is_short_jump r.form) ≡ true → is_reloc (target_operand_relocation r) ≡ true → (is_long r ≡ true) × (can_relocation_fill r.form (target_operand_relocation r) ≡ true)
+target_long r fit e = let long = is_target r e in (long, by (is_long r) (can_relocation_fill r.form (target_operand_relocation r)) (is_short_jump r.form) long fit)
   where
     by : (a b c : Bool) → a ≡ true → cond a b c ≡ true → b ≡ true
     by true b c e h = h
     by false b c e h = cc
 
 -- a target that takes no relocation is that of a jump of 16 bits
-target_short : (r : RowData) → cond (is_long r) (fills r.form (target_kind r)) (is_short_jump r.form) ≡ true → target_kind r ≡ 0 → is_short_jump r.form ≡ true
-unfolding target_kind
-target_short r fit e = by (is_long r) (form_index r.form == 7) (fills r.form (target_kind r)) e fit
+target_short : (r : RowData) → cond (is_long r) (can_relocation_fill r.form (target_operand_relocation r)) (is_short_jump r.form) ≡ true → target_operand_relocation r ≡ 0 → is_short_jump r.form ≡ true
+unfolding target_operand_relocation
+target_short r fit e = by (is_long r) (form_index r.form == 7) (can_relocation_fill r.form (target_operand_relocation r)) e fit
   where
     by : (a b c : Bool) → ◌≡◌ {A = ℕ} (cond a (cond b 1 3) 0) 0 → cond a c (is_short_jump r.form) ≡ true → is_short_jump r.form ≡ true
     by true true c z h = absurd (omega arith)
@@ -293,11 +293,11 @@ target_short r fit e = by (is_long r) (form_index r.form == 7) (fills r.form (ta
 sound_target : (r : RowData) (v : ValueData) (f : RowFieldsData) → suits r Target ≡ true → Sound r f → IfSound r (fill_target r v f)
 unfolding fill_target
 sound_target r v f suit s =
-    let used = (and_parts (uses_of r).k (cond (is_long r) (fills r.form (target_kind r)) (is_short_jump r.form)) suit).0 in
-    let fit = (and_parts (uses_of r).k (cond (is_long r) (fills r.form (target_kind r)) (is_short_jump r.form)) suit).1 in
+    let used = (and_parts (uses_of r).k (cond (is_long r) (can_relocation_fill r.form (target_operand_relocation r)) (is_short_jump r.form)) suit).0 in
+    let fit = (and_parts (uses_of r).k (cond (is_long r) (can_relocation_fill r.form (target_operand_relocation r)) (is_short_jump r.form)) suit).1 in
     by_test (IfSound r) (shape_index v.shape == 3 && bytes_eq v.name (codes ".")) _ _ (λ e. sound_some r _ (by_test (Sound r) v.wide _ _ (λ e. sound_broken r 5 f s) (λ e. sound_displaced r v.minus v.size f used s)))
-    (λ e. by_test (IfSound r) (is_symbol (shape_index v.shape)) _ _ (λ e. sound_some r _ (sound_symbol r (target_kind r) v f (target_long r fit) (λ z. (used, target_short r fit z)) s))
-    (λ e. by_test (IfSound r) (is_half (shape_index v.shape)) _ _ (λ e. sound_some r _ (sound_broken r _ f s)) (λ e. sound_none r)))
+    (λ e. by_test (IfSound r) (is_symbol_operand (shape_index v.shape)) _ _ (λ e. sound_some r _ (sound_symbol r (target_operand_relocation r) v f (target_long r fit) (λ z. (used, target_short r fit z)) s))
+    (λ e. by_test (IfSound r) (is_half_operand (shape_index v.shape)) _ _ (λ e. sound_some r _ (sound_broken r _ f s)) (λ e. sound_none r)))
 
 -- ---- absolute addresses
 none_of : (a b : Bool) → (a || b) ≡ false → b ≡ false
@@ -330,10 +330,10 @@ sound_absolute r v f suit s =
     let q = and_parts _ _ p.0 in
     by_test (IfSound r) (shape_index v.shape == 1) _ _ (λ e. sound_some r _ (sound_address r v.minus v.size f q.0 q.1 s))
     (λ e. by_test (IfSound r) (shape_index v.shape == 7) _ _ (λ e. sound_some r _ (sound_broken r 5 f s))
-    (λ e. by_test (IfSound r) (is_symbol (shape_index v.shape)) _ _
+    (λ e. by_test (IfSound r) (is_symbol_operand (shape_index v.shape)) _ _
     (λ e. by_test (IfSound r) (form_index r.form == 8) _ _ (λ e. sound_some r _ (sound_broken r _ f s))
-    (λ form. sound_some r _ (sound_symbol r 2 v f (λ k. taken_half (form_index r.form == 8) (is_long r) (fills r.form 2) p.1 form) (λ z. absurd (omega arith)) s)))
-    (λ e. by_test (IfSound r) (is_half (shape_index v.shape)) _ _ (λ e. sound_some r _ (sound_broken r _ f s)) (λ e. sound_none r))))
+    (λ form. sound_some r _ (sound_symbol r 2 v f (λ k. taken_half (form_index r.form == 8) (is_long r) (can_relocation_fill r.form 2) p.1 form) (λ z. absurd (omega arith)) s)))
+    (λ e. by_test (IfSound r) (is_half_operand (shape_index v.shape)) _ _ (λ e. sound_some r _ (sound_broken r _ f s)) (λ e. sound_none r))))
 
 -- ---- operands
 sound_fill : (r : RowData) (w : Want) (o : OperandData) (f : RowFieldsData) → halves_long r ≡ true → suits r w ≡ true → Sound r f → IfSound r (fill r w o f)
@@ -384,22 +384,22 @@ sound_nothing r row = record {
     zeros a b c d e = rw (or_true a, or_true b, or_true c, or_true d, or_true e) refl
 
 -- ---- a statement
-sound_apart : (r : RowData) (g f : RowFieldsData) → Sound r g → kept_apart r g ≡ f → f.rule ≡ 15 → Stated r f
-sound_apart r g f s e rule = by (is_apart r g.fields) refl e
+sound_apart : (r : RowData) (g f : RowFieldsData) → Sound r g → check_registers_apart r g ≡ f → f.rule ≡ 15 → FitsStatedRow r f
+sound_apart r g f s e rule = by (are_registers_apart r g.fields) refl e
   where
-    by : (b : Bool) → is_apart r g.fields ≡ b → cond b g (with_rule 12 g) ≡ f → Stated r f
-    by true is e = subst (Stated r) e (record { fits = record { below = s.below; zero = s.zero; apart = is }; symbols = s.symbols })
+    by : (b : Bool) → are_registers_apart r g.fields ≡ b → cond b g (with_rule 12 g) ≡ f → FitsStatedRow r f
+    by true is e = subst (FitsStatedRow r) e (record { fits = record { below = s.below; zero = s.zero; apart = is }; symbols = s.symbols })
     by false is e = let least : min g.rule 12 ≡ 15 = ap (λ (x : RowFieldsData). x.rule) e ∙ rule in absurd (omega arith)
 
-sound_judged : (k : ℕ) (r : RowData) (os : List OperandData) (f : RowFieldsData) → slice_get listed k ≡ Some r → fields_of_row r (wants_of r) os ≡ Some f → f.rule ≡ 15 → Stated r f
+sound_judged : (k : ℕ) (r : RowData) (os : List OperandData) (f : RowFieldsData) → slice_get listed k ≡ Some r → fields_of_row r (wants_of r) os ≡ Some f → f.rule ≡ 15 → FitsStatedRow r f
 unfolding fields_of_row
 sound_judged k r os f at e rule =
     let suit = row_suit k r at in
     by (fill_all r (wants_of r) os no_fields) (sound_all r (wants_of r) os no_fields suit.1 suit.0 (sound_nothing r (row_at k r at))) e
   where
-    by : (o : Option RowFieldsData) → IfSound r o → option_and_then (λ g. Some (kept_apart r g)) o ≡ Some f → Stated r f
+    by : (o : Option RowFieldsData) → IfSound r o → option_and_then (λ g. Some (check_registers_apart r g)) o ≡ Some f → FitsStatedRow r f
     by None h e = cc
-    by (Some g) h e = let same : kept_apart r g ≡ f = cc in sound_apart r g f (h.some g refl) same rule
+    by (Some g) h e = let same : check_registers_apart r g ≡ f = cc in sound_apart r g f (h.some g refl) same rule
 
 -- the row of a statement
 record Chosen (os : List OperandData) (rows : List RowData) (place k : ℕ) (f : RowFieldsData) : Type 0 where
@@ -427,16 +427,16 @@ stepped_ok name os r t f e = by (bytes_eq r.name name) (fields_of_row r (wants_o
     by true None is e = cc
     by true (Some g) is e = by_rule g (g.rule == 15) refl is e
 
-chosen : (name : List ℕ) (os : List OperandData) (rows : List RowData) (place : ℕ) (t : Tally) (k : ℕ) (f : RowFieldsData) → outcome name os rows place t ≡ Ok (k, f) → Chosen os rows place k f
-unfolding outcome
+chosen : (name : List ℕ) (os : List OperandData) (rows : List RowData) (place : ℕ) (t : Tally) (k : ℕ) (f : RowFieldsData) → statement_outcome name os rows place t ≡ Ok (k, f) → Chosen os rows place k f
+unfolding statement_outcome
 chosen name os [] place t k f e = cc
 chosen name os (r ∷ rs) place t k f e = by (after_row name os r t) refl e (λ u g. chosen name os rs (place + 1) u k f g)
   where
     further : Chosen os rs (place + 1) k f → Chosen os (r ∷ rs) place k f
     further c = record { at = suc c.at; row = c.row; is_row = c.is_row; number = let n = c.number in omega arith; is = c.is; rule = c.rule }
 
-    by : (q : Result RowFieldsData Tally) → after_row name os r t ≡ q → or_next q place (outcome name os rs (place + 1)) ≡ Ok (k, f)
-        → ((u : Tally) → outcome name os rs (place + 1) u ≡ Ok (k, f) → Chosen os rs (place + 1) k f) → Chosen os (r ∷ rs) place k f
+    by : (q : Result RowFieldsData Tally) → after_row name os r t ≡ q → or_next q place (statement_outcome name os rs (place + 1)) ≡ Ok (k, f)
+        → ((u : Tally) → statement_outcome name os rs (place + 1) u ≡ Ok (k, f) → Chosen os rs (place + 1) k f) → Chosen os (r ∷ rs) place k f
     by (Ok g) is e rec =
         let both : (place, g) ≡ (k, f) = cc in
         let same : g ≡ f = ap (λ (p : ℕ × RowFieldsData). p.1) both in
@@ -445,9 +445,9 @@ chosen name os (r ∷ rs) place t k f e = by (after_row name os r t) refl e (λ 
         record { at = 0; row = r; is_row = refl; number = omega arith; is = ok.0; rule = ok.1 }
     by (Err u) is e rec = further (rec u e)
 
-pub stated : (name : List ℕ) (os : List OperandData) (k : ℕ) (f : RowFieldsData) → statement name os ≡ Ok (k, f) → IsStated k f
+pub stated : (name : List ℕ) (os : List OperandData) (k : ℕ) (f : RowFieldsData) → statement name os ≡ Ok (k, f) → IsStatedRow k f
 stated name os k f e =
-    let c = chosen name os listed 0 judging.start k f e in
+    let c = chosen name os listed 0 judging.start_tally k f e in
     let same : c.at ≡ k = let n = c.number in omega arith in
     let at : slice_get listed k ≡ Some c.row = ap (slice_get listed) (sym same) ∙ c.is_row in
     record { row = c.row; at = at; stated = sound_judged k c.row os f at c.is c.rule; zero = (zero_judged k c.row os f at c.is).some }

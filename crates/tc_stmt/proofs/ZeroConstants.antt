@@ -7,7 +7,7 @@ use Rattle.std.proofs.lemmas.Bool.{and_parts}
 use Rattle.tc_isa.specs.declared.table.Form.{Form}
 use Rattle.tc_isa.specs.Rows.{RowData, listed}
 use Rattle.tc_isa.specs.Forms.{bounds, form_index}
-use Rattle.tc_isa.specs.ValidRows.{is_apart}
+use Rattle.tc_isa.specs.ValidRows.{are_registers_apart}
 use Rattle.tc_lex.specs.declared.operand.Shape.{Shape}
 use Rattle.tc_lex.specs.declared.operand.Shape.TheVariants as shape
 use Rattle.tc_stmt.specs.declared.want.Field.{Field}
@@ -18,9 +18,9 @@ use Rattle.tc_lex.specs.Operands.{ValueData, OperandData}
 use Rattle.tc_stmt.specs.Wants.{want_of, wants_of}
 use Rattle.tc_stmt.specs.RowFields.{RowFieldsData, no_fields, with_rule, set_field, with_value, field_of}
 use Rattle.tc_stmt.specs.Items.{ReferenceData}
-use Rattle.tc_stmt.specs.Filling.{put_register, put_number, symbol_rule, with_symbol, half_kind, fill_value, fill_memory, fill_target, put_absolute, fill_absolute, fill_register, fill_a10, fill_plain, fill, fill_all, kept_apart, fields_of_row}
+use Rattle.tc_stmt.specs.Filling.{put_register, put_number, symbol_rule, with_symbol, half_operand_relocation, fill_value, fill_memory, fill_target, put_absolute, fill_absolute, fill_register, fill_a10, fill_plain, fill, fill_all, check_registers_apart, fields_of_row, is_within_field_bound}
 use Rattle.tc_stmt.specs.Displacements.{displacement_rule, with_displacement}
-use Rattle.tc_stmt.specs.OperandForms.{shape_index, register_of, fits, wrap, is_symbol, is_half}
+use Rattle.tc_stmt.specs.OperandForms.{shape_index, register_by_name, wrap_into_field, is_symbol_operand, is_half_operand}
 use Rattle.tc_stmt.proofs.Cases.{by_test, one_passes}
 
 -- ---- rows
@@ -32,7 +32,7 @@ is_constant _ = false
 abbrev takes : RowData → Want → Bool
 takes r (Reg bank field) = is_constant field
 takes r A10 = false
-takes r (Number signed field) = is_constant field || not (half_kind r shape.High == 0 && half_kind r shape.Low == 0)
+takes r (Number signed field) = is_constant field || not (half_operand_relocation r shape.High == 0 && half_operand_relocation r shape.Low == 0)
 takes r (Memory plus offset) = offset
 takes r _ = true
 
@@ -48,7 +48,7 @@ abbrev row_takes : RowData → Bool
 row_takes r = one_takes r (wants_of r)
 
 all_take : list_all row_takes listed ≡ true
-unfolding wants_of want_of form_index half_kind shape_index
+unfolding wants_of want_of form_index half_operand_relocation shape_index
 all_take = refl
 
 -- ---- the fields so far
@@ -104,20 +104,20 @@ kept_put _ v f h = record { reference = refl; constant = refl }
 
 kept_register : (bank : Bool) (field : Field) (name : List ℕ) (f : RowFieldsData) → is_constant field ≡ false → IsKept f (put_register bank field name f)
 unfolding put_register
-kept_register bank field name f h = by_test (IsKept f) (register_of name / 16 == cond bank 1 0) _ _ (λ e. kept_put field (register_of name % 16) f h) (λ e. kept_broken 4 f)
+kept_register bank field name f h = by_test (IsKept f) (register_by_name name / 16 == cond bank 1 0) _ _ (λ e. kept_put field (register_by_name name % 16) f h) (λ e. kept_broken 4 f)
 
 kept_number : (form : Form) (signed : Bool) (field : Field) (minus : Bool) (size : ℕ) (f : RowFieldsData) → is_constant field ≡ false → IsKept f (put_number form signed field minus size f)
 unfolding put_number
-kept_number form signed field minus size f h = by_test (IsKept f) (fits signed (field_of field (bounds form)) minus size) _ _ (λ e. kept_put field (wrap (field_of field (bounds form)) minus size) f h) (λ e. kept_broken 5 f)
+kept_number form signed field minus size f h = by_test (IsKept f) (is_within_field_bound signed (field_of field (bounds form)) minus size) _ _ (λ e. kept_put field (wrap_into_field (field_of field (bounds form)) minus size) f h) (λ e. kept_broken 5 f)
 
-no_half : (r : RowData) (s : Shape) → (half_kind r shape.High == 0 && half_kind r shape.Low == 0) ≡ true → is_half (shape_index s) ≡ true → half_kind r s == 0 ≡ true
+no_half : (r : RowData) (s : Shape) → (half_operand_relocation r shape.High == 0 && half_operand_relocation r shape.Low == 0) ≡ true → is_half_operand (shape_index s) ≡ true → half_operand_relocation r s == 0 ≡ true
 unfolding shape_index
 no_half r shape.Absent h half = cc
 no_half r shape.Number h half = cc
 no_half r shape.Word h half = cc
 no_half r shape.Sum h half = cc
-no_half r shape.High h half = (and_parts (half_kind r shape.High == 0) (half_kind r shape.Low == 0) h).0
-no_half r shape.Low h half = (and_parts (half_kind r shape.High == 0) (half_kind r shape.Low == 0) h).1
+no_half r shape.High h half = (and_parts (half_operand_relocation r shape.High == 0) (half_operand_relocation r shape.Low == 0) h).0
+no_half r shape.Low h half = (and_parts (half_operand_relocation r shape.High == 0) (half_operand_relocation r shape.Low == 0) h).1
 no_half r shape.Bad h half = cc
 no_half r shape.Huge h half = cc
 
@@ -129,13 +129,13 @@ neither false false e = cc
 kept_value : (r : RowData) (signed : Bool) (field : Field) (v : ValueData) (f : RowFieldsData) → takes r (Number signed field) ≡ false → IfSo (IsKept f) (fill_value r signed field v f)
 unfolding fill_value
 kept_value r signed field v f h =
-    let p = neither (is_constant field) (half_kind r shape.High == 0 && half_kind r shape.Low == 0) h in
+    let p = neither (is_constant field) (half_operand_relocation r shape.High == 0 && half_operand_relocation r shape.Low == 0) h in
     by_test (IfSo (IsKept f)) (shape_index v.shape == 1) _ _ (λ e. if_some (IsKept f) _ (kept_number r.form signed field v.minus v.size f p.0))
     (λ e. by_test (IfSo (IsKept f)) (shape_index v.shape == 7) _ _ (λ e. if_some (IsKept f) _ (kept_broken 5 f))
-    (λ e. by_test (IfSo (IsKept f)) (is_symbol (shape_index v.shape)) _ _ (λ e. if_some (IsKept f) _ (kept_broken _ f))
-    (λ e. by_test (IfSo (IsKept f)) (is_half (shape_index v.shape)) _ _
-    (λ half. by_test (IfSo (IsKept f)) (half_kind r v.shape == 0) _ _ (λ e. if_some (IsKept f) _ (kept_broken _ f))
-    (λ some. absurd (both (half_kind r v.shape == 0) (no_half r v.shape p.1 half) some)))
+    (λ e. by_test (IfSo (IsKept f)) (is_symbol_operand (shape_index v.shape)) _ _ (λ e. if_some (IsKept f) _ (kept_broken _ f))
+    (λ e. by_test (IfSo (IsKept f)) (is_half_operand (shape_index v.shape)) _ _
+    (λ half. by_test (IfSo (IsKept f)) (half_operand_relocation r v.shape == 0) _ _ (λ e. if_some (IsKept f) _ (kept_broken _ f))
+    (λ some. absurd (both (half_operand_relocation r v.shape == 0) (no_half r v.shape p.1 half) some)))
     (λ e. if_none (IsKept f)))))
   where
     both : (b : Bool) → b ≡ true → b ≡ false → ⊥
@@ -174,20 +174,20 @@ zero_symbol kind v f h = by_test IsZero (symbol_rule v == 15) _ _ (λ e. record 
 
 zero_register : (bank : Bool) (field : Field) (name : List ℕ) (f : RowFieldsData) → IsFree f → IsZero (put_register bank field name f)
 unfolding put_register
-zero_register bank field name f h = by_test IsZero (register_of name / 16 == cond bank 1 0) _ _ (λ e. none_put field (register_of name % 16) f h) (λ e. none_broken 4 f h)
+zero_register bank field name f h = by_test IsZero (register_by_name name / 16 == cond bank 1 0) _ _ (λ e. none_put field (register_by_name name % 16) f h) (λ e. none_broken 4 f h)
 
 zero_number : (form : Form) (signed : Bool) (field : Field) (minus : Bool) (size : ℕ) (f : RowFieldsData) → IsFree f → IsZero (put_number form signed field minus size f)
 unfolding put_number
-zero_number form signed field minus size f h = by_test IsZero (fits signed (field_of field (bounds form)) minus size) _ _ (λ e. none_put field (wrap (field_of field (bounds form)) minus size) f h) (λ e. none_broken 5 f h)
+zero_number form signed field minus size f h = by_test IsZero (is_within_field_bound signed (field_of field (bounds form)) minus size) _ _ (λ e. none_put field (wrap_into_field (field_of field (bounds form)) minus size) f h) (λ e. none_broken 5 f h)
 
 zero_value : (r : RowData) (signed : Bool) (field : Field) (v : ValueData) (f : RowFieldsData) → IsFree f → IfSo IsZero (fill_value r signed field v f)
 unfolding fill_value
 zero_value r signed field v f h =
     by_test (IfSo IsZero) (shape_index v.shape == 1) _ _ (λ e. if_some IsZero _ (zero_number r.form signed field v.minus v.size f h))
     (λ e. by_test (IfSo IsZero) (shape_index v.shape == 7) _ _ (λ e. if_some IsZero _ (none_broken 5 f h))
-    (λ e. by_test (IfSo IsZero) (is_symbol (shape_index v.shape)) _ _ (λ e. if_some IsZero _ (none_broken _ f h))
-    (λ e. by_test (IfSo IsZero) (is_half (shape_index v.shape)) _ _
-    (λ e. by_test (IfSo IsZero) (half_kind r v.shape == 0) _ _ (λ e. if_some IsZero _ (none_broken _ f h)) (λ e. if_some IsZero _ (zero_symbol (half_kind r v.shape) v f h)))
+    (λ e. by_test (IfSo IsZero) (is_symbol_operand (shape_index v.shape)) _ _ (λ e. if_some IsZero _ (none_broken _ f h))
+    (λ e. by_test (IfSo IsZero) (is_half_operand (shape_index v.shape)) _ _
+    (λ e. by_test (IfSo IsZero) (half_operand_relocation r v.shape == 0) _ _ (λ e. if_some IsZero _ (none_broken _ f h)) (λ e. if_some IsZero _ (zero_symbol (half_operand_relocation r v.shape) v f h)))
     (λ e. if_none IsZero))))
 
 zero_memory : (r : RowData) (plus offset : Bool) (o : OperandData) (f : RowFieldsData) → IsFree f → IfSo IsZero (fill_memory r plus offset o f)
@@ -200,14 +200,14 @@ zero_memory r plus offset o f h =
 
 zero_displaced : (r : RowData) (minus : Bool) (size : ℕ) (f : RowFieldsData) → IsFree f → IsZero (with_displacement r minus size f)
 unfolding with_displacement
-zero_displaced r minus size f h = by_test IsZero (displacement_rule r minus size == 15) _ _ (λ e. none_put K (wrap (bounds r.form).k minus (size / 2)) f h) (λ e. none_broken (displacement_rule r minus size) f h)
+zero_displaced r minus size f h = by_test IsZero (displacement_rule r minus size == 15) _ _ (λ e. none_put K (wrap_into_field (bounds r.form).k minus (size / 2)) f h) (λ e. none_broken (displacement_rule r minus size) f h)
 
 zero_target : (r : RowData) (v : ValueData) (f : RowFieldsData) → IsFree f → IfSo IsZero (fill_target r v f)
 unfolding fill_target
 zero_target r v f h =
     by_test (IfSo IsZero) (shape_index v.shape == 3 && bytes_eq v.name (codes ".")) _ _ (λ e. if_some IsZero _ (by_test IsZero v.wide _ _ (λ e. none_broken 5 f h) (λ e. zero_displaced r v.minus v.size f h)))
-    (λ e. by_test (IfSo IsZero) (is_symbol (shape_index v.shape)) _ _ (λ e. if_some IsZero _ (zero_symbol _ v f h))
-    (λ e. by_test (IfSo IsZero) (is_half (shape_index v.shape)) _ _ (λ e. if_some IsZero _ (none_broken _ f h)) (λ e. if_none IsZero)))
+    (λ e. by_test (IfSo IsZero) (is_symbol_operand (shape_index v.shape)) _ _ (λ e. if_some IsZero _ (zero_symbol _ v f h))
+    (λ e. by_test (IfSo IsZero) (is_half_operand (shape_index v.shape)) _ _ (λ e. if_some IsZero _ (none_broken _ f h)) (λ e. if_none IsZero)))
 
 zero_address : (form : Form) (minus : Bool) (size : ℕ) (f : RowFieldsData) → IsFree f → IsZero (put_absolute form minus size f)
 unfolding put_absolute
@@ -222,9 +222,9 @@ unfolding fill_absolute
 zero_absolute r v f h =
     by_test (IfSo IsZero) (shape_index v.shape == 1) _ _ (λ e. if_some IsZero _ (zero_address r.form v.minus v.size f h))
     (λ e. by_test (IfSo IsZero) (shape_index v.shape == 7) _ _ (λ e. if_some IsZero _ (none_broken 5 f h))
-    (λ e. by_test (IfSo IsZero) (is_symbol (shape_index v.shape)) _ _
+    (λ e. by_test (IfSo IsZero) (is_symbol_operand (shape_index v.shape)) _ _
     (λ e. by_test (IfSo IsZero) (form_index r.form == 8) _ _ (λ e. if_some IsZero _ (none_broken _ f h)) (λ e. if_some IsZero _ (zero_symbol 2 v f h)))
-    (λ e. by_test (IfSo IsZero) (is_half (shape_index v.shape)) _ _ (λ e. if_some IsZero _ (none_broken _ f h)) (λ e. if_none IsZero))))
+    (λ e. by_test (IfSo IsZero) (is_half_operand (shape_index v.shape)) _ _ (λ e. if_some IsZero _ (none_broken _ f h)) (λ e. if_none IsZero))))
 
 zero_fill : (r : RowData) (w : Want) (o : OperandData) (f : RowFieldsData) → IsFree f → IfSo IsZero (fill r w o f)
 unfolding fill fill_plain fill_register fill_a10
@@ -264,12 +264,12 @@ one_all r (w ∷ ws) (o ∷ os) f h z = by (takes r w) refl h (λ g k. one_all r
     by true e none rec = then_so IsZero IsZero (fill_all r ws os) (fill r w o f) (zero_fill r w o f z) (λ g k. none_all r ws os g none k)
     by false e one rec = then_so (IsKept f) IsZero (fill_all r ws os) (fill r w o f) (kept_fill r w o f e) (λ g k. rec g one (free_kept f g z k))
 
-zero_apart : (r : RowData) (f : RowFieldsData) → IsZero f → IsZero (kept_apart r f)
-zero_apart r f h = by_test IsZero (is_apart r f.fields) f (with_rule 12 f) (λ e. h) (λ e. zero_kept f (with_rule 12 f) h (kept_broken 12 f))
+zero_apart : (r : RowData) (f : RowFieldsData) → IsZero f → IsZero (check_registers_apart r f)
+zero_apart r f h = by_test IsZero (are_registers_apart r f.fields) f (with_rule 12 f) (λ e. h) (λ e. zero_kept f (with_rule 12 f) h (kept_broken 12 f))
 
 -- a listed row's fields have no constant if they have a symbol
 pub zero_judged : (k : ℕ) (r : RowData) (os : List OperandData) (f : RowFieldsData) → slice_get listed k ≡ Some r → fields_of_row r (wants_of r) os ≡ Some f → IsZero f
 unfolding fields_of_row
 zero_judged k r os f at e =
-    (then_so IsZero IsZero (λ g. Some (kept_apart r g)) (fill_all r (wants_of r) os no_fields)
-    (one_all r (wants_of r) os no_fields (one_passes row_takes listed k r all_take at) (record { none = refl; zero = refl })) (λ g z. if_some IsZero (kept_apart r g) (zero_apart r g z))).so f e
+    (then_so IsZero IsZero (λ g. Some (check_registers_apart r g)) (fill_all r (wants_of r) os no_fields)
+    (one_all r (wants_of r) os no_fields (one_passes row_takes listed k r all_take at) (record { none = refl; zero = refl })) (λ g z. if_some IsZero (check_registers_apart r g) (zero_apart r g z))).so f e

@@ -1,36 +1,40 @@
 -- The values of `.byte`, `.half`, `.word` and `.space`.
-use Rattle.std.specs.Prelude.{ℕ, ◌*◌, ◌^◌, ◌==◌, ◌&&◌, ◌||◌, not, nat_le, min, if◌then◌else◌, ◌∷◌, take, Some, None, List, length, fold, []}
+use Rattle.std.specs.Prelude.{ℕ, ◌*◌, ◌^◌, ◌==◌, ◌&&◌, ◌||◌, not, nat_le, min, if◌then◌else◌, ◌∷◌, take, Some, None, List, length, fold, ◌/◌, nat_lt, Bool, []}
 use Rattle.tc_isa.specs.Relocations.{word32}
 use Rattle.tc_stmt.specs.SourceRules.{wrong_operands, no_rule, wide_number, misplaced_symbol}
 use Rattle.tcd_base.specs.Bytes.{four_bytes}
 use Rattle.tc_lex.specs.Operands.{OperandData}
 use Rattle.tc_stmt.specs.Filling.{symbol_rule, reference}
-use Rattle.tc_stmt.specs.OperandForms.{shape_index, is_symbol, is_half, wrap, is_number, is_huge, fits_width}
+use Rattle.tc_stmt.specs.OperandForms.{shape_index, is_symbol_operand, is_half_operand, wrap_into_field, is_number_operand, is_huge_operand}
 use Rattle.tc_stmt.specs.Items.{ItemData, bytes, zeros}
+
+-- a number of `.byte`, `.half` or `.word` fits this many bits, signed or unsigned
+abbrev pub is_value_within_width : ℕ → Bool → ℕ → Bool
+is_value_within_width bits minus size = if minus then nat_le size (2 ^ bits / 2) else nat_lt size (2 ^ bits)
 
 -- the least rule that a value of this many bytes breaks; 15 is none
 unfoldable pub value_rule : ℕ → OperandData → ℕ
 value_rule width o =
     if o.is_memory then wrong_operands
-    else (if is_number o.value.shape then (if fits_width (8 * width) o.value.minus o.value.size then no_rule else wide_number)
-    else (if is_huge o.value.shape then wide_number
-    else (if is_symbol (shape_index o.value.shape) then (if width == 4 then symbol_rule o.value else min misplaced_symbol (symbol_rule o.value))
-    else (if is_half (shape_index o.value.shape) then min misplaced_symbol (symbol_rule o.value) else wrong_operands))))
+    else (if is_number_operand o.value.shape then (if is_value_within_width (8 * width) o.value.minus o.value.size then no_rule else wide_number)
+    else (if is_huge_operand o.value.shape then wide_number
+    else (if is_symbol_operand (shape_index o.value.shape) then (if width == 4 then symbol_rule o.value else min misplaced_symbol (symbol_rule o.value))
+    else (if is_half_operand (shape_index o.value.shape) then min misplaced_symbol (symbol_rule o.value) else wrong_operands))))
 
 -- the item for a value of this many bytes: the lowest byte first, and zeros if it breaks a rule
 unfoldable pub value_item : ℕ → OperandData → ItemData
 value_item width o =
     if not (value_rule width o == no_rule) then zeros width
-    else (if is_number o.value.shape then bytes (take width (four_bytes (wrap (2 ^ 32) o.value.minus o.value.size))) None
+    else (if is_number_operand o.value.shape then bytes (take width (four_bytes (wrap_into_field (2 ^ 32) o.value.minus o.value.size))) None
     else bytes (take width (0 ∷ 0 ∷ 0 ∷ 0 ∷ [])) (Some (reference word32 o.value)))
 
 -- the least rule that the operand of `.space` breaks by itself
 unfoldable pub space_rule : OperandData → ℕ
 space_rule o =
     if o.is_memory then wrong_operands
-    else (if is_number o.value.shape then (if o.value.minus && not (o.value.size == 0) then 5 else (if nat_le o.value.size (2 ^ 24) then 15 else 13))
-    else (if is_huge o.value.shape then wide_number
-    else (if is_symbol (shape_index o.value.shape) || is_half (shape_index o.value.shape) then min misplaced_symbol (symbol_rule o.value) else wrong_operands)))
+    else (if is_number_operand o.value.shape then (if o.value.minus && not (o.value.size == 0) then 5 else (if nat_le o.value.size (2 ^ 24) then 15 else 13))
+    else (if is_huge_operand o.value.shape then wide_number
+    else (if is_symbol_operand (shape_index o.value.shape) || is_half_operand (shape_index o.value.shape) then min misplaced_symbol (symbol_rule o.value) else wrong_operands)))
 
 -- the item for `.space`: zeros, and none of them if a rule is broken
 unfoldable pub space_item : OperandData → ItemData

@@ -6,34 +6,34 @@ use Rattle.tc_isa.specs.Rows.{RowData, is_long}
 use Rattle.tc_isa.specs.declared.table.Form.{Form}
 use Rattle.tc_isa.specs.Forms.{bounds, is_sbr, is_b}
 use Rattle.tc_stmt.specs.declared.want.Field.TheVariants.{K}
-use Rattle.tc_stmt.specs.OperandForms.{wrap}
+use Rattle.tc_stmt.specs.OperandForms.{wrap_into_field}
 use Rattle.tc_stmt.specs.RowFields.{RowFieldsData, with_rule, with_value}
 
 -- a displacement of this many bytes doesn't fit; SBR (form 13) only reaches forwards
-abbrev pub is_far : Form → ℕ → Bool → ℕ → Bool
-is_far form bound minus size =
+abbrev pub is_far_displacement : Form → ℕ → Bool → ℕ → Bool
+is_far_displacement form bound minus size =
     if is_sbr form
     then (if minus then not (size == 0) else nat_lt (2 * (bound - 1)) size)
     else (if minus then nat_lt bound size else nat_lt (bound - 2) size)
 
--- an odd number of bytes
-abbrev pub is_odd : ℕ → Bool
-is_odd size = size % 2 == 1
+-- the displacement is an odd number of bytes
+abbrev pub is_odd_displacement : ℕ → Bool
+is_odd_displacement size = size % 2 == 1
 
 -- the least rule that a displacement of this many bytes breaks
 unfoldable pub displacement_rule : RowData → Bool → ℕ → ℕ
 displacement_rule r minus size =
-    min (if is_far r.form (bounds r.form).k minus size then (if is_long r then wide_number else far_target) else no_rule) (if is_odd size then odd_displacement else no_rule)
+    min (if is_far_displacement r.form (bounds r.form).k minus size then (if is_long r then wide_number else far_target) else no_rule) (if is_odd_displacement size then odd_displacement else no_rule)
 
 -- the fields with a displacement of this many bytes
 unfoldable pub with_displacement : RowData → Bool → ℕ → RowFieldsData → RowFieldsData
 with_displacement r minus size acc =
-    if displacement_rule r minus size == no_rule then with_value K (wrap (bounds r.form).k minus (size / 2)) acc else with_rule (displacement_rule r minus size) acc
+    if displacement_rule r minus size == no_rule then with_value K (wrap_into_field (bounds r.form).k minus (size / 2)) acc else with_rule (displacement_rule r minus size) acc
 
--- the relocation of a target: rel24 in a B row, rel15 in other rows of 32 bits, and none in rows of
--- 16 bits
-unfoldable pub target_kind : RowData → ℕ
-target_kind r = if is_long r then (if is_b r.form then rel24 else rel15) else 0
+-- the relocation of a jump's target, where no displacement is given: rel24 in a B row, rel15 in
+-- other rows of 32 bits, and none in rows of 16 bits
+unfoldable pub target_operand_relocation : RowData → ℕ
+target_operand_relocation r = if is_long r then (if is_b r.form then rel24 else rel15) else 0
 
 -- a displacement can be negative, except in SBR rows
 unfoldable pub is_two_way : Form → Bool

@@ -1,43 +1,49 @@
 -- The fields of a row that operands fill, each at its own place, and the least rule that they
-use Rattle.std.specs.Prelude.{ℕ, ◌+◌, ◌*◌, ◌/◌, ◌%◌, ◌^◌, ◌==◌, ◌&&◌, ◌||◌, not, nat_le, min, Bool, true, if◌then◌else◌, List, ◌∷◌, codes, Option, Some, None, option_and_then, ◌≡◌, []}
+-- break.
+use Rattle.std.specs.Prelude.{ℕ, ◌+◌, ◌*◌, ◌/◌, ◌%◌, ◌^◌, ◌==◌, ◌&&◌, ◌||◌, not, nat_le, min, Bool, true, if◌then◌else◌, List, ◌∷◌, codes, Option, Some, None, option_and_then, ◌≡◌, nat_lt, []}
 use Rattle.std.specs.Str.{bytes_eq}
 use Rattle.tc_isa.specs.Relocations.{hi16, lo16, offset16, abs24}
 use Rattle.tc_stmt.specs.SourceRules.{wrong_register, wide_number, equal_registers, no_rule, bad_name, misplaced_symbol}
 use Rattle.tc_isa.specs.Rows.{RowData}
 use Rattle.tc_isa.specs.declared.table.Form.{Form}
 use Rattle.tc_isa.specs.Forms.{bounds, is_bol, is_abs}
-use Rattle.tc_isa.specs.ValidRows.{is_apart}
+use Rattle.tc_isa.specs.ValidRows.{are_registers_apart}
 use Rattle.tc_lex.specs.declared.operand.Shape.{Shape}
 use Rattle.tc_stmt.specs.declared.want.Field.{Field}
 use Rattle.tc_stmt.specs.declared.want.Field.TheVariants.{S2, K}
 use Rattle.tc_stmt.specs.declared.want.Want.{Want}
 use Rattle.tc_stmt.specs.declared.want.Want.TheVariants.{Reg, A10, Number, Target, Absolute, Memory}
-use Rattle.tc_stmt.specs.Names.{is_name}
+use Rattle.tc_stmt.specs.Names.{is_source_name}
 use Rattle.tc_lex.specs.Operands.{ValueData, OperandData}
-use Rattle.tc_stmt.specs.OperandForms.{fits, is_absent, is_half, is_high, is_huge, is_number, is_sum, is_symbol, is_word, register_of, shape_index, wrap}
+use Rattle.tc_stmt.specs.OperandForms.{is_absent_operand, is_half_operand, is_high_operand, is_huge_operand, is_number_operand, is_sum_operand, is_symbol_operand, is_name_operand, register_by_name, shape_index, wrap_into_field}
 use Rattle.tc_stmt.specs.RowFields.{RowFieldsData, field_of, no_fields, with_rule, with_value, row_fields_of}
 use Rattle.tc_stmt.specs.Items.{ReferenceData}
-use Rattle.tc_stmt.specs.Displacements.{target_kind, with_displacement}
+use Rattle.tc_stmt.specs.Displacements.{target_operand_relocation, with_displacement}
 use Rattle.tc_stmt.specs.declared.row_fields.RowFields.{RowFields}
-use Rattle.tc_stmt.specs.RowIndex.{is_named}
-
--- break.
+use Rattle.tc_stmt.specs.RowIndex.{is_named_row}
 
 -- a register of the data bank (false) or the address bank (true), else rule 4
 unfoldable pub put_register : Bool → Field → List ℕ → RowFieldsData → RowFieldsData
 put_register bank field name acc =
-    if register_of name / 16 == (if bank then 1 else 0) then with_value field (register_of name % 16) acc else with_rule wrong_register acc
+    if register_by_name name / 16 == (if bank then 1 else 0) then with_value field (register_by_name name % 16) acc else with_rule wrong_register acc
+
+-- a number fits the bound of the field that it fills
+unfoldable pub is_within_field_bound : Bool → ℕ → Bool → ℕ → Bool
+is_within_field_bound signed bound minus size =
+    if signed
+    then (if minus then nat_le size (bound / 2) else nat_lt size (bound / 2))
+    else (if minus then size == 0 else nat_lt size bound)
 
 -- a number that fits its field in an instruction of this form, else rule 5
 unfoldable pub put_number : Form → Bool → Field → Bool → ℕ → RowFieldsData → RowFieldsData
 put_number form signed field minus size acc =
-    if fits signed (field_of field (bounds form)) minus size then with_value field (wrap (field_of field (bounds form)) minus size) acc else with_rule wide_number acc
+    if is_within_field_bound signed (field_of field (bounds form)) minus size then with_value field (wrap_into_field (field_of field (bounds form)) minus size) acc else with_rule wide_number acc
 
--- the least rule that a symbol breaks in every place
+-- the least rule that a symbol in an operand breaks in every place
 unfoldable pub symbol_rule : ValueData → ℕ
-symbol_rule v = if v.wide || nat_le (2 ^ 32) v.size then wide_number else (if is_name v.name then no_rule else bad_name)
+symbol_rule v = if v.wide || nat_le (2 ^ 32) v.size then wide_number else (if is_source_name v.name then no_rule else bad_name)
 
--- a symbol's reference by a relocation of this kind, with the number that is added
+-- the reference of this kind to the symbol in an operand's value, with the number that is added
 abbrev pub reference : ℕ → ValueData → ReferenceData
 reference kind v = record { kind = kind; name = v.name; minus = v.minus; size = v.size }
 
@@ -50,19 +56,19 @@ abbrev pub with_misplaced : ValueData → RowFieldsData → RowFieldsData
 with_misplaced v acc = with_rule (min misplaced_symbol (symbol_rule v)) acc
 
 -- the relocation of a half of an address in this row, or 0 if it has none
-unfoldable pub half_kind : RowData → Shape → ℕ
-half_kind r s =
-    if is_high s
-    then (if is_named r (codes "movh") || is_named r (codes "movh.a") || is_named r (codes "addih") || is_named r (codes "addih.a") then hi16 else 0)
-    else (if is_named r (codes "addi") then lo16 else (if is_bol r.form then offset16 else 0))
+unfoldable pub half_operand_relocation : RowData → Shape → ℕ
+half_operand_relocation r s =
+    if is_high_operand s
+    then (if is_named_row r (codes "movh") || is_named_row r (codes "movh.a") || is_named_row r (codes "addih") || is_named_row r (codes "addih.a") then hi16 else 0)
+    else (if is_named_row r (codes "addi") then lo16 else (if is_bol r.form then offset16 else 0))
 
 -- a value as a constant
 unfoldable pub fill_value : RowData → Bool → Field → ValueData → RowFieldsData → Option RowFieldsData
 fill_value r signed field v acc =
-    if is_number v.shape then Some (put_number r.form signed field v.minus v.size acc)
-    else (if is_huge v.shape then Some (with_rule wide_number acc)
-    else (if is_symbol (shape_index v.shape) then Some (with_misplaced v acc)
-    else (if is_half (shape_index v.shape) then (if half_kind r v.shape == 0 then Some (with_misplaced v acc) else Some (with_symbol (half_kind r v.shape) v acc))
+    if is_number_operand v.shape then Some (put_number r.form signed field v.minus v.size acc)
+    else (if is_huge_operand v.shape then Some (with_rule wide_number acc)
+    else (if is_symbol_operand (shape_index v.shape) then Some (with_misplaced v acc)
+    else (if is_half_operand (shape_index v.shape) then (if half_operand_relocation r v.shape == 0 then Some (with_misplaced v acc) else Some (with_symbol (half_operand_relocation r v.shape) v acc))
     else None)))
 
 -- `[BASE]` or `[BASE+]`, with an offset if the row has one: base plus offset and post-increment
@@ -70,7 +76,7 @@ fill_value r signed field v acc =
 unfoldable pub fill_memory : RowData → Bool → Bool → OperandData → RowFieldsData → Option RowFieldsData
 fill_memory r plus offset o acc =
     if o.is_memory && (if o.plus then plus else not plus)
-    then (if is_absent o.value.shape then Some (put_register true S2 o.base acc)
+    then (if is_absent_operand o.value.shape then Some (put_register true S2 o.base acc)
     else (if offset then fill_value r true K o.value (put_register true S2 o.base acc) else None))
     else None
 
@@ -78,13 +84,13 @@ fill_memory r plus offset o acc =
 -- displacement of 2^128 bytes or more doesn't fit any row.
 unfoldable pub fill_target : RowData → ValueData → RowFieldsData → Option RowFieldsData
 fill_target r v acc =
-    if is_sum v.shape && bytes_eq v.name (codes ".")
+    if is_sum_operand v.shape && bytes_eq v.name (codes ".")
     then Some (if v.wide then with_rule wide_number acc else with_displacement r v.minus v.size acc)
-    else (if is_symbol (shape_index v.shape) then Some (with_symbol (target_kind r) v acc)
-    else (if is_half (shape_index v.shape) then Some (with_misplaced v acc)
+    else (if is_symbol_operand (shape_index v.shape) then Some (with_symbol (target_operand_relocation r) v acc)
+    else (if is_half_operand (shape_index v.shape) then Some (with_misplaced v acc)
     else None))
 
--- an absolute address, with zeros between its segment and its field
+-- the field of an absolute address, which has zeros between its segment and its field, else rule 5
 unfoldable pub put_absolute : Form → Bool → ℕ → RowFieldsData → RowFieldsData
 put_absolute form minus size acc =
     if (minus && not (size == 0)) || nat_le (2 ^ 32) size then with_rule wide_number acc
@@ -95,20 +101,20 @@ put_absolute form minus size acc =
 -- a value as an absolute address: a number, or a symbol in the rows of jumps and calls
 unfoldable pub fill_absolute : RowData → ValueData → RowFieldsData → Option RowFieldsData
 fill_absolute r v acc =
-    if is_number v.shape then Some (put_absolute r.form v.minus v.size acc)
-    else (if is_huge v.shape then Some (with_rule wide_number acc)
-    else (if is_symbol (shape_index v.shape) then (if is_abs r.form then Some (with_misplaced v acc) else Some (with_symbol abs24 v acc))
-    else (if is_half (shape_index v.shape) then Some (with_misplaced v acc)
+    if is_number_operand v.shape then Some (put_absolute r.form v.minus v.size acc)
+    else (if is_huge_operand v.shape then Some (with_rule wide_number acc)
+    else (if is_symbol_operand (shape_index v.shape) then (if is_abs r.form then Some (with_misplaced v acc) else Some (with_symbol abs24 v acc))
+    else (if is_half_operand (shape_index v.shape) then Some (with_misplaced v acc)
     else None)))
 
 -- a value as a register: a name
 unfoldable pub fill_register : Bool → Field → ValueData → RowFieldsData → Option RowFieldsData
-fill_register bank field v acc = if is_word v.shape then Some (put_register bank field v.name acc) else None
+fill_register bank field v acc = if is_name_operand v.shape then Some (put_register bank field v.name acc) else None
 
 -- The value a10, the stack pointer, which no field holds. Source: TriCore 1 architecture manual,
 -- volume 1, general purpose and system registers.
 unfoldable pub fill_a10 : ValueData → RowFieldsData → Option RowFieldsData
-fill_a10 v acc = if is_word v.shape then (if bytes_eq v.name (codes "a10") then Some acc else Some (with_rule wrong_register acc)) else None
+fill_a10 v acc = if is_name_operand v.shape then (if bytes_eq v.name (codes "a10") then Some acc else Some (with_rule wrong_register acc)) else None
 
 -- an operand without brackets
 unfoldable pub fill_plain : RowData → Want → ValueData → RowFieldsData → Option RowFieldsData
@@ -132,13 +138,15 @@ fill_all r (w ∷ ws) [] acc = None
 fill_all r (w ∷ ws) (o ∷ os) acc = option_and_then (fill_all r ws os) (fill r w o acc)
 
 -- registers that must differ break rule 12 if they are equal
-abbrev pub kept_apart : RowData → RowFieldsData → RowFieldsData
-kept_apart r f = if is_apart r f.fields then f else with_rule equal_registers f
+abbrev pub check_registers_apart : RowData → RowFieldsData → RowFieldsData
+check_registers_apart r f = if are_registers_apart r f.fields then f else with_rule equal_registers f
 
--- the row's fields after all operands; None if their forms aren't those of the row
+-- the row's fields after operands filled them; None if the forms of the operands aren't those of
+-- the row
 unfoldable pub fields_of_row : RowData → List Want → List OperandData → Option RowFieldsData
-fields_of_row r ws os = option_and_then (λ f. Some (kept_apart r f)) (fill_all r ws os no_fields)
+fields_of_row r ws os = option_and_then (λ f. Some (check_registers_apart r f)) (fill_all r ws os no_fields)
 
--- the code's answer is this: false for None, else the fields in the record
+-- the code's answer for operands that fill a row is this: false for None, else the fields in the
+-- record
 abbrev pub Fills : Bool → RowFields → Option RowFieldsData → Type 0
 Fills fits f given = (if fits then Some (row_fields_of f) else None) ≡ given

@@ -1,5 +1,5 @@
 -- The meaning of a line by itself.
-use Rattle.std.specs.Prelude.{◌≡◌, ℕ, ◌+◌, ◌++◌, IfOk, ◌==◌, ◌&&◌, Bool, false, if◌then◌else◌, List, ◌∷◌, codes, take, drop, length, map, find, Option, Some, None, Result, Ok, Err, []}
+use Rattle.std.specs.Prelude.{ℕ, ◌+◌, ◌++◌, ◌==◌, ◌&&◌, Bool, false, if◌then◌else◌, List, ◌∷◌, codes, take, drop, length, map, find, Option, Some, None, Result, Ok, Err, []}
 use Rattle.std.specs.Option.{option_map_or}
 use Rattle.std.specs.List.{flat_map, slice_split}
 use Rattle.std.specs.Str.{bytes_eq}
@@ -11,10 +11,9 @@ use Rattle.tc_isa.specs.Rows.{listed, is_long}
 use Rattle.tc_lex.specs.Pieces.{PieceData, is_kind, text_at, text_in as text_between, piece_in as with_text}
 use Rattle.tc_lex.specs.Operands.{OperandData, operands}
 use Rattle.tc_stmt.specs.RowFields.{RowFieldsData}
-use Rattle.tc_stmt.specs.OperandForms.{is_word}
+use Rattle.tc_stmt.specs.OperandForms.{is_name_operand}
 use Rattle.tc_stmt.specs.StatementRow.{statement}
-use Rattle.tc_stmt.specs.declared.item.Item.{Item}
-use Rattle.tc_stmt.specs.Items.{ItemData, item_of, label, section, global, code, zeros}
+use Rattle.tc_stmt.specs.Items.{ItemData, label, section, global, code, zeros}
 use Rattle.tc_stmt.specs.DataDirectives.{value_item, space_rule, space_item, values_rule}
 
 -- the least rule that a line breaks by itself (15 is none), and the items that it adds to its
@@ -31,36 +30,33 @@ line_data rule items = record { rule = rule; items = items }
 abbrev pub behind : List ItemData → LineData → LineData
 behind is l = line_data l.rule (is ++ l.items)
 
--- the code read this line: it returned the rule, and added the items to the list
-abbrev pub Adds : {E : Type 0} → LineData → Result ℕ E → List Item → List Item → Type 0
-Adds l result old new = IfOk result (λ rule. line_data rule (map item_of new) ≡ behind (map item_of old) l)
-
 -- ---- statements
 -- the only operand of `.section` and `.global` is a word
 unfoldable pub is_word_operand : OperandData → Bool
-is_word_operand o = if o.is_memory then false else is_word o.value.shape
+is_word_operand o = if o.is_memory then false else is_name_operand o.value.shape
 
--- the name that is the only operand, if it is so
-unfoldable pub word_of : List OperandData → Option (List ℕ)
-word_of [] = None
-word_of (o ∷ []) = if is_word_operand o then Some o.value.name else None
-word_of (o ∷ p ∷ os) = None
+-- the name that is the only operand in a line of `.section` or `.global`, if it is so
+unfoldable pub only_operand_name : List OperandData → Option (List ℕ)
+only_operand_name [] = None
+only_operand_name (o ∷ []) = if is_word_operand o then Some o.value.name else None
+only_operand_name (o ∷ p ∷ os) = None
 
 -- `.section NAME` or `.global NAME`; any other operands break rule 3
 unfoldable pub named_line : (List ℕ → ItemData) → List OperandData → LineData
-named_line make os = option_map_or (λ name. line_data no_rule (make name ∷ [])) (word_of os) (line_data wrong_operands [])
+named_line make os = option_map_or (λ name. line_data no_rule (make name ∷ [])) (only_operand_name os) (line_data wrong_operands [])
 
--- `.space N`; any other operands break rule 3
+-- the meaning of a line `.space N`; any other operands break rule 3
 unfoldable pub space_line : List OperandData → LineData
 space_line [] = line_data wrong_operands (zeros 0 ∷ [])
 space_line (o ∷ []) = line_data (space_rule o) (space_item o ∷ [])
 space_line (o ∷ p ∷ os) = line_data wrong_operands (zeros 0 ∷ [])
 
--- `.byte`, `.half` or `.word` with values of this many bytes
+-- the meaning of a line of `.byte`, `.half` or `.word` with values of this many bytes
 unfoldable pub values_line : ℕ → List OperandData → LineData
 values_line width os = line_data (values_rule width os) (map (value_item width) os)
 
--- the size in bytes of the instructions with this name, and 0 if there are none
+-- the number of zeros for a line whose instruction breaks a rule: the size of the instructions with
+-- this name, and 0 if there are none
 unfoldable pub size_of_name : List ℕ → ℕ
 size_of_name name = option_map_or (λ r. if is_long r then 4 else 2) (find (λ r. bytes_eq r.name name) listed) 0
 
@@ -99,13 +95,13 @@ line_with_label name l = line_data l.rule (label name ∷ l.items)
 unfoldable pub pieces_line : List PieceData → LineData
 pieces_line ps = if has_label ps then line_with_label (text_at ps 0) (line_from ps 2) else line_from ps 0
 
--- the bytes from one place to another
-abbrev pub text_in : List ℕ → ℕ → ℕ → List ℕ
-text_in line from to = text_between line from to
+-- the text of a source's line from one place to another
+abbrev pub line_text_between : List ℕ → ℕ → ℕ → List ℕ
+line_text_between line from to = text_between line from to
 
--- a token with its text
-abbrev pub piece_in : List ℕ → Token → PieceData
-piece_in line t = with_text line t
+-- a token of a source's line with its text
+abbrev pub line_token_with_text : List ℕ → Token → PieceData
+line_token_with_text line t = with_text line t
 
 -- the label at the start of these tokens, if there is one
 unfoldable pub label_of : List PieceData → List ItemData
@@ -113,16 +109,16 @@ label_of ps = if has_label ps then label (text_at ps 0) ∷ [] else []
 
 -- the label at the start of a text with these tokens, if there is one
 abbrev pub label_before : List ℕ → Result (List Token) ℕ → List ItemData
-label_before text (Ok ts) = label_of (map (piece_in text) ts)
+label_before text (Ok ts) = label_of (map (line_token_with_text text) ts)
 label_before text (Err at) = []
 
 -- the line with these tokens; a line that can't be cut breaks rule 1, but the label before the
 -- fault still defines its name
 abbrev pub cut_line : List ℕ → Result (List Token) ℕ → LineData
-cut_line line (Ok ts) = pieces_line (map (piece_in line) ts)
+cut_line line (Ok ts) = pieces_line (map (line_token_with_text line) ts)
 cut_line line (Err at) = line_data 1 (label_before (take at line) (tokens_of (take at line)))
 
--- a line of a source: a byte outside the grammar or a 65th token breaks rule 1
+-- the meaning of a line's text by itself: a byte outside the grammar or a 65th token breaks rule 1
 abbrev pub line_in : List ℕ → LineData
 line_in line = cut_line line (tokens_of line)
 

@@ -1,10 +1,10 @@
 -- The plain data of a source that was read.
-use Rattle.std.specs.Prelude.{◌≡◌, List, [], ◌∷◌, length, map, take, drop}
+use Rattle.std.specs.Prelude.{◌≡◌, List, ◌∷◌, length, map, take, drop, ℕ, IfOk, Result, []}
 use Rattle.tc_stmt.specs.declared.source.Line.{Line}
 use Rattle.tc_stmt.specs.declared.source.Source.{Source}
 use Rattle.tc_stmt.specs.declared.item.Item.{Item}
 use Rattle.tc_stmt.specs.Items.{ItemData, item_of}
-use Rattle.tc_stmt.specs.Lines.{LineData, line_data, items_in}
+use Rattle.tc_stmt.specs.Lines.{LineData, line_data, items_in, behind}
 
 -- the plain data of lines, each with its own items
 abbrev pub lines_read : List Line → List ItemData → List LineData
@@ -20,3 +20,7 @@ pub record AreRead (lines : List Line) (items : List Item) (ls : List LineData) 
   pub rules : map (λ (l : Line). l.rule) lines ≡ map (λ (l : LineData). l.rule) ls
   pub counts : map (λ (l : Line). l.count) lines ≡ map (λ (l : LineData). length l.items) ls
   pub items_are : map item_of items ≡ items_in ls
+
+-- the code read this line of a source: it returned the rule, and added the items to the list
+abbrev pub Adds : {E : Type 0} → LineData → Result ℕ E → List Item → List Item → Type 0
+Adds l result old new = IfOk result (λ rule. line_data rule (map item_of new) ≡ behind (map item_of old) l)

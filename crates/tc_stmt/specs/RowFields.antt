@@ -27,7 +27,7 @@ abbrev pub with_rule : ℕ → RowFieldsData → RowFieldsData
 with_rule rule acc = record acc { rule = min acc.rule rule }
 
 -- ---- fields
--- the fields with this value in one of them; all but k are bytes
+-- the fields of a row after an operand puts this value into one of them; all but k are bytes
 unfoldable pub set_field : Field → ℕ → Fields → Fields
 set_field C v f = record f { c = v % 256 }
 set_field S1 v f = record f { s1 = v % 256 }
@@ -35,7 +35,7 @@ set_field S2 v f = record f { s2 = v % 256 }
 set_field N v f = record f { n = v % 256 }
 set_field K v f = record f { k = v }
 
--- the value in a field
+-- the value in a field of a row that operands fill
 unfoldable pub field_of : Field → Fields → ℕ
 field_of C f = f.c
 field_of S1 f = f.s1

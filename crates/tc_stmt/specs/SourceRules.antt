@@ -25,7 +25,7 @@ wide_number = 5
 abbrev pub odd_displacement : ℕ
 odd_displacement = 6
 
--- a label twice
+-- the number of the rule that a label breaks if it is defined twice
 abbrev pub label_twice : ℕ
 label_twice = 7
 
@@ -33,7 +33,7 @@ label_twice = 7
 abbrev pub no_section : ℕ
 no_section = 8
 
--- a bad name
+-- the number of the rule that a bad name breaks
 abbrev pub bad_name : ℕ
 bad_name = 9
 

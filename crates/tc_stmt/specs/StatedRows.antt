@@ -4,41 +4,42 @@ use Rattle.tc_isa.specs.Rows.{RowData, listed, is_long}
 use Rattle.tc_isa.specs.declared.table.Form.{Form}
 use Rattle.tc_isa.specs.Forms.{is_sb, is_sbr}
 use Rattle.tc_isa.specs.ValidRows.{Fits, uses_of}
-use Rattle.tc_isa.specs.Relocations.{is_reloc, fills}
-use Rattle.tc_stmt.specs.Names.{is_name}
+use Rattle.tc_isa.specs.Relocations.{is_reloc, can_relocation_fill}
+use Rattle.tc_stmt.specs.Names.{is_source_name}
 use Rattle.tc_lex.specs.Operands.{OperandData}
 use Rattle.tc_stmt.specs.RowFields.{RowFieldsData}
 use Rattle.tc_stmt.specs.Items.{ReferenceData}
 use Rattle.tc_stmt.specs.StatementRow.{statement}
 
--- the forms of jumps and calls of 16 bits: SB (12) and SBR (13)
+-- the forms of rows that may take a statement's symbol without a relocation: jumps and calls of 16
+-- bits, SB (12) and SBR (13)
 abbrev pub is_short_jump : Form → Bool
 is_short_jump form = is_sb form || is_sbr form
 
--- The row has a field for the symbol. In a row of 32 bits the symbol's relocation fills the
--- constant. A jump of 16 bits has no relocation, and its form has a constant.
+-- the symbol has a name, and the row has a field for it: in 32 bits the symbol's relocation fills
+-- the constant; a jump of 16 bits has no relocation, and its form has a constant
 pub record TakesSymbol (r : RowData) (s : ReferenceData) : Type 0 where
-  pub named : is_name s.name ≡ true
-  pub long : is_reloc s.kind ≡ true → (is_long r ≡ true) × (fills r.form s.kind ≡ true)
+  pub named : is_source_name s.name ≡ true
+  pub long : is_reloc s.kind ≡ true → (is_long r ≡ true) × (can_relocation_fill r.form s.kind ≡ true)
   pub target : s.kind ≡ 0 → ((uses_of r).k ≡ true) × (is_short_jump r.form ≡ true)
 
--- if there is a symbol, the row has a field for it
-pub record Symbols (r : RowData) (o : Option ReferenceData) : Type 0 where
+-- if a statement that breaks no rule has a symbol, its row has a field for it
+pub record TakesAnySymbol (r : RowData) (o : Option ReferenceData) : Type 0 where
   pub some : (s : ReferenceData) → o ≡ Some s → TakesSymbol r s
 
 -- the fields fit the row, and the row takes the symbol
-pub record Stated (r : RowData) (f : RowFieldsData) : Type 0 where
+pub record FitsStatedRow (r : RowData) (f : RowFieldsData) : Type 0 where
   pub fits : Fits r f.fields
-  pub symbols : Symbols r f.reference
+  pub symbols : TakesAnySymbol r f.reference
 
 -- the row of this number is listed, the fields fit it, and it takes the symbol; with a symbol, the
 -- constant is 0
-pub record IsStated (k : ℕ) (f : RowFieldsData) : Type 0 where
+pub record IsStatedRow (k : ℕ) (f : RowFieldsData) : Type 0 where
   pub row : RowData
   pub at : slice_get listed k ≡ Some row
-  pub stated : Stated row f
+  pub stated : FitsStatedRow row f
   pub zero : (s : ReferenceData) → f.reference ≡ Some s → f.fields.k ≡ 0
 
 -- a statement that breaks no rule fits its row
 abbrev pub StatedLaw : Type 0
-StatedLaw = (name : List ℕ) (os : List OperandData) (k : ℕ) (f : RowFieldsData) → statement name os ≡ Ok (k, f) → IsStated k f
+StatedLaw = (name : List ℕ) (os : List OperandData) (k : ℕ) (f : RowFieldsData) → statement name os ≡ Ok (k, f) → IsStatedRow k f

@@ -12,8 +12,8 @@ use Rattle.tc_stmt.specs.RowFields.{RowFieldsData, row_fields_of}
 use Rattle.tc_stmt.specs.Filling.{fields_of_row}
 
 -- the tally before the first row: none had the name, none had the forms, no rule was broken
-abbrev pub start : Tally
-start = record { named = false; fits = false; least = no_rule }
+abbrev pub start_tally : Tally
+start_tally = record { named = false; fits = false; least = no_rule }
 
 -- the row's fields if the statement fits it, else the tally after the row
 unfoldable pub after_row : List ℕ → List OperandData → RowData → Tally → Result RowFieldsData Tally
@@ -23,8 +23,8 @@ after_row name os r t =
     else Err t
 
 -- the least rule that is broken if no row fits
-abbrev pub rule_of : Tally → ℕ
-rule_of t = if t.named then (if t.fits then t.least else wrong_operands) else unknown_statement
+abbrev pub tally_rule : Tally → ℕ
+tally_rule t = if t.named then (if t.fits then t.least else wrong_operands) else unknown_statement
 
 -- the row of this number if the statement fits it, else the outcome of the next rows
 abbrev pub or_next : Result RowFieldsData Tally → ℕ → (Tally → Result (ℕ × RowFieldsData) ℕ) → Result (ℕ × RowFieldsData) ℕ
@@ -33,20 +33,20 @@ or_next (Err t) place next = next t
 
 -- the first of these rows, numbered from this place on, that the statement fits, or the least rule
 -- that it breaks
-unfoldable pub outcome : List ℕ → List OperandData → List RowData → ℕ → Tally → Result (ℕ × RowFieldsData) ℕ
-outcome name os [] place t = Err (rule_of t)
-outcome name os (r ∷ rs) place t = or_next (after_row name os r t) place (outcome name os rs (place + 1))
+unfoldable pub statement_outcome : List ℕ → List OperandData → List RowData → ℕ → Tally → Result (ℕ × RowFieldsData) ℕ
+statement_outcome name os [] place t = Err (tally_rule t)
+statement_outcome name os (r ∷ rs) place t = or_next (after_row name os r t) place (statement_outcome name os rs (place + 1))
 
 -- the first row of this name that fits the operands and breaks no rule, or the least rule broken
 abbrev pub statement : List ℕ → List OperandData → Result (ℕ × RowFieldsData) ℕ
-statement name os = outcome name os listed 0 start
+statement name os = statement_outcome name os listed 0 start_tally
 
 -- the code's answer for a row is this: the fields in the record, or the tally after the row
-abbrev pub Steps : {U : Type 0} → Result U Tally → RowFields → Result RowFieldsData Tally → Type 0
-Steps (Ok u) f r = r ≡ Ok (row_fields_of f)
-Steps (Err t) f r = r ≡ Err t
+abbrev pub JudgesRow : {U : Type 0} → Result U Tally → RowFields → Result RowFieldsData Tally → Type 0
+JudgesRow (Ok u) f r = r ≡ Ok (row_fields_of f)
+JudgesRow (Err t) f r = r ≡ Err t
 
 -- the code's answer for a statement is this
-abbrev pub Judges : Result (ℕ × RowFields) ℕ → Result (ℕ × RowFieldsData) ℕ → Type 0
-Judges (Ok p) r = r ≡ Ok (p.0, row_fields_of p.1)
-Judges (Err e) r = r ≡ Err e
+abbrev pub JudgesStatement : Result (ℕ × RowFields) ℕ → Result (ℕ × RowFieldsData) ℕ → Type 0
+JudgesStatement (Ok p) r = r ≡ Ok (p.0, row_fields_of p.1)
+JudgesStatement (Err e) r = r ≡ Err e

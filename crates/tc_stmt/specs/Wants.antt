@@ -31,25 +31,25 @@ want_of text =
     else (if bytes_eq text (codes "[As2]sk") then Memory false true
     else Memory true true)))))))))))))))
 
--- a text without its leading blank
-abbrev pub without_blank : List ℕ → List ℕ
-without_blank (c ∷ cs) = if c == 32 then cs else (c ∷ cs)
-without_blank [] = []
+-- the text of an operand that a row wants, without its leading blank
+abbrev pub trimmed_want_text : List ℕ → List ℕ
+trimmed_want_text (c ∷ cs) = if c == 32 then cs else (c ∷ cs)
+trimmed_want_text [] = []
 
 -- the operands that a row wants: its operand text, split at commas
 unfoldable pub wants_of : RowData → List Want
-wants_of r = if bytes_eq r.operands [] then [] else map (λ t. want_of (without_blank t)) (slice_split (λ c. c == 44) r.operands)
+wants_of r = if bytes_eq r.operands [] then [] else map (λ t. want_of (trimmed_want_text t)) (slice_split (λ c. c == 44) r.operands)
 
 -- the wants of a row, as values
-abbrev pub now_of : Bor (List Want) → List Want
-now_of w = w.now
+abbrev pub row_wants_now : Bor (List Want) → List Want
+row_wants_now w = w.now
 
--- g with the fields of f that a want names
-unfoldable pub given : Fields → Fields → Want → Fields
-given f g (Reg p x) = set_field x (field_of x f) g
-given f g A10 = g
-given f g (Number s x) = set_field x (field_of x f) g
-given f g Target = set_field K f.k g
-given f g Absolute = set_field K f.k g
-given f g (Memory p true) = set_field K f.k (set_field S2 f.s2 g)
-given f g (Memory p false) = set_field S2 f.s2 g
+-- the fields g with those of f that this want of a row names
+unfoldable pub with_wanted_fields : Fields → Fields → Want → Fields
+with_wanted_fields f g (Reg p x) = set_field x (field_of x f) g
+with_wanted_fields f g A10 = g
+with_wanted_fields f g (Number s x) = set_field x (field_of x f) g
+with_wanted_fields f g Target = set_field K f.k g
+with_wanted_fields f g Absolute = set_field K f.k g
+with_wanted_fields f g (Memory p true) = set_field K f.k (set_field S2 f.s2 g)
+with_wanted_fields f g (Memory p false) = set_field S2 f.s2 g

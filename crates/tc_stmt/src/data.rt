@@ -1,30 +1,32 @@
 // The values of `.byte`, `.half`, `.word` and `.space`.
-ghost use Rattle.std.specs.Prelude.{◌≡◌, ◌≤◌, ◌<◌, ◌+◌, ◌^◌, ◌*◌, take, true, if◌then◌else◌, ◌⊎◌};
+ghost use Rattle.std.specs.Prelude.{◌≡◌, ◌≤◌, ◌<◌, ◌+◌, ◌^◌, ◌*◌, take, true, if◌then◌else◌, ◌⊎◌, map, length, ◌==◌, ◌++◌, OnOk, IfOk, min};
 ghost use Rattle.tcd_base.specs.Bytes.{four_bytes};
 ghost use Rattle.tc_lex.specs.Operands.{operand_of};
 ghost use Rattle.tc_stmt.specs.Items.{reference_of, item_of};
-ghost use Rattle.tc_stmt.specs.OperandForms.{shape_index, wrap, fits_width};
+ghost use Rattle.tc_stmt.specs.OperandForms.{shape_index, wrap_into_field};
+ghost use Rattle.tc_stmt.specs.DataDirectives.{is_value_within_width, value_rule, value_item, space_rule, space_item, values_rule};
 ghost use Rattle.tc_stmt.specs.SourceRules.{no_rule};
-ghost use Rattle.tc_stmt.specs.DataDirectives.{value_rule, value_item, space_rule, space_item};
+ghost use Rattle.tc_stmt.specs.LinesRead.{Adds};
 
 use crate::item::Item;
 use crate::shape_numbers::{HIGH, HUGE, LOW, NUMBER, SUM, WORD};
 use crate::source_rules::{MISPLACED_SYMBOL, NO_RULE, PAST_LIMITS, WIDE_NUMBER, WRONG_OPERANDS};
 use crate::{shape_index, symbol_rule};
+use std::alloc::AllocError;
 use tc_lex::Operand;
 
 // A number of at most 32 bits, modulo 2^32, as little-endian bytes.
-fn word_bytes(minus: bool, size: u32) -> [u8; 4]
-    ensures { result ≡ four_bytes (wrap (2 ^ 32) minus size) }
+fn data_word_bytes(minus: bool, size: u32) -> [u8; 4]
+    ensures { result ≡ four_bytes (wrap_into_field (2 ^ 32) minus size) }
 {
     let word = if minus { size.wrapping_neg() } else { size };
     word.to_le_bytes()
 }
 
 // Whether a number fits `width` bytes, signed or unsigned.
-fn fits_width(width: u8, minus: bool, size: u128) -> bool
+fn is_value_within_width(width: u8, minus: bool, size: u128) -> bool
     requires { (width ≡ 1) ⊎ ((width ≡ 2) ⊎ (width ≡ 4)) }
-    ensures value { result ≡ fits_width (8 * width) minus size }
+    ensures value { result ≡ is_value_within_width (8 * width) minus size }
     ensures small { result ≡ true → size < 2 ^ 32 }
 {
     let bound: u128 = if width == 1 {
@@ -52,7 +54,7 @@ pub(crate) fn value_rule(width: u8, o: &Operand<'_>) -> u8
     if o.is_memory {
         WRONG_OPERANDS
     } else if shape == NUMBER {
-        if fits_width(width, o.value.minus, o.value.size) {
+        if is_value_within_width(width, o.value.minus, o.value.size) {
             NO_RULE
         } else {
             WIDE_NUMBER
@@ -86,12 +88,12 @@ pub(crate) fn value_item<'a>(rule: u8, width: u8, o: &Operand<'a>) -> Item<'a>
     }
     let size = o.value.size as u32;
     if shape_index(o.value.shape) == NUMBER {
-        return Item::Data(width, word_bytes(o.value.minus, size));
+        return Item::Data(width, data_word_bytes(o.value.minus, size));
     }
     Item::Word(width, o.value.minus, size, o.value.name)
 }
 
-/// The least rule that the operand of `.space` breaks by itself, or no rule.
+/// The least rule that the value of `.space`, a data directive, breaks by itself, or no rule.
 #[tactic(auto, unfolding(crate::specs::DataDirectives::space_rule))]
 pub(crate) fn space_rule(o: &Operand<'_>) -> u8
     ensures value { result ≡ space_rule (operand_of o.now) }
@@ -127,4 +129,37 @@ pub(crate) fn space_item<'a>(o: &Operand<'a>) -> Item<'a>
     } else {
         Item::Zeros(0)
     }
+}
+
+/// The rule that a `.byte`, `.half` or `.word` without values breaks, or no rule.
+pub(crate) fn empty_values_rule(os: &[Operand<'_>]) -> u8
+    ensures { result ≡ (if length (map operand_of os.now) == 0 then 3 else 15) }
+{
+    if os.is_empty() {
+        WRONG_OPERANDS
+    } else {
+        NO_RULE
+    }
+}
+
+/// Adds the items of these values of `.byte`, `.half` or `.word`, and returns the least rule that
+/// they break.
+#[tactic(auto, unfolding(crate::specs::DataDirectives::values_rule))]
+pub(crate) fn add_values<'a>(
+    width: u8,
+    os: &[Operand<'a>],
+    items: &mut Vec<Item<'a>>,
+) -> Result<u8, AllocError>
+    requires { (width ≡ 1) ⊎ ((width ≡ 2) ⊎ (width ≡ 4)) }
+    ensures rule { IfOk result (λ rule. rule ≡ values_rule width (map operand_of os.now)) }
+    ensures items { OnOk result (map item_of items.new.items
+        ≡ map item_of items.old.items ++ map (value_item width) (map operand_of os.now)) }
+{
+    let mut rule = empty_values_rule(os);
+    for o in os {
+        let broken = value_rule(width, o);
+        items.push(value_item(broken, width, o))?;
+        rule = rule.min(broken);
+    }
+    Ok(rule)
 }

@@ -1,56 +1,31 @@
 // Fills the fields of a row from the operands of a statement.
-ghost use Rattle.std.specs.Prelude.{◌≡◌, ◌<◌, ◌≤◌, ◌+◌, ◌^◌, map, length, true, if◌then◌else◌, ◌==◌, false, ◌*◌};
+ghost use Rattle.std.specs.Prelude.{◌≡◌, ◌<◌, ◌≤◌, ◌+◌, ◌^◌, map, true, if◌then◌else◌, ◌==◌, false, ◌*◌};
 ghost use Rattle.tc_isa.specs.Rows.{row_of};
 ghost use Rattle.tc_isa.specs.Forms.{bounds};
 ghost use Rattle.tc_lex.specs.Operands.{value_of, operand_of};
 ghost use Rattle.tc_stmt.specs.SourceRules.{no_rule};
-ghost use Rattle.tc_stmt.specs.RowFields.{row_fields_of, set_field, field_of, with_value as put_in};
-ghost use Rattle.tc_stmt.specs.Filling.{Fills, put_register, put_number, half_kind, fill_value, fill_memory, fill_target, put_absolute, fill_absolute, fill_register, fill_a10, fill_plain, fill, fill_all};
-ghost use Rattle.tc_stmt.specs.RowIndex.{is_named as named};
-ghost use Rattle.tc_stmt.specs.Displacements.{displacement_rule, with_displacement, target_kind, is_far};
-ghost use Rattle.tc_stmt.specs.OperandForms.{register_of, fits, wrap};
+ghost use Rattle.tc_stmt.specs.RowFields.{row_fields_of, field_of};
+ghost use Rattle.tc_stmt.specs.Filling.{Fills, put_register, put_number, half_operand_relocation, fill_value, fill_memory, fill_target, put_absolute, fill_absolute, fill_register, fill_a10, fill_plain, fill, fill_all, is_within_field_bound};
+ghost use Rattle.tc_stmt.specs.RowIndex.{is_named_row as named};
+ghost use Rattle.tc_stmt.specs.Displacements.{displacement_rule, with_displacement, target_operand_relocation, is_far_displacement};
+ghost use Rattle.tc_stmt.specs.OperandForms.{register_by_name, wrap_into_field};
 
 use crate::form_index::{ABS, B, BOL, SBR, form_index};
-use crate::row_fields::{NO_RELOC, RowFields, break_rule};
+use crate::row_fields::{
+    NO_RELOC, RowFields, break_rule, field_of, note_misplaced_symbol, put_field_value, with_symbol,
+};
 use crate::row_wants::wants;
 use crate::shape_numbers::{ABSENT, HIGH, HUGE, LOW, NUMBER, SUM, WORD, shape_index};
 use crate::source_rules::{FAR_TARGET, NO_RULE, ODD_DISPLACEMENT, WIDE_NUMBER, WRONG_REGISTER};
-use crate::symbols::{misplace, with_symbol};
 use crate::want::{Field, Want};
-use tc_isa::{ABS24, Fields, Form, HI16, LO16, OFFSET16, REL15, REL24, Row, bounds_of};
-use tc_lex::{Operand, Shape, Value, is_text};
+use tc_isa::{ABS24, Form, HI16, LO16, OFFSET16, REL15, REL24, Row, bounds_of};
+use tc_lex::{Operand, Shape, Value, is_same_text};
 
 // The number of a name that is no register: above the numbers of all registers.
 const NO_REGISTER: u8 = 64;
 
-#[tactic(auto, unfolding(crate::specs::RowFields::set_field))]
-fn set_field(field: Field, v: u32, f: &mut Fields)
-    ensures { f.new ≡ set_field field v f.old }
-{
-    match field {
-        Field::C => f.c = (v % 256) as u8,
-        Field::S1 => f.s1 = (v % 256) as u8,
-        Field::S2 => f.s2 = (v % 256) as u8,
-        Field::N => f.n = (v % 256) as u8,
-        Field::K => f.k = v,
-    }
-}
-
-/// The value in a field.
-#[tactic(auto, unfolding(crate::specs::RowFields::field_of))]
-pub fn field_of(field: Field, f: &Fields) -> u32
-    ensures { result ≡ field_of field f.now }
-{
-    match field {
-        Field::C => u32::from(f.c),
-        Field::S1 => u32::from(f.s1),
-        Field::S2 => u32::from(f.s2),
-        Field::N => u32::from(f.n),
-        Field::K => f.k,
-    }
-}
-
-fn bank_of(c: u8) -> u8
+/// The number of register 0 of a bank, by its letter, or `NO_REGISTER`.
+fn bank_first_register(c: u8) -> u8
     ensures { result ≡ (if c == 100 then 0 else (if c == 97 then 16 else 64)) }
 {
     if c == b'd' {
@@ -62,45 +37,41 @@ fn bank_of(c: u8) -> u8
     }
 }
 
-// The number of a register: 0 to 15 for d0 to d15, 16 to 31 for a0 to a15, and `NO_REGISTER` or
-// more for any other name.
-#[tactic(auto, unfolding(crate::specs::OperandForms::register_of, tc_lex::specs::Bytes::is_digit))]
-fn register_of(name: &[u8]) -> u8
-    ensures value { result ≡ register_of name.now }
+/// The number of the register that an operand names: 0 to 15 for d0 to d15, 16 to 31 for a0 to a15,
+/// and `NO_REGISTER` or more for any other name.
+#[tactic(auto, unfolding(crate::specs::OperandForms::register_by_name, tc_lex::specs::Bytes::is_digit))]
+fn register_by_name(name: &[u8]) -> u8
+    ensures value { result ≡ register_by_name name.now }
 {
     if name.len() == 2 && b'0' <= name[1] && name[1] <= b'9' {
-        bank_of(name[0]) + (name[1] - b'0')
+        bank_first_register(name[0]) + (name[1] - b'0')
     } else if name.len() == 3 && name[1] == b'1' && b'0' <= name[2] && name[2] <= b'5' {
-        bank_of(name[0]) + (name[2] - (b'0' - 10))
+        bank_first_register(name[0]) + (name[2] - (b'0' - 10))
     } else if name.is_empty() {
         NO_REGISTER + NO_REGISTER
     } else {
-        bank_of(name[0]) + NO_REGISTER
+        bank_first_register(name[0]) + NO_REGISTER
     }
 }
 
-fn put(field: Field, v: u32, acc: &mut RowFields<'_>)
-    ensures { row_fields_of acc.new ≡ put_in field v (row_fields_of acc.old) }
-{
-    set_field(field, v, &mut acc.fields);
-}
-
+/// Fills a field with the register of this name and bank, or breaks rule 4.
 #[tactic(auto, unfolding(crate::specs::Filling::put_register))]
 fn put_register(bank: bool, field: Field, name: &[u8], acc: &mut RowFields<'_>)
     ensures { row_fields_of acc.new
         ≡ put_register bank field name.now (row_fields_of acc.old) }
 {
-    let reg = register_of(name);
+    let reg = register_by_name(name);
     if reg / 16 == (if bank { 1 } else { 0 }) {
-        put(field, u32::from(reg % 16), acc);
+        put_field_value(field, u32::from(reg % 16), acc);
     } else {
         break_rule(WRONG_REGISTER, acc);
     }
 }
 
-#[tactic(auto, unfolding(crate::specs::OperandForms::fits))]
-fn fits(signed: bool, bound: u32, minus: bool, size: u128) -> bool
-    ensures value { result ≡ fits signed bound minus size }
+/// Whether an operand's number fits a field with this bound.
+#[tactic(auto, unfolding(crate::specs::Filling::is_within_field_bound))]
+fn is_within_field_bound(signed: bool, bound: u32, minus: bool, size: u128) -> bool
+    ensures value { result ≡ is_within_field_bound signed bound minus size }
     ensures within { result ≡ true → size ≤ bound }
 {
     if signed {
@@ -116,9 +87,10 @@ fn fits(signed: bool, bound: u32, minus: bool, size: u128) -> bool
     }
 }
 
-fn wrap(bound: u32, minus: bool, size: u32) -> u32
+/// An operand's number modulo the bound of its field.
+fn wrap_into_field(bound: u32, minus: bool, size: u32) -> u32
     requires { size ≤ bound }
-    ensures { result ≡ wrap bound minus size }
+    ensures { result ≡ wrap_into_field bound minus size }
 {
     if minus && size != 0 {
         bound - size
@@ -127,6 +99,7 @@ fn wrap(bound: u32, minus: bool, size: u32) -> u32
     }
 }
 
+/// Fills a field with an operand's number that fits it, or breaks rule 5.
 #[tactic(auto, unfolding(crate::specs::Filling::put_number))]
 fn put_number(
     form: Form,
@@ -140,34 +113,36 @@ fn put_number(
         ≡ put_number form signed field minus size (row_fields_of acc.old) }
 {
     let bound = field_of(field, &bounds_of(form));
-    if fits(signed, bound, minus, size) {
-        put(field, wrap(bound, minus, size as u32), acc);
+    if is_within_field_bound(signed, bound, minus, size) {
+        put_field_value(field, wrap_into_field(bound, minus, size as u32), acc);
     } else {
         break_rule(WIDE_NUMBER, acc);
     }
 }
 
-fn is_named(row: &Row, name: &str) -> bool
+/// Whether the row whose fields are filled has this name.
+fn is_named_row(row: &Row, name: &str) -> bool
     ensures { result ≡ named (row_of row.now) name.now }
 {
-    is_text(row.name.as_bytes(), name)
+    is_same_text(row.name.as_bytes(), name)
 }
 
-#[tactic(auto, unfolding(crate::specs::Filling::half_kind))]
-fn half_kind(row: &Row, shape: Shape) -> u8
-    ensures { result ≡ half_kind (row_of row.now) shape }
+/// The relocation of a half of an address in this row, or `NO_RELOC`.
+#[tactic(auto, unfolding(crate::specs::Filling::half_operand_relocation))]
+fn half_operand_relocation(row: &Row, shape: Shape) -> u8
+    ensures { result ≡ half_operand_relocation (row_of row.now) shape }
 {
     if shape_index(shape) == HIGH {
-        if is_named(row, "movh")
-            || is_named(row, "movh.a")
-            || is_named(row, "addih")
-            || is_named(row, "addih.a")
+        if is_named_row(row, "movh")
+            || is_named_row(row, "movh.a")
+            || is_named_row(row, "addih")
+            || is_named_row(row, "addih.a")
         {
             HI16
         } else {
             NO_RELOC
         }
-    } else if is_named(row, "addi") {
+    } else if is_named_row(row, "addi") {
         LO16
     } else if form_index(row.form) == BOL {
         OFFSET16
@@ -176,6 +151,8 @@ fn half_kind(row: &Row, shape: Shape) -> u8
     }
 }
 
+/// Fills a field with an operand's value as a constant, or breaks a rule. Returns false if the
+/// operand has another form.
 #[tactic(auto, unfolding(crate::specs::Filling::fill_value))]
 fn fill_value<'a>(
     row: &Row,
@@ -195,12 +172,12 @@ fn fill_value<'a>(
         break_rule(WIDE_NUMBER, acc);
         true
     } else if shape == WORD || shape == SUM {
-        misplace(v, acc);
+        note_misplaced_symbol(v, acc);
         true
     } else if shape == HIGH || shape == LOW {
-        let kind = half_kind(row, v.shape);
+        let kind = half_operand_relocation(row, v.shape);
         if kind == NO_RELOC {
-            misplace(v, acc);
+            note_misplaced_symbol(v, acc);
         } else {
             with_symbol(kind, v, acc);
         }
@@ -210,6 +187,8 @@ fn fill_value<'a>(
     }
 }
 
+/// Fills the fields of `[BASE]` or `[BASE+]`, with an offset if the row has one. Returns false if
+/// the operand has another form.
 #[tactic(auto, unfolding(crate::specs::Filling::fill_memory))]
 fn fill_memory<'a>(
     row: &Row,
@@ -236,9 +215,9 @@ fn fill_memory<'a>(
     }
 }
 
-// The number of constants that a form with a target can hold.
+/// The number of constants that can fill the field of a target in rows of this form.
 #[tactic(auto, unfolding(tc_isa::specs::Forms::bounds))]
-fn bound_of(form: Form) -> u32
+fn target_constant_bound(form: Form) -> u32
     ensures value { result ≡ (bounds form).k }
     ensures small { result < 2 ^ 31 }
     ensures some { 1 ≤ result }
@@ -246,9 +225,10 @@ fn bound_of(form: Form) -> u32
     bounds_of(form).k
 }
 
-fn is_far(form: Form, bound: u32, minus: bool, size: u128) -> bool
+/// Whether a displacement of `size` bytes doesn't fit the form; SBR only reaches forwards.
+fn is_far_displacement(form: Form, bound: u32, minus: bool, size: u128) -> bool
     requires { 1 ≤ bound }
-    ensures value { result ≡ is_far form bound minus size }
+    ensures value { result ≡ is_far_displacement form bound minus size }
     ensures near { result ≡ false → size ≤ 2 * bound }
 {
     let bound = u128::from(bound);
@@ -281,7 +261,12 @@ fn displacement_rule(row: &Row, minus: bool, size: u128) -> u8
     } else {
         FAR_TARGET
     };
-    let by_far: u8 = if is_far(row.form, bound_of(row.form), minus, size) {
+    let by_far: u8 = if is_far_displacement(
+        row.form,
+        target_constant_bound(row.form),
+        minus,
+        size,
+    ) {
         too_far
     } else {
         NO_RULE
@@ -289,16 +274,17 @@ fn displacement_rule(row: &Row, minus: bool, size: u128) -> u8
     by_far.min(by_odd)
 }
 
+/// Fills the field of a displacement of `size` bytes, or breaks a rule.
 #[tactic(auto, unfolding(crate::specs::Displacements::with_displacement))]
-fn displace(row: &Row, minus: bool, size: u128, acc: &mut RowFields<'_>)
+fn fill_displacement(row: &Row, minus: bool, size: u128, acc: &mut RowFields<'_>)
     ensures { row_fields_of acc.new
         ≡ with_displacement (row_of row.now) minus size (row_fields_of acc.old) }
 {
     let rule = displacement_rule(row, minus, size);
     if rule == NO_RULE {
-        put(
+        put_field_value(
             Field::K,
-            wrap(bound_of(row.form), minus, (size / 2) as u32),
+            wrap_into_field(target_constant_bound(row.form), minus, (size / 2) as u32),
             acc,
         );
     } else {
@@ -306,7 +292,8 @@ fn displace(row: &Row, minus: bool, size: u128, acc: &mut RowFields<'_>)
     }
 }
 
-/// The row's fields with a displacement of `size` bytes, and the least rule that is broken then.
+/// Returns the row's fields after a target fills them with a displacement of `size` bytes, and the
+/// least rule that is broken then.
 pub fn with_displacement<'a>(
     row: &Row,
     minus: bool,
@@ -317,13 +304,14 @@ pub fn with_displacement<'a>(
         ≡ with_displacement (row_of row.now) minus size (row_fields_of acc.entry) }
 {
     let mut made = acc;
-    displace(row, minus, size, &mut made);
+    fill_displacement(row, minus, size, &mut made);
     made
 }
 
-#[tactic(auto, unfolding(crate::specs::Displacements::target_kind))]
-fn target_kind(row: &Row) -> u8
-    ensures { result ≡ target_kind (row_of row.now) }
+/// The relocation of a jump's or call's target, or `NO_RELOC` in rows of 16 bits.
+#[tactic(auto, unfolding(crate::specs::Displacements::target_operand_relocation))]
+fn target_operand_relocation(row: &Row) -> u8
+    ensures { result ≡ target_operand_relocation (row_of row.now) }
 {
     if row.op1 % 2 == 1 {
         if form_index(row.form) == B {
@@ -336,30 +324,33 @@ fn target_kind(row: &Row) -> u8
     }
 }
 
+/// Fills the field of a target with a displacement, or notes its symbol. Returns false if the
+/// operand has another form.
 #[tactic(auto, unfolding(crate::specs::Filling::fill_target))]
 fn fill_target<'a>(row: &Row, v: &Value<'a>, acc: &mut RowFields<'a>) -> bool
     ensures { Fills result acc.new
         (fill_target (row_of row.now) (value_of v.now) (row_fields_of acc.old)) }
 {
     let shape = shape_index(v.shape);
-    if shape == SUM && is_text(v.name, ".") {
+    if shape == SUM && is_same_text(v.name, ".") {
         if v.wide {
             break_rule(WIDE_NUMBER, acc);
         } else {
-            displace(row, v.minus, v.size, acc);
+            fill_displacement(row, v.minus, v.size, acc);
         }
         true
     } else if shape == WORD || shape == SUM {
-        with_symbol(target_kind(row), v, acc);
+        with_symbol(target_operand_relocation(row), v, acc);
         true
     } else if shape == HIGH || shape == LOW {
-        misplace(v, acc);
+        note_misplaced_symbol(v, acc);
         true
     } else {
         false
     }
 }
 
+/// Fills the field of an absolute address, or breaks rule 5.
 #[tactic(auto, unfolding(crate::specs::Filling::put_absolute))]
 fn put_absolute(form: Form, minus: bool, size: u128, acc: &mut RowFields<'_>)
     ensures { row_fields_of acc.new ≡ put_absolute form minus size (row_fields_of acc.old) }
@@ -368,7 +359,7 @@ fn put_absolute(form: Form, minus: bool, size: u128, acc: &mut RowFields<'_>)
         break_rule(WIDE_NUMBER, acc);
     } else if form_index(form) == ABS {
         if size / 16384 % 16384 == 0 {
-            put(
+            put_field_value(
                 Field::K,
                 (size / 268435456 * 16384 + size % 16384) as u32,
                 acc,
@@ -377,7 +368,7 @@ fn put_absolute(form: Form, minus: bool, size: u128, acc: &mut RowFields<'_>)
             break_rule(WIDE_NUMBER, acc);
         }
     } else if size / 2097152 % 128 == 0 && size % 2 == 0 {
-        put(
+        put_field_value(
             Field::K,
             (size / 268435456 * 1048576 + size % 2097152 / 2) as u32,
             acc,
@@ -387,6 +378,8 @@ fn put_absolute(form: Form, minus: bool, size: u128, acc: &mut RowFields<'_>)
     }
 }
 
+/// Fills the field of an absolute address with a number, or notes its symbol. Returns false if the
+/// operand has another form.
 #[tactic(auto, unfolding(crate::specs::Filling::fill_absolute))]
 fn fill_absolute<'a>(row: &Row, v: &Value<'a>, acc: &mut RowFields<'a>) -> bool
     ensures { Fills result acc.new
@@ -401,19 +394,21 @@ fn fill_absolute<'a>(row: &Row, v: &Value<'a>, acc: &mut RowFields<'a>) -> bool
         true
     } else if shape == WORD || shape == SUM {
         if form_index(row.form) == ABS {
-            misplace(v, acc);
+            note_misplaced_symbol(v, acc);
         } else {
             with_symbol(ABS24, v, acc);
         }
         true
     } else if shape == HIGH || shape == LOW {
-        misplace(v, acc);
+        note_misplaced_symbol(v, acc);
         true
     } else {
         false
     }
 }
 
+/// Fills a field with the register that the operand names. Returns false if the operand has another
+/// form.
 #[tactic(auto, unfolding(crate::specs::Filling::fill_register))]
 fn fill_register(bank: bool, field: Field, v: &Value<'_>, acc: &mut RowFields<'_>) -> bool
     ensures { Fills result acc.new
@@ -427,12 +422,14 @@ fn fill_register(bank: bool, field: Field, v: &Value<'_>, acc: &mut RowFields<'_
     }
 }
 
+/// Takes the operand a10, which no field holds; another name breaks rule 4. Returns false if the
+/// operand has another form.
 #[tactic(auto, unfolding(crate::specs::Filling::fill_a10))]
 fn fill_a10(v: &Value<'_>, acc: &mut RowFields<'_>) -> bool
     ensures { Fills result acc.new (fill_a10 (value_of v.now) (row_fields_of acc.old)) }
 {
     if shape_index(v.shape) == WORD {
-        if !is_text(v.name, "a10") {
+        if !is_same_text(v.name, "a10") {
             break_rule(WRONG_REGISTER, acc);
         }
         true

@@ -18,10 +18,10 @@ mod symbols;
 mod tally;
 mod want;
 
-pub use fill_fields::{field_of, with_displacement};
+pub use fill_fields::with_displacement;
 pub use item::Item;
 pub use laws::statement_laws;
-pub use row_fields::{NO_RELOC, Reference, RowFields, reference_to};
+pub use row_fields::{NO_RELOC, Reference, RowFields, field_of, reference_to};
 pub use row_wants::wants;
 pub use shape_numbers::shape_index;
 pub use source::{Line, Source, read_source};
@@ -29,5 +29,5 @@ pub use source_rules::{
     BAD_NAME, LABEL_TWICE, MISPLACED_SYMBOL, NO_RULE, NO_SECTION, PAST_LIMITS, UNDEFINED_GLOBAL,
 };
 pub use statement_row::statement;
-pub use symbols::{is_name, symbol_rule};
+pub use symbols::{is_source_name, symbol_rule};
 pub use want::{Field, Want};

@@ -1,25 +1,26 @@
 // Reads a line: its label, its statement and its operands.
-ghost use Rattle.std.specs.Prelude.{◌≡◌, ◌++◌, OnOk, IfOk, ◌≤◌, ◌<◌, ◌+◌, map, length, find, option_map, drop, true, [], ◌∷◌, ◌⊎◌, ◌==◌, if◌then◌else◌, min};
+ghost use Rattle.std.specs.Prelude.{◌≡◌, ◌++◌, OnOk, IfOk, ◌≤◌, ◌<◌, ◌+◌, map, length, option_map, drop, true, [], ◌∷◌, ◌⊎◌, ◌==◌};
 ghost use Rattle.std.specs.Option.{option_copied};
-ghost use Rattle.std.specs.Str.{bytes_eq};
 ghost use Rattle.tc_lex.specs.Cut.{tokens_of};
-ghost use Rattle.tc_isa.specs.Rows.{row_of, listed};
 ghost use Rattle.tc_stmt.specs.StatementRow.{statement as statement_of};
 ghost use Rattle.tc_lex.specs.Pieces.{piece_of, text_at as text_in_pieces};
 ghost use Rattle.tc_lex.specs.Operands.{operand_of, operands as operands_in};
 ghost use Rattle.tc_stmt.specs.Items.{item_of, label, section, global, code, reference_of};
-ghost use Rattle.tc_stmt.specs.DataDirectives.{value_item, space_rule as space_rule_of, space_item as space_item_of, values_rule};
-ghost use Rattle.tc_stmt.specs.Lines.{line_data, Adds, behind, named_line, is_word_operand, word_of, space_line, values_line, size_of_name, stated_line, line_from, line_with_label, pieces_line, has_label, label_of, label_before, line_in, code_line};
+ghost use Rattle.tc_stmt.specs.DataDirectives.{space_rule as space_rule_of, space_item as space_item_of};
+ghost use Rattle.tc_stmt.specs.Lines.{line_data, named_line, is_word_operand, only_operand_name, space_line, values_line, size_of_name, stated_line, line_from, line_with_label, pieces_line, has_label, label_of, label_before, line_in, code_line};
+ghost use Rattle.tc_stmt.specs.LinesRead.{Adds};
 
-use crate::data::{space_item, space_rule, value_item, value_rule};
+use crate::data::{add_values, space_item, space_rule};
 use crate::item::Item;
+use crate::row_index::row_of_name;
 use crate::shape_numbers::WORD;
 use crate::source::Line;
 use crate::source_rules::{BAD_TOKEN, NO_RULE, WRONG_OPERANDS};
 use crate::{RowFields, shape_index, statement};
 use std::alloc::AllocError;
-use tc_isa::{Row, rows};
-use tc_lex::{Operand, Piece, Scratch, TokenKind, cut_pieces, is_kind, is_text, operands, text_at};
+use tc_lex::{
+    Operand, Piece, Scratch, TokenKind, cut_pieces, is_kind, is_same_text, operands, text_at,
+};
 
 // Adds no item, and returns the rule.
 fn add_nothing(rule: u8, items: &mut Vec<Item<'_>>) -> Result<u8, AllocError>
@@ -37,6 +38,7 @@ fn add_item<'a>(rule: u8, item: Item<'a>, items: &mut Vec<Item<'a>>) -> Result<u
     Ok(rule)
 }
 
+/// Whether the operand is a word, as `.section` and `.global` want.
 #[tactic(auto, unfolding(crate::specs::Lines::is_word_operand))]
 fn is_word_operand(o: &Operand<'_>) -> bool
     ensures { result ≡ is_word_operand (operand_of o.now) }
@@ -45,8 +47,8 @@ fn is_word_operand(o: &Operand<'_>) -> bool
 }
 
 // The name that is the only operand, if it is so.
-fn word_of<'a>(os: &[Operand<'a>]) -> Option<&'a [u8]>
-    ensures { option_copied result ≡ word_of (map operand_of os.now) }
+fn only_operand_name<'a>(os: &[Operand<'a>]) -> Option<&'a [u8]>
+    ensures { option_copied result ≡ only_operand_name (map operand_of os.now) }
 {
     if os.len() != 1 {
         return None;
@@ -59,29 +61,32 @@ fn word_of<'a>(os: &[Operand<'a>]) -> Option<&'a [u8]>
     }
 }
 
+/// Reads the line `.section NAME`: adds its item, and returns its rule.
 #[tactic(auto, unfolding(crate::specs::Lines::named_line))]
 fn section_line<'a>(os: &[Operand<'a>], items: &mut Vec<Item<'a>>) -> Result<u8, AllocError>
     ensures { Adds (named_line section
         (map operand_of os.now)) result items.old.items items.new.items }
 {
-    match word_of(os) {
+    match only_operand_name(os) {
         None => add_nothing(WRONG_OPERANDS, items),
         Some(name) => add_item(NO_RULE, Item::Section(name), items),
     }
 }
 
+/// Reads the line `.global NAME`: adds its item, and returns its rule.
 #[tactic(auto, unfolding(crate::specs::Lines::named_line))]
 fn global_line<'a>(os: &[Operand<'a>], items: &mut Vec<Item<'a>>) -> Result<u8, AllocError>
     ensures { Adds (named_line global
         (map operand_of os.now)) result items.old.items items.new.items }
 {
-    match word_of(os) {
+    match only_operand_name(os) {
         None => add_nothing(WRONG_OPERANDS, items),
         Some(name) => add_item(NO_RULE, Item::Global(name), items),
     }
 }
 
-fn one_space<'a>(o: &Operand<'a>, items: &mut Vec<Item<'a>>) -> Result<u8, AllocError>
+/// Reads a line of a source, `.space` with one operand: adds its zeros, and returns its rule.
+fn space_operand_line<'a>(o: &Operand<'a>, items: &mut Vec<Item<'a>>) -> Result<u8, AllocError>
     ensures { Adds (line_data (space_rule_of (operand_of o.now))
         (space_item_of (operand_of o.now) ∷ []))
         result items.old.items items.new.items }
@@ -89,47 +94,17 @@ fn one_space<'a>(o: &Operand<'a>, items: &mut Vec<Item<'a>>) -> Result<u8, Alloc
     add_item(space_rule(o), space_item(o), items)
 }
 
+/// Reads a line of a source, `.space N`: adds its zeros, and returns its rule.
 fn space_line<'a>(os: &[Operand<'a>], items: &mut Vec<Item<'a>>) -> Result<u8, AllocError>
     ensures { Adds (space_line (map operand_of os.now)) result items.old.items items.new.items }
 {
     if os.len() != 1 {
         return add_item(WRONG_OPERANDS, Item::Zeros(0), items);
     }
-    one_space(&os[0], items)
+    space_operand_line(&os[0], items)
 }
 
-// The rule that an empty list of values breaks, or no rule.
-fn count_rule(os: &[Operand<'_>]) -> u8
-    ensures { result ≡ (if length (map operand_of os.now) == 0 then 3 else 15) }
-{
-    if os.is_empty() {
-        WRONG_OPERANDS
-    } else {
-        NO_RULE
-    }
-}
-
-// Adds the items of these values, and returns the least rule that they break.
-#[tactic(auto, unfolding(crate::specs::DataDirectives::values_rule))]
-fn add_values<'a>(
-    width: u8,
-    os: &[Operand<'a>],
-    items: &mut Vec<Item<'a>>,
-) -> Result<u8, AllocError>
-    requires { (width ≡ 1) ⊎ ((width ≡ 2) ⊎ (width ≡ 4)) }
-    ensures rule { IfOk result (λ rule. rule ≡ values_rule width (map operand_of os.now)) }
-    ensures items { OnOk result (map item_of items.new.items
-        ≡ map item_of items.old.items ++ map (value_item width) (map operand_of os.now)) }
-{
-    let mut rule = count_rule(os);
-    for o in os {
-        let broken = value_rule(width, o);
-        items.push(value_item(broken, width, o))?;
-        rule = rule.min(broken);
-    }
-    Ok(rule)
-}
-
+/// Reads a line of a source, `.byte`, `.half` or `.word` with values of `width` bytes.
 #[tactic(auto, unfolding(crate::specs::Lines::values_line))]
 fn values_line<'a>(
     width: u8,
@@ -144,19 +119,8 @@ fn values_line<'a>(
     Ok(rule)
 }
 
-fn find_row<'a>(rows: &'a [Row], name: &[u8]) -> Option<&'a Row>
-    ensures { option_map (λ r. r.now) result ≡ find (λ r. bytes_eq r.name.now name.now) rows.now }
-{
-    rows.iter().find(|r| r.name.as_bytes() == name)
-}
-
-// The first row of an instruction's name.
-fn row_of_name(name: &[u8]) -> Option<&'static Row>
-    ensures { option_map (λ r. row_of r.now) result ≡ find (λ r. bytes_eq r.name name.now) listed }
-{
-    find_row(rows(), name)
-}
-
+/// The number of zeros for a line whose instruction breaks a rule: the size in bytes of the
+/// instructions with this name, and 0 if there are none.
 #[tactic(auto, unfolding(crate::specs::Lines::size_of_name))]
 fn size_of_name(name: &[u8]) -> u32
     ensures { result ≡ size_of_name name.now }
@@ -178,6 +142,7 @@ fn code_item<'a>(row: u8, found: &RowFields<'a>) -> Item<'a>
     }
 }
 
+/// Reads the line of an instruction; if it breaks a rule, its item is zeros.
 fn code_line<'a>(
     name: &[u8],
     os: &[Operand<'a>],
@@ -192,6 +157,7 @@ fn code_line<'a>(
     }
 }
 
+/// Reads the line of a statement: a directive or an instruction.
 #[tactic(auto, unfolding(crate::specs::Lines::stated_line))]
 fn stated_line<'a>(
     name: &[u8],
@@ -201,24 +167,24 @@ fn stated_line<'a>(
     ensures { Adds (stated_line name.now
         (map operand_of os.now)) result items.old.items items.new.items }
 {
-    if is_text(name, ".section") {
+    if is_same_text(name, ".section") {
         section_line(os, items)
-    } else if is_text(name, ".global") {
+    } else if is_same_text(name, ".global") {
         global_line(os, items)
-    } else if is_text(name, ".byte") {
+    } else if is_same_text(name, ".byte") {
         values_line(1, os, items)
-    } else if is_text(name, ".half") {
+    } else if is_same_text(name, ".half") {
         values_line(2, os, items)
-    } else if is_text(name, ".word") {
+    } else if is_same_text(name, ".word") {
         values_line(4, os, items)
-    } else if is_text(name, ".space") {
+    } else if is_same_text(name, ".space") {
         space_line(os, items)
     } else {
         code_line(name, os, items)
     }
 }
 
-// The tokens after token `at`.
+/// The tokens of a line after token `at`, which is the statement's name.
 fn pieces_behind<'p, 'a>(ps: &'p [Piece<'a>], at: usize) -> &'p [Piece<'a>]
     requires { at < length ps.now }
     ensures { result.now ≡ drop (at + 1) ps.now }
@@ -226,7 +192,7 @@ fn pieces_behind<'p, 'a>(ps: &'p [Piece<'a>], at: usize) -> &'p [Piece<'a>]
     &ps[at + 1..]
 }
 
-// Reads the operands after token `at`.
+/// Reads the operands of a line, which are after the statement's name at token `at`.
 fn operands_behind<'a>(ps: &[Piece<'a>], at: usize, out: &mut Scratch<Operand<'a>, 65>)
     requires few { length ps.now ≤ 64 }
     requires place { at < length ps.now }
@@ -252,6 +218,7 @@ fn statement_at<'a>(
     stated_line(text_at(ps, at), operands.as_slice(), items)
 }
 
+/// Reads a line from token `at` on: nothing, or a statement.
 #[tactic(auto, unfolding(crate::specs::Lines::line_from))]
 fn line_from<'a>(
     ps: &[Piece<'a>],
@@ -280,6 +247,7 @@ fn has_label(ps: &[Piece]) -> bool
     is_kind(ps, 0, TokenKind::Word) && is_kind(ps, 1, TokenKind::Colon)
 }
 
+/// Adds the item of a line's label.
 fn add_label<'a>(name: &'a [u8], items: &mut Vec<Item<'a>>) -> Result<(), AllocError>
     ensures { OnOk result
         (map item_of items.new.items ≡ map item_of items.old.items ++ label name.entry.now ∷ []) }
@@ -304,6 +272,7 @@ fn labelled_line<'a>(
     line_from(ps, 2, operands, items)
 }
 
+/// Reads a line from its tokens: a label, if there is one, and what follows.
 #[tactic(auto, unfolding(crate::specs::Lines::pieces_line))]
 fn pieces_line<'a>(
     ps: &[Piece<'a>],

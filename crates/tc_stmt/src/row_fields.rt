@@ -1,10 +1,15 @@
 // The fields of a row, as its operands fill them.
 ghost use Rattle.std.specs.Prelude.{◌≡◌, ◌<◌};
 ghost use Rattle.tc_stmt.specs.Items.{reference_of, reference_to};
-ghost use Rattle.tc_stmt.specs.RowFields.{row_fields_of, no_fields, with_rule};
+ghost use Rattle.tc_stmt.specs.RowFields.{row_fields_of, no_fields, with_rule, set_field, field_of, with_value as put_in};
+ghost use Rattle.tc_lex.specs.Operands.{value_of};
+ghost use Rattle.tc_stmt.specs.Filling.{symbol_rule, with_symbol, with_misplaced};
 
-use crate::source_rules::NO_RULE;
-use tc_isa::Fields;
+use crate::source_rules::{MISPLACED_SYMBOL, NO_RULE};
+use crate::symbols::symbol_rule;
+use crate::want::Field;
+use tc_isa::{Fields, Form};
+use tc_lex::Value;
 
 /// The kind of a reference whose address is used at once, without a relocation.
 pub const NO_RELOC: u8 = 0;
@@ -23,7 +28,8 @@ pub struct Reference<'a> {
     pub minus: bool,
 }
 
-/// The reference of this kind to a symbol, with the number that is added to its address.
+/// The reference of this kind to the symbol of an operand, with the number that is added to its
+/// address.
 pub fn reference_to(kind: u8, name: &[u8], minus: bool, size: u32) -> Reference<'_>
     ensures { reference_of result ≡ reference_to kind name.now minus size }
 {
@@ -47,6 +53,7 @@ pub struct RowFields<'a> {
     pub rule: u8,
 }
 
+/// A row's fields before the first operand: zeros, no rule broken, no symbol.
 pub(crate) fn no_fields<'a>() -> RowFields<'a>
     ensures { row_fields_of result ≡ no_fields }
 {
@@ -68,4 +75,66 @@ pub(crate) fn break_rule(rule: u8, acc: &mut RowFields<'_>)
     ensures { row_fields_of acc.new ≡ with_rule rule (row_fields_of acc.old) }
 {
     acc.rule = acc.rule.min(rule);
+}
+
+/// Sets one of a row's fields to the value from an operand; all but `k` are bytes.
+#[tactic(auto, unfolding(crate::specs::RowFields::set_field))]
+pub(crate) fn set_field(field: Field, v: u32, f: &mut Fields)
+    ensures { f.new ≡ set_field field v f.old }
+{
+    match field {
+        Field::C => f.c = (v % 256) as u8,
+        Field::S1 => f.s1 = (v % 256) as u8,
+        Field::S2 => f.s2 = (v % 256) as u8,
+        Field::N => f.n = (v % 256) as u8,
+        Field::K => f.k = v,
+    }
+}
+
+/// The value in one of a row's fields that operands fill.
+#[tactic(auto, unfolding(crate::specs::RowFields::field_of))]
+pub fn field_of(field: Field, f: &Fields) -> u32
+    ensures { result ≡ field_of field f.now }
+{
+    match field {
+        Field::C => u32::from(f.c),
+        Field::S1 => u32::from(f.s1),
+        Field::S2 => u32::from(f.s2),
+        Field::N => u32::from(f.n),
+        Field::K => f.k,
+    }
+}
+
+/// Sets a field of a row, as an operand fills it, to a value.
+pub(crate) fn put_field_value(field: Field, v: u32, acc: &mut RowFields<'_>)
+    ensures { row_fields_of acc.new ≡ put_in field v (row_fields_of acc.old) }
+{
+    set_field(field, v, &mut acc.fields);
+}
+
+/// Notes beside a row's fields the symbol of an operand, in a place that takes one, or the rule
+/// that the symbol breaks.
+#[tactic(auto, unfolding(crate::specs::Filling::with_symbol))]
+pub(crate) fn with_symbol<'a>(kind: u8, v: &Value<'a>, acc: &mut RowFields<'a>)
+    ensures { row_fields_of acc.new
+        ≡ with_symbol kind (value_of v.now) (row_fields_of acc.old) }
+{
+    let rule = symbol_rule(v);
+    if rule != NO_RULE {
+        break_rule(rule, acc);
+        return;
+    }
+    acc.reference = Some(Reference {
+        kind,
+        name: v.name,
+        minus: v.minus,
+        size: v.size as u32,
+    });
+}
+
+/// Notes among a row's fields that an operand has a symbol in a place that takes none.
+pub(crate) fn note_misplaced_symbol(v: &Value<'_>, acc: &mut RowFields<'_>)
+    ensures { row_fields_of acc.new ≡ with_misplaced (value_of v.now) (row_fields_of acc.old) }
+{
+    break_rule(MISPLACED_SYMBOL.min(symbol_rule(v)), acc);
 }

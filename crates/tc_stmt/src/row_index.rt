@@ -1,10 +1,11 @@
-// An index of the rows by a key of their names, so that a search skips most rows. The
-// tables are printed by tools/rows.py.
-ghost use Rattle.std.specs.Prelude.{◌≡◌, ◌<◌, ◌+◌, ◌-◌, ◌==◌, List, map, length, drop, true, slice_index};
+// An index of the rows by a key of their names, so that a search skips most rows, and the first row
+// of a name. The tables are printed by tools/rows.py.
+ghost use Rattle.std.specs.Prelude.{◌≡◌, ◌<◌, ◌+◌, ◌-◌, ◌==◌, List, map, length, drop, true, slice_index, find, option_map};
 ghost use Rattle.tc_isa.specs.Rows.{RowData, row_of, listed};
-ghost use Rattle.tc_stmt.specs.RowIndex.{name_key, none_has, are_next, are_first};
+ghost use Rattle.tc_stmt.specs.RowIndex.{name_key, are_rows_without_key, are_next_rows, are_first_rows};
+ghost use Rattle.std.specs.Str.{bytes_eq};
 
-use tc_isa::{ROW_COUNT, Row};
+use tc_isa::{ROW_COUNT, Row, rows};
 
 // The number of the first row with each key, and the number of rows if no row has the key.
 static FIRST: [u8; 256] = [
@@ -173,7 +174,7 @@ static NEXT: [u8; ROW_COUNT] = [
 /// For each key, the number of the first row that has it.
 #[tactic(auto, unfolding(crate::specs::RowIndex::name_key))]
 pub(crate) fn first_rows() -> &'static [u8]
-    ensures { are_first 0 listed result.now ≡ true }
+    ensures { are_first_rows 0 listed result.now ≡ true }
 {
     &FIRST
 }
@@ -181,13 +182,13 @@ pub(crate) fn first_rows() -> &'static [u8]
 /// For each row, the number of the next row with the same key.
 #[tactic(auto, unfolding(crate::specs::RowIndex::name_key))]
 pub(crate) fn next_rows() -> &'static [u8]
-    ensures { are_next 0 listed result.now ≡ true }
+    ensures { are_next_rows 0 listed result.now ≡ true }
 {
     &NEXT
 }
 
 // The byte at this place, and 0 after the end.
-fn byte_at(text: &[u8], i: usize) -> usize
+fn name_byte_at(text: &[u8], i: usize) -> usize
     ensures value { result ≡ slice_index text.now i }
     ensures small { result < 256 }
 {
@@ -198,15 +199,17 @@ fn byte_at(text: &[u8], i: usize) -> usize
     }
 }
 
+/// The key of a row's name, below 256: few names of rows share one.
 #[tactic(auto, unfolding(crate::specs::RowIndex::name_key))]
 fn name_key(name: &[u8]) -> usize
     ensures { result ≡ name_key name.now }
 {
-    let front = byte_at(name, 0) + 2 * byte_at(name, 1);
-    (front + 9 * byte_at(name, 2) + 7 * byte_at(name, 3) + name.len()) % 256
+    let front = name_byte_at(name, 0) + 2 * name_byte_at(name, 1);
+    (front + 9 * name_byte_at(name, 2) + 7 * name_byte_at(name, 3) + name.len()) % 256
 }
 
-fn has_key(row: &Row, name: &[u8]) -> bool
+/// Whether the row's name has the key of this name.
+fn has_name_key(row: &Row, name: &[u8]) -> bool
     ensures { result ≡ (name_key (row_of row.now).name == name_key name.now) }
 {
     name_key(row.name.as_bytes()) == name_key(name)
@@ -214,8 +217,8 @@ fn has_key(row: &Row, name: &[u8]) -> bool
 
 /// A row number such that no earlier row has the key of this name.
 pub(crate) fn first_row(first: &[u8], name: &[u8]) -> usize
-    ensures { (rows : List RowData) → are_first 0 rows first.now ≡ true
-        → none_has result (name_key name.now) rows ≡ true }
+    ensures { (rows : List RowData) → are_first_rows 0 rows first.now ≡ true
+        → are_rows_without_key result (name_key name.now) rows ≡ true }
 {
     let key = name_key(name);
     if key < first.len() {
@@ -228,14 +231,28 @@ pub(crate) fn first_row(first: &[u8], name: &[u8]) -> usize
 /// A row number after `i` such that no row between them has the key of this name.
 pub(crate) fn next_row(rows: &[Row], next: &[u8], i: usize, name: &[u8]) -> usize
     requires place { i < length rows.now }
-    requires next { are_next 0 (map row_of rows.now) next.now ≡ true }
+    requires next { are_next_rows 0 (map row_of rows.now) next.now ≡ true }
     ensures later { i < result }
-    ensures none { none_has (result - (i + 1)) (name_key name.now)
+    ensures none { are_rows_without_key (result - (i + 1)) (name_key name.now)
         (drop (i + 1) (map row_of rows.now)) ≡ true }
 {
-    if i < next.len() && has_key(&rows[i], name) {
+    if i < next.len() && has_name_key(&rows[i], name) {
         usize::from(next[i])
     } else {
         i + 1
     }
+}
+
+/// The first of these rows that has this name.
+pub(crate) fn find_row<'a>(rows: &'a [Row], name: &[u8]) -> Option<&'a Row>
+    ensures { option_map (λ r. r.now) result ≡ find (λ r. bytes_eq r.name.now name.now) rows.now }
+{
+    rows.iter().find(|r| r.name.as_bytes() == name)
+}
+
+// The first row of an instruction's name.
+pub(crate) fn row_of_name(name: &[u8]) -> Option<&'static Row>
+    ensures { option_map (λ r. row_of r.now) result ≡ find (λ r. bytes_eq r.name name.now) listed }
+{
+    find_row(rows(), name)
 }

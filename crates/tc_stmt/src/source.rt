@@ -32,7 +32,7 @@ pub struct Source<'a> {
 // The place of the next line feed, which ends an empty line if it is the first byte.
 #[inline(always)]
 #[tactic(auto, using(crate::proofs::Feeds::first_byte))]
-fn find_feed(rest: &[u8]) -> Option<usize>
+fn source_line_feed(rest: &[u8]) -> Option<usize>
     ensures value { result ≡ position (λ c. c == 10) rest.now }
     ensures within { IfSome result (λ i. i < length rest.now) }
 {
@@ -42,16 +42,16 @@ fn find_feed(rest: &[u8]) -> Option<usize>
     memchr(b'\n', rest)
 }
 
-// The bytes before the line feed at `i`.
-fn bytes_before(rest: &[u8], i: usize) -> &[u8]
+/// The line of the source before the line feed at `i`.
+fn source_line_before(rest: &[u8], i: usize) -> &[u8]
     requires { i ≤ length rest.now }
     ensures { result.now ≡ take i rest.now }
 {
     &rest[..i]
 }
 
-// The bytes after the line feed at `i`.
-fn bytes_after(rest: &[u8], i: usize) -> &[u8]
+/// The rest of the source after the line feed at `i`.
+fn source_after_line(rest: &[u8], i: usize) -> &[u8]
     requires { i < length rest.now }
     ensures { result.now ≡ drop (i + 1) rest.now }
 {
@@ -60,7 +60,7 @@ fn bytes_after(rest: &[u8], i: usize) -> &[u8]
 
 // Reads the next line, with two lists as scratch space.
 #[inline(always)]
-fn add_line<'a>(
+fn add_source_line<'a>(
     line: &'a [u8],
     pieces: &mut Scratch<Piece<'a>, 64>,
     operands: &mut Scratch<Operand<'a>, 65>,
@@ -84,11 +84,11 @@ pub fn read_source<'a>(alloc: Global, source: &'a [u8]) -> Result<Source<'a>, Al
     let mut lines = Vec::new(alloc);
     let mut items = Vec::new(alloc);
     let mut rest = source;
-    'lines: while let Some(i) = find_feed(rest) {
-        let line = bytes_before(rest, i);
-        add_line(line, &mut pieces, &mut operands, &mut lines, &mut items)?;
-        rest = bytes_after(rest, i);
+    'lines: while let Some(i) = source_line_feed(rest) {
+        let line = source_line_before(rest, i);
+        add_source_line(line, &mut pieces, &mut operands, &mut lines, &mut items)?;
+        rest = source_after_line(rest, i);
     }
-    add_line(rest, &mut pieces, &mut operands, &mut lines, &mut items)?;
+    add_source_line(rest, &mut pieces, &mut operands, &mut lines, &mut items)?;
     Ok(Source { lines, items })
 }

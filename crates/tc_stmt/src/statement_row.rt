@@ -2,34 +2,40 @@
 ghost use Rattle.std.specs.Prelude.{◌≡◌, ◌<◌, map, length, true};
 ghost use Rattle.std.specs.Str.{bytes_eq};
 ghost use Rattle.tc_isa.specs.Rows.{row_of};
-ghost use Rattle.tc_stmt.specs.Wants.{wants_of, now_of};
+ghost use Rattle.tc_stmt.specs.Wants.{wants_of, row_wants_now};
 ghost use Rattle.tc_lex.specs.Operands.{operand_of};
 ghost use Rattle.tc_stmt.specs.RowFields.{row_fields_of, no_fields};
-ghost use Rattle.tc_stmt.specs.Filling.{Fills, fill_all, kept_apart, fields_of_row};
-ghost use Rattle.tc_stmt.specs.StatementRow.{start, after_row, outcome, Steps, Judges, statement, rule_of};
-ghost use Rattle.tc_stmt.specs.RowIndex.{are_first, are_next};
+ghost use Rattle.tc_stmt.specs.Filling.{Fills, fill_all, check_registers_apart, fields_of_row};
+ghost use Rattle.tc_stmt.specs.StatementRow.{start_tally, after_row, statement_outcome, JudgesRow, JudgesStatement, statement, tally_rule};
+ghost use Rattle.tc_stmt.specs.RowIndex.{are_first_rows, are_next_rows};
 
 use crate::fill_fields::fill_all;
 use crate::row_fields::{RowFields, break_rule, no_fields};
 use crate::row_index::{first_row, first_rows, next_row, next_rows};
 use crate::row_wants::wants;
 use crate::source_rules::{EQUAL_REGISTERS, NO_RULE};
-use crate::tally::{Tally, rule_of};
+use crate::tally::{Tally, tally_rule};
 use crate::want::Want;
-use tc_isa::{Row, parts_differ, rows};
-use tc_lex::{Operand, is_same};
+use tc_isa::{Row, are_registers_apart, rows};
+use tc_lex::{Operand, are_same_bytes};
 
-fn keep_apart(row: &Row, f: &mut RowFields<'_>)
-    ensures { row_fields_of f.new ≡ kept_apart (row_of row.now) (row_fields_of f.old) }
+/// Notes that rule 12 is broken if the row's registers must differ and are equal.
+fn check_registers_apart(row: &Row, f: &mut RowFields<'_>)
+    ensures { row_fields_of f.new ≡ check_registers_apart (row_of row.now) (row_fields_of f.old) }
 {
-    if !parts_differ(row, &f.fields) {
+    if !are_registers_apart(row, &f.fields) {
         break_rule(EQUAL_REGISTERS, f);
     }
 }
 
 // Fills the fields of a row. Returns false if the operands have other forms than the row wants.
 #[tactic(auto, unfolding(crate::specs::Filling::fields_of_row))]
-fn judge_row<'a>(row: &Row, wants: &[Want], os: &[Operand<'a>], found: &mut RowFields<'a>) -> bool
+fn fill_statement_row<'a>(
+    row: &Row,
+    wants: &[Want],
+    os: &[Operand<'a>],
+    found: &mut RowFields<'a>,
+) -> bool
     ensures { Fills result found.new
         (fields_of_row (row_of row.now) wants.now (map operand_of os.now)) }
 {
@@ -37,7 +43,7 @@ fn judge_row<'a>(row: &Row, wants: &[Want], os: &[Operand<'a>], found: &mut RowF
     if !fill_all(row, wants, os, found) {
         return false;
     }
-    keep_apart(row, found);
+    check_registers_apart(row, found);
     true
 }
 
@@ -45,7 +51,7 @@ fn judge_row<'a>(row: &Row, wants: &[Want], os: &[Operand<'a>], found: &mut RowF
 // it.
 #[inline(never)]
 #[tactic(auto, unfolding(crate::specs::StatementRow::after_row))]
-fn named_step<'a>(
+fn try_row_of_name<'a>(
     row: &Row,
     wants: &[Want],
     name: &[u8],
@@ -55,10 +61,10 @@ fn named_step<'a>(
 ) -> Result<(), Tally>
     requires wants { wants.now ≡ wants_of (row_of row.now) }
     requires named { bytes_eq (row_of row.now).name name.now ≡ true }
-    ensures { Steps result found.new
+    ensures { JudgesRow result found.new
         (after_row name.now (map operand_of os.now) (row_of row.now) so_far) }
 {
-    if !judge_row(row, wants, os, found) {
+    if !fill_statement_row(row, wants, os, found) {
         return Err(Tally {
             named: true,
             ..so_far
@@ -75,8 +81,9 @@ fn named_step<'a>(
     }
 }
 
+/// Tries a row: fills its fields if the statement fits it, else returns the tally after it.
 #[tactic(auto, unfolding(crate::specs::StatementRow::after_row))]
-fn step<'a>(
+fn try_statement_row<'a>(
     row: &Row,
     wants: &[Want],
     name: &[u8],
@@ -85,11 +92,11 @@ fn step<'a>(
     found: &mut RowFields<'a>,
 ) -> Result<(), Tally>
     requires { wants.now ≡ wants_of (row_of row.now) }
-    ensures { Steps result found.new
+    ensures { JudgesRow result found.new
         (after_row name.now (map operand_of os.now) (row_of row.now) so_far) }
 {
-    if is_same(row.name.as_bytes(), name) {
-        named_step(row, wants, name, os, so_far, found)
+    if are_same_bytes(row.name.as_bytes(), name) {
+        try_row_of_name(row, wants, name, os, so_far, found)
     } else {
         Err(so_far)
     }
@@ -97,7 +104,7 @@ fn step<'a>(
 
 /// The row of a statement with its fields, or the least rule that the statement breaks. The search
 /// visits only rows with the key of the name.
-fn judge<'a>(
+fn judge_statement<'a>(
     rows: &[Row],
     wants: &[&[Want]],
     first: &[u8],
@@ -105,12 +112,12 @@ fn judge<'a>(
     name: &[u8],
     os: &[Operand<'a>],
 ) -> Result<(u8, RowFields<'a>), u8>
-    requires wants { map now_of wants.now ≡ map wants_of (map row_of rows.now) }
+    requires wants { map row_wants_now wants.now ≡ map wants_of (map row_of rows.now) }
     requires few { length rows.now < 256 }
-    requires first { are_first 0 (map row_of rows.now) first.now ≡ true }
-    requires next { are_next 0 (map row_of rows.now) next.now ≡ true }
-    ensures { Judges result
-        (outcome name.now (map operand_of os.now) (map row_of rows.now) 0 start) }
+    requires first { are_first_rows 0 (map row_of rows.now) first.now ≡ true }
+    requires next { are_next_rows 0 (map row_of rows.now) next.now ≡ true }
+    ensures { JudgesStatement result
+        (statement_outcome name.now (map operand_of os.now) (map row_of rows.now) 0 start_tally) }
 {
     let mut so_far = Tally {
         named: false,
@@ -120,19 +127,19 @@ fn judge<'a>(
     let mut found = no_fields();
     let mut i = first_row(first, name);
     'rows: while i < rows.len() {
-        match step(&rows[i], wants[i], name, os, so_far, &mut found) {
+        match try_statement_row(&rows[i], wants[i], name, os, so_far, &mut found) {
             Ok(()) => return Ok((i as u8, found)),
             Err(after) => so_far = after,
         }
         i = next_row(rows, next, i, name);
     }
-    Err(rule_of(so_far))
+    Err(tally_rule(so_far))
 }
 
 /// The row of a statement in the instruction table with its fields, or the least rule that the
 /// statement breaks.
 pub fn statement<'a>(name: &[u8], os: &[Operand<'a>]) -> Result<(u8, RowFields<'a>), u8>
-    ensures { Judges result (statement name.now (map operand_of os.now)) }
+    ensures { JudgesStatement result (statement name.now (map operand_of os.now)) }
 {
-    judge(rows(), wants(), first_rows(), next_rows(), name, os)
+    judge_statement(rows(), wants(), first_rows(), next_rows(), name, os)
 }

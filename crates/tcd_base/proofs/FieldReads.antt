@@ -3,10 +3,9 @@ use Rattle.std.proofs.Common.{◌≡◌, ◌+◌, ◌^◌, ◌<◌, ◌≤◌, �
 use Rattle.std.specs.Prelude.{nat_le}
 use Rattle.std.proofs.lemmas.Bool.{leb-true, le-leb}
 use Rattle.std.proofs.Math.Seq.{take-append_seam, drop-append_seam}
-use Rattle.tcd_base.specs.Bytes.{half_at, word_at, bytes_of_half, bytes_of_word}
+use Rattle.tcd_base.specs.Bytes.{half_in_bytes, word_in_bytes, bytes_of_half, bytes_of_word}
 use Rattle.tcd_base.specs.Place.{Place, place_between}
-use Rattle.tcd_base.specs.FieldReaders.{◌>>=◌, u8_at, u16_at, u32_at, bytes_at}
-use Rattle.tcd_base.specs.Refusing.{fault_at}
+use Rattle.tcd_base.specs.FieldReaders.{◌>>=◌, u8_at, u16_at, u32_at, field_bytes_at, field_fault_at}
 use Rattle.tcd_base.specs.declared.errors.FormErr.{FormErr}
 use Rattle.tcd_base.proofs.ByteWords.{get_or-behind, half_at-written, word_at-written}
 
@@ -30,7 +29,7 @@ moved : (front part rest : List ℕ) (n : ℕ) → length part ≡ n → record 
 moved front part rest n e = rw (append_assoc front part rest, length-append front part, e) refl
 
 -- a field of n bytes in the middle is read
-read_middle : {A : Type 0} (front part rest : List ℕ) (n : ℕ) (x y : A) → length part ≡ n → x ≡ y → cond (nat_le (length front + n) (length (front ++ (part ++ rest)))) (found x (record (place_between front (part ++ rest)) { place = length front + n })) (fault_at 1 (place_between front (part ++ rest))) ≡ found y (place_between (front ++ part) rest)
+read_middle : {A : Type 0} (front part rest : List ℕ) (n : ℕ) (x y : A) → length part ≡ n → x ≡ y → cond (nat_le (length front + n) (length (front ++ (part ++ rest)))) (found x (record (place_between front (part ++ rest)) { place = length front + n })) (field_fault_at 1 (place_between front (part ++ rest))) ≡ found y (place_between (front ++ part) rest)
 read_middle front part rest n x y e same =
     chosen _ _ _ (le-leb (length front + n) (length (front ++ (part ++ rest))) (in_middle front part rest n e))
     ∙ found_same _ _ _ _ same (moved front part rest n e)
@@ -52,8 +51,8 @@ u32_at-between front x rest h = read_middle front (bytes_of_word x) rest 4 _ _ r
 middle : (front part rest : List ℕ) → take (length part) (drop (length front) (front ++ (part ++ rest))) ≡ part
 middle front part rest = ap (take (length part)) (drop-append_seam front (part ++ rest)) ∙ take-append_seam part rest
 
-pub bytes_at-between : (front part rest : List ℕ) → bytes_at (length part) (place_between front (part ++ rest)) ≡ Ok (part, place_between (front ++ part) rest)
-unfolding bytes_at
+pub bytes_at-between : (front part rest : List ℕ) → field_bytes_at (length part) (place_between front (part ++ rest)) ≡ Ok (part, place_between (front ++ part) rest)
+unfolding field_bytes_at
 bytes_at-between front part rest = read_middle front part rest (length part) _ _ refl (middle front part rest)
 
 -- what a reading of n bytes that succeeded did to the place
@@ -69,7 +68,7 @@ same_found {A} x y p q h =
     (sym (ap (λ (v : A × Place). v.0) pairs), sym (ap (λ (v : A × Place). v.1) pairs))
 
 -- the place after a field of n bytes that is there
-took : {A : Type 0} (n : ℕ) (p : Place) (x : A) (b : Bool) → nat_le (p.place + n) (length p.bytes) ≡ b → (y : A) (q : Place) → cond b (found x (record p { place = p.place + n })) (fault_at 1 p) ≡ found y q → Took n p q × (y ≡ x)
+took : {A : Type 0} (n : ℕ) (p : Place) (x : A) (b : Bool) → nat_le (p.place + n) (length p.bytes) ≡ b → (y : A) (q : Place) → cond b (found x (record p { place = p.place + n })) (field_fault_at 1 p) ≡ found y q → Took n p q × (y ≡ x)
 took n p x true e y q h =
     let same = same_found x y (record p { place = p.place + n }) q h in
     (record { within = leb-true _ _ e; bytes = ap (λ (r : Place). r.bytes) same.1; place = ap (λ (r : Place). r.place) same.1 }, same.0)
@@ -79,16 +78,16 @@ pub u8_at_ok : (p : Place) (x : ℕ) (q : Place) → u8_at p ≡ Ok (x, q) → T
 unfolding u8_at
 u8_at_ok p x q h = took 1 p _ _ refl x q h
 
-pub u16_at_ok : (p : Place) (x : ℕ) (q : Place) → u16_at p ≡ Ok (x, q) → Took 2 p q × (x ≡ half_at p.bytes p.place)
+pub u16_at_ok : (p : Place) (x : ℕ) (q : Place) → u16_at p ≡ Ok (x, q) → Took 2 p q × (x ≡ half_in_bytes p.bytes p.place)
 unfolding u16_at
 u16_at_ok p x q h = took 2 p _ _ refl x q h
 
-pub u32_at_ok : (p : Place) (x : ℕ) (q : Place) → u32_at p ≡ Ok (x, q) → Took 4 p q × (x ≡ word_at p.bytes p.place)
+pub u32_at_ok : (p : Place) (x : ℕ) (q : Place) → u32_at p ≡ Ok (x, q) → Took 4 p q × (x ≡ word_in_bytes p.bytes p.place)
 unfolding u32_at
 u32_at_ok p x q h = took 4 p _ _ refl x q h
 
-pub bytes_at_ok : (n : ℕ) (p : Place) (xs : List ℕ) (q : Place) → bytes_at n p ≡ Ok (xs, q) → Took n p q × (xs ≡ take n (drop p.place p.bytes))
-unfolding bytes_at
+pub bytes_at_ok : (n : ℕ) (p : Place) (xs : List ℕ) (q : Place) → field_bytes_at n p ≡ Ok (xs, q) → Took n p q × (xs ≡ take n (drop p.place p.bytes))
+unfolding field_bytes_at
 bytes_at_ok n p xs q h = took n p _ _ refl xs q h
 
 -- if two readings one after the other succeed, each of them does

@@ -3,9 +3,9 @@ use Rattle.std.proofs.Common.{◌≡◌, ℕ, zero, suc, ◌+◌, ◌<◌, ◌�
 use Rattle.std.proofs.lemmas.List.{append-nil, take-append-drop, length-take}
 use Rattle.std.specs.List.{flat_map}
 use Rattle.tcd_base.specs.declared.errors.FormErr.{FormErr}
-use Rattle.tcd_base.specs.Bytes.{half_at, word_at, bytes_of_half, bytes_of_word}
+use Rattle.tcd_base.specs.Bytes.{half_in_bytes, word_in_bytes, bytes_of_half, bytes_of_word}
 use Rattle.tcd_base.specs.Place.{Place, place_between}
-use Rattle.tcd_base.specs.FieldReaders.{u8_at, u16_at, u32_at, many_at}
+use Rattle.tcd_base.specs.FieldReaders.{u8_at, u16_at, u32_at, many_fields_at}
 use Rattle.tcd_base.proofs.ByteWords.{get_or-behind, half_at-behind, word_at-behind, half_at_below, word_at_below, bytes_of_half-half_at, bytes_of_word-word_at}
 use Rattle.tcd_base.proofs.FieldReads.{Took, u8_at_ok, u16_at_ok, u32_at_ok, bind_ok}
 
@@ -87,14 +87,14 @@ byte_passed front rest x q bytes e =
 pub half_passed : (front rest : List ℕ) (x : ℕ) (q : Place) → AreBytes rest → u16_at (place_between front rest) ≡ Ok (x, q) → Passed (bytes_of_half x) front rest q × (x < 2 ^ 16)
 half_passed front rest x q bytes e =
     let t = u16_at_ok (place_between front rest) x q e in
-    let same : x ≡ half_at rest 0 = t.1 ∙ half_at-behind front rest (length front) 0 (omega arith) in
+    let same : x ≡ half_in_bytes rest 0 = t.1 ∙ half_at-behind front rest (length front) 0 (omega arith) in
     let part : bytes_of_half x ≡ take 2 rest = ap bytes_of_half same ∙ bytes_of_half-half_at rest 0 (bytes_at rest bytes) (omega (arith, t.0.within, length-append front rest)) in
     (subst (λ (l : List ℕ). Passed l front rest q) (sym part) (took_passed 2 front rest q t.0), rw same (half_at_below rest 0 (bytes_at rest bytes)))
 
 pub word_passed : (front rest : List ℕ) (x : ℕ) (q : Place) → AreBytes rest → u32_at (place_between front rest) ≡ Ok (x, q) → Passed (bytes_of_word x) front rest q × (x < 2 ^ 32)
 word_passed front rest x q bytes e =
     let t = u32_at_ok (place_between front rest) x q e in
-    let same : x ≡ word_at rest 0 = t.1 ∙ word_at-behind front rest (length front) 0 (omega arith) in
+    let same : x ≡ word_in_bytes rest 0 = t.1 ∙ word_at-behind front rest (length front) 0 (omega arith) in
     let part : bytes_of_word x ≡ take 4 rest = ap bytes_of_word same ∙ bytes_of_word-word_at rest 0 (bytes_at rest bytes) (omega (arith, t.0.within, length-append front rest)) in
     (subst (λ (l : List ℕ). Passed l front rest q) (sym part) (took_passed 4 front rest q t.0), rw same (word_at_below rest 0 (bytes_at rest bytes)))
 
@@ -108,15 +108,15 @@ pub record PassedMany {A : Type 0} (spell : A → List ℕ) (Good : List A → T
 
 pub many_passed : {A : Type 0} (item : List A → Place → Result (A × Place) FormErr) (spell : A → List ℕ) (Good : List A → Type 0)
     → ((before : List A) (front rest : List ℕ) (x : A) (q : Place) → AreBytes rest → Good before → item before (place_between front rest) ≡ Ok (x, q) → Passed (spell x) front rest q × Good (before ++ x ∷ []))
-    → (n : ℕ) (before xs : List A) (front rest : List ℕ) (q : Place) → AreBytes rest → Good before → many_at item n before (place_between front rest) ≡ Ok (xs, q) → PassedMany spell Good n before xs front rest q
-unfolding many_at
+    → (n : ℕ) (before xs : List A) (front rest : List ℕ) (q : Place) → AreBytes rest → Good before → many_fields_at item n before (place_between front rest) ≡ Ok (xs, q) → PassedMany spell Good n before xs front rest q
+unfolding many_fields_at
 many_passed item spell Good each zero before xs front rest q bytes good e =
     let same = ok_pair before xs (place_between front rest) q e in
     record { items = []; is = sym same.0 ∙ sym (append-nil before); count = refl; passed = passed_none front rest q same.1; good = subst Good same.0 good }
 many_passed {A} item spell Good each (suc n) before xs front rest q bytes good e =
-    let b = bind_ok (item before (place_between front rest)) (λ x. many_at item n (before ++ x.0 ∷ []) x.1) (xs, q) e in
+    let b = bind_ok (item before (place_between front rest)) (λ x. many_fields_at item n (before ++ x.0 ∷ []) x.1) (xs, q) e in
     let one = each before front rest b.0.0 b.0.1 bytes good b.1 in
-    let left : many_at item n (before ++ b.0.0 ∷ []) (place_between (front ++ spell b.0.0) one.0.after) ≡ Ok (xs, q) = ap (many_at item n (before ++ b.0.0 ∷ [])) (sym one.0.at) ∙ b.2 in
+    let left : many_fields_at item n (before ++ b.0.0 ∷ []) (place_between (front ++ spell b.0.0) one.0.after) ≡ Ok (xs, q) = ap (many_fields_at item n (before ++ b.0.0 ∷ [])) (sym one.0.at) ∙ b.2 in
     let more = many_passed item spell Good each n (before ++ b.0.0 ∷ []) xs (front ++ spell b.0.0) one.0.after q (passed_bytes one.0 bytes) one.1 left in
     record {
       items = b.0.0 ∷ more.items;

@@ -2,15 +2,15 @@
 use Rattle.std.specs.Prelude.{◌+◌, ◌-◌, ◌^◌, ℕ, min, List, Bool, ◌==◌, ◌≡◌, ◌<◌, ◌⊎◌}
 use Rattle.std.specs.List.{list_any}
 
--- one more, up to the last value of 64 bits
-abbrev pub one_more : ℕ → ℕ
-one_more n = min (n + 1) (2 ^ 64 - 1)
+-- the next count of calls or of failures: one more, up to the last value of 64 bits
+abbrev pub next_saturating_count : ℕ → ℕ
+next_saturating_count n = min (n + 1) (2 ^ 64 - 1)
 
 -- the call of this number is one of those that fail
-abbrev pub is_listed : List ℕ → ℕ → Bool
-is_listed failing call = list_any (λ n. n == call) failing
+abbrev pub is_failing_call : List ℕ → ℕ → Bool
+is_failing_call failing call = list_any (λ n. n == call) failing
 
--- a failure was counted between two counts: the later one is greater, or it is the last value of 64
--- bits
+-- the count of failures shows that a call failed between two counts: the later one is greater, or
+-- it is the last value of 64 bits
 abbrev pub FaultCounted : ℕ → ℕ → Type 0
 FaultCounted before now = (before < now) ⊎ (now ≡ 2 ^ 64 - 1)

@@ -1,6 +1,6 @@
 // A cursor: a place in a list of bytes that moves from left to right.
 ghost use Rattle.std.specs.Prelude.{◌≡◌, ◌≤◌, ◌+◌, ◌↔◌, length, take, drop, slice_index, IsSome, IfSome, IfNone, OnSome};
-ghost use Rattle.tcd_base.specs.Bytes.{half_at, word_at};
+ghost use Rattle.tcd_base.specs.Bytes.{half_in_bytes, word_in_bytes};
 
 use std::marker::Model;
 
@@ -58,7 +58,7 @@ impl<'a> Cursor<'a> {
     /// cursor doesn't move.
     pub fn take_u16(&mut self) -> Option<u16>
         ensures there { IsSome result ↔ (self.old.place + 2 ≤ length self.old.bytes) }
-        ensures some { IfSome result (λ h. h ≡ half_at self.old.bytes self.old.place) }
+        ensures some { IfSome result (λ h. h ≡ half_in_bytes self.old.bytes self.old.place) }
         ensures moved { OnSome result (self.new ≡ record self.old { place = self.old.place + 2 }) }
         ensures kept { IfNone result (self.new ≡ self.old) }
     {
@@ -75,7 +75,7 @@ impl<'a> Cursor<'a> {
     /// cursor doesn't move.
     pub fn take_u32(&mut self) -> Option<u32>
         ensures there { IsSome result ↔ (self.old.place + 4 ≤ length self.old.bytes) }
-        ensures some { IfSome result (λ w. w ≡ word_at self.old.bytes self.old.place) }
+        ensures some { IfSome result (λ w. w ≡ word_in_bytes self.old.bytes self.old.place) }
         ensures moved { OnSome result (self.new ≡ record self.old { place = self.old.place + 4 }) }
         ensures kept { IfNone result (self.new ≡ self.old) }
     {

@@ -45,8 +45,8 @@ pub struct FormErr {
     pub at: u32,
 }
 
-/// Returns the fault of a kind at an offset.
-pub fn fault(kind: u8, at: usize) -> FormErr
+/// Returns the first fault of a file, of this kind and at this offset.
+pub fn form_err_at(kind: u8, at: usize) -> FormErr
     requires { at ≤ 2 ^ 30 }
     ensures { result ≡ record { kind = kind; at = at } }
 {

@@ -1,9 +1,9 @@
 // Calls that fail by their number, for the files and the sink that tests use.
 ghost use Rattle.std.specs.Prelude.{◌≡◌};
-ghost use Rattle.tcd_base.specs.FailingCalls.{is_listed as listed};
+ghost use Rattle.tcd_base.specs.FailingCalls.{is_failing_call as listed};
 
 // Returns true if the call of this number is one of those that fail.
-pub(crate) fn is_listed(failing: &[u32], call: u64) -> bool
+pub(crate) fn is_failing_call(failing: &[u32], call: u64) -> bool
     ensures { result ≡ listed failing.now call }
 {
     failing.iter().any(|n| u64::from(*n) == call)

@@ -1,21 +1,21 @@
 // Readers of fields, from left to right. A field that is cut off is `SHORT` at its first byte.
 ghost use Rattle.std.specs.Prelude.{◌≡◌, ◌≤◌, ◌^◌, length, MatchResult};
-ghost use Rattle.tcd_base.specs.FieldReaders.{Reads, u8_at, u16_at, u32_at, bytes_at};
+ghost use Rattle.tcd_base.specs.FieldReaders.{ReadsField, u8_at, u16_at, u32_at, field_bytes_at};
 
-use crate::errors::{SHORT, fault};
+use crate::errors::{SHORT, form_err_at};
 use crate::{Cursor, FormErr};
 
 /// Reads a field of one byte.
 #[tactic(auto, unfolding(crate::specs::FieldReaders::u8_at))]
 pub fn read_u8(c: &mut Cursor<'_>) -> Result<u8, FormErr>
     requires { length c.old.bytes ≤ 2 ^ 30 }
-    ensures read { Reads result c.new (u8_at c.old) }
+    ensures read { ReadsField result c.new (u8_at c.old) }
     ensures bytes { c.new.bytes ≡ c.old.bytes }
 {
     let at = c.place();
     match c.take_u8() {
         Some(byte) => Ok(byte),
-        None => Err(fault(SHORT, at)),
+        None => Err(form_err_at(SHORT, at)),
     }
 }
 
@@ -23,13 +23,13 @@ pub fn read_u8(c: &mut Cursor<'_>) -> Result<u8, FormErr>
 #[tactic(auto, unfolding(crate::specs::FieldReaders::u16_at))]
 pub fn read_u16(c: &mut Cursor<'_>) -> Result<u16, FormErr>
     requires { length c.old.bytes ≤ 2 ^ 30 }
-    ensures read { Reads result c.new (u16_at c.old) }
+    ensures read { ReadsField result c.new (u16_at c.old) }
     ensures bytes { c.new.bytes ≡ c.old.bytes }
 {
     let at = c.place();
     match c.take_u16() {
         Some(half) => Ok(half),
-        None => Err(fault(SHORT, at)),
+        None => Err(form_err_at(SHORT, at)),
     }
 }
 
@@ -37,27 +37,27 @@ pub fn read_u16(c: &mut Cursor<'_>) -> Result<u16, FormErr>
 #[tactic(auto, unfolding(crate::specs::FieldReaders::u32_at))]
 pub fn read_u32(c: &mut Cursor<'_>) -> Result<u32, FormErr>
     requires { length c.old.bytes ≤ 2 ^ 30 }
-    ensures read { Reads result c.new (u32_at c.old) }
+    ensures read { ReadsField result c.new (u32_at c.old) }
     ensures bytes { c.new.bytes ≡ c.old.bytes }
 {
     let at = c.place();
     match c.take_u32() {
         Some(word) => Ok(word),
-        None => Err(fault(SHORT, at)),
+        None => Err(form_err_at(SHORT, at)),
     }
 }
 
 /// Reads a field of `n` bytes.
-#[tactic(auto, unfolding(crate::specs::FieldReaders::bytes_at))]
+#[tactic(auto, unfolding(crate::specs::FieldReaders::field_bytes_at))]
 pub fn read_bytes<'a>(c: &mut Cursor<'a>, n: usize) -> Result<&'a [u8], FormErr>
     requires { length c.old.bytes ≤ 2 ^ 30 }
-    ensures read { MatchResult result (λ r. bytes_at n c.old ≡ Ok (r.now, c.new))
-        (λ e. bytes_at n c.old ≡ Err e) }
+    ensures read { MatchResult result (λ r. field_bytes_at n c.old ≡ Ok (r.now, c.new))
+        (λ e. field_bytes_at n c.old ≡ Err e) }
     ensures bytes { c.new.bytes ≡ c.old.bytes }
 {
     let at = c.place();
     match c.take(n) {
         Some(part) => Ok(part),
-        None => Err(fault(SHORT, at)),
+        None => Err(form_err_at(SHORT, at)),
     }
 }

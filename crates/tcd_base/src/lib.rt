@@ -17,7 +17,7 @@ mod sink;
 pub use core_version::Core;
 pub use cursor::Cursor;
 pub use errors::{
-    ABOVE_LIMIT, BAD_MAGIC, BAD_ORDER, BAD_VALUE, FormErr, NoMemory, SHORT, TRAILING, fault,
+    ABOVE_LIMIT, BAD_MAGIC, BAD_ORDER, BAD_VALUE, FormErr, NoMemory, SHORT, TRAILING, form_err_at,
 };
 pub use field_readers::{read_bytes, read_u8, read_u16, read_u32};
 pub use fields::{bits, put_u16, put_u32, sext};
@@ -25,5 +25,5 @@ pub use files::{FileErr, Files};
 pub use mem_files::MemFiles;
 pub use mem_sink::MemSink;
 pub use name_bytes::{are_name_bytes, is_name_byte, is_name_first};
-pub use range::{Range, any_holds};
+pub use range::{Range, is_in_any_range};
 pub use sink::{Sink, SinkErr};

@@ -1,7 +1,7 @@
 // The bytes of names: of symbols, sections and labels.
 ghost use Rattle.std.specs.Prelude.{◌≡◌, length, true};
 ghost use Rattle.std.specs.List.{list_all};
-ghost use Rattle.tcd_base.specs.NameBytes.{is_name_byte, is_name_first, are_answers};
+ghost use Rattle.tcd_base.specs.NameBytes.{is_name_byte, is_name_first, are_name_byte_answers};
 
 /// Returns true if a name can begin with this byte: a letter, `_`, `.` or `$`.
 #[tactic(auto, unfolding(crate::specs::NameBytes::is_name_first))]
@@ -36,9 +36,9 @@ static STAND_IN_NAMES: [bool; 256] = [
 
 // Returns the table with the fact that it agrees with the definition.
 #[tactic(auto, unfolding(crate::specs::NameBytes::is_name_byte, crate::specs::NameBytes::is_name_first))]
-fn name_bytes() -> &'static [bool; 256]
+fn name_byte_table() -> &'static [bool; 256]
     ensures count { length result.now ≡ 256 }
-    ensures answers { are_answers 0 result.now ≡ true }
+    ensures answers { are_name_byte_answers 0 result.now ≡ true }
 {
     &STAND_IN_NAMES
 }
@@ -47,7 +47,7 @@ fn name_bytes() -> &'static [bool; 256]
 pub fn is_name_byte(c: u8) -> bool
     ensures { result ≡ is_name_byte c }
 {
-    let answers = name_bytes();
+    let answers = name_byte_table();
     answers[c as usize]
 }
 

@@ -1,7 +1,7 @@
 // Ranges of addresses: their end, and the tests for what is inside.
 ghost use Rattle.std.specs.Prelude.{◌≡◌};
 ghost use Rattle.std.specs.List.{list_any};
-ghost use Rattle.tcd_base.specs.Ranges.{range_end, is_within};
+ghost use Rattle.tcd_base.specs.Ranges.{range_end, is_within_range};
 
 /// The range of `len` bytes from the address `at` on.
 #[derive(Clone, Copy, Debug, Default, PartialEq, Eq)]
@@ -21,15 +21,15 @@ impl Range {
     /// Returns true if the `n` addresses from `addr` on are inside the range. The sums are of 64
     /// bits, so no range wraps.
     pub fn holds(&self, addr: u32, n: u32) -> bool
-        ensures { result ≡ is_within addr n self.now }
+        ensures { result ≡ is_within_range addr n self.now }
     {
         self.at <= addr && u64::from(addr) + u64::from(n) <= self.end()
     }
 }
 
 /// Returns true if the `n` addresses from `addr` on are inside one of the ranges.
-pub fn any_holds(ranges: &[Range], addr: u32, n: u32) -> bool
-    ensures { result ≡ list_any (is_within addr n) ranges.now }
+pub fn is_in_any_range(ranges: &[Range], addr: u32, n: u32) -> bool
+    ensures { result ≡ list_any (is_within_range addr n) ranges.now }
 {
     ranges.iter().any(|range| range.holds(addr, n))
 }

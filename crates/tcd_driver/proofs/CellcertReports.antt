@@ -6,7 +6,7 @@ use Rattle.tc_machine.specs.Safe.{Safe}
 use Rattle.depth_cert.specs.Certs.{CertData, IsCert}
 use Rattle.depth_cert.specs.declared.keys.Key.{Key}
 use Rattle.depth_cert.specs.Grammar.{certificate_of}
-use Rattle.depth_cert.specs.Spelling.{bytes_of}
+use Rattle.depth_cert.specs.Spelling.{bytes_of_cert}
 use Rattle.depth_cert.proofs.BackLaws.{written_is_read}
 use Rattle.depth_cert.proofs.SizeLaws.{cert_most}
 use Rattle.cfg_recover.specs.RulesHoldOrFail.{Accepts, certified_need}
@@ -39,7 +39,7 @@ made_most i p version lent bytes e made = subst (λ (b : List ℕ). length b ≤
 
 -- what holds of a certificate that is made, after it is read
 record IsReadBack (i : ImageData) (p : PlanData) (bytes : List ℕ) (c : CertData) : Type 0 where
-  spell : bytes ≡ bytes_of c
+  spell : bytes ≡ bytes_of_cert c
   is_cert : IsCert c
   made : IsMade i p 2 c
 

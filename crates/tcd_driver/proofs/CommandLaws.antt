@@ -9,7 +9,7 @@ use Rattle.depth_cert.specs.Certs.{CertData}
 use Rattle.cfg_recover.specs.RulesHoldOrFail.{Accepts, certified_need}
 use Rattle.depth_check.proofs.FirstLaws.{fails_refutes}
 use Rattle.tc_script.specs.declared.driving.Peak.{Peak}
-use Rattle.tc_script.specs.DrivenRuns.{peak_of}
+use Rattle.tc_script.specs.DrivenRuns.{driven_peak}
 use Rattle.tc_script.specs.ScriptRuns.{script_events, IsScriptRun}
 use Rattle.tc_script.specs.ScriptData.{ScriptData}
 use Rattle.tc_object.specs.Objects.{ObjectData}
@@ -20,12 +20,12 @@ use Rattle.tc_link.specs.Errors.{refusal_of}
 use Rattle.tc_link.specs.declared.errors.LinkErr.{LinkErr}
 use Rattle.tc_link.specs.declared.errors.LinkErr.TheVariants as error
 use Rattle.tcd_reading.specs.Reports.{IsReportStatus, Report, says, writes_file}
-use Rattle.tcd_forms.specs.Lines.{certified_line, run_line, link_line}
+use Rattle.tcd_forms.specs.Lines.{certified_line, run_line, bad_link_line}
 use Rattle.tcd_forms.specs.Forms.{object_form, placed_source_form}
 use Rattle.tcd_driver.specs.Check as verdict
-use Rattle.tcd_driver.specs.Check.{IsVerdict}
-use Rattle.tcd_driver.specs.Run.{IsRun, ran, told_run}
-use Rattle.tcd_driver.specs.Link.{IsLinked, WritesImage, refused, image}
+use Rattle.tcd_driver.specs.Check.{IsCheckVerdict}
+use Rattle.tcd_driver.specs.Run.{IsRunReport, ran, script_run_line}
+use Rattle.tcd_driver.specs.Link.{IsLinkReport, WritesImage, refused, image}
 use Rattle.tcd_driver.specs.Commands.{Command, check, certify, cfg, report, run, dis, asm, link, ship, boot, bootgen, cells, cellcert, tasks, taskcert, generate, reading_of}
 use Rattle.tcd_reading.specs.declared.status.Status.TheVariants.{Done, Refused, BadInput}
 use Rattle.tcd_forms.proofs.FormLaws.{elf_lawful, plan_lawful, cert_lawful, script_lawful, source_lawful, layout_lawful, object_lawful, placed_source_lawful, ok_err}
@@ -51,36 +51,36 @@ only_one q done = record {
 
 -- ---- check
 module _ (i : ImageData) (p : PlanData) (c : CertData) where
-  verdict_told : (r : Report) → IsVerdict i p c r → IsReportStatus r.status
+  verdict_told : (r : Report) → IsCheckVerdict i p c r → IsReportStatus r.status
   verdict_told r (verdict.refused rule key addr first e) = inr (inl (status_is r _ e))
   verdict_told r (verdict.certified accepted safe e) = inl (status_is r _ e)
 
-  verdict_done : (r : Report) → IsVerdict i p c r → r.status ≢ Done → r.writes ≡ []
+  verdict_done : (r : Report) → IsCheckVerdict i p c r → r.status ≢ Done → r.writes ≡ []
   verdict_done r (verdict.refused rule key addr first e) undone = writes_are r _ e
   verdict_done r (verdict.certified accepted safe e) undone = writes_are r _ e
 
-  verdict_one : (r q : Report) → IsVerdict i p c r → IsVerdict i p c q → r.status ≡ q.status
+  verdict_one : (r q : Report) → IsCheckVerdict i p c r → IsCheckVerdict i p c q → r.status ≡ q.status
   verdict_one r q (verdict.refused rule key addr first e) (verdict.refused rule2 key2 addr2 first2 f) = status_is r _ e ∙ sym (status_is q _ f)
   verdict_one r q (verdict.refused rule key addr first e) (verdict.certified accepted safe f) = absurd (fails_refutes i p c rule key addr first.fails accepted)
   verdict_one r q (verdict.certified accepted safe e) (verdict.refused rule key addr first f) = absurd (fails_refutes i p c rule key addr first.fails accepted)
   verdict_one r q (verdict.certified accepted safe e) (verdict.certified accepted2 safe2 f) = status_is r _ e ∙ sym (status_is q _ f)
 
-  verdict_alike : AreAlike (IsVerdict i p c)
+  verdict_alike : AreAlike (IsCheckVerdict i p c)
   verdict_alike = record { told = verdict_told; done = verdict_done; one = verdict_one }
 
-pub certified_report : (i : ImageData) (fields p : PlanData) (c : CertData) (need : ℕ) (r : Report) → fields ≡ p → Accepts i p c → need ≡ certified_need i p c → Safe i p need → r ≡ says Done (certified_line need (fields.areas - fields.reserve)) → IsVerdict i p c r
+pub certified_report : (i : ImageData) (fields p : PlanData) (c : CertData) (need : ℕ) (r : Report) → fields ≡ p → Accepts i p c → need ≡ certified_need i p c → Safe i p need → r ≡ says Done (certified_line need (fields.areas - fields.reserve)) → IsCheckVerdict i p c r
 certified_report i fields p c need r same accepted is safe e =
     verdict.certified accepted (subst (λ (n : ℕ). Safe i p n) is safe)
     (e ∙ ap (λ (n : ℕ). says Done (certified_line n (fields.areas - fields.reserve))) is ∙ ap (λ (q : PlanData). says Done (certified_line (certified_need i p c) (q.areas - q.reserve))) same)
 
 -- ---- run
-run_status : (i : ImageData) (p : PlanData) (s : ScriptData) (r : Report) → IsRun i p s r → r.status ≡ Done
+run_status : (i : ImageData) (p : PlanData) (s : ScriptData) (r : Report) → IsRunReport i p s r → r.status ≡ Done
 run_status i p s r (ran m starts e) = status_is r _ e
 
-run_writes : (i : ImageData) (p : PlanData) (s : ScriptData) (r : Report) → IsRun i p s r → r.writes ≡ []
+run_writes : (i : ImageData) (p : PlanData) (s : ScriptData) (r : Report) → IsRunReport i p s r → r.writes ≡ []
 run_writes i p s r (ran m starts e) = writes_are r _ e
 
-run_alike : (i : ImageData) (p : PlanData) (s : ScriptData) → AreAlike (IsRun i p s)
+run_alike : (i : ImageData) (p : PlanData) (s : ScriptData) → AreAlike (IsRunReport i p s)
 run_alike i p s = record {
   told = λ r h. inl (run_status i p s r h);
   done = λ r h undone. run_writes i p s r h;
@@ -88,39 +88,39 @@ run_alike i p s = record {
 }
 
 -- the line on a run is that of the script's events
-pub told_is : (plan : PlanData) (script : ScriptData) (old new : Machine) (done : Peak) → IsScriptRun plan script old new done → run_line done.events done.peak new ≡ told_run plan script old
+pub told_is : (plan : PlanData) (script : ScriptData) (old new : Machine) (done : Peak) → IsScriptRun plan script old new done → run_line done.events done.peak new ≡ script_run_line plan script old
 told_is plan script old new done h =
     ap (λ (n : ℕ). run_line n done.peak new) h.count ∙ ap (λ (n : ℕ). run_line (length (script_events plan script old)) n new) h.peak
-    ∙ ap (λ (m : Machine). run_line (length (script_events plan script old)) (peak_of old (script_events plan script old)) m) h.after
+    ∙ ap (λ (m : Machine). run_line (length (script_events plan script old)) (driven_peak old (script_events plan script old)) m) h.after
 
 -- ---- link
 module _ (name : List ℕ) (l : LayoutData) (objects : List ObjectData) where
-  linked_told : (r : Report) → IsLinked name l objects r → IsReportStatus r.status
+  linked_told : (r : Report) → IsLinkReport name l objects r → IsReportStatus r.status
   linked_told r (refused q is e) = inr (inr (status_is r _ e))
   linked_told r (image i is e) = inl (status_is r _ e)
 
-  linked_done : (r : Report) → IsLinked name l objects r → r.status ≢ Done → r.writes ≡ []
+  linked_done : (r : Report) → IsLinkReport name l objects r → r.status ≢ Done → r.writes ≡ []
   linked_done r (refused q is e) undone = writes_are r _ e
   linked_done r (image i is e) undone = absurd (undone (status_is r _ e))
 
-  linked_one : (r q : Report) → IsLinked name l objects r → IsLinked name l objects q → r.status ≡ q.status
+  linked_one : (r q : Report) → IsLinkReport name l objects r → IsLinkReport name l objects q → r.status ≡ q.status
   linked_one r q (refused a is e) (refused b is2 f) = status_is r _ e ∙ sym (status_is q _ f)
   linked_one r q (refused a is e) (image i is2 f) = absurd (ok_err (image_of_objects objects l) i a is2 is)
   linked_one r q (image i is e) (refused a is2 f) = absurd (ok_err (image_of_objects objects l) i a is is2)
   linked_one r q (image i is e) (image j is2 f) = status_is r _ e ∙ sym (status_is q _ f)
 
-  linked_alike : AreAlike (IsLinked name l objects)
+  linked_alike : AreAlike (IsLinkReport name l objects)
   linked_alike = record { told = linked_told; done = linked_done; one = linked_one }
 
-pub linked_image : (name : List ℕ) (l : LayoutData) (objects : List ObjectData) (i : ImageData) (r : Report) → image_of_objects objects l ≡ Ok i → WritesImage name i r → IsLinked name l objects r
+pub linked_image : (name : List ℕ) (l : LayoutData) (objects : List ObjectData) (i : ImageData) (r : Report) → image_of_objects objects l ≡ Ok i → WritesImage name i r → IsLinkReport name l objects r
 linked_image name l objects i r is writes = image i is writes
 
-refused_by : (name : List ℕ) (l : LayoutData) (objects : List ObjectData) (o : Option Refusal) (r : Report) → (o ≡ None → ⊥) → IfSome o (λ q. image_of_objects objects l ≡ Err q) → IfSome o (λ q. r ≡ says BadInput (link_line q)) → IsLinked name l objects r
+refused_by : (name : List ℕ) (l : LayoutData) (objects : List ObjectData) (o : Option Refusal) (r : Report) → (o ≡ None → ⊥) → IfSome o (λ q. image_of_objects objects l ≡ Err q) → IfSome o (λ q. r ≡ says BadInput (bad_link_line q)) → IsLinkReport name l objects r
 refused_by name l objects None r some is text = absurd (some refl)
 refused_by name l objects (Some q) r some is text = refused q is text
 
 pub refused_report : {V E : Type 0} (items : V → List ℕ) (name : List ℕ) (l : LayoutData) (objects : List ObjectData) (e : LinkErr) (line : Result V E) (r : Report) → IfSome (refusal_of e) (λ q. image_of_objects objects l ≡ Err q) →
-    IfOk line (λ x. IfSome (refusal_of e) (λ q. items x ≡ link_line q)) → (e ≡ error.NoMemory → ⊥) → IsOkAnd line (λ x. r ≡ says BadInput (items x)) → IsLinked name l objects r
+    IfOk line (λ x. IfSome (refusal_of e) (λ q. items x ≡ bad_link_line q)) → (e ≡ error.NoMemory → ⊥) → IsOkAnd line (λ x. r ≡ says BadInput (items x)) → IsLinkReport name l objects r
 refused_report items name l objects e line r is made some said = refused_by name l objects (refusal_of e) r (λ n. some (none_memory e n)) is (line_told items line r (refusal_of e) made said)
 
 -- the report on a file of this length, in other terms

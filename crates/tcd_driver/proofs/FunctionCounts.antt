@@ -6,8 +6,8 @@ use Rattle.std.specs.List.{list_all}
 use Rattle.std.specs.Str.Parse.{ParsesUnsigned, digits_value}
 use Rattle.std.proofs.lemmas.Bool.{and_parts, and_from, or_parts, or_from, or_right, not_from_false, eqb-false, or_cases}
 use Rattle.std.proofs.lemmas.Str.Parse.{IsDigitsTest, IsNumeralModel, numerals_by_value, parse_plain}
-use Rattle.tc_script.specs.Numbers.{is_decimal, number_of}
-use Rattle.tcd_driver.specs.Gen.{functions_in}
+use Rattle.tc_script.specs.Numbers.{is_decimal, script_number}
+use Rattle.tcd_driver.specs.Commands.{gen_function_count}
 
 -- the number of functions, if it is in the range of `gen`
 abbrev counted : ℕ → Option ℕ
@@ -61,16 +61,16 @@ none_unless true false v h = refl
 none_unless false f v h = refl
 
 -- ---- words without 0 or a plus sign at the front
-number_read : {E : Type 0} (word : List ℕ) (n : ℕ) (r : Result ℕ E) → r ≡ Ok n → ParsesUnsigned 32 10 word r → get_or word 0 0 ≢ 43 → get_or word 0 0 ≢ 48 → number_of word ≡ Some n
-unfolding number_of
+number_read : {E : Type 0} (word : List ℕ) (n : ℕ) (r : Result ℕ E) → r ≡ Ok n → ParsesUnsigned 32 10 word r → get_or word 0 0 ≢ 43 → get_or word 0 0 ≢ 48 → script_number word ≡ Some n
+unfolding script_number
 number_read {E} word n r is h sign other =
     let k = parse_plain numerals {E = E} 32 word (Ok n) (subst (ParsesUnsigned 32 10 word) is h) sign in
     ap (λ (b : Bool). if b then Some (digits_value 10 word) else None)
     (and_from (is_decimal word) (nat_lt (digits_value 10 word) (2 ^ 32)) (decimal_plain word k.0.1 k.0.0 other) (lt-ltb _ _ k.0.2))
     ∙ ap Some (sym k.1)
 
-none_read : {E : Type 0} (word : List ℕ) (e : E) (r : Result ℕ E) → r ≡ Err e → ParsesUnsigned 32 10 word r → get_or word 0 0 ≢ 43 → number_of word ≡ None
-unfolding number_of
+none_read : {E : Type 0} (word : List ℕ) (e : E) (r : Result ℕ E) → r ≡ Err e → ParsesUnsigned 32 10 word r → get_or word 0 0 ≢ 43 → script_number word ≡ None
+unfolding script_number
 none_read word e r is h sign =
     let k = parse_plain numerals 32 word (Err e) (subst (ParsesUnsigned 32 10 word) is h) sign in
     none_unless (is_decimal word) (nat_lt (digits_value 10 word) (2 ^ 32)) (digits_value 10 word)
@@ -81,39 +81,39 @@ never : (b : Bool) → (if b then false else false) ≡ false
 never true = refl
 never false = refl
 
-sign_first : (cs : List ℕ) → number_of (43 ∷ cs) ≡ None
-unfolding number_of
+sign_first : (cs : List ℕ) → script_number (43 ∷ cs) ≡ None
+unfolding script_number
 sign_first cs =
     ap (λ (b : Bool). if b && nat_lt (digits_value 10 (43 ∷ cs)) (2 ^ 32) then Some (digits_value 10 (43 ∷ cs)) else None) (never (length (43 ∷ cs) == 0))
 
-zero_more : (d : ℕ) (ds : List ℕ) → number_of (48 ∷ d ∷ ds) ≡ None
-unfolding number_of
+zero_more : (d : ℕ) (ds : List ℕ) → script_number (48 ∷ d ∷ ds) ≡ None
+unfolding script_number
 zero_more d ds =
     ap (λ (b : Bool). if b && nat_lt (digits_value 10 (48 ∷ d ∷ ds)) (2 ^ 32) then Some (digits_value 10 (48 ∷ d ∷ ds)) else None)
     (never_decimal (length (48 ∷ d ∷ ds) == 0) (list_all is_ascii_digit (48 ∷ d ∷ ds)) (length (48 ∷ d ∷ ds) == 1 || not (48 == 48))
     (or_from _ _ (ne_eqb (length (48 ∷ d ∷ ds)) 1 (λ e. omega (arith, e))) refl))
 
-zero_first : (cs : List ℕ) → functions_in (48 ∷ cs) ≡ None
-unfolding number_of
+zero_first : (cs : List ℕ) → gen_function_count (48 ∷ cs) ≡ None
+unfolding script_number
 zero_first [] = refl
 zero_first (d ∷ ds) = ap (option_and_then counted) (zero_more d ds)
 
 -- the front is 0 or a plus sign
-pub marked : (word : List ℕ) (b : Bool) → b ≡ (slice_index word 0 == 48 || slice_index word 0 == 43) → b ≡ true → None ≡ functions_in word
+pub marked : (word : List ℕ) (b : Bool) → b ≡ (slice_index word 0 == 48 || slice_index word 0 == 43) → b ≡ true → None ≡ gen_function_count word
 marked [] b is e = let f : false ≡ true = sym is ∙ e in cc
 marked (d ∷ ds) b is e =
     ⊎_elim
-    (λ (h : (d == 48) ≡ true). sym (subst (λ (x : ℕ). functions_in (x ∷ ds) ≡ None) (sym (eqb-true d 48 h)) (zero_first ds)))
-    (λ (h : (d == 43) ≡ true). sym (subst (λ (x : ℕ). functions_in (x ∷ ds) ≡ None) (sym (eqb-true d 43 h)) (ap (option_and_then counted) (sign_first ds))))
+    (λ (h : (d == 48) ≡ true). sym (subst (λ (x : ℕ). gen_function_count (x ∷ ds) ≡ None) (sym (eqb-true d 48 h)) (zero_first ds)))
+    (λ (h : (d == 43) ≡ true). sym (subst (λ (x : ℕ). gen_function_count (x ∷ ds) ≡ None) (sym (eqb-true d 43 h)) (ap (option_and_then counted) (sign_first ds))))
     (or_cases (d == 48) (d == 43) (sym is ∙ e))
 
 -- the front is neither 0 nor a plus sign
-pub read_count : {E : Type 0} (word : List ℕ) (b : Bool) (n : ℕ) (r : Result ℕ E) (o : Option ℕ) → b ≡ (slice_index word 0 == 48 || slice_index word 0 == 43) → b ≡ false → r ≡ Ok n → ParsesUnsigned 32 10 word r → o ≡ counted n → o ≡ functions_in word
+pub read_count : {E : Type 0} (word : List ℕ) (b : Bool) (n : ℕ) (r : Result ℕ E) (o : Option ℕ) → b ≡ (slice_index word 0 == 48 || slice_index word 0 == 43) → b ≡ false → r ≡ Ok n → ParsesUnsigned 32 10 word r → o ≡ counted n → o ≡ gen_function_count word
 read_count word b n r o is e ok h made =
     let apart = or_parts (slice_index word 0 == 48) (slice_index word 0 == 43) (sym is ∙ e) in
     made ∙ sym (ap (option_and_then counted) (number_read word n r ok h (eqb-false _ 43 apart.1) (eqb-false _ 48 apart.0)))
 
-pub read_no_count : {E : Type 0} (word : List ℕ) (b : Bool) (x : E) (r : Result ℕ E) → b ≡ (slice_index word 0 == 48 || slice_index word 0 == 43) → b ≡ false → r ≡ Err x → ParsesUnsigned 32 10 word r → None ≡ functions_in word
+pub read_no_count : {E : Type 0} (word : List ℕ) (b : Bool) (x : E) (r : Result ℕ E) → b ≡ (slice_index word 0 == 48 || slice_index word 0 == 43) → b ≡ false → r ≡ Err x → ParsesUnsigned 32 10 word r → None ≡ gen_function_count word
 read_no_count word b x r is e err h =
     let apart = or_parts (slice_index word 0 == 48) (slice_index word 0 == 43) (sym is ∙ e) in
     sym (ap (option_and_then counted) (none_read word x r err h (eqb-false _ 43 apart.1)))

@@ -1,17 +1,17 @@
 -- The reports of `gen`.
 use Rattle.std.proofs.Common.{◌≡◌, ◌≢◌, ◌≤◌, ◌-◌, ◌^◌, ℕ, List, [], length, Result, Ok, sym, ap, subst, ◌∙◌, arith, inl, inr}
 use Rattle.elf_image.specs.Images.{ImageData}
-use Rattle.elf_image.specs.ReadElf.{image_of}
+use Rattle.elf_image.specs.ReadElf.{image_of_file}
 use Rattle.elf_image.specs.declared.errors.ImageErr.{ImageErr}
 use Rattle.tcd_plan.specs.PlanData.{PlanData}
-use Rattle.tcd_plan.specs.Plans.{Gives}
+use Rattle.tcd_plan.specs.Plans.{GivesPlan}
 use Rattle.tcd_base.specs.Files.{FilesSeen}
 use Rattle.tcd_report.specs.Generated.{generated_image}
 use Rattle.tcd_report.specs.Generated.Planned.{generated_text, generated_plan}
-use Rattle.tcd_reading.specs.Outcomes.{IsTold, Comes}
+use Rattle.tcd_reading.specs.Outcomes.{IsToldOutcome, IsCommandOutcome}
 use Rattle.tcd_reading.specs.declared.outcome.Outcome.{Outcome}
 use Rattle.tcd_reading.proofs.Told.{comes_told}
-use Rattle.tcd_driver.specs.Commands.{asked, reading_of}
+use Rattle.tcd_driver.specs.Commands.{command_of_value, reading_of}
 use Rattle.tcd_driver.specs.declared.command.Command.{Command as Words}
 use Rattle.tcd_driver.specs.declared.command.Command.TheVariants as held
 use Rattle.tcd_forms.proofs.FormLaws.{plan_lawful}
@@ -30,30 +30,30 @@ use Rattle.depth_maker.specs.declared.answering.MakeErr.{MakeErr}
 use Rattle.depth_maker.specs.declared.answering.MakeErr.TheVariants as make
 use Rattle.tcd_reading.specs.Reports.{IsReportStatus, Report, says}
 use Rattle.tcd_forms.specs.Lines.{refused_line, generated_line}
-use Rattle.tcd_driver.specs.Gen.{IsSummary, refused, certified}
+use Rattle.tcd_driver.specs.Gen.{IsGenReport, refused, certified}
 use Rattle.tcd_reading.specs.declared.status.Status.TheVariants.{Done, Refused}
 use Rattle.tcd_reading.proofs.Decided.{AreAlike, status_is, writes_are}
 
 module _ (n : ℕ) (i : ImageData) (p : PlanData) where
-  summary_told : (r : Report) → IsSummary n i p r → IsReportStatus r.status
+  summary_told : (r : Report) → IsGenReport n i p r → IsReportStatus r.status
   summary_told r (refused rule key addr none why e) = inr (inl (status_is r _ e))
   summary_told r (certified c is made safe e) = inl (status_is r _ e)
 
-  summary_done : (r : Report) → IsSummary n i p r → r.status ≢ Done → r.writes ≡ []
+  summary_done : (r : Report) → IsGenReport n i p r → r.status ≢ Done → r.writes ≡ []
   summary_done r (refused rule key addr none why e) undone = writes_are r _ e
   summary_done r (certified c is made safe e) undone = writes_are r _ e
 
-  summary_one : (r q : Report) → IsSummary n i p r → IsSummary n i p q → r.status ≡ q.status
+  summary_one : (r q : Report) → IsGenReport n i p r → IsGenReport n i p q → r.status ≡ q.status
   summary_one r q (refused rule key addr none why e) (refused rule2 key2 addr2 none2 why2 f) = status_is r _ e ∙ sym (status_is q _ f)
   summary_one r q (refused rule key addr none why e) (certified c is made safe f) = absurd (none c is made.of_version made.accepted)
   summary_one r q (certified c is made safe e) (refused rule key addr none why f) = absurd (none c is made.of_version made.accepted)
   summary_one r q (certified c is made safe e) (certified c2 is2 made2 safe2 f) = status_is r _ e ∙ sym (status_is q _ f)
 
-  pub summary_alike : AreAlike (IsSummary n i p)
+  pub summary_alike : AreAlike (IsGenReport n i p)
   summary_alike = record { told = summary_told; done = summary_done; one = summary_one }
 
 -- the report that no certificate is accepted
-pub refused_report : (n : ℕ) (i : ImageData) (p : PlanData) (rule : ℕ) (key : Key) (addr : ℕ) (e : MakeErr) (r : Report) → e ≡ make.Refused rule key addr → IsRefused i p 1 e → r ≡ says Refused (refused_line rule key addr) → IsSummary n i p r
+pub refused_report : (n : ℕ) (i : ImageData) (p : PlanData) (rule : ℕ) (key : Key) (addr : ℕ) (e : MakeErr) (r : Report) → e ≡ make.Refused rule key addr → IsRefused i p 1 e → r ≡ says Refused (refused_line rule key addr) → IsGenReport n i p r
 refused_report n i p rule key addr e r is why said = let k = subst (IsRefused i p 1) is why in refused rule key addr k.1 k.0 said
 
 -- the bytes of the certificate are at most as many as may be read
@@ -65,7 +65,7 @@ same_cert r x y e f = cc
 
 -- the certificate that is read is the one that was made
 pub counted_report : (n : ℕ) (i : ImageData) (fields p : PlanData) (bytes : List ℕ) (c : CertData) (need : ℕ) (r : Report) → fields ≡ p → AreMade i p 1 bytes → certificate_of bytes ≡ Ok c → need ≡ certified_need i p c → Safe i p need →
-    r ≡ says Done (generated_line n (length c.nodes) (count_points c.nodes) need (fields.areas - fields.reserve)) → IsSummary n i p r
+    r ≡ says Done (generated_line n (length c.nodes) (count_points c.nodes) need (fields.areas - fields.reserve)) → IsGenReport n i p r
 counted_report n i fields p bytes c need r same m read is safe e =
     let one : m.cert ≡ c = same_cert (certificate_of bytes) m.cert c (ap certificate_of m.spell ∙ written_is_read m.cert m.is_cert) read in
     certified c (subst IsCert one m.is_cert) (subst (IsMade i p 1) one m.made) (subst (λ (k : ℕ). Safe i p k) is safe)
@@ -73,18 +73,18 @@ counted_report n i fields p bytes c need r same m read is safe e =
     ∙ ap (λ (q : PlanData). says Done (generated_line n (length c.nodes) (count_points c.nodes) (certified_need i p c) (q.areas - q.reserve))) same)
 
 -- ---- reading what was generated
-pub read_image : (i j : ImageData) (lent bytes : List ℕ) → lent ≡ bytes → image_of bytes ≡ Ok i → image_of lent ≡ Ok j → j ≡ i
-read_image i j lent bytes same e f = same_image (image_of bytes) i j e (ap image_of (sym same) ∙ f)
+pub read_image : (i j : ImageData) (lent bytes : List ℕ) → lent ≡ bytes → image_of_file bytes ≡ Ok i → image_of_file lent ≡ Ok j → j ≡ i
+read_image i j lent bytes same e f = same_image (image_of_file bytes) i j e (ap image_of_file (sym same) ∙ f)
   where
     same_image : (o : Result ImageData ImageErr) (x y : ImageData) → o ≡ Ok x → o ≡ Ok y → y ≡ x
     same_image o x y h k = cc
 
-pub read_plan : (p q : PlanData) (lent bytes : List ℕ) → lent ≡ bytes → Gives bytes (Ok p) → Gives lent (Ok q) → q ≡ p
-read_plan p q lent bytes same e f = plan_lawful.one bytes q p (subst (λ (b : List ℕ). Gives b (Ok q)) same f) e
+pub read_plan : (p q : PlanData) (lent bytes : List ℕ) → lent ≡ bytes → GivesPlan bytes (Ok p) → GivesPlan lent (Ok q) → q ≡ p
+read_plan p q lent bytes same e f = plan_lawful.one bytes q p (subst (λ (b : List ℕ). GivesPlan b (Ok q)) same f) e
 
 pub text_most : (lent bytes : List ℕ) → lent ≡ bytes → bytes ≡ generated_text → length lent ≤ 2 ^ 30
 text_most lent bytes same e = subst (λ (b : List ℕ). length b ≤ 2 ^ 30) (sym (same ∙ e)) (omega arith)
 
 -- ---- the command as a value of the program
-pub comes_generated : (command words : Words) (n : ℕ) (files : FilesSeen) (o : Outcome) → words ≡ held.Gen n → command ≡ words → IsTold (IsSummary n (generated_image n) generated_plan) ⊥ o → Comes (reading_of (asked command)) files files o
-comes_generated command words n files o is same h = subst (λ (w : Words). Comes (reading_of (asked w)) files files o) (sym (same ∙ is)) (comes_told (IsSummary n (generated_image n) generated_plan) files o h)
+pub comes_generated : (command words : Words) (n : ℕ) (files : FilesSeen) (o : Outcome) → words ≡ held.Gen n → command ≡ words → IsToldOutcome (IsGenReport n (generated_image n) generated_plan) ⊥ o → IsCommandOutcome (reading_of (command_of_value command)) files files o
+comes_generated command words n files o is same h = subst (λ (w : Words). IsCommandOutcome (reading_of (command_of_value w)) files files o) (sym (same ∙ is)) (comes_told (IsGenReport n (generated_image n) generated_plan) files o h)

@@ -11,9 +11,9 @@ use Rattle.depth_check.proofs.Held.{edges_are_owed}
 use Rattle.tcd_report.specs.Graphs.{IsGraph}
 use Rattle.tcd_report.proofs.GraphLemmas.EdgeProofs.{edges_stand}
 use Rattle.tcd_reading.specs.Reports.{IsReportStatus, Report, says}
-use Rattle.tcd_driver.specs.BestCert.{IsCertified, SpellBest, SpellOne}
+use Rattle.tcd_driver.specs.BestCert.{IsAcceptedBestCert, SpellBestCert, SpellSomeBestCert}
 use Rattle.tcd_driver.specs.Cfg as cfg
-use Rattle.tcd_driver.specs.Cfg.{IsDrawn, IsDrawing}
+use Rattle.tcd_driver.specs.Cfg.{IsCfgText, IsCfgReport}
 use Rattle.tcd_driver.specs.Reporting as reporting
 use Rattle.tcd_driver.specs.Reporting.{IsReporting}
 use Rattle.tcd_reading.specs.declared.status.Status.TheVariants.{Done, Refused}
@@ -28,23 +28,23 @@ told_text items Is Q (Err e) r made said next = absurd said
 
 -- ---- cfg
 -- bytes that spell the best certificate with some need
-best_of : (i : ImageData) (p : PlanData) (bytes : List ℕ) → SpellOne i p bytes → SpellBest i p bytes
+best_of : (i : ImageData) (p : PlanData) (bytes : List ℕ) → SpellSomeBestCert i p bytes → SpellBestCert i p bytes
 best_of i p bytes s = record { cert = (s.1).cert; spell = (s.1).spell; is_cert = ((s.1).certified).is_cert; best = ((s.1).certified).best }
 
-pub one_most : (i : ImageData) (p : PlanData) (lent bytes : List ℕ) → lent ≡ bytes → SpellOne i p bytes → length lent ≤ 2 ^ 30
+pub one_most : (i : ImageData) (p : PlanData) (lent bytes : List ℕ) → lent ≡ bytes → SpellSomeBestCert i p bytes → length lent ≤ 2 ^ 30
 one_most i p lent bytes e s = subst (λ (b : List ℕ). length b ≤ 2 ^ 30) (sym e) (best_most i p bytes (best_of i p bytes s))
 
 -- reading these bytes gives a certificate
-pub one_is_read : (i : ImageData) (p : PlanData) (bytes : List ℕ) (f : FormErr) → SpellOne i p bytes → certificate_of bytes ≡ Err f → ⊥
+pub one_is_read : (i : ImageData) (p : PlanData) (bytes : List ℕ) (f : FormErr) → SpellSomeBestCert i p bytes → certificate_of bytes ≡ Err f → ⊥
 one_is_read i p bytes f s bad = spelled_is_read (s.1).cert bytes f ((s.1).certified).is_cert (s.1).spell bad
 
 -- the certificate that is read from these bytes is the best one
-pub read_certified : (i : ImageData) (p : PlanData) (lent bytes : List ℕ) (c : CertData) → lent ≡ bytes → SpellOne i p bytes → certificate_of lent ≡ Ok c → IsCertified i p c
+pub read_certified : (i : ImageData) (p : PlanData) (lent bytes : List ℕ) (c : CertData) → lent ≡ bytes → SpellSomeBestCert i p bytes → certificate_of lent ≡ Ok c → IsAcceptedBestCert i p c
 unfolding best_of
-read_certified i p lent bytes c e s read = subst (IsCertified i p) (best_read i p lent bytes c e (best_of i p bytes s) read) (s.1).certified
+read_certified i p lent bytes c e s read = subst (IsAcceptedBestCert i p) (best_read i p lent bytes c e (best_of i p bytes s) read) (s.1).certified
 
 -- the report with its graph
-pub graph_drawn : (i : ImageData) (p : PlanData) (c : CertData) (text : List ℕ) → i.entry < 2 ^ 32 → IsPlan p → IsCertified i p c → IsGraph i p c text → IsDrawn i p text
+pub graph_drawn : (i : ImageData) (p : PlanData) (c : CertData) (text : List ℕ) → i.entry < 2 ^ 32 → IsPlan p → IsAcceptedBestCert i p c → IsGraph i p c text → IsCfgText i p text
 graph_drawn i p c text entry plan is g = record {
   cert = c;
   certified = is;
@@ -53,21 +53,21 @@ graph_drawn i p c text entry plan is g = record {
 }
 
 module _ (i : ImageData) (p : PlanData) where
-  drawing_told : (r : Report) → IsDrawing i p r → IsReportStatus r.status
+  drawing_told : (r : Report) → IsCfgReport i p r → IsReportStatus r.status
   drawing_told r (cfg.refused rule key addr none e) = inr (inl (status_is r _ e))
   drawing_told r (cfg.drawn text is e) = inl (status_is r _ e)
 
-  drawing_done : (r : Report) → IsDrawing i p r → r.status ≢ Done → r.writes ≡ []
+  drawing_done : (r : Report) → IsCfgReport i p r → r.status ≢ Done → r.writes ≡ []
   drawing_done r (cfg.refused rule key addr none e) undone = writes_are r _ e
   drawing_done r (cfg.drawn text is e) undone = writes_are r _ e
 
-  drawing_one : (r q : Report) → IsDrawing i p r → IsDrawing i p q → r.status ≡ q.status
+  drawing_one : (r q : Report) → IsCfgReport i p r → IsCfgReport i p q → r.status ≡ q.status
   drawing_one r q (cfg.refused rule key addr none e) (cfg.refused rule2 key2 addr2 none2 f) = status_is r _ e ∙ sym (status_is q _ f)
   drawing_one r q (cfg.refused rule key addr none e) (cfg.drawn text is f) = absurd (none_best i p is.cert none.first none.second (is.certified).is_cert (is.certified).best)
   drawing_one r q (cfg.drawn text is e) (cfg.refused rule key addr none f) = absurd (none_best i p is.cert none.first none.second (is.certified).is_cert (is.certified).best)
   drawing_one r q (cfg.drawn text is e) (cfg.drawn text2 is2 f) = status_is r _ e ∙ sym (status_is q _ f)
 
-  pub drawing_alike : AreAlike (IsDrawing i p)
+  pub drawing_alike : AreAlike (IsCfgReport i p)
   drawing_alike = record { told = drawing_told; done = drawing_done; one = drawing_one }
 
 -- ---- report

@@ -19,12 +19,12 @@ use Rattle.tcd_plan.specs.PlanData.{PlanData}
 use Rattle.tc_machine.specs.declared.state.Machine.{Machine}
 use Rattle.tc_machine.specs.Stepping.{run}
 use Rattle.tc_script.specs.ScriptData.{ScriptData}
-use Rattle.tc_script.specs.DrivenRuns.{peak_of}
+use Rattle.tc_script.specs.DrivenRuns.{driven_peak}
 use Rattle.tc_script.specs.ScriptRuns.{script_events}
 use Rattle.depth_cert.specs.declared.keys.Key.{Key}
 use Rattle.depth_cert.specs.Nodes.{NodeData, need_of}
 use Rattle.depth_cert.specs.Certs.{CertData, IsCert, find_node}
-use Rattle.depth_cert.specs.Spelling.{bytes_of}
+use Rattle.depth_cert.specs.Spelling.{bytes_of_cert}
 use Rattle.depth_cert.proofs.BackLaws.{written_is_read}
 use Rattle.cfg_recover.specs.Entries.{start_key, start_state}
 use Rattle.cfg_recover.specs.RulesHoldOrFail.{HasPoint, Accepts, IsFirstFault, certified_need}
@@ -32,38 +32,38 @@ use Rattle.cfg_recover.proofs.FaultLaws.{fails_refutes}
 use Rattle.depth_maker.specs.LeastCertMade.{IsMade}
 use Rattle.depth_maker.specs.Answers.{NoneAccepted}
 use Rattle.tc_link.specs.Layouts.{LayoutData}
-use Rattle.tcd_base.specs.Files.{Map}
-use Rattle.tcd_reading.specs.Reports.{Report, Written, says, with_written}
-use Rattle.tcd_reading.specs.Inputs.{FormSeen, HoldsInput, IsRefusal, Reading, answer, each, Says}
+use Rattle.tcd_base.specs.Files.{FileMap}
+use Rattle.tcd_reading.specs.Reports.{Report, ReportFile, says, with_report_files}
+use Rattle.tcd_reading.specs.Inputs.{FormSeen, HoldsInput, IsInputRefusal, Reading, answer, each, ReadingSays}
 use Rattle.tcd_reading.specs.Inputs as inputs
 use Rattle.tcd_reading.specs.declared.status.Status.{Status}
 use Rattle.tcd_reading.specs.declared.status.Status.TheVariants.{Done, Refused, BadInput}
 use Rattle.tcd_reading.proofs.Decided.{status_is}
 use Rattle.tcd_forms.specs.Forms.{SourceData, elf_form, plan_form, cert_form, script_form, layout_form, placed_source_form}
-use Rattle.tcd_forms.specs.Lines.{certified_line, run_line, end_text, refused_line, key_line, kind_text, certified_words}
+use Rattle.tcd_forms.specs.Lines.{certified_line, run_line, run_end_text, refused_line, key_line, key_kind_text, certified_words}
 use Rattle.tcd_driver.specs.Check as verdict
-use Rattle.tcd_driver.specs.Check.{CheckNames, IsVerdict, check_reading}
+use Rattle.tcd_driver.specs.Check.{CheckNames, IsCheckVerdict, check_reading}
 use Rattle.tcd_driver.specs.Cert as certifying
 use Rattle.tcd_driver.specs.Cert.{CertNames, IsCertifying, cert_reading}
 use Rattle.tcd_driver.specs.BestCert as made
-use Rattle.tcd_driver.specs.BestCert.{IsBest, IsCertified, AreNone, IsLeastOfItsVersion, NoneIsAccepted}
+use Rattle.tcd_driver.specs.BestCert.{IsBestCert, IsAcceptedBestCert, HaveNoBestCert, IsLeastOfItsVersion, NoneIsAccepted}
 use Rattle.tcd_driver.specs.Ship as shipping
-use Rattle.tcd_driver.specs.Ship.{ShipNames, IsShipping, IsShipped, IsImageOf, ship_reading}
+use Rattle.tcd_driver.specs.Ship.{ShipNames, IsShipping, IsShipped, IsImageOfSources, ship_reading}
 use Rattle.tcd_driver.specs.Run as runs
-use Rattle.tcd_driver.specs.Run.{RunNames, IsRun, run_reading}
-use Rattle.tcd_driver.specs.Headlines.{HoldsFile, IsBadFile, too_long, faulty, HoldsImage, HoldsPlan, HoldsCert, HoldsLayout, HoldEach, AreFirmwareFiles, AreCheckFiles, IsWritten, IsAcceptedWith, IsBestWith, frame_words, refused_words, HeadlineOfCheck, RefusalByCheck, HeadlineOfCert, RefusalByCert, IsSourceText, HeadlineOfRun}
-use Rattle.tcd_driver.specs.Headlines.Builds.{IsImageOfFiles, HeadlineOfShip, RefusalByShip}
+use Rattle.tcd_driver.specs.Run.{RunNames, IsRunReport, run_reading}
+use Rattle.tcd_driver.specs.Headlines.{HoldsFile, IsBadFile, too_long, faulty, HoldsImage, HoldsPlan, HoldsCert, HoldsLayout, HoldEachFile, AreFirmwareFiles, AreCheckFiles, IsOnlyFileWritten, IsAcceptedWithNeed, IsBestWithNeed, frame_words, refused_words, HeadlineOfCheck, RefusalByCheck, HeadlineOfCert, RefusalByCert, HeadlineOfRun}
+use Rattle.tcd_driver.specs.Headlines.Builds.{IsSourceText, IsImageOfFiles, HeadlineOfShip, RefusalByShip}
 
 -- ---- the files after a report
 -- after the files of a report were written, this holds for the files and the report's text
-pub record Leaves (before : Map) (report : Report) (Holds : Map → Map → List ℕ → Type 0) : Type 0 where
-  pub after : Map
-  pub held : with_written (Some before) report.writes ≡ Some after
+pub record Leaves (before : FileMap) (report : Report) (Holds : FileMap → FileMap → List ℕ → Type 0) : Type 0 where
+  pub after : FileMap
+  pub held : with_report_files (Some before) report.writes ≡ Some after
   pub holds : Holds before after report.text
 
 -- this holds for each report with this status of a command with this reading
-abbrev pub Reports : Reading → Status → (Map → Map → List ℕ → Type 0) → Type 0
-Reports reading status Holds = (before : Map) (r : Report) → Says reading (Some before) r → r.status ≡ status → Leaves before r Holds
+abbrev pub Reports : Reading → Status → (FileMap → FileMap → List ℕ → Type 0) → Type 0
+Reports reading status Holds = (before : FileMap) (r : Report) → ReadingSays reading (Some before) r → r.status ≡ status → Leaves before r Holds
 
 -- a report with one status doesn't have another status
 pub bad_undone : (r : Report) → r.status ≡ BadInput → r.status ≡ Done → ⊥
@@ -81,10 +81,10 @@ read (inl x) none = absurd (none x)
 read (inr y) none = y
 
 -- ---- one file that is written
-get_written : (m : Map) (name bytes q : List ℕ) → get (insert m name bytes) q ≡ cond (bytes_eq q name) (Some bytes) (get m q)
+get_written : (m : FileMap) (name bytes q : List ℕ) → get (insert m name bytes) q ≡ cond (bytes_eq q name) (Some bytes) (get m q)
 get_written m name bytes q = get-insert nat_list_cmp_total m name bytes q ∙ ap (λ b. cond b (Some bytes) (get m q)) (is_eq-slice_cmp q name)
 
-pub get_same : (m : Map) (name bytes : List ℕ) → get (insert m name bytes) name ≡ Some bytes
+pub get_same : (m : FileMap) (name bytes : List ℕ) → get (insert m name bytes) name ≡ Some bytes
 get_same m name bytes = get_written m name bytes name ∙ ap (λ b. cond b (Some bytes) (get m name)) ((bytes_eq-Decides name name).1 refl)
 
 pub differ : (q name : List ℕ) → q ≢ name → bytes_eq q name ≡ false
@@ -94,38 +94,38 @@ differ q name other = by_test (bytes_eq q name) refl
     by_test true e = absurd (other ((bytes_eq-Decides q name).0 e))
     by_test false e = e
 
-pub get_other : (m : Map) (name bytes q : List ℕ) → q ≢ name → get (insert m name bytes) q ≡ get m q
+pub get_other : (m : FileMap) (name bytes q : List ℕ) → q ≢ name → get (insert m name bytes) q ≡ get m q
 get_other m name bytes q other = get_written m name bytes q ∙ ap (λ b. cond b (Some bytes) (get m q)) (differ q name other)
 
-pub is_written : (m : Map) (name bytes : List ℕ) → IsWritten m (insert m name bytes) name bytes
+pub is_written : (m : FileMap) (name bytes : List ℕ) → IsOnlyFileWritten m (insert m name bytes) name bytes
 is_written m name bytes = record { written = get_same m name bytes; others = λ other apart. get_other m name bytes other apart }
 
 -- ---- files that are read
-pub image_held : (m : Map) (name : List ℕ) (i : ImageData) → HoldsInput elf_form (Some m) name i → HoldsImage m name i
+pub image_held : (m : FileMap) (name : List ℕ) (i : ImageData) → HoldsInput elf_form (Some m) name i → HoldsImage m name i
 image_held m name i h = record { bytes = h.0; held = h.1; short = h.2; form = h.3 }
 
-pub plan_held : (m : Map) (name : List ℕ) (p : PlanData) → HoldsInput plan_form (Some m) name p → HoldsPlan m name p
+pub plan_held : (m : FileMap) (name : List ℕ) (p : PlanData) → HoldsInput plan_form (Some m) name p → HoldsPlan m name p
 plan_held m name p h = record { bytes = h.0; held = h.1; short = h.2; form = h.3 }
 
-pub cert_held : (m : Map) (name : List ℕ) (c : CertData) → HoldsInput cert_form (Some m) name c → HoldsCert m name c
+pub cert_held : (m : FileMap) (name : List ℕ) (c : CertData) → HoldsInput cert_form (Some m) name c → HoldsCert m name c
 cert_held m name c h = record { bytes = h.0; held = h.1; short = h.2; form = h.3 }
 
-pub layout_held : (m : Map) (name : List ℕ) (l : LayoutData) → HoldsInput layout_form (Some m) name l → HoldsLayout m name l
+pub layout_held : (m : FileMap) (name : List ℕ) (l : LayoutData) → HoldsInput layout_form (Some m) name l → HoldsLayout m name l
 layout_held m name l h = record { bytes = h.0; held = h.1; short = h.2; form = h.3 }
 
-pub firmware_files : (m : Map) (elf plan : List ℕ) (i : ImageData) (p : PlanData) → HoldsInput elf_form (Some m) elf i → HoldsInput plan_form (Some m) plan p → AreFirmwareFiles m elf plan i p
+pub firmware_files : (m : FileMap) (elf plan : List ℕ) (i : ImageData) (p : PlanData) → HoldsInput elf_form (Some m) elf i → HoldsInput plan_form (Some m) plan p → AreFirmwareFiles m elf plan i p
 firmware_files m elf plan i p elf_is plan_is = record { elf_file = image_held m elf i elf_is; plan_file = plan_held m plan p plan_is }
 
-pub check_files : (m : Map) (elf plan cert : List ℕ) (i : ImageData) (p : PlanData) (c : CertData) → HoldsInput elf_form (Some m) elf i → HoldsInput plan_form (Some m) plan p → HoldsInput cert_form (Some m) cert c
+pub check_files : (m : FileMap) (elf plan cert : List ℕ) (i : ImageData) (p : PlanData) (c : CertData) → HoldsInput elf_form (Some m) elf i → HoldsInput plan_form (Some m) plan p → HoldsInput cert_form (Some m) cert c
     → AreCheckFiles m elf plan cert i p c
 check_files m elf plan cert i p c elf_is plan_is cert_is = record { elf_file = image_held m elf i elf_is; plan_file = plan_held m plan p plan_is; cert_file = cert_held m cert c cert_is }
 
 -- files of a list, whose form doesn't depend on the place
 abbrev pub Tells : {A : Type 0} → (ℕ → FormSeen A) → ℕ → (List ℕ → A → Type 0) → Type 0
-Tells {A} form most Is = (place : ℕ) (m : Map) (name : List ℕ) (x : A) → HoldsInput (form place) (Some m) name x → HoldsFile m name most (λ bytes. Is bytes x)
+Tells {A} form most Is = (place : ℕ) (m : FileMap) (name : List ℕ) (x : A) → HoldsInput (form place) (Some m) name x → HoldsFile m name most (λ bytes. Is bytes x)
 
-pub each_said : {A : Type 0} (form : ℕ → FormSeen A) (most : ℕ) (Is : List ℕ → A → Type 0) → Tells form most Is → (place : ℕ) (m : Map) (names : List (List ℕ)) (next : List A → Reading) (r : Report) →
-    (r.status ≡ BadInput → ⊥) → Says (each A form place names next) (Some m) r → (xs : List A) × HoldEach m most Is names xs × Says (next xs) (Some m) r
+pub each_said : {A : Type 0} (form : ℕ → FormSeen A) (most : ℕ) (Is : List ℕ → A → Type 0) → Tells form most Is → (place : ℕ) (m : FileMap) (names : List (List ℕ)) (next : List A → Reading) (r : Report) →
+    (r.status ≡ BadInput → ⊥) → ReadingSays (each A form place names next) (Some m) r → (xs : List A) × HoldEachFile m most Is names xs × ReadingSays (next xs) (Some m) r
 each_said form most Is tells place m [] next r good said = ([], tt, said)
 each_said form most Is tells place m (name ∷ names) next r good (inl b) = absurd (good b.status)
 each_said form most Is tells place m (name ∷ names) next r good (inr s) =
@@ -133,17 +133,17 @@ each_said form most Is tells place m (name ∷ names) next r good (inr s) =
     (s.0 ∷ rest.0, (tells place m name s.0 s.1, rest.1), rest.2)
 
 -- a file that isn't in its form: it is too long, or it has a fault
-too_long_of : {A : Type 0} (form : FormSeen A) (m : Map) (name line plain : List ℕ) → form.long_line ≡ plain → (o : Option (List ℕ)) → get m name ≡ o → IsSomeAnd o (λ bytes. form.limit < length bytes) → line ≡ form.long_line →
+too_long_of : {A : Type 0} (form : FormSeen A) (m : FileMap) (name line plain : List ℕ) → form.long_line ≡ plain → (o : Option (List ℕ)) → get m name ≡ o → IsSomeAnd o (λ bytes. form.limit < length bytes) → line ≡ form.long_line →
     IsBadFile m name form.limit plain form.IsBad line
 too_long_of form m name line plain is None held long e = absurd long
 too_long_of form m name line plain is (Some bytes) held long e = too_long bytes held long (e ∙ is)
 
-pub bad_file : {A : Type 0} (form : FormSeen A) (m : Map) (name line plain : List ℕ) → form.long_line ≡ plain → IsRefusal form (Some m) name line → IsBadFile m name form.limit plain form.IsBad line
+pub bad_file : {A : Type 0} (form : FormSeen A) (m : FileMap) (name line plain : List ℕ) → form.long_line ≡ plain → IsInputRefusal form (Some m) name line → IsBadFile m name form.limit plain form.IsBad line
 bad_file form m name line plain is (inputs.long long e) = too_long_of form m name line plain is (get m name) refl long e
 bad_file form m name line plain is (inputs.bad bytes held short why) = faulty (record { bytes = bytes; held = held; short = short; form = why })
 
 -- a bad file, with an equivalent fault
-pub bad_by : (m : Map) (name : List ℕ) (most : ℕ) (long : List ℕ) (Has Says : List ℕ → List ℕ → Type 0) (line : List ℕ) → ((bytes : List ℕ) → Has bytes line → Says bytes line) → IsBadFile m name most long Has line → IsBadFile m name most long Says line
+pub bad_by : (m : FileMap) (name : List ℕ) (most : ℕ) (long : List ℕ) (Has Says : List ℕ → List ℕ → Type 0) (line : List ℕ) → ((bytes : List ℕ) → Has bytes line → Says bytes line) → IsBadFile m name most long Has line → IsBadFile m name most long Says line
 bad_by m name most long Has Says line says (too_long bytes held above e) = too_long bytes held above e
 bad_by m name most long Has Says line says (faulty h) = faulty (record { bytes = h.bytes; held = h.held; short = h.short; form = says h.bytes h.form })
 
@@ -152,7 +152,7 @@ a_node : (o : Option NodeData) (P : NodeData → Type 0) → IsSomeAnd o P → (
 a_node None P h = absurd h
 a_node (Some n) P h = (n, refl)
 
-pub accepted_of : (i : ImageData) (p : PlanData) (c : CertData) → Accepts i p c → IsAcceptedWith i p c (certified_need i p c)
+pub accepted_of : (i : ImageData) (p : PlanData) (c : CertData) → Accepts i p c → IsAcceptedWithNeed i p c (certified_need i p c)
 accepted_of i p c accepted =
     let n = a_node (find_node (start_key i p) c.nodes) (λ n. HasPoint n i.entry (start_state p)) accepted.start in
     record { accepted = accepted; start = n.0; start_is = n.1; need_is = ap need_of n.1 }
@@ -165,10 +165,10 @@ least_of i p version c is_cert h = record {
   states = λ other k v a. (h.best other k (v ∙ h.of_version) a).below;
 }
 
-pub best_of : (i : ImageData) (p : PlanData) (c : CertData) → IsCertified i p c → IsBestWith i p c (certified_need i p c)
+pub best_of : (i : ImageData) (p : PlanData) (c : CertData) → IsAcceptedBestCert i p c → IsBestWithNeed i p c (certified_need i p c)
 best_of i p c is = by_version is.best
   where
-    by_version : IsBest i p c → IsBestWith i p c (certified_need i p c)
+    by_version : IsBestCert i p c → IsBestWithNeed i p c (certified_need i p c)
     by_version (made.first h) = record {
       accepted = accepted_of i p c is.accepted;
       safe = is.safe;
@@ -187,7 +187,7 @@ best_of i p c is = by_version is.best
 each_refused : (i : ImageData) (p : PlanData) → NoneAccepted i p 1 → NoneAccepted i p 2 → (c : CertData) → IsCert c → Accepts i p c → ⊥
 each_refused i p one two c is accepted = elim is.version [ inl v ↦ one c is v accepted | inr v ↦ two c is v accepted ]
 
-pub none_of : (i : ImageData) (p : PlanData) (rule : ℕ) (key : Key) (addr : ℕ) → AreNone i p rule key addr → NoneIsAccepted i p rule key addr
+pub none_of : (i : ImageData) (p : PlanData) (rule : ℕ) (key : Key) (addr : ℕ) → HaveNoBestCert i p rule key addr → NoneIsAccepted i p rule key addr
 none_of i p rule key addr none = record { each = each_refused i p none.first none.second; why = none.why }
 
 -- ---- lines
@@ -196,7 +196,7 @@ unfolding certified_line
 certified_is need areas = refl
 
 refused_is : (rule : ℕ) (key : Key) (addr : ℕ) → refused_line rule key addr ≡ refused_words rule key addr
-unfolding refused_line key_line kind_text
+unfolding refused_line key_line key_kind_text
 refused_is rule key addr = refl
 
 -- the text of a report
@@ -210,15 +210,15 @@ pub says_refused : (r : Report) (rule : ℕ) (key : Key) (addr : ℕ) → r ≡ 
 says_refused r rule key addr e = text_of r _ _ e (refused_is rule key addr)
 
 -- the files after a report's files were written
-pub held_of : (m : Map) (r q : Report) → r ≡ q → with_written (Some m) r.writes ≡ with_written (Some m) q.writes
-held_of m r q e = ap (λ (x : Report). with_written (Some m) x.writes) e
+pub held_of : (m : FileMap) (r q : Report) → r ≡ q → with_report_files (Some m) r.writes ≡ with_report_files (Some m) q.writes
+held_of m r q e = ap (λ (x : Report). with_report_files (Some m) x.writes) e
 
 -- the files after a report without files
-pub held_nothing : (m : Map) (r : Report) → r.writes ≡ [] → with_written (Some m) r.writes ≡ Some m
-held_nothing m r e = ap (λ (ws : List Written). with_written (Some m) ws) e
+pub held_nothing : (m : FileMap) (r : Report) → r.writes ≡ [] → with_report_files (Some m) r.writes ≡ Some m
+held_nothing m r e = ap (λ (ws : List ReportFile). with_report_files (Some m) ws) e
 
 -- ---- check
-pub refusal_by_check : (elf plan cert : List ℕ) (m : Map) (i : ImageData) (p : PlanData) (c : CertData) → HoldsInput elf_form (Some m) elf i → HoldsInput plan_form (Some m) plan p → HoldsInput cert_form (Some m) cert c →
+pub refusal_by_check : (elf plan cert : List ℕ) (m : FileMap) (i : ImageData) (p : PlanData) (c : CertData) → HoldsInput elf_form (Some m) elf i → HoldsInput plan_form (Some m) plan p → HoldsInput cert_form (Some m) cert c →
     (r : Report) (rule : ℕ) (key : Key) (addr : ℕ) → IsFirstFault i p c rule key addr → r ≡ says Refused (refused_line rule key addr) → Leaves m r (RefusalByCheck elf plan cert)
 refusal_by_check elf plan cert m i p c elf_is plan_is cert_is r rule key addr first e = record {
   after = m;
@@ -238,9 +238,9 @@ refusal_by_check elf plan cert m i p c elf_is plan_is cert_is r rule key addr fi
   };
 }
 
-module _ (names : CheckNames) (m : Map) (i : ImageData) (p : PlanData) (c : CertData)
+module _ (names : CheckNames) (m : FileMap) (i : ImageData) (p : PlanData) (c : CertData)
     (elf : HoldsInput elf_form (Some m) names.elf i) (plan : HoldsInput plan_form (Some m) names.plan p) (cert : HoldsInput cert_form (Some m) names.cert c) (r : Report) where
-  check_done : IsVerdict i p c r → r.status ≡ Done → Leaves m r (HeadlineOfCheck names.elf names.plan names.cert)
+  check_done : IsCheckVerdict i p c r → r.status ≡ Done → Leaves m r (HeadlineOfCheck names.elf names.plan names.cert)
   check_done (verdict.refused rule key addr first e) done = absurd (refused_undone r (status_is r _ e) done)
   check_done (verdict.certified accepted safe e) done = record {
     after = m;
@@ -258,7 +258,7 @@ module _ (names : CheckNames) (m : Map) (i : ImageData) (p : PlanData) (c : Cert
     };
   }
 
-  check_refused : IsVerdict i p c r → r.status ≡ Refused → Leaves m r (RefusalByCheck names.elf names.plan names.cert)
+  check_refused : IsCheckVerdict i p c r → r.status ≡ Refused → Leaves m r (RefusalByCheck names.elf names.plan names.cert)
   check_refused (verdict.refused rule key addr first e) refused = refusal_by_check names.elf names.plan names.cert m i p c elf plan cert r rule key addr first e
   check_refused (verdict.certified accepted safe e) refused = absurd (refused_undone r refused (status_is r _ e))
 
@@ -279,8 +279,8 @@ check_refuses names m r said refused =
     check_refused names m i.0 p.0 c.0 i.1 p.1 c.1 r c.2 refused
 
 -- ---- cert
-pub refusal_by_cert : (elf plan : List ℕ) (m : Map) (i : ImageData) (p : PlanData) → HoldsInput elf_form (Some m) elf i → HoldsInput plan_form (Some m) plan p → (r : Report) (rule : ℕ) (key : Key) (addr : ℕ) →
-    AreNone i p rule key addr → r ≡ says Refused (refused_line rule key addr) → Leaves m r (RefusalByCert elf plan)
+pub refusal_by_cert : (elf plan : List ℕ) (m : FileMap) (i : ImageData) (p : PlanData) → HoldsInput elf_form (Some m) elf i → HoldsInput plan_form (Some m) plan p → (r : Report) (rule : ℕ) (key : Key) (addr : ℕ) →
+    HaveNoBestCert i p rule key addr → r ≡ says Refused (refused_line rule key addr) → Leaves m r (RefusalByCert elf plan)
 refusal_by_cert elf plan m i p elf_is plan_is r rule key addr none e = record {
   after = m;
   held = held_of m r _ e;
@@ -297,11 +297,11 @@ refusal_by_cert elf plan m i p elf_is plan_is r rule key addr none e = record {
   };
 }
 
-module _ (names : CertNames) (m : Map) (i : ImageData) (p : PlanData) (elf : HoldsInput elf_form (Some m) names.elf i) (plan : HoldsInput plan_form (Some m) names.plan p) (r : Report) where
+module _ (names : CertNames) (m : FileMap) (i : ImageData) (p : PlanData) (elf : HoldsInput elf_form (Some m) names.elf i) (plan : HoldsInput plan_form (Some m) names.plan p) (r : Report) where
   cert_done : IsCertifying names.cert i p r → r.status ≡ Done → Leaves m r (HeadlineOfCert names.elf names.plan names.cert)
   cert_done (certifying.refused rule key addr none e) done = absurd (refused_undone r (status_is r _ e) done)
   cert_done (certifying.certified c is e) done = record {
-    after = insert m names.cert (bytes_of c);
+    after = insert m names.cert (bytes_of_cert c);
     held = held_of m r _ e;
     holds = record {
       image = i;
@@ -310,7 +310,7 @@ module _ (names : CertNames) (m : Map) (i : ImageData) (p : PlanData) (elf : Hol
       need = certified_need i p c;
       files = firmware_files m names.elf names.plan i p elf plan;
       best = best_of i p c is;
-      writes = is_written m names.cert (bytes_of c);
+      writes = is_written m names.cert (bytes_of_cert c);
       prints = says_certified r _ _ _ e refl;
     };
   }
@@ -337,9 +337,9 @@ cert_refuses names m r said refused =
 source_told : Tells placed_source_form (2 ^ 24) IsSourceText
 source_told place m name x h = record { bytes = h.0; held = h.1; short = h.2; form = record { text = h.3.0; object = h.3.1 } }
 
-module _ (names : ShipNames) (m : Map) (p : PlanData) (l : LayoutData) (ss : List SourceData) (plan : HoldsInput plan_form (Some m) names.plan p) (layout : HoldsInput layout_form (Some m) names.layout l)
-    (sources : HoldEach m (2 ^ 24) IsSourceText names.sources ss) (r : Report) where
-  image_of_files : (i : ImageData) → IsImageOf l ss i → IsImageOfFiles m names.plan names.layout names.sources p i
+module _ (names : ShipNames) (m : FileMap) (p : PlanData) (l : LayoutData) (ss : List SourceData) (plan : HoldsInput plan_form (Some m) names.plan p) (layout : HoldsInput layout_form (Some m) names.layout l)
+    (sources : HoldEachFile m (2 ^ 24) IsSourceText names.sources ss) (r : Report) where
+  image_of_files : (i : ImageData) → IsImageOfSources l ss i → IsImageOfFiles m names.plan names.layout names.sources p i
   image_of_files i of = record {
     layout = l;
     sources = ss;
@@ -350,10 +350,10 @@ module _ (names : ShipNames) (m : Map) (p : PlanData) (l : LayoutData) (ss : Lis
     placed = of.placed;
   }
 
-  ship_image : names.elf ≢ names.cert → (i : ImageData) → IsImageOf l ss i → IsShipping names.elf names.cert p i r → r.status ≡ Done → Leaves m r (HeadlineOfShip names.plan names.layout names.elf names.cert names.sources)
+  ship_image : names.elf ≢ names.cert → (i : ImageData) → IsImageOfSources l ss i → IsShipping names.elf names.cert p i r → r.status ≡ Done → Leaves m r (HeadlineOfShip names.plan names.layout names.elf names.cert names.sources)
   ship_image apart i of (shipping.refused rule key addr none e) done = absurd (refused_undone r (status_is r _ e) done)
   ship_image apart i of (shipping.shipped c is reads e) done = record {
-    after = insert (insert m names.elf (file_of i)) names.cert (bytes_of c);
+    after = insert (insert m names.elf (file_of i)) names.cert (bytes_of_cert c);
     held = held_of m r _ e;
     holds = record {
       plan = p;
@@ -364,9 +364,9 @@ module _ (names : ShipNames) (m : Map) (p : PlanData) (l : LayoutData) (ss : Lis
       image_is = image_of_files i of;
       image_reads = reads;
       best = best_of i p c is;
-      elf_written = get_other (insert m names.elf (file_of i)) names.cert (bytes_of c) names.elf apart ∙ get_same m names.elf (file_of i);
-      cert_written = get_same (insert m names.elf (file_of i)) names.cert (bytes_of c);
-      others = λ other not_elf not_cert. get_other (insert m names.elf (file_of i)) names.cert (bytes_of c) other not_cert ∙ get_other m names.elf (file_of i) other not_elf;
+      elf_written = get_other (insert m names.elf (file_of i)) names.cert (bytes_of_cert c) names.elf apart ∙ get_same m names.elf (file_of i);
+      cert_written = get_same (insert m names.elf (file_of i)) names.cert (bytes_of_cert c);
+      others = λ other not_elf not_cert. get_other (insert m names.elf (file_of i)) names.cert (bytes_of_cert c) other not_cert ∙ get_other m names.elf (file_of i) other not_elf;
       prints = says_certified r _ _ _ e refl;
     };
   }
@@ -375,7 +375,7 @@ module _ (names : ShipNames) (m : Map) (p : PlanData) (l : LayoutData) (ss : Lis
   ship_done apart (shipping.unlinked q is e) done = absurd (bad_undone r (status_is r _ e) done)
   ship_done apart (shipping.of_image i of h) done = ship_image apart i of h done
 
-  ship_none : (i : ImageData) → IsImageOf l ss i → IsShipping names.elf names.cert p i r → r.status ≡ Refused → Leaves m r (RefusalByShip names.plan names.layout names.sources)
+  ship_none : (i : ImageData) → IsImageOfSources l ss i → IsShipping names.elf names.cert p i r → r.status ≡ Refused → Leaves m r (RefusalByShip names.plan names.layout names.sources)
   ship_none i of (shipping.shipped c is reads e) refused = absurd (refused_undone r refused (status_is r _ e))
   ship_none i of (shipping.refused rule key addr none e) refused = record {
     after = m;
@@ -414,13 +414,13 @@ ship_refuses names m r said refused =
     ship_refused names m p.0 l.0 ss.0 p.1 l.1 ss.1 r ss.2 refused
 
 -- ---- run
-run_is : (events peak : ℕ) (last : Machine) → run_line events peak last ≡ codes "events " ++ (decimal events ++ (codes " peak " ++ (decimal peak ++ (codes " " ++ end_text last.end last.pc))))
+run_is : (events peak : ℕ) (last : Machine) → run_line events peak last ≡ codes "events " ++ (decimal events ++ (codes " peak " ++ (decimal peak ++ (codes " " ++ run_end_text last.end last.pc))))
 unfolding run_line
 run_is events peak last = refl
 
-module _ (names : RunNames) (m : Map) (i : ImageData) (p : PlanData) (s : ScriptData)
+module _ (names : RunNames) (m : FileMap) (i : ImageData) (p : PlanData) (s : ScriptData)
     (elf : HoldsInput elf_form (Some m) names.elf i) (plan : HoldsInput plan_form (Some m) names.plan p) (script : HoldsInput (script_form p) (Some m) names.script s) (r : Report) where
-  run_done : IsRun i p s r → Leaves m r (HeadlineOfRun names.elf names.plan names.script)
+  run_done : IsRunReport i p s r → Leaves m r (HeadlineOfRun names.elf names.plan names.script)
   run_done (runs.ran start starts e) =
       let es = script_events p s start in
       record {
@@ -439,7 +439,7 @@ module _ (names : RunNames) (m : Map) (i : ImageData) (p : PlanData) (s : Script
           in_zeros = starts;
           events_are = refl;
           last_is = refl;
-          prints = text_of r _ _ e (run_is (length es) (peak_of start es) (run start es));
+          prints = text_of r _ _ e (run_is (length es) (driven_peak start es) (run start es));
           stays = refl;
         };
       }

@@ -6,14 +6,14 @@ use Rattle.tc_link.specs.Errors.{refusal_of}
 use Rattle.tc_link.specs.declared.errors.LinkErr.{LinkErr}
 use Rattle.tc_link.specs.declared.errors.LinkErr.TheVariants as error
 use Rattle.tcd_reading.specs.Reports.{Report, says}
-use Rattle.tcd_forms.specs.Lines.{link_line}
+use Rattle.tcd_forms.specs.Lines.{bad_link_line}
 use Rattle.tcd_reading.specs.declared.status.Status.TheVariants.{BadInput}
 
 pub none_memory : (e : LinkErr) → refusal_of e ≡ None → e ≡ error.NoMemory
 none_memory error.NoMemory h = refl
 none_memory _ h = cc
 
-pub line_told : {V E : Type 0} (items : V → List ℕ) (line : Result V E) (r : Report) (o : Option Refusal) → IfOk line (λ l. IfSome o (λ q. items l ≡ link_line q)) → IsOkAnd line (λ l. r ≡ says BadInput (items l)) → IfSome o (λ q. r ≡ says BadInput (link_line q))
+pub line_told : {V E : Type 0} (items : V → List ℕ) (line : Result V E) (r : Report) (o : Option Refusal) → IfOk line (λ l. IfSome o (λ q. items l ≡ bad_link_line q)) → IsOkAnd line (λ l. r ≡ says BadInput (items l)) → IfSome o (λ q. r ≡ says BadInput (bad_link_line q))
 line_told items (Ok l) r None made said = tt
 line_told items (Ok l) r (Some q) made said = said ∙ ap (λ (t : List ℕ). says BadInput t) made
 line_told items (Err e) r o made said = absurd said

@@ -3,11 +3,11 @@ use Rattle.std.proofs.Common.{◌≡◌, ◌≢◌, ◌≤◌, ◌+◌, ◌-◌,
 use Rattle.std.specs.Prelude.{IfOk, IfSome, IsOkAnd, slice_get}
 use Rattle.std.proofs.lemmas.List.{length-append}
 use Rattle.elf_image.specs.Images.{ImageData}
-use Rattle.elf_image.specs.ReadElf.{image_of}
+use Rattle.elf_image.specs.ReadElf.{image_of_file}
 use Rattle.elf_image.specs.WrittenElf.{file_of}
 use Rattle.elf_image.specs.declared.errors.ImageErr.{ImageErr}
 use Rattle.tcd_plan.specs.PlanData.{PlanData}
-use Rattle.depth_cert.specs.Spelling.{bytes_of}
+use Rattle.depth_cert.specs.Spelling.{bytes_of_cert}
 use Rattle.cfg_recover.specs.RulesHoldOrFail.{certified_need}
 use Rattle.tc_object.specs.Objects.{ObjectData}
 use Rattle.tc_link.specs.Layouts.{LayoutData, IsLayout}
@@ -16,16 +16,16 @@ use Rattle.tc_link.specs.Refusals.{Refusal}
 use Rattle.tc_link.specs.Errors.{refusal_of}
 use Rattle.tc_link.specs.declared.errors.LinkErr.{LinkErr}
 use Rattle.tc_link.specs.declared.errors.LinkErr.TheVariants as error
-use Rattle.tc_program.specs.PlacementLaws.{AreAssembled}
+use Rattle.tc_program.specs.PlacementLaws.{AreProgramObjects}
 use Rattle.tc_program.proofs.Whole.{placed_law}
 use Rattle.tcd_base.specs.Files.{FilesSeen, LeavesFiles}
-use Rattle.tcd_reading.specs.Reports.{IsReportStatus, Report, Written, says, writes_two}
+use Rattle.tcd_reading.specs.Reports.{IsReportStatus, Report, ReportFile, says, writes_two}
 use Rattle.tcd_reading.specs.Inputs.{HoldsInput, each, answer}
 use Rattle.tcd_forms.specs.Forms.{SourceData, IsSource, placed_source_form}
-use Rattle.tcd_forms.specs.Lines.{link_line, certified_line}
+use Rattle.tcd_forms.specs.Lines.{bad_link_line, certified_line}
 use Rattle.tcd_forms.proofs.FormLaws.{ok_err}
-use Rattle.tcd_driver.specs.BestCert.{SpellCertified}
-use Rattle.tcd_driver.specs.Ship.{objects_of, texts_of, AreSourcesOf, IsShipping, IsShipped, SpellImage, refused, shipped, unlinked, of_image}
+use Rattle.tcd_driver.specs.BestCert.{SpellBestWithNeed}
+use Rattle.tcd_driver.specs.Ship.{objects_of_sources, texts_of_sources, AreSourcesOfObjects, IsShipping, IsShipped, SpellShippedImage, refused, shipped, unlinked, of_image}
 use Rattle.tcd_reading.specs.declared.status.Status.TheVariants.{Done, Refused, BadInput}
 use Rattle.tcd_reading.proofs.Decided.{AreAlike, status_is, writes_are}
 use Rattle.tcd_reading.proofs.EachReads.{HasReadSome, rest_of, none_read, next_read}
@@ -62,69 +62,69 @@ module _ (elf cert : List ℕ) (p : PlanData) (l : LayoutData) (ss : List Source
 
   shipped_one : (r q : Report) → IsShipped elf cert p l ss r → IsShipped elf cert p l ss q → r.status ≡ q.status
   shipped_one r q (unlinked a is e) (unlinked b is2 f) = status_is r _ e ∙ sym (status_is q _ f)
-  shipped_one r q (unlinked a is e) (of_image i of_sources h) = absurd (ok_err (image_of_objects (objects_of ss) l) i a of_sources.linked_is is)
-  shipped_one r q (of_image i of_sources h) (unlinked a is e) = absurd (ok_err (image_of_objects (objects_of ss) l) i a of_sources.linked_is is)
+  shipped_one r q (unlinked a is e) (of_image i of_sources h) = absurd (ok_err (image_of_objects (objects_of_sources ss) l) i a of_sources.linked_is is)
+  shipped_one r q (of_image i of_sources h) (unlinked a is e) = absurd (ok_err (image_of_objects (objects_of_sources ss) l) i a of_sources.linked_is is)
   shipped_one r q (of_image i of_sources h) (of_image j of_sources2 k) =
-      let same = same_image (image_of_objects (objects_of ss) l) j i of_sources2.linked_is of_sources.linked_is in
+      let same = same_image (image_of_objects (objects_of_sources ss) l) j i of_sources2.linked_is of_sources.linked_is in
       shipping_one elf cert p i r q h (subst (λ (x : ImageData). IsShipping elf cert p x q) same k)
 
   pub shipped_alike : AreAlike (IsShipped elf cert p l ss)
   shipped_alike = record { told = shipped_told; done = shipped_done; one = shipped_one }
 
 -- the report with the image and its certificate
-pub shipping_report : (elf cert bytes made : List ℕ) (i : ImageData) (fields p : PlanData) (need : ℕ) (first second : Written) (r : Report) → fields ≡ p → bytes ≡ file_of i → image_of (file_of i) ≡ Ok i → SpellCertified i p made need →
+pub shipping_report : (elf cert bytes made : List ℕ) (i : ImageData) (fields p : PlanData) (need : ℕ) (first second : ReportFile) (r : Report) → fields ≡ p → bytes ≡ file_of i → image_of_file (file_of i) ≡ Ok i → SpellBestWithNeed i p made need →
     first ≡ record { name = elf; bytes = bytes } → second ≡ record { name = cert; bytes = made } → r ≡ writes_two first second (certified_line need (fields.areas - fields.reserve)) → IsShipping elf cert p i r
 shipping_report elf cert bytes made i fields p need first second r same spell reads s one two e =
     let one' : first ≡ record { name = elf; bytes = file_of i } = one ∙ ap (λ (b : List ℕ). record { name = elf; bytes = b }) spell in
-    let two' : second ≡ record { name = cert; bytes = bytes_of s.cert } = two ∙ ap (λ (b : List ℕ). record { name = cert; bytes = b }) s.spell in
+    let two' : second ≡ record { name = cert; bytes = bytes_of_cert s.cert } = two ∙ ap (λ (b : List ℕ). record { name = cert; bytes = b }) s.spell in
     shipped s.cert s.certified reads
-    (e ∙ ap (λ (w : Written). writes_two w second (certified_line need (fields.areas - fields.reserve))) one'
-    ∙ ap (λ (w : Written). writes_two (record { name = elf; bytes = file_of i }) w (certified_line need (fields.areas - fields.reserve))) two'
-    ∙ ap (λ (n : ℕ). writes_two (record { name = elf; bytes = file_of i }) (record { name = cert; bytes = bytes_of s.cert }) (certified_line n (fields.areas - fields.reserve))) s.need_is
-    ∙ ap (λ (q : PlanData). writes_two (record { name = elf; bytes = file_of i }) (record { name = cert; bytes = bytes_of s.cert }) (certified_line (certified_need i p s.cert) (q.areas - q.reserve))) same)
+    (e ∙ ap (λ (w : ReportFile). writes_two w second (certified_line need (fields.areas - fields.reserve))) one'
+    ∙ ap (λ (w : ReportFile). writes_two (record { name = elf; bytes = file_of i }) w (certified_line need (fields.areas - fields.reserve))) two'
+    ∙ ap (λ (n : ℕ). writes_two (record { name = elf; bytes = file_of i }) (record { name = cert; bytes = bytes_of_cert s.cert }) (certified_line n (fields.areas - fields.reserve))) s.need_is
+    ∙ ap (λ (q : PlanData). writes_two (record { name = elf; bytes = file_of i }) (record { name = cert; bytes = bytes_of_cert s.cert }) (certified_line (certified_need i p s.cert) (q.areas - q.reserve))) same)
 
 same_read : (o : Result ImageData ImageErr) (i j : ImageData) → o ≡ Ok i → o ≡ Ok j → j ≡ i
 same_read o i j e f = cc
 
 -- reading the bytes of an image gives this image
-pub read_again : (i j : ImageData) (lent bytes : List ℕ) → lent ≡ bytes → image_of bytes ≡ Ok i → image_of lent ≡ Ok j → j ≡ i
-read_again i j lent bytes same e f = same_read (image_of bytes) i j e (ap image_of (sym same) ∙ f)
+pub read_again : (i j : ImageData) (lent bytes : List ℕ) → lent ≡ bytes → image_of_file bytes ≡ Ok i → image_of_file lent ≡ Ok j → j ≡ i
+read_again i j lent bytes same e f = same_read (image_of_file bytes) i j e (ap image_of_file (sym same) ∙ f)
 
-pub spelled_again : (i j : ImageData) (lent bytes : List ℕ) → lent ≡ bytes → bytes ≡ file_of i → image_of bytes ≡ Ok i → image_of lent ≡ Ok j → SpellImage j bytes
+pub spelled_again : (i j : ImageData) (lent bytes : List ℕ) → lent ≡ bytes → bytes ≡ file_of i → image_of_file bytes ≡ Ok i → image_of_file lent ≡ Ok j → SpellShippedImage j bytes
 spelled_again i j lent bytes same is e f =
-    subst (λ (x : ImageData). SpellImage x bytes) (sym (read_again i j lent bytes same e f)) (record { spell = is; read = ap image_of (sym is) ∙ e })
+    subst (λ (x : ImageData). SpellShippedImage x bytes) (sym (read_again i j lent bytes same e f)) (record { spell = is; read = ap image_of_file (sym is) ∙ e })
 
 -- ---- linking
 -- the objects can be linked
-pub image_report : (elf cert : List ℕ) (p : PlanData) (l : LayoutData) (ss : List SourceData) (os : List ObjectData) (i : ImageData) (r : Report) → IsLayout l → AreSourcesOf ss os → image_of_objects os l ≡ Ok i → IsShipping elf cert p i r → IsShipped elf cert p l ss r
+pub image_report : (elf cert : List ℕ) (p : PlanData) (l : LayoutData) (ss : List SourceData) (os : List ObjectData) (i : ImageData) (r : Report) → IsLayout l → AreSourcesOfObjects ss os → image_of_objects os l ≡ Ok i → IsShipping elf cert p i r → IsShipped elf cert p l ss r
 image_report elf cert p l ss os i r keeps are is h =
-    let is' : image_of_objects (objects_of ss) l ≡ Ok i = subst (λ (x : List ObjectData). image_of_objects x l ≡ Ok i) are.objects_are is in
-    of_image i (record { linked_is = is'; placed = placed_law (texts_of ss) (objects_of ss) l i keeps are.assembled is' }) h
+    let is' : image_of_objects (objects_of_sources ss) l ≡ Ok i = subst (λ (x : List ObjectData). image_of_objects x l ≡ Ok i) are.objects_are is in
+    of_image i (record { linked_is = is'; placed = placed_law (texts_of_sources ss) (objects_of_sources ss) l i keeps are.assembled is' }) h
 
-unlinked_by : (elf cert : List ℕ) (p : PlanData) (l : LayoutData) (ss : List SourceData) (o : Option Refusal) (r : Report) → (o ≡ None → ⊥) → IfSome o (λ q. image_of_objects (objects_of ss) l ≡ Err q) → IfSome o (λ q. r ≡ says BadInput (link_line q)) → IsShipped elf cert p l ss r
+unlinked_by : (elf cert : List ℕ) (p : PlanData) (l : LayoutData) (ss : List SourceData) (o : Option Refusal) (r : Report) → (o ≡ None → ⊥) → IfSome o (λ q. image_of_objects (objects_of_sources ss) l ≡ Err q) → IfSome o (λ q. r ≡ says BadInput (bad_link_line q)) → IsShipped elf cert p l ss r
 unlinked_by elf cert p l ss None r some is text = absurd (some refl)
 unlinked_by elf cert p l ss (Some q) r some is text = unlinked q is text
 
 -- the objects can't be linked
-pub unlinked_report : {V E : Type 0} (items : V → List ℕ) (elf cert : List ℕ) (p : PlanData) (l : LayoutData) (ss : List SourceData) (os : List ObjectData) (e : LinkErr) (line : Result V E) (r : Report) → AreSourcesOf ss os →
-    IfSome (refusal_of e) (λ q. image_of_objects os l ≡ Err q) → IfOk line (λ x. IfSome (refusal_of e) (λ q. items x ≡ link_line q)) → (e ≡ error.NoMemory → ⊥) → IsOkAnd line (λ x. r ≡ says BadInput (items x)) → IsShipped elf cert p l ss r
+pub unlinked_report : {V E : Type 0} (items : V → List ℕ) (elf cert : List ℕ) (p : PlanData) (l : LayoutData) (ss : List SourceData) (os : List ObjectData) (e : LinkErr) (line : Result V E) (r : Report) → AreSourcesOfObjects ss os →
+    IfSome (refusal_of e) (λ q. image_of_objects os l ≡ Err q) → IfOk line (λ x. IfSome (refusal_of e) (λ q. items x ≡ bad_link_line q)) → (e ≡ error.NoMemory → ⊥) → IsOkAnd line (λ x. r ≡ says BadInput (items x)) → IsShipped elf cert p l ss r
 unlinked_report items elf cert p l ss os e line r are is made some said =
     unlinked_by elf cert p l ss (refusal_of e) r (λ n. some (none_memory e n))
     (subst (λ (x : List ObjectData). IfSome (refusal_of e) (λ q. image_of_objects x l ≡ Err q)) are.objects_are is) (line_told items line r (refusal_of e) made said)
 
 -- ---- sources
-assembled_more : (ss : List SourceData) (s : SourceData) → AreAssembled (texts_of ss) (objects_of ss) → IsSource s.text s.object → AreAssembled (texts_of (ss ++ s ∷ [])) (objects_of (ss ++ s ∷ []))
+assembled_more : (ss : List SourceData) (s : SourceData) → AreProgramObjects (texts_of_sources ss) (objects_of_sources ss) → IsSource s.text s.object → AreProgramObjects (texts_of_sources (ss ++ s ∷ [])) (objects_of_sources (ss ++ s ∷ []))
 assembled_more [] s h is = ((is.keeps, is.is), tt)
 assembled_more (x ∷ ss) s h is = (h.0, assembled_more ss s h.1 is)
 
-objects_more : (ss : List SourceData) (s : SourceData) → objects_of (ss ++ s ∷ []) ≡ objects_of ss ++ s.object ∷ []
+objects_more : (ss : List SourceData) (s : SourceData) → objects_of_sources (ss ++ s ∷ []) ≡ objects_of_sources ss ++ s.object ∷ []
 objects_more [] s = refl
 objects_more (x ∷ ss) s = ap (λ (os : List ObjectData). x.object ∷ os) (objects_more ss s)
 
 -- this number of sources was read, and their objects are kept
 pub record HasReadSources (names : List (List ℕ)) (P : List SourceData → Report → Type 0) (old mid : FilesSeen) (objects : List ObjectData) (i : ℕ) : Type 0 where
   pub sources : List SourceData
-  pub are : AreSourcesOf sources objects
+  pub are : AreSourcesOfObjects sources objects
   pub read : HasReadSome (each SourceData placed_source_form 0 names (λ ss. answer (P ss))) (rest_of SourceData placed_source_form names P i sources) old mid (length sources) i
   pub count : length objects ≡ i
 

@@ -5,7 +5,7 @@ use Rattle.std.specs.List.{find}
 use Rattle.std.proofs.lemmas.Bool.{cases_lt, eqb-true}
 use Rattle.std.proofs.lemmas.List.{length-append, get_or_append_left, get_or_push}
 use Rattle.std.proofs.lemmas.List.Elements.{All-contains}
-use Rattle.csa_chain.specs.SeveralChains.{sum_below}
+use Rattle.csa_chain.specs.SeveralChains.{sum_over_chains}
 use Rattle.elf_image.specs.Images.{ImageData}
 use Rattle.tcd_plan.specs.PlanData.{PlanData, IsPlan}
 use Rattle.tcd_base.specs.declared.errors.FormErr.{FormErr}
@@ -14,7 +14,7 @@ use Rattle.depth_cert.specs.declared.keys.Key.{Key}
 use Rattle.depth_cert.specs.Keys.{number_of_key}
 use Rattle.depth_cert.specs.Nodes.{NodeData, IsNode, need_of}
 use Rattle.depth_cert.specs.Certs.{CertData, IsCert, find_node}
-use Rattle.depth_cert.specs.Spelling.{bytes_of}
+use Rattle.depth_cert.specs.Spelling.{bytes_of_cert}
 use Rattle.depth_cert.specs.Grammar.{certificate_of}
 use Rattle.depth_cert.proofs.BackLaws.{written_is_read}
 use Rattle.depth_cert.proofs.SizeLaws.{cert_most}
@@ -32,18 +32,17 @@ use Rattle.task_chains.specs.Views.{FitPlan, view_image_of, view_plan_of}
 use Rattle.task_chains.specs.Rule17.{KeepsApart, FailsApart, IsTaskFault}
 use Rattle.task_chains.proofs.GrowthLaws.{task_faults_grow, task_faults_refute}
 use Rattle.task_chains.proofs.Together.{tasks_are_safe}
-use Rattle.tcd_reading.specs.Reports.{IsReportStatus, Report, Written, says, writes_files}
+use Rattle.tcd_reading.specs.Reports.{IsReportStatus, Report, ReportFile, says, writes_files}
 use Rattle.tcd_base.specs.Files.{FilesSeen}
 use Rattle.task_chains.specs.declared.task_lists.TasksErr.TheVariants.{Count}
 use Rattle.tcd_reading.specs.Inputs.{answer}
-use Rattle.tcd_reading.specs.Outcomes.{Comes, IsTold}
+use Rattle.tcd_reading.specs.Outcomes.{IsCommandOutcome, IsToldOutcome}
 use Rattle.tcd_reading.specs.declared.outcome.Outcome.{Outcome}
 use Rattle.tcd_reading.proofs.Told.{comes_told}
-use Rattle.tcd_forms.specs.Lines.{certified_tasks_line, sum_line}
-use Rattle.tcd_driver.specs.BadInputLines.{tasks_line}
-use Rattle.tcd_driver.specs.Tasks.{cert_of, needs_of, sum_of_needs, AreJudged, with_a_name_each}
-use Rattle.tcd_driver.specs.Taskcert.{NoneApart, IsUncertified, unaccepted, not_apart, AreTasksMade, IsFirstUncertified, cert_files, IsTaskcerting, no_switch, refused, above, certified, SpellApart, MakesApart, MakesTask, AreFiles}
-use Rattle.tcd_driver.specs.Headlines.Tasks.{IsTaskMade, SpellTask}
+use Rattle.tcd_forms.specs.Lines.{certified_tasks_line, refused_sum_line}
+use Rattle.tcd_driver.specs.BadInputLines.{bad_tasks_line}
+use Rattle.tcd_driver.specs.Tasks.{cert_of_task, needs_of, sum_of_needs, AreTasksJudged, with_name_per_task}
+use Rattle.tcd_driver.specs.Taskcert.{NoneKeepsTaskApart, IsTaskUncertified, unaccepted, not_apart, AreTasksMade, IsFirstUncertified, cert_files, IsTaskcerting, no_switch, refused, above, certified, SpellTaskViewCert, MakesTaskViewCert, MakesTaskCert, AreTaskCertFiles, IsTaskCertMade, SpellTaskCert}
 use Rattle.tcd_driver.specs.declared.cert_making.Making.{Making}
 use Rattle.tcd_driver.specs.declared.cert_making.Making.TheVariants as making
 use Rattle.tcd_reading.specs.declared.status.Status.TheVariants.{Done, Refused, BadInput}
@@ -64,13 +63,13 @@ made_read v b lent bytes c e m read =
     same_cert (certificate_of lent) m.cert c (ap certificate_of (e ∙ m.spell) ∙ written_is_read m.cert m.is_cert) read
 
 -- if the least certificate fails rule 17, each one does
-none_apart : (v : ImageData) (b : PlanData) (t : TasksData) (c : CertData) (k : Key) (x : ℕ) → IsPlan b → IsCert c → IsMade v b 2 c → FailsApart v b t c k x → NoneApart v b t
+none_apart : (v : ImageData) (b : PlanData) (t : TasksData) (c : CertData) (k : Key) (x : ℕ) → IsPlan b → IsCert c → IsMade v b 2 c → FailsApart v b t c k x → NoneKeepsTaskApart v b t
 none_apart v b t c k x ok is_c made fails d is_d version accepted apart =
     task_faults_refute v b t d k x (task_faults_grow v b t c d k x ok is_c is_d (made.of_version ∙ sym version) made.accepted accepted (made.best d is_d version accepted).below fails) apart
 
 -- if the certificate that was read keeps rule 17, the one that the bytes spell does
 pub apart_made : (v : ImageData) (b : PlanData) (t : TasksData) (lent bytes : List ℕ) (c : CertData) (need : ℕ) → lent ≡ bytes → AreMade v b 2 bytes → certificate_of lent ≡ Ok c
-    → need ≡ certified_need v b c → Safe v b need → KeepsApart v b t c → SpellApart v b t bytes need
+    → need ≡ certified_need v b c → Safe v b need → KeepsApart v b t c → SpellTaskViewCert v b t bytes need
 apart_made v b t lent bytes c need e m read is safe apart =
     let same = sym (made_read v b lent bytes c e m read) in
     record {
@@ -85,22 +84,22 @@ apart_made v b t lent bytes c need e m read is safe apart =
 
 -- if it fails rule 17, each one does
 pub apart_fails : (v : ImageData) (fields b : PlanData) (t : TasksData) (lent bytes : List ℕ) (c : CertData) (k : Key) (x : ℕ) → fields ≡ b → IsPlan fields → lent ≡ bytes → AreMade v b 2 bytes
-    → certificate_of lent ≡ Ok c → IsTaskFault v b t c k x → IsUncertified v b t 17 k x
+    → certificate_of lent ≡ Ok c → IsTaskFault v b t c k x → IsTaskUncertified v b t 17 k x
 apart_fails v fields b t lent bytes c k x plan_is is_plan e m read fault =
     let same = sym (made_read v b lent bytes c e m read) in
     let there : IsTaskFault v b t m.cert k x = subst (λ (d : CertData). IsTaskFault v b t d k x) same fault in
     not_apart m.cert k x m.is_cert m.made there (none_apart v b t m.cert k x (subst IsPlan plan_is is_plan) m.is_cert m.made there.fails)
 
 -- no certificate is made
-pub unmade : (v : ImageData) (b : PlanData) (t : TasksData) (e : MakeErr) (rule r : ℕ) (key k : Key) (addr a : ℕ) → e ≡ make_err.Refused rule key addr → IsRefused v b 2 e → r ≡ rule → k ≡ key → a ≡ addr → IsUncertified v b t r k a
+pub unmade : (v : ImageData) (b : PlanData) (t : TasksData) (e : MakeErr) (rule r : ℕ) (key k : Key) (addr a : ℕ) → e ≡ make_err.Refused rule key addr → IsRefused v b 2 e → r ≡ rule → k ≡ key → a ≡ addr → IsTaskUncertified v b t r k a
 unmade v b t e rule r key k addr a is why same_r same_k same_a =
     let h : IsRefused v b 2 (make_err.Refused rule key addr) = subst (IsRefused v b 2) is why in
-    subst (λ (x : ℕ). IsUncertified v b t x k a) (sym same_r) (subst (λ (j : Key). IsUncertified v b t rule j a) (sym same_k) (subst (λ (x : ℕ). IsUncertified v b t rule key x) (sym same_a) (unaccepted rule key addr h.1 h.0)))
+    subst (λ (x : ℕ). IsTaskUncertified v b t x k a) (sym same_r) (subst (λ (j : Key). IsTaskUncertified v b t rule j a) (sym same_k) (subst (λ (x : ℕ). IsTaskUncertified v b t rule key x) (sym same_a) (unaccepted rule key addr h.1 h.0)))
 
 -- ---- the certificate of a task
 -- the same by the task's number
 pub task_made : (i : ImageData) (fields p : PlanData) (parts t : TasksData) (u : ℕ) (bytes : List ℕ) (need : ℕ) (v : ImageData) (b : PlanData) → fields ≡ p → IsPlan fields → parts ≡ t → AreTasks parts → FitPlan p t → u < count t
-    → v ≡ view_image_of i t u → b ≡ view_plan_of p t u → SpellApart v b t bytes need → SpellTask i p t u bytes need
+    → v ≡ view_image_of i t u → b ≡ view_plan_of p t u → SpellTaskViewCert v b t bytes need → SpellTaskCert i p t u bytes need
 task_made i fields p parts t u bytes need v b same is_plan same_t are fit lt seen planned s =
     let judged = judged_well i fields p parts t s.cert s.cert u need v b same is_plan same_t are refl s.is_cert fit lt seen planned (s.made).accepted s.need_is s.safe s.apart in
     record {
@@ -114,13 +113,13 @@ task_made i fields p parts t u bytes need v b same is_plan same_t are fit lt see
     }
 
 pub task_uncertified : (i : ImageData) (p : PlanData) (t : TasksData) (u rule : ℕ) (k : Key) (x : ℕ) (v : ImageData) (b : PlanData) → v ≡ view_image_of i t u → b ≡ view_plan_of p t u
-    → IsUncertified v b t rule k x → IsUncertified (view_image_of i t u) (view_plan_of p t u) t rule k x
+    → IsTaskUncertified v b t rule k x → IsTaskUncertified (view_image_of i t u) (view_plan_of p t u) t rule k x
 task_uncertified i p t u rule k x v b seen planned h =
-    subst (λ (q : PlanData). IsUncertified (view_image_of i t u) q t rule k x) planned (subst (λ (w : ImageData). IsUncertified w b t rule k x) seen h)
+    subst (λ (q : PlanData). IsTaskUncertified (view_image_of i t u) q t rule k x) planned (subst (λ (w : ImageData). IsTaskUncertified w b t rule k x) seen h)
 
 -- the result of making a certificate for the task's view
 pub makes_task : (i : ImageData) (fields p : PlanData) (parts t : TasksData) (u : ℕ) (v : ImageData) (b : PlanData) (m : Making) → fields ≡ p → IsPlan fields → parts ≡ t → AreTasks parts → FitPlan p t → u < count t
-    → v ≡ view_image_of i t u → b ≡ view_plan_of p t u → MakesApart v b t m → MakesTask i p t u m
+    → v ≡ view_image_of i t u → b ≡ view_plan_of p t u → MakesTaskViewCert v b t m → MakesTaskCert i p t u m
 makes_task i fields p parts t u v b (making.Certified bytes need) same is_plan same_t are fit lt seen planned h = task_made i fields p parts t u _ need v b same is_plan same_t are fit lt seen planned h
 makes_task i fields p parts t u v b (making.Refused rule key addr) same is_plan same_t are fit lt seen planned h = task_uncertified i p t u rule key addr v b seen planned h
 makes_task i fields p parts t u v b making.NoMemory same is_plan same_t are fit lt seen planned h = tt
@@ -151,10 +150,10 @@ one_need v b c d is_c is_d made made_d =
     let ge : certified_need v b d ≤ certified_need v b c = need_below v b d c is_d is_c made_d made in
     omega arith
 
-same_below : (n : ℕ) (f g : ℕ → ℕ) → ((u : ℕ) → u < n → f u ≡ g u) → sum_below n f ≡ sum_below n g
+same_below : (n : ℕ) (f g : ℕ → ℕ) → ((u : ℕ) → u < n → f u ≡ g u) → sum_over_chains n f ≡ sum_over_chains n g
 same_below zero f g h = refl
 same_below (suc n) f g h =
-    let low : sum_below n f ≡ sum_below n g = same_below n f g (λ u lt. h u (omega arith)) in
+    let low : sum_over_chains n f ≡ sum_over_chains n g = same_below n f g (λ u lt. h u (omega arith)) in
     let top : f n ≡ g n = h n (omega arith) in
     omega arith
 
@@ -162,7 +161,7 @@ module _ (names : List (List ℕ)) (i : ImageData) (p : PlanData) (t : TasksData
   same_needs : (cs ds : List CertData) (u : ℕ) → u < length cs → u < length ds → AreTasksMade i p t cs → AreTasksMade i p t ds → needs_of i p t cs u ≡ needs_of i p t ds u
   same_needs cs ds u lt lt_d made made_d =
       ap (λ (n : ℕ). if u == 0 then n else max n 2)
-      (one_need (view_image_of i t u) (view_plan_of p t u) (cert_of cs u) (cert_of ds u) (made u lt).judged.is_cert (made_d u lt_d).judged.is_cert (made u lt).made (made_d u lt_d).made)
+      (one_need (view_image_of i t u) (view_plan_of p t u) (cert_of_task cs u) (cert_of_task ds u) (made u lt).judged.is_cert (made_d u lt_d).judged.is_cert (made u lt).made (made_d u lt_d).made)
 
   same_sum : (cs ds : List CertData) → length cs ≡ count t → length ds ≡ count t → AreTasksMade i p t cs → AreTasksMade i p t ds → sum_of_needs i p t cs ≡ sum_of_needs i p t ds
   same_sum cs ds many many_d made made_d = same_below (count t) (needs_of i p t cs) (needs_of i p t ds) (λ u lt. same_needs cs ds u (omega arith) (omega arith) made made_d)
@@ -175,14 +174,14 @@ module _ (names : List (List ℕ)) (i : ImageData) (p : PlanData) (t : TasksData
     pub made : AreTasksMade i p t certs
     pub within : sum_of_needs i p t certs ≤ p.areas - p.reserve
 
-  uncertified_refutes : (u rule : ℕ) (k : Key) (x : ℕ) (c : CertData) → IsTaskMade i p t u c → IsUncertified (view_image_of i t u) (view_plan_of p t u) t rule k x → ⊥
+  uncertified_refutes : (u rule : ℕ) (k : Key) (x : ℕ) (c : CertData) → IsTaskCertMade i p t u c → IsTaskUncertified (view_image_of i t u) (view_plan_of p t u) t rule k x → ⊥
   uncertified_refutes u _ _ _ c made (unaccepted rule k x none why) = none c made.judged.is_cert made.made.of_version made.made.accepted
   uncertified_refutes u _ _ _ c made (not_apart d k x is_d made_d fault none) = none c made.judged.is_cert made.made.of_version made.made.accepted made.judged.apart
 
   side : (r : Report) → IsTaskcerting names i p t r → ((r.status ≡ Refused) × (IsWell → ⊥)) ⊎ ((r.status ≡ Done) × IsWell)
   side r (no_switch x fault e) = inl (status_is r _ e, λ w. fault.fails (w.routine fault.place fault.within))
   side r (refused u rule key addr has first e) =
-      inl (status_is r _ e, λ w. uncertified_refutes u rule key addr (cert_of w.certs u) (w.made u (let lt = first.task in let m = w.many in omega arith)) first.uncertified)
+      inl (status_is r _ e, λ w. uncertified_refutes u rule key addr (cert_of_task w.certs u) (w.made u (let lt = first.task in let m = w.many in omega arith)) first.uncertified)
   side r (above certs has many made more e) =
       inl (status_is r _ e, λ w. let s = same_sum certs w.certs many w.many made w.made in let le = w.within in omega arith)
   side r (certified certs has many made within safe e) = inr (status_is r _ e, record { routine = has; certs = certs; many = many; made = made; within = within })
@@ -210,17 +209,17 @@ module _ (names : List (List ℕ)) (i : ImageData) (p : PlanData) (t : TasksData
     one = λ r q h k. one r q (side r h) (side q k);
   }
 
-  pub taskcert_decided : IsDecided (with_a_name_each names t (answer (IsTaskcerting names i p t)))
+  pub taskcert_decided : IsDecided (with_name_per_task names t (answer (IsTaskcerting names i p t)))
   taskcert_decided = decided_each_named names t _ (decided_answer _ taskcert_alike)
 
 -- ---- one task after another
 -- the files of the certificates of the tasks below n, with the sum of their needs
-pub record AreFilesSoFar (names : List (List ℕ)) (i : ImageData) (p : PlanData) (t : TasksData) (n : ℕ) (writes : List Written) (sum : ℕ) : Type 0 where
+pub record AreFilesSoFar (names : List (List ℕ)) (i : ImageData) (p : PlanData) (t : TasksData) (n : ℕ) (writes : List ReportFile) (sum : ℕ) : Type 0 where
   pub certs : List CertData
   pub many : length certs ≡ n
   pub made : AreTasksMade i p t certs
   pub files : writes ≡ cert_files names certs
-  pub sum_is : sum ≡ sum_below n (needs_of i p t certs)
+  pub sum_is : sum ≡ sum_over_chains n (needs_of i p t certs)
   pub few : sum ≤ n * 2 ^ 32
 
 no_files : (names : List (List ℕ)) → cert_files names [] ≡ []
@@ -228,7 +227,7 @@ unfolding cert_files
 no_files [] = refl
 no_files (n ∷ ns) = refl
 
-pub none_made : (names : List (List ℕ)) (i : ImageData) (p : PlanData) (t : TasksData) (writes : List Written) → writes ≡ [] → AreFilesSoFar names i p t 0 writes 0
+pub none_made : (names : List (List ℕ)) (i : ImageData) (p : PlanData) (t : TasksData) (writes : List ReportFile) → writes ≡ [] → AreFilesSoFar names i p t 0 writes 0
 none_made names i p t writes e = record {
   certs = [];
   many = refl;
@@ -238,100 +237,100 @@ none_made names i p t writes e = record {
   few = omega arith;
 }
 
-abbrev file_of : List ℕ → CertData → Written
-file_of name c = record { name = name; bytes = bytes_of c }
+abbrev file_of : List ℕ → CertData → ReportFile
+file_of name c = record { name = name; bytes = bytes_of_cert c }
 
 -- one certificate more
 file_next : (names : List (List ℕ)) (name : List ℕ) (certs : List CertData) (c : CertData) → slice_get names (length certs) ≡ Some name
-    → cert_files names (certs ++ c ∷ []) ≡ cert_files names certs ++ record { name = name; bytes = bytes_of c } ∷ []
+    → cert_files names (certs ++ c ∷ []) ≡ cert_files names certs ++ record { name = name; bytes = bytes_of_cert c } ∷ []
 unfolding cert_files
 file_next [] name certs c at = cc
-file_next (n ∷ ns) name [] c at = let e : n ≡ name = cc in ap (λ (x : List ℕ). file_of x c ∷ cert_files ns []) e ∙ ap (λ (ws : List Written). file_of name c ∷ ws) (no_files ns)
-file_next (n ∷ ns) name (d ∷ ds) c at = ap (λ (ws : List Written). file_of n d ∷ ws) (file_next ns name ds c at)
+file_next (n ∷ ns) name [] c at = let e : n ≡ name = cc in ap (λ (x : List ℕ). file_of x c ∷ cert_files ns []) e ∙ ap (λ (ws : List ReportFile). file_of name c ∷ ws) (no_files ns)
+file_next (n ∷ ns) name (d ∷ ds) c at = ap (λ (ws : List ReportFile). file_of n d ∷ ws) (file_next ns name ds c at)
 
-cert_before : (certs : List CertData) (c : CertData) (u : ℕ) → u < length certs → cert_of (certs ++ c ∷ []) u ≡ cert_of certs u
+cert_before : (certs : List CertData) (c : CertData) (u : ℕ) → u < length certs → cert_of_task (certs ++ c ∷ []) u ≡ cert_of_task certs u
 cert_before certs c u lt = get_or_append_left certs (c ∷ []) (record { version = 1; nodes = [] }) u lt
 
-cert_last : (certs : List CertData) (c : CertData) (u : ℕ) → length certs ≡ u → cert_of (certs ++ c ∷ []) u ≡ c
+cert_last : (certs : List CertData) (c : CertData) (u : ℕ) → length certs ≡ u → cert_of_task (certs ++ c ∷ []) u ≡ c
 cert_last certs c u e = get_or_push certs c (record { version = 1; nodes = [] }) u e
 
-made_more : (i : ImageData) (p : PlanData) (t : TasksData) (certs : List CertData) (c : CertData) (n : ℕ) → length certs ≡ n → AreTasksMade i p t certs → IsTaskMade i p t n c → AreTasksMade i p t (certs ++ c ∷ [])
+made_more : (i : ImageData) (p : PlanData) (t : TasksData) (certs : List CertData) (c : CertData) (n : ℕ) → length certs ≡ n → AreTasksMade i p t certs → IsTaskCertMade i p t n c → AreTasksMade i p t (certs ++ c ∷ [])
 made_more i p t certs c n many made here u lt =
     let len : length (certs ++ c ∷ []) ≡ length certs + 1 = length-append certs (c ∷ []) in
     elim (cases_lt u (length certs)) [
-      | inl less ↦ subst (IsTaskMade i p t u) (sym (cert_before certs c u less)) (made u less)
-      | inr ge ↦ let at : n ≡ u = omega arith in subst (IsTaskMade i p t u) (sym (cert_last certs c u (many ∙ at))) (subst (λ (w : ℕ). IsTaskMade i p t w c) at here)
+      | inl less ↦ subst (IsTaskCertMade i p t u) (sym (cert_before certs c u less)) (made u less)
+      | inr ge ↦ let at : n ≡ u = omega arith in subst (IsTaskCertMade i p t u) (sym (cert_last certs c u (many ∙ at))) (subst (λ (w : ℕ). IsTaskCertMade i p t w c) at here)
     ]
 
 -- one task more
-pub next_made : (names : List (List ℕ)) (i : ImageData) (p : PlanData) (t : TasksData) (n : ℕ) (name : List ℕ) (writes writes' : List Written) (sum need more : ℕ) (bytes : List ℕ) → slice_get names n ≡ Some name → more ≤ 2 ^ 32
-    → AreFilesSoFar names i p t n writes sum → SpellTask i p t n bytes need → writes' ≡ writes ++ record { name = name; bytes = bytes } ∷ [] → more ≡ (if n == 0 then need else max need 2)
+pub next_made : (names : List (List ℕ)) (i : ImageData) (p : PlanData) (t : TasksData) (n : ℕ) (name : List ℕ) (writes writes' : List ReportFile) (sum need more : ℕ) (bytes : List ℕ) → slice_get names n ≡ Some name → more ≤ 2 ^ 32
+    → AreFilesSoFar names i p t n writes sum → SpellTaskCert i p t n bytes need → writes' ≡ writes ++ record { name = name; bytes = bytes } ∷ [] → more ≡ (if n == 0 then need else max need 2)
     → AreFilesSoFar names i p t (n + 1) writes' (sum + more)
 next_made names i p t n name writes writes' sum need more bytes at small so_far s pushed counts_as =
     let certs = so_far.certs in
     let many : length certs ≡ n = so_far.many in
     let below = so_far.few in
-    let last : cert_of (certs ++ s.cert ∷ []) n ≡ s.cert = cert_last certs s.cert n many in
+    let last : cert_of_task (certs ++ s.cert ∷ []) n ≡ s.cert = cert_last certs s.cert n many in
     let need_is : more ≡ needs_of i p t (certs ++ s.cert ∷ []) n =
     counts_as ∙ ap (λ (m : ℕ). if n == 0 then m else max m 2) (s.need_is ∙ ap (certified_need (view_image_of i t n) (view_plan_of p t n)) (sym last)) in
-    let low : sum_below n (needs_of i p t certs) ≡ sum_below n (needs_of i p t (certs ++ s.cert ∷ [])) =
+    let low : sum_over_chains n (needs_of i p t certs) ≡ sum_over_chains n (needs_of i p t (certs ++ s.cert ∷ [])) =
     same_below n (needs_of i p t certs) (needs_of i p t (certs ++ s.cert ∷ []))
     (λ u lt. ap (λ (c : CertData). if u == 0 then certified_need (view_image_of i t u) (view_plan_of p t u) c else max (certified_need (view_image_of i t u) (view_plan_of p t u) c) 2) (sym (cert_before certs s.cert u (omega arith)))) in
     record {
       certs = certs ++ s.cert ∷ [];
       many = length-append certs (s.cert ∷ []) ∙ ap (λ m. m + 1) many;
       made = made_more i p t certs s.cert n many so_far.made s.made;
-      files = pushed ∙ ap (λ (ws : List Written). ws ++ record { name = name; bytes = bytes } ∷ []) so_far.files
+      files = pushed ∙ ap (λ (ws : List ReportFile). ws ++ record { name = name; bytes = bytes } ∷ []) so_far.files
           ∙ ap (λ (b : List ℕ). cert_files names certs ++ record { name = name; bytes = b } ∷ []) s.spell
           ∙ sym (file_next names name certs s.cert (ap (λ (m : ℕ). slice_get names m) many ∙ at));
-      sum_is = let so = so_far.sum_is in let next : sum_below (n + 1) (needs_of i p t (certs ++ s.cert ∷ [])) ≡ sum_below n (needs_of i p t (certs ++ s.cert ∷ [])) + needs_of i p t (certs ++ s.cert ∷ []) n = sum_next n (needs_of i p t (certs ++ s.cert ∷ [])) in omega arith;
+      sum_is = let so = so_far.sum_is in let next : sum_over_chains (n + 1) (needs_of i p t (certs ++ s.cert ∷ [])) ≡ sum_over_chains n (needs_of i p t (certs ++ s.cert ∷ [])) + needs_of i p t (certs ++ s.cert ∷ []) n = sum_next n (needs_of i p t (certs ++ s.cert ∷ [])) in omega arith;
       few = omega arith;
     }
 
 -- a task without a certificate is the first
-pub first_uncertified : (names : List (List ℕ)) (i : ImageData) (p : PlanData) (t : TasksData) (n : ℕ) (writes : List Written) (sum rule : ℕ) (k : Key) (x : ℕ) → n < count t → AreFilesSoFar names i p t n writes sum
-    → IsUncertified (view_image_of i t n) (view_plan_of p t n) t rule k x → IsFirstUncertified i p t n rule k x
+pub first_uncertified : (names : List (List ℕ)) (i : ImageData) (p : PlanData) (t : TasksData) (n : ℕ) (writes : List ReportFile) (sum rule : ℕ) (k : Key) (x : ℕ) → n < count t → AreFilesSoFar names i p t n writes sum
+    → IsTaskUncertified (view_image_of i t n) (view_plan_of p t n) t rule k x → IsFirstUncertified i p t n rule k x
 first_uncertified names i p t n writes sum rule k x lt so_far h = record {
   task = lt;
-  before = λ w less. (cert_of so_far.certs w, so_far.made w (let m = so_far.many in omega arith));
+  before = λ w less. (cert_of_task so_far.certs w, so_far.made w (let m = so_far.many in omega arith));
   uncertified = h;
 }
 
 -- all are made
-pub all_made : (names : List (List ℕ)) (i : ImageData) (p : PlanData) (t : TasksData) (n : ℕ) (writes : List Written) (sum : ℕ) → n ≡ count t → AreFilesSoFar names i p t n writes sum → AreFiles names i p t writes sum
+pub all_made : (names : List (List ℕ)) (i : ImageData) (p : PlanData) (t : TasksData) (n : ℕ) (writes : List ReportFile) (sum : ℕ) → n ≡ count t → AreFilesSoFar names i p t n writes sum → AreTaskCertFiles names i p t writes sum
 all_made names i p t n writes sum e so_far = record {
   certs = so_far.certs;
   many = so_far.many ∙ e;
   made = so_far.made;
   files = so_far.files;
-  sum_is = so_far.sum_is ∙ ap (λ (m : ℕ). sum_below m (needs_of i p t so_far.certs)) e;
+  sum_is = so_far.sum_is ∙ ap (λ (m : ℕ). sum_over_chains m (needs_of i p t so_far.certs)) e;
 }
 
 -- ---- the reports of a sum
-judged_all : (i : ImageData) (p : PlanData) (t : TasksData) (certs : List CertData) → length certs ≡ count t → AreTasksMade i p t certs → AreJudged i p t certs (count t)
+judged_all : (i : ImageData) (p : PlanData) (t : TasksData) (certs : List CertData) → length certs ≡ count t → AreTasksMade i p t certs → AreTasksJudged i p t certs (count t)
 judged_all i p t certs many made u lt = (made u (omega arith)).judged
 
-pub written_tasks : (names : List (List ℕ)) (i : ImageData) (fields p : PlanData) (parts t : TasksData) (writes : List Written) (sum n : ℕ) (r : Report) → fields ≡ p → IsPlan fields → parts ≡ t → AreTasks parts → FitPlan p t → HasRoutine i p t
-    → AreFiles names i p t writes sum → sum ≤ fields.areas - fields.reserve → n ≡ count t
+pub written_tasks : (names : List (List ℕ)) (i : ImageData) (fields p : PlanData) (parts t : TasksData) (writes : List ReportFile) (sum n : ℕ) (r : Report) → fields ≡ p → IsPlan fields → parts ≡ t → AreTasks parts → FitPlan p t → HasRoutine i p t
+    → AreTaskCertFiles names i p t writes sum → sum ≤ fields.areas - fields.reserve → n ≡ count t
     → r ≡ writes_files writes (certified_tasks_line sum (fields.areas - fields.reserve) n) → IsTaskcerting names i p t r
 written_tasks names i fields p parts t writes sum n r same is_plan same_t are fit has f within many e =
     let certs = f.certs in
     let room : sum_of_needs i p t certs ≤ p.areas - p.reserve = subst (λ (s : ℕ). s ≤ p.areas - p.reserve) f.sum_is (subst (λ (q : PlanData). sum ≤ q.areas - q.reserve) same within) in
-    certified certs has f.many f.made room (tasks_are_safe i p t (cert_of certs) (subst IsPlan same is_plan) (subst AreTasks same_t are) fit has (judged_all i p t certs f.many f.made) room)
+    certified certs has f.many f.made room (tasks_are_safe i p t (cert_of_task certs) (subst IsPlan same is_plan) (subst AreTasks same_t are) fit has (judged_all i p t certs f.many f.made) room)
     (e ∙ ap (λ (s : ℕ). writes_files writes (certified_tasks_line s (fields.areas - fields.reserve) n)) f.sum_is
     ∙ ap (λ (q : PlanData). writes_files writes (certified_tasks_line (sum_of_needs i p t certs) (q.areas - q.reserve) n)) same
     ∙ ap (λ (m : ℕ). writes_files writes (certified_tasks_line (sum_of_needs i p t certs) (p.areas - p.reserve) m)) many
-    ∙ ap (λ (ws : List Written). writes_files ws (certified_tasks_line (sum_of_needs i p t certs) (p.areas - p.reserve) (count t))) f.files)
+    ∙ ap (λ (ws : List ReportFile). writes_files ws (certified_tasks_line (sum_of_needs i p t certs) (p.areas - p.reserve) (count t))) f.files)
 
-pub above_made : (names : List (List ℕ)) (i : ImageData) (fields p : PlanData) (t : TasksData) (writes : List Written) (sum : ℕ) (r : Report) → fields ≡ p → HasRoutine i p t → AreFiles names i p t writes sum
-    → fields.areas - fields.reserve < sum → r ≡ says Refused (sum_line sum (fields.areas - fields.reserve)) → IsTaskcerting names i p t r
+pub above_made : (names : List (List ℕ)) (i : ImageData) (fields p : PlanData) (t : TasksData) (writes : List ReportFile) (sum : ℕ) (r : Report) → fields ≡ p → HasRoutine i p t → AreTaskCertFiles names i p t writes sum
+    → fields.areas - fields.reserve < sum → r ≡ says Refused (refused_sum_line sum (fields.areas - fields.reserve)) → IsTaskcerting names i p t r
 above_made names i fields p t writes sum r same has f more e =
     above f.certs has f.many f.made (subst (λ (s : ℕ). p.areas - p.reserve < s) f.sum_is (subst (λ (q : PlanData). q.areas - q.reserve < sum) same more))
-    (e ∙ ap (λ (s : ℕ). says Refused (sum_line s (fields.areas - fields.reserve))) f.sum_is ∙ ap (λ (q : PlanData). says Refused (sum_line (sum_of_needs i p t f.certs) (q.areas - q.reserve))) same)
+    (e ∙ ap (λ (s : ℕ). says Refused (refused_sum_line s (fields.areas - fields.reserve))) f.sum_is ∙ ap (λ (q : PlanData). says Refused (refused_sum_line (sum_of_needs i p t f.certs) (q.areas - q.reserve))) same)
 
 -- ---- as many names as tasks
-pub comes_counted : (names : List (List ℕ)) (t : TasksData) (P : Report → Type 0) (files : FilesSeen) (o : Outcome) → length names ≡ count t → IsTold P ⊥ o → Comes (with_a_name_each names t (answer P)) files files o
-comes_counted names t P files o many h = as_many (λ r. Comes r files files o) names t (answer P) many (comes_told P files o h)
+pub comes_counted : (names : List (List ℕ)) (t : TasksData) (P : Report → Type 0) (files : FilesSeen) (o : Outcome) → length names ≡ count t → IsToldOutcome P ⊥ o → IsCommandOutcome (with_name_per_task names t (answer P)) files files o
+comes_counted names t P files o many h = as_many (λ r. IsCommandOutcome r files files o) names t (answer P) many (comes_told P files o h)
 
-pub comes_miscounted : (names : List (List ℕ)) (t : TasksData) (P : Report → Type 0) (files : FilesSeen) (o : Outcome) → (length names ≡ count t → ⊥) → IsTold (λ r. r ≡ says BadInput (tasks_line Count)) ⊥ o → Comes (with_a_name_each names t (answer P)) files files o
-comes_miscounted names t P files o few h = not_as_many (λ r. Comes r files files o) names t (answer P) few (comes_told _ files o h)
+pub comes_miscounted : (names : List (List ℕ)) (t : TasksData) (P : Report → Type 0) (files : FilesSeen) (o : Outcome) → (length names ≡ count t → ⊥) → IsToldOutcome (λ r. r ≡ says BadInput (bad_tasks_line Count)) ⊥ o → IsCommandOutcome (with_name_per_task names t (answer P)) files files o
+comes_miscounted names t P files o few h = not_as_many (λ r. IsCommandOutcome r files files o) names t (answer P) few (comes_told _ files o h)

@@ -4,10 +4,10 @@ use Rattle.std.specs.Prelude.{max, if◌then◌else◌}
 use Rattle.std.proofs.lemmas.Bool.Decides.{eqb_tells}
 use Rattle.std.proofs.lemmas.Bool.{cases_lt}
 use Rattle.std.proofs.lemmas.Option.{slice_get-get_or}
-use Rattle.csa_chain.specs.SeveralChains.{sum_below}
+use Rattle.csa_chain.specs.SeveralChains.{sum_over_chains}
 use Rattle.elf_image.specs.Images.{ImageData}
 use Rattle.tcd_plan.specs.PlanData.{PlanData, IsPlan}
-use Rattle.tcd_text.specs.Lines.{lines_of}
+use Rattle.tcd_text.specs.Lines.{text_lines}
 use Rattle.tc_machine.specs.Safe.{Safe}
 use Rattle.depth_cert.specs.Certs.{CertData, IsCert}
 use Rattle.depth_cert.specs.declared.keys.Key.{Key}
@@ -27,8 +27,8 @@ use Rattle.tcd_reading.specs.Reports.{IsReportStatus, Report, says}
 use Rattle.tcd_reading.specs.Inputs.{Reading}
 use Rattle.tcd_forms.specs.Forms.{cert_form}
 use Rattle.tcd_driver.specs.CellAndTaskForms.{tasks_form}
-use Rattle.tcd_forms.specs.Lines.{certified_tasks_line, sum_line}
-use Rattle.tcd_driver.specs.Tasks.{cert_of, IsTaskRefused, unaccepted, not_apart, needs_of, sum_of_needs, AreJudged, IsTasksVerdict, no_switch, refused, above, certified, if_as_many, with_a_name_each, certs_reading}
+use Rattle.tcd_forms.specs.Lines.{certified_tasks_line, refused_sum_line}
+use Rattle.tcd_driver.specs.Tasks.{cert_of_task, IsTaskRefused, unaccepted, not_apart, needs_of, sum_of_needs, AreTasksJudged, IsTasksVerdict, no_switch, refused, above, certified, tasks_reading_if, with_name_per_task, task_certs_reading}
 use Rattle.tcd_reading.specs.declared.status.Status.{Status}
 use Rattle.tcd_reading.specs.declared.status.Status.TheVariants.{Done, Refused, BadInput}
 use Rattle.tcd_reading.proofs.Decided.{AreAlike, IsLawful, IsDecided, decided_each, decided_answer, status_is, writes_are}
@@ -37,8 +37,8 @@ use Rattle.tcd_forms.proofs.FormLaws.{cert_lawful}
 -- a text is tasks, or none
 pub tasks_lawful : (p : PlanData) → IsLawful (tasks_form p)
 tasks_lawful p = record {
-  one = λ b x y h k. let e = reads_one p (lines_of b) (Ok x) (Ok y) h k in cc;
-  apart = λ b t x h k. let e = reads_one p (lines_of b) (Ok x) (Err k.0) h k.1 in cc;
+  one = λ b x y h k. let e = reads_one p (text_lines b) (Ok x) (Ok y) h k in cc;
+  apart = λ b t x h k. let e = reads_one p (text_lines b) (Ok x) (Err k.0) h k.1 in cc;
 }
 
 -- ---- one task
@@ -86,12 +86,12 @@ module _ (i : ImageData) (p : PlanData) (t : TasksData) (certs : List CertData) 
   -- nothing is against the tasks
   record IsWell : Type 0 where
     pub routine : HasRoutine i p t
-    pub judged : AreJudged i p t certs (count t)
+    pub judged : AreTasksJudged i p t certs (count t)
     pub within : sum_of_needs i p t certs ≤ p.areas - p.reserve
 
   side : (r : Report) → IsTasksVerdict i p t certs r → ((r.status ≡ Refused) × (IsWell → ⊥)) ⊎ ((r.status ≡ Done) × IsWell)
   side r (no_switch x fault e) = inl (status_is r _ e, λ w. fault.fails (w.routine fault.place fault.within))
-  side r (refused u rule key addr has first e) = inl (status_is r _ e, λ w. refused_refutes i p t (cert_of certs u) u rule key addr first.refused (w.judged u first.task))
+  side r (refused u rule key addr has first e) = inl (status_is r _ e, λ w. refused_refutes i p t (cert_of_task certs u) u rule key addr first.refused (w.judged u first.task))
   side r (above has judged more e) = inl (status_is r _ e, λ w. let le = w.within in omega arith)
   side r (certified has judged within safe e) = inr (status_is r _ e, record { routine = has; judged = judged; within = within })
 
@@ -126,68 +126,68 @@ bad_input_alike text = record {
   one = λ r q e f. status_is r _ e ∙ sym (status_is q _ f);
 }
 
-decided_if : (b : Bool) (reading : Reading) → IsDecided reading → IsDecided (if_as_many b reading)
+decided_if : (b : Bool) (reading : Reading) → IsDecided reading → IsDecided (tasks_reading_if b reading)
 decided_if true reading h = h
 decided_if false reading h = decided_answer _ (bad_input_alike _)
 
-pub decided_each_named : (names : List (List ℕ)) (t : TasksData) (reading : Reading) → IsDecided reading → IsDecided (with_a_name_each names t reading)
+pub decided_each_named : (names : List (List ℕ)) (t : TasksData) (reading : Reading) → IsDecided reading → IsDecided (with_name_per_task names t reading)
 decided_each_named names t reading h = decided_if (length names == count t) reading h
 
-pub certs_decided : (names : List (List ℕ)) (i : ImageData) (p : PlanData) (t : TasksData) → IsDecided (certs_reading names i p t)
+pub certs_decided : (names : List (List ℕ)) (i : ImageData) (p : PlanData) (t : TasksData) → IsDecided (task_certs_reading names i p t)
 certs_decided names i p t = decided_each_named names t _ (decided_each CertData (λ _. cert_form) 0 names _ (λ _. cert_lawful) (λ cs. decided_answer _ (tasks_alike i p t cs)))
 
 -- ---- how many certificates there are
-by_bool : (P : Reading → Type 0) (reading : Reading) (b c : Bool) → b ≡ c → P (if_as_many c reading) → P (if_as_many b reading)
-by_bool P reading b c e h = subst (λ (x : Bool). P (if_as_many x reading)) (sym e) h
+by_bool : (P : Reading → Type 0) (reading : Reading) (b c : Bool) → b ≡ c → P (tasks_reading_if c reading) → P (tasks_reading_if b reading)
+by_bool P reading b c e h = subst (λ (x : Bool). P (tasks_reading_if x reading)) (sym e) h
 
-pub as_many : (P : Reading → Type 0) (names : List (List ℕ)) (t : TasksData) (reading : Reading) → length names ≡ count t → P reading → P (with_a_name_each names t reading)
+pub as_many : (P : Reading → Type 0) (names : List (List ℕ)) (t : TasksData) (reading : Reading) → length names ≡ count t → P reading → P (with_name_per_task names t reading)
 as_many P names t reading e h = elim (eqb_tells (length names) (count t)) [ inl y ↦ by_bool P reading _ true y.0 h | inr n ↦ absurd (n.1 e) ]
 
-pub not_as_many : (P : Reading → Type 0) (names : List (List ℕ)) (t : TasksData) (reading : Reading) → (length names ≡ count t → ⊥) → P (if_as_many false reading) → P (with_a_name_each names t reading)
+pub not_as_many : (P : Reading → Type 0) (names : List (List ℕ)) (t : TasksData) (reading : Reading) → (length names ≡ count t → ⊥) → P (tasks_reading_if false reading) → P (with_name_per_task names t reading)
 not_as_many P names t reading e h = elim (eqb_tells (length names) (count t)) [ inl y ↦ absurd (e y.1) | inr n ↦ by_bool P reading _ false n.0 h ]
 
 -- ---- the reports of a sum
 -- the certificates of the tasks below n are judged well, and this is the sum of their needs
 pub record AreTallied (image : ImageData) (plan : PlanData) (tasks : TasksData) (certs : List CertData) (n total : ℕ) : Type 0 where
-  pub judged : AreJudged image plan tasks certs n
-  pub sum : total ≡ sum_below n (needs_of image plan tasks certs)
+  pub judged : AreTasksJudged image plan tasks certs n
+  pub sum : total ≡ sum_over_chains n (needs_of image plan tasks certs)
   pub few : total ≤ n * 2 ^ 32
 
 pub certified_tasks : (i : ImageData) (fields p : PlanData) (parts t : TasksData) (certs : List CertData) (sum n : ℕ) (r : Report) → fields ≡ p → IsPlan fields → parts ≡ t → AreTasks parts → FitPlan p t → HasRoutine i p t
-    → AreJudged i p t certs (count t) → sum ≡ sum_of_needs i p t certs → sum ≤ fields.areas - fields.reserve → n ≡ count t → r ≡ says Done (certified_tasks_line sum (fields.areas - fields.reserve) n) → IsTasksVerdict i p t certs r
+    → AreTasksJudged i p t certs (count t) → sum ≡ sum_of_needs i p t certs → sum ≤ fields.areas - fields.reserve → n ≡ count t → r ≡ says Done (certified_tasks_line sum (fields.areas - fields.reserve) n) → IsTasksVerdict i p t certs r
 certified_tasks i fields p parts t certs sum n r same is_plan same_t are fit has judged is within many e =
     let room : sum_of_needs i p t certs ≤ p.areas - p.reserve = subst (λ (s : ℕ). s ≤ p.areas - p.reserve) is (subst (λ (q : PlanData). sum ≤ q.areas - q.reserve) same within) in
-    certified has judged room (tasks_are_safe i p t (cert_of certs) (subst IsPlan same is_plan) (subst AreTasks same_t are) fit has judged room)
+    certified has judged room (tasks_are_safe i p t (cert_of_task certs) (subst IsPlan same is_plan) (subst AreTasks same_t are) fit has judged room)
     (e ∙ ap (λ (s : ℕ). says Done (certified_tasks_line s (fields.areas - fields.reserve) n)) is
     ∙ ap (λ (q : PlanData). says Done (certified_tasks_line (sum_of_needs i p t certs) (q.areas - q.reserve) n)) same
     ∙ ap (λ (m : ℕ). says Done (certified_tasks_line (sum_of_needs i p t certs) (p.areas - p.reserve) m)) many)
 
 pub above_tasks : (i : ImageData) (fields p : PlanData) (t : TasksData) (certs : List CertData) (sum : ℕ) (r : Report) → fields ≡ p → HasRoutine i p t
-    → AreJudged i p t certs (count t) → sum ≡ sum_of_needs i p t certs → fields.areas - fields.reserve < sum → r ≡ says Refused (sum_line sum (fields.areas - fields.reserve)) → IsTasksVerdict i p t certs r
+    → AreTasksJudged i p t certs (count t) → sum ≡ sum_of_needs i p t certs → fields.areas - fields.reserve < sum → r ≡ says Refused (refused_sum_line sum (fields.areas - fields.reserve)) → IsTasksVerdict i p t certs r
 above_tasks i fields p t certs sum r same has judged is more e =
     above has judged (subst (λ (s : ℕ). p.areas - p.reserve < s) is (subst (λ (q : PlanData). q.areas - q.reserve < sum) same more))
-    (e ∙ ap (λ (s : ℕ). says Refused (sum_line s (fields.areas - fields.reserve))) is ∙ ap (λ (q : PlanData). says Refused (sum_line (sum_of_needs i p t certs) (q.areas - q.reserve))) same)
+    (e ∙ ap (λ (s : ℕ). says Refused (refused_sum_line s (fields.areas - fields.reserve))) is ∙ ap (λ (q : PlanData). says Refused (refused_sum_line (sum_of_needs i p t certs) (q.areas - q.reserve))) same)
 
 -- ---- one task after another
-pub sum_next : (n : ℕ) (f : ℕ → ℕ) → sum_below (n + 1) f ≡ sum_below n f + f n
-sum_next n f = let one : n + 1 ≡ suc n = omega arith in ap (λ (m : ℕ). sum_below m f) one
+pub sum_next : (n : ℕ) (f : ℕ → ℕ) → sum_over_chains (n + 1) f ≡ sum_over_chains n f + f n
+sum_next n f = let one : n + 1 ≡ suc n = omega arith in ap (λ (m : ℕ). sum_over_chains m f) one
 
 pub none_tallied : (i : ImageData) (p : PlanData) (t : TasksData) (certs : List CertData) → AreTallied i p t certs 0 0
 none_tallied i p t certs = record { judged = λ u lt. absurd (omega arith); sum = refl; few = omega arith }
 
-judged_next : (i : ImageData) (p : PlanData) (t : TasksData) (certs : List CertData) (n : ℕ) → AreJudged i p t certs n → IsJudged i p t (cert_of certs n) n → AreJudged i p t certs (n + 1)
+judged_next : (i : ImageData) (p : PlanData) (t : TasksData) (certs : List CertData) (n : ℕ) → AreTasksJudged i p t certs n → IsJudged i p t (cert_of_task certs n) n → AreTasksJudged i p t certs (n + 1)
 judged_next i p t certs n before here u lt =
-    elim (cases_lt u n) [ inl less ↦ before u less | inr not ↦ let e : n ≡ u = omega arith in subst (λ (w : ℕ). IsJudged i p t (cert_of certs w) w) e here ]
+    elim (cases_lt u n) [ inl less ↦ before u less | inr not ↦ let e : n ≡ u = omega arith in subst (λ (w : ℕ). IsJudged i p t (cert_of_task certs w) w) e here ]
 
 -- the next task is judged well, with its need
-pub next_tallied : (i : ImageData) (p : PlanData) (t : TasksData) (certs : List CertData) (c : CertData) (n total need more : ℕ) → cert_of certs n ≡ c → more ≤ 2 ^ 32 → AreTallied i p t certs n total
+pub next_tallied : (i : ImageData) (p : PlanData) (t : TasksData) (certs : List CertData) (c : CertData) (n total need more : ℕ) → cert_of_task certs n ≡ c → more ≤ 2 ^ 32 → AreTallied i p t certs n total
     → IsJudged i p t c n × (need ≡ certified_need (view_image_of i t n) (view_plan_of p t n) c) → more ≡ (if n == 0 then need else max need 2) → AreTallied i p t certs (n + 1) (total + more)
 next_tallied i p t certs c n total need more at small tallied judged counts =
-    let here : IsJudged i p t (cert_of certs n) n = subst (λ (x : CertData). IsJudged i p t x n) (sym at) judged.0 in
+    let here : IsJudged i p t (cert_of_task certs n) n = subst (λ (x : CertData). IsJudged i p t x n) (sym at) judged.0 in
     let below = tallied.few in
     let need_is : more ≡ needs_of i p t certs n =
     counts ∙ ap (λ (m : ℕ). if n == 0 then m else max m 2) (judged.1 ∙ ap (λ (x : CertData). certified_need (view_image_of i t n) (view_plan_of p t n) x) (sym at)) in
-    let step : sum_below (n + 1) (needs_of i p t certs) ≡ sum_below n (needs_of i p t certs) + needs_of i p t certs n = sum_next n (needs_of i p t certs) in
+    let step : sum_over_chains (n + 1) (needs_of i p t certs) ≡ sum_over_chains n (needs_of i p t certs) + needs_of i p t certs n = sum_next n (needs_of i p t certs) in
     record {
       judged = judged_next i p t certs n tallied.judged here;
       sum = let s = tallied.sum in omega arith;
@@ -198,5 +198,5 @@ some_same : (o : Option CertData) (a b : CertData) → o ≡ Some a → o ≡ So
 some_same o a b e f = cc
 
 -- the certificate at this place
-pub cert_here : (certs : List CertData) (n : ℕ) (x : CertData) → n < length certs → x ≡ get_or certs n x → cert_of certs n ≡ x
+pub cert_here : (certs : List CertData) (n : ℕ) (x : CertData) → n < length certs → x ≡ get_or certs n x → cert_of_task certs n ≡ x
 cert_here certs n x lt is = some_same _ _ _ (slice_get-get_or certs n (record { version = 1; nodes = [] }) lt) (slice_get-get_or certs n x lt) ∙ sym is

@@ -7,19 +7,19 @@ use Rattle.std.specs.Str.{bytes_eq}
 use Rattle.std.proofs.lemmas.Bool.{leb-true, and_parts, not-true}
 use Rattle.std.proofs.lemmas.Slice.Eq.{bytes_eq-Decides}
 use Rattle.tcd_text.specs.HexNumbers.{hex_number_of}
-use Rattle.tc_script.specs.Numbers.{number_of}
-use Rattle.tcd_base.specs.Files.{Map, FilesSeen}
-use Rattle.tcd_base.specs.Sink.{SinkSeen, with_appended}
-use Rattle.tcd_reading.specs.Reports.{Report, with_written}
-use Rattle.tcd_reading.specs.Inputs.{Reading, Says}
-use Rattle.tcd_reading.specs.Endings.{Prints, whole, cut, IsReported, HasEnded, Ends}
+use Rattle.tc_script.specs.Numbers.{script_number}
+use Rattle.tcd_base.specs.Files.{FileMap, FilesSeen}
+use Rattle.tcd_base.specs.Sink.{SinkSeen, sink_with_appended}
+use Rattle.tcd_reading.specs.Reports.{Report, with_report_files}
+use Rattle.tcd_reading.specs.Inputs.{Reading, ReadingSays}
+use Rattle.tcd_reading.specs.Endings.{PrintsWithStatus, whole, cut, IsReported, HasEnded, Ends}
 use Rattle.tcd_reading.specs.Endings as ending
 use Rattle.tcd_reading.specs.declared.status.Status.{Status}
 use Rattle.tcd_reading.specs.declared.status.Status.TheVariants.{Done, Refused, BadInput, Fault, NoMemory, BadWords}
 use Rattle.tcd_driver.specs.BadInputLines.{bad_words_line}
 use Rattle.tcd_driver.specs.Commands as asked
-use Rattle.tcd_driver.specs.Commands.{Command, command, reading_of, is_link, is_ship, is_tasks, is_taskcert, are_different}
-use Rattle.tcd_driver.specs.Tool.{Call, Means, EndsWithBadWords, ToolSays}
+use Rattle.tcd_driver.specs.Commands.{Command, command, reading_of, is_link, is_ship, is_tasks, is_taskcert, are_distinct_names}
+use Rattle.tcd_driver.specs.Tool.{ToolCall, ToolCallMeans, EndsWithBadWords, ToolSays}
 use Rattle.tcd_driver.proofs.Headlines.{Reports, check_is_done, check_refuses, cert_is_done, cert_refuses, ship_is_done, ship_refuses, run_is_done}
 use Rattle.tcd_driver.proofs.Headlines.Boots.{boot_is_done, boot_refuses, bootgen_is_done}
 use Rattle.tcd_driver.proofs.Headlines.Builds.{asm_is_done, asm_refuses, link_is_done, link_refuses}
@@ -46,17 +46,17 @@ bad_told = record { no_fault = λ e. cc; some_memory = λ e. cc; good_words = λ
 -- a call that ends with this status has a report, which is written and printed
 record Told (reading : Reading) (files files' : FilesSeen) (sink sink' : SinkSeen) (status : Status) : Type 0 where
   report : Report
-  said : Says reading files.held report
+  said : ReadingSays reading files.held report
   is : report.status ≡ status
-  held : files'.held ≡ with_written files.held report.writes
-  printed : sink'.written ≡ with_appended sink.written report.text
+  held : files'.held ≡ with_report_files files.held report.writes
+  printed : sink'.written ≡ sink_with_appended sink.written report.text
 
 module _ (reading : Reading) (files files' : FilesSeen) (sink sink' : SinkSeen) (status : Status) (is_told : IsTold status) where
-  by_printing : (r : Report) → Says reading files.held r → files'.held ≡ with_written files.held r.writes → Prints r.status r.text sink sink' status → Told reading files files' sink sink' status
+  by_printing : (r : Report) → ReadingSays reading files.held r → files'.held ≡ with_report_files files.held r.writes → PrintsWithStatus r.status r.text sink sink' status → Told reading files files' sink sink' status
   by_printing r said held (whole e p) = record { report = r; said = said; is = sym e; held = held; printed = p.written }
   by_printing r said held (cut e front counted full) = absurd (is_told.no_fault e)
 
-  by_report : (r : Report) → Says reading files.held r → IsReported r files files' sink sink' status → Told reading files files' sink sink' status
+  by_report : (r : Report) → ReadingSays reading files.held r → IsReported r files files' sink sink' status → Told reading files files' sink sink' status
   by_report r said (ending.printed held prints) = by_printing r said held prints
   by_report r said (ending.unwritten e quiet stopped counted unsteady) = absurd (is_told.no_fault e)
   by_report r said (ending.no_memory e quiet stopped) = absurd (is_told.some_memory e)
@@ -67,22 +67,22 @@ module _ (reading : Reading) (files files' : FilesSeen) (sink sink' : SinkSeen) 
   told (ending.no_memory e held quiet) = absurd (is_told.some_memory e)
 
 -- the files after it, if they reveal their contents
-left : (reading : Reading) (files files' : FilesSeen) (sink sink' : SinkSeen) (status : Status) (Holds : Map → Map → List ℕ → Type 0) (m : Map) → IsTold status → files.held ≡ Some m →
+left : (reading : Reading) (files files' : FilesSeen) (sink sink' : SinkSeen) (status : Status) (Holds : FileMap → FileMap → List ℕ → Type 0) (m : FileMap) → IsTold status → files.held ≡ Some m →
     Reports reading status Holds → Ends reading files files' sink sink' status →
-    (after : Map) × (printed : List ℕ) × (files'.held ≡ Some after) × ((text : List ℕ) → sink.written ≡ Some text → sink'.written ≡ Some (text ++ printed)) × Holds m after printed
+    (after : FileMap) × (printed : List ℕ) × (files'.held ≡ Some after) × ((text : List ℕ) → sink.written ≡ Some text → sink'.written ≡ Some (text ++ printed)) × Holds m after printed
 left reading files files' sink sink' status Holds m is_told held reports ends =
     let t = told reading files files' sink sink' status is_told ends.ended in
     let r = t.report in
-    let l = reports m r (subst (λ (o : Option Map). Says reading o r) held t.said) t.is in
-    (l.after, r.text, t.held ∙ ap (λ (o : Option Map). with_written o r.writes) held ∙ l.held, (λ text written. t.printed ∙ ap (λ (o : Option (List ℕ)). with_appended o r.text) written), l.holds)
+    let l = reports m r (subst (λ (o : Option FileMap). ReadingSays reading o r) held t.said) t.is in
+    (l.after, r.text, t.held ∙ ap (λ (o : Option FileMap). with_report_files o r.writes) held ∙ l.held, (λ text written. t.printed ∙ ap (λ (o : Option (List ℕ)). sink_with_appended o r.text) written), l.holds)
 
 -- words that are no command don't end with such a status
-by_prints : (text : List ℕ) (sink sink' : SinkSeen) (status : Status) → IsTold status → Prints BadWords text sink sink' status → ⊥
+by_prints : (text : List ℕ) (sink sink' : SinkSeen) (status : Status) → IsTold status → PrintsWithStatus BadWords text sink sink' status → ⊥
 by_prints text sink sink' status is_told (whole e p) = is_told.good_words e
 by_prints text sink sink' status is_told (cut e front counted full) = is_told.no_fault e
 
-pub bad_end : (files files' : FilesSeen) (sink sink' : SinkSeen) (status : Status) (line : List ℕ) → files' ≡ files → line ≡ bad_words_line → Prints BadWords line sink sink' status → EndsWithBadWords files files' sink sink' status
-bad_end files files' sink sink' status line same is prints = record { files_stay = same; prints = subst (λ (t : List ℕ). Prints BadWords t sink sink' status) is prints }
+pub bad_end : (files files' : FilesSeen) (sink sink' : SinkSeen) (status : Status) (line : List ℕ) → files' ≡ files → line ≡ bad_words_line → PrintsWithStatus BadWords line sink sink' status → EndsWithBadWords files files' sink sink' status
+bad_end files files' sink sink' status line same is prints = record { files_stay = same; prints = subst (λ (t : List ℕ). PrintsWithStatus BadWords t sink sink' status) is prints }
 
 -- ---- words
 -- a command that words ask for if a test holds
@@ -128,8 +128,8 @@ names_differ elf cert sources e same =
     cc
 
 -- the names that `taskcert` writes differ
-all_differ : (certs : List (List ℕ)) → is_taskcert (codes "taskcert") certs ≡ true → are_different certs ≡ true
-all_differ certs e = (and_parts (bytes_eq (codes "taskcert") (codes "taskcert") && nat_le 1 (length certs) && nat_le (length certs) 65531) (are_different certs) e).1
+all_differ : (certs : List (List ℕ)) → is_taskcert (codes "taskcert") certs ≡ true → are_distinct_names certs ≡ true
+all_differ certs e = (and_parts (bytes_eq (codes "taskcert") (codes "taskcert") && nat_le 1 (length certs) && nat_le (length certs) 65531) (are_distinct_names certs) e).1
 
 module _ (P : Command → Type 0) (Q : Type 0) (never : Q → ⊥) where
   -- a word for an address
@@ -179,7 +179,7 @@ module _ (P : Command → Type 0) (Q : Type 0) (never : Q → ⊥) where
       (n, refl, leb-true 1 n parts.0, leb-true n 500 parts.1, t.1)
 
 -- ---- a call
-module _ (call : Call) where
+module _ (call : ToolCall) where
   -- the call ends as this command says
   abbrev Ended : Command → Type 0
   Ended c = Ends (reading_of c) call.files call.files_after call.sink call.sink_after call.status
@@ -189,7 +189,7 @@ module _ (call : Call) where
 
   module _ (some : IfSome (command call.words) Ended) (none : IfNone (command call.words) BadEnd) where
     no_bad_end : (status : Status) → IsTold status → call.status ≡ status → BadEnd → ⊥
-    no_bad_end status is_told is bad = by_prints bad_words_line call.sink call.sink_after status is_told (subst (λ (s : Status). Prints BadWords bad_words_line call.sink call.sink_after s) is bad.prints)
+    no_bad_end status is_told is bad = by_prints bad_words_line call.sink call.sink_after status is_told (subst (λ (s : Status). PrintsWithStatus BadWords bad_words_line call.sink call.sink_after s) is bad.prints)
 
     some_by : (words : List (List ℕ)) → call.words ≡ words → IfSome (command words) Ended
     some_by words is = subst (λ (ws : List (List ℕ)). IfSome (command ws) Ended) is some
@@ -201,14 +201,14 @@ module _ (call : Call) where
     ends_with reading status is ends = subst (λ (s : Status). Ends reading call.files call.files_after call.sink call.sink_after s) is ends
 
     -- words that are this command for all names
-    fixed : (words : List (List ℕ)) (status : Status) (reading : Reading) (Holds : Map → Map → List ℕ → Type 0) → IsTold status → Reports reading status Holds →
-        (IfSome (command words) Ended → Ends reading call.files call.files_after call.sink call.sink_after call.status) → Means call words status Holds
+    fixed : (words : List (List ℕ)) (status : Status) (reading : Reading) (Holds : FileMap → FileMap → List ℕ → Type 0) → IsTold status → Reports reading status Holds →
+        (IfSome (command words) Ended → Ends reading call.files call.files_after call.sink call.sink_after call.status) → ToolCallMeans call words status Holds
     fixed words status reading Holds is_told reports asks m are is held =
         left reading call.files call.files_after call.sink call.sink_after status Holds m is_told held reports (ends_with reading status is (asks (some_by words are)))
 
     -- words that are a command if a test holds
-    tested : (words : List (List ℕ)) (status : Status) (c : Command) (b : Bool) (Holds : Map → Map → List ℕ → Type 0) → IsTold status → command words ≡ (if b then Some c else None) →
-        (b ≡ true → Reports (reading_of c) status Holds) → Means call words status Holds
+    tested : (words : List (List ℕ)) (status : Status) (c : Command) (b : Bool) (Holds : FileMap → FileMap → List ℕ → Type 0) → IsTold status → command words ≡ (if b then Some c else None) →
+        (b ≡ true → Reports (reading_of c) status Holds) → ToolCallMeans call words status Holds
     tested words status c b Holds is_told asks reports m are is held =
         let a = asked_if b c Ended BadEnd (no_bad_end status is_told is) (subst (λ (o : Option Command). IfSome o Ended) asks (some_by words are)) (subst (λ (o : Option Command). IfNone o BadEnd) asks (none_by words are)) in
         left (reading_of c) call.files call.files_after call.sink call.sink_after status Holds m is_told held (reports a.0) (ends_with (reading_of c) status is a.1)
@@ -229,10 +229,10 @@ module _ (call : Call) where
       dis = λ elf. fixed _ Done _ _ done_told (dis_is_done elf) (λ k. k);
       dis_refuses = λ elf. fixed _ BadInput _ _ bad_told (dis_refuses elf) (λ k. k);
       gen = λ word m are is held.
-          let n = gen_asked Ended BadEnd (no_bad_end Done done_told is) (number_of word) (some_by _ are) (none_by _ are) in
+          let n = gen_asked Ended BadEnd (no_bad_end Done done_told is) (script_number word) (some_by _ are) (none_by _ are) in
           left _ call.files call.files_after call.sink call.sink_after Done _ m done_told held (gen_is_done word n.0 (record { is = n.1; some = n.2; few = n.3 })) (ends_with _ Done is n.4);
       gen_refuses = λ word m are is held.
-          let n = gen_asked Ended BadEnd (no_bad_end Refused refused_told is) (number_of word) (some_by _ are) (none_by _ are) in
+          let n = gen_asked Ended BadEnd (no_bad_end Refused refused_told is) (script_number word) (some_by _ are) (none_by _ are) in
           left _ call.files call.files_after call.sink call.sink_after Refused _ m refused_told held (gen_refuses word n.0 (record { is = n.1; some = n.2; few = n.3 })) (ends_with _ Refused is n.4);
       asm = λ source object. fixed _ Done _ _ done_told (asm_is_done (record { source = source; object = object })) (λ k. k);
       asm_refuses = λ source object. fixed _ BadInput _ _ bad_told (asm_refuses (record { source = source; object = object })) (λ k. k);

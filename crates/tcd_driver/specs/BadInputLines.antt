@@ -1,5 +1,5 @@
--- The printed lines for words that are no command, and on faults of boot sequences, of files of
--- cells, and of files of tasks.
+-- The printed lines for words that are no command, and on faults of boot sequences and of input
+-- files.
 use Rattle.std.specs.Prelude.{ℕ, List, ◌∷◌, ◌++◌, codes, ◌≡◌, Err, []}
 use Rattle.tc_boot.specs.declared.judging.BootErr.{BootErr}
 use Rattle.tc_boot.specs.declared.judging.BootErr.TheVariants as boot
@@ -9,27 +9,29 @@ use Rattle.tc_object.specs.Grammar.{object_of}
 use Rattle.tc_link.specs.LayoutFaults.{layout_of}
 use Rattle.tc_link.specs.declared.layout_errors.LayoutErr.{LayoutErr}
 use Rattle.tcd_base.specs.declared.errors.FormErr.{FormErr}
-use Rattle.tcd_forms.specs.Lines.{layout_line, at_one}
+use Rattle.tcd_forms.specs.Lines.{bad_layout_line, line_end_at_one}
 use Rattle.value_cells.specs.declared.errors.CellsErr.{CellsErr}
 use Rattle.task_chains.specs.declared.task_lists.TasksErr.{TasksErr}
 use Rattle.value_cells.specs.declared.errors.CellsErr.TheVariants as cells
 use Rattle.task_chains.specs.declared.task_lists.TasksErr.TheVariants as tasks
+use Rattle.tc_stmt.specs.Lines.{lines_in}
+use Rattle.tc_asm.specs.DraftedSources.{IsLeastBrokenLine}
 
--- the line for words that are no command
+-- the driver's line for words that are no command
 unfoldable pub bad_words_line : List ℕ
 bad_words_line = codes "bad words" ++ 10 ∷ []
 
--- why a boot sequence is refused: the number of the reason, and for a difference the address of the
--- first byte that differs
-unfoldable pub unbooted_line : BootErr → List ℕ
-unbooted_line boot.Enabled = codes "refused boot 1" ++ 10 ∷ []
-unbooted_line boot.Odd = codes "refused boot 2" ++ 10 ∷ []
-unbooted_line boot.Outside = codes "refused boot 3" ++ 10 ∷ []
-unbooted_line (boot.Differs p) = codes "refused boot 4 at " ++ (hex_word p ++ 10 ∷ [])
+-- the driver's line on why a boot sequence is refused: the number of the reason, and for a
+-- difference the address of the first byte that differs
+unfoldable pub refused_boot_line : BootErr → List ℕ
+refused_boot_line boot.Enabled = codes "refused boot 1" ++ 10 ∷ []
+refused_boot_line boot.Odd = codes "refused boot 2" ++ 10 ∷ []
+refused_boot_line boot.Outside = codes "refused boot 3" ++ 10 ∷ []
+refused_boot_line (boot.Differs p) = codes "refused boot 4 at " ++ (hex_word p ++ 10 ∷ [])
 
 -- the bytes are no layout, and this is the line of their first fault
 abbrev pub IsNoLayout : List ℕ → List ℕ → Type 0
-IsNoLayout bytes line = (e : LayoutErr) × (layout_of bytes ≡ Err e) × (line ≡ layout_line e)
+IsNoLayout bytes line = (e : LayoutErr) × (layout_of bytes ≡ Err e) × (line ≡ bad_layout_line e)
 
 -- the bytes are no object; the line has the number of the first fault, the place of the object
 -- among the words, and the offset of the fault
@@ -38,19 +40,30 @@ IsNoObject place bytes line =
     (e : FormErr) × (object_of bytes ≡ Err e)
     × (line ≡ codes "bad object " ++ (decimal e.kind ++ (codes " at " ++ (decimal place ++ (codes " " ++ (decimal e.at ++ 10 ∷ []))))))
 
--- why a file isn't in the form of cells: the number of the fault, and its line
-unfoldable pub cells_line : CellsErr → List ℕ
-cells_line (cells.BadLine n) = codes "bad cells 1" ++ at_one n
-cells_line (cells.NotRam n) = codes "bad cells 2" ++ at_one n
-cells_line (cells.Twice n) = codes "bad cells 3" ++ at_one n
-cells_line (cells.TooMany n) = codes "bad cells 4" ++ at_one n
+-- the driver's line on why a file isn't in the form of cells: the number of the fault, and its line
+unfoldable pub bad_cells_line : CellsErr → List ℕ
+bad_cells_line (cells.BadLine n) = codes "bad cells 1" ++ line_end_at_one n
+bad_cells_line (cells.NotRam n) = codes "bad cells 2" ++ line_end_at_one n
+bad_cells_line (cells.Twice n) = codes "bad cells 3" ++ line_end_at_one n
+bad_cells_line (cells.TooMany n) = codes "bad cells 4" ++ line_end_at_one n
 
--- why a file isn't in the form of tasks: the number of the fault, and for the first two its line
-unfoldable pub tasks_line : TasksErr → List ℕ
-tasks_line (tasks.BadLine n) = codes "bad tasks 1" ++ at_one n
-tasks_line (tasks.TooMany n) = codes "bad tasks 2" ++ at_one n
-tasks_line tasks.TooFew = codes "bad tasks 3" ++ 10 ∷ []
-tasks_line tasks.NotRam = codes "bad tasks 4" ++ 10 ∷ []
-tasks_line tasks.NoRoom = codes "bad tasks 5" ++ 10 ∷ []
-tasks_line tasks.OnIsp = codes "bad tasks 6" ++ 10 ∷ []
-tasks_line tasks.Count = codes "bad tasks 7" ++ 10 ∷ []
+-- the driver's line on why a file isn't in the form of tasks: the number of the fault, and for the
+-- first two its line
+unfoldable pub bad_tasks_line : TasksErr → List ℕ
+bad_tasks_line (tasks.BadLine n) = codes "bad tasks 1" ++ line_end_at_one n
+bad_tasks_line (tasks.TooMany n) = codes "bad tasks 2" ++ line_end_at_one n
+bad_tasks_line tasks.TooFew = codes "bad tasks 3" ++ 10 ∷ []
+bad_tasks_line tasks.NotRam = codes "bad tasks 4" ++ 10 ∷ []
+bad_tasks_line tasks.NoRoom = codes "bad tasks 5" ++ 10 ∷ []
+bad_tasks_line tasks.OnIsp = codes "bad tasks 6" ++ 10 ∷ []
+bad_tasks_line tasks.Count = codes "bad tasks 7" ++ 10 ∷ []
+
+-- the driver's line on a source that breaks a rule: the rule, the place of the source among the
+-- words, and the line in it
+abbrev pub bad_source_words : ℕ → ℕ → ℕ → List ℕ
+bad_source_words rule place line = codes "bad source " ++ (decimal rule ++ (codes " at " ++ (decimal place ++ (codes " " ++ (decimal line ++ 10 ∷ [])))))
+
+-- the bytes are a source with a line that breaks a rule; the first such line is printed, with the
+-- least rule that it breaks
+abbrev pub SourceBreaksRule : List ℕ → List ℕ → Type 0
+SourceBreaksRule bytes printed = (line : ℕ) × (rule : ℕ) × IsLeastBrokenLine (lines_in bytes) line rule × (printed ≡ bad_source_words rule 0 line)

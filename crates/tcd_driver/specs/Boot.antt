@@ -9,12 +9,12 @@ use Rattle.tc_disasm.specs.Listing.{listing_of}
 use Rattle.tc_boot.specs.declared.judging.BootErr.{BootErr}
 use Rattle.tc_boot.specs.Sequence.{boot_events, boot_image_of}
 use Rattle.tc_boot.specs.Reset.{BootsSafely}
-use Rattle.tc_boot.specs.Judging.{HasBoot, Judges}
+use Rattle.tc_boot.specs.Judging.{HasBoot, JudgesBoot}
 use Rattle.tcd_reading.specs.Reports.{Report, says, writes_file}
 use Rattle.tcd_reading.specs.Inputs.{Reading, input, answer}
 use Rattle.tcd_forms.specs.Forms.{elf_form, plan_form, cert_form}
 use Rattle.tcd_forms.specs.Lines.{boots_line, generated_boot_line, refused_line}
-use Rattle.tcd_driver.specs.BadInputLines.{unbooted_line}
+use Rattle.tcd_driver.specs.BadInputLines.{refused_boot_line}
 use Rattle.tcd_reading.specs.declared.status.Status.TheVariants.{Done, Refused}
 
 -- ---- boot
@@ -33,7 +33,7 @@ pub data IsBootVerdict (image : ImageData) (plan : PlanData) (cert : CertData) (
       (rule : ℕ) (key : Key) (addr : ℕ) → IsFirstFault image plan cert rule key addr → report ≡ says Refused (refused_line rule key addr)
       → IsBootVerdict image plan cert at report
   unbooted :
-      (e : BootErr) → Accepts image plan cert → Judges image plan at (Err e) → report ≡ says Refused (unbooted_line e)
+      (e : BootErr) → Accepts image plan cert → JudgesBoot image plan at (Err e) → report ≡ says Refused (refused_boot_line e)
       → IsBootVerdict image plan cert at report
   boots :
       Accepts image plan cert → HasBoot image plan at → BootsSafely image plan at (certified_need image plan cert)

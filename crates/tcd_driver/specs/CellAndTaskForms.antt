@@ -5,12 +5,12 @@ use Rattle.value_cells.specs.CellListText.{Reads}
 use Rattle.value_cells.specs.declared.cells.Cell.{Cell}
 use Rattle.value_cells.specs.declared.errors.CellsErr.{CellsErr}
 use Rattle.tcd_reading.specs.Inputs.{FormSeen}
-use Rattle.tcd_text.specs.Lines.{lines_of}
+use Rattle.tcd_text.specs.Lines.{text_lines}
 use Rattle.task_chains.specs.Tasks.{TasksData}
 use Rattle.task_chains.specs.TaskListText as tasks
 use Rattle.task_chains.specs.declared.task_lists.TasksErr.{TasksErr}
 use Rattle.tcd_forms.specs.Lines.{long_cells_line, long_tasks_line}
-use Rattle.tcd_driver.specs.BadInputLines.{cells_line, tasks_line}
+use Rattle.tcd_driver.specs.BadInputLines.{bad_cells_line, bad_tasks_line}
 
 -- a file of cells for a plan
 abbrev pub cells_form : PlanData → FormSeen (List Cell)
@@ -18,7 +18,7 @@ cells_form p = record {
   limit = 2 ^ 24;
   long_line = long_cells_line;
   Is = λ bytes cells. Reads p bytes (Ok cells);
-  IsBad = λ bytes text. (e : CellsErr) × Reads p bytes (Err e) × (text ≡ cells_line e);
+  IsBad = λ bytes text. (e : CellsErr) × Reads p bytes (Err e) × (text ≡ bad_cells_line e);
 }
 
 -- a file of tasks for a plan
@@ -26,6 +26,6 @@ abbrev pub tasks_form : PlanData → FormSeen TasksData
 tasks_form p = record {
   limit = 2 ^ 24;
   long_line = long_tasks_line;
-  Is = λ bytes list. tasks.Reads p (lines_of bytes) (Ok list);
-  IsBad = λ bytes text. (e : TasksErr) × tasks.Reads p (lines_of bytes) (Err e) × (text ≡ tasks_line e);
+  Is = λ bytes list. tasks.Reads p (text_lines bytes) (Ok list);
+  IsBad = λ bytes text. (e : TasksErr) × tasks.Reads p (text_lines bytes) (Err e) × (text ≡ bad_tasks_line e);
 }

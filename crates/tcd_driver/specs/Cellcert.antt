@@ -4,7 +4,7 @@ use Rattle.elf_image.specs.Images.{ImageData}
 use Rattle.tcd_plan.specs.PlanData.{PlanData}
 use Rattle.depth_cert.specs.Certs.{CertData, IsCert}
 use Rattle.depth_cert.specs.declared.keys.Key.{Key}
-use Rattle.depth_cert.specs.Spelling.{bytes_of}
+use Rattle.depth_cert.specs.Spelling.{bytes_of_cert}
 use Rattle.cfg_recover.specs.RulesHoldOrFail.{Accepts, certified_need}
 use Rattle.cfg_recover.specs.CertRefusals.{IsRefusal}
 use Rattle.depth_maker.specs.LeastCertMade.{IsMade}
@@ -50,7 +50,7 @@ pub data IsCertifyingCells (name : List ℕ) (image : ImageData) (plan : PlanDat
       (cert : CertData) → IsCert cert → IsMade image (with_cells plan cells) 2 cert → KeepsCells image (with_cells plan cells) cells cert
       → SafeWithCells image plan cells (certified_need image (with_cells plan cells) cert)
       → report
-      ≡ writes_file name (bytes_of cert) (certified_cells_line (certified_need image (with_cells plan cells) cert) (plan.areas - plan.reserve) (length cells))
+      ≡ writes_file name (bytes_of_cert cert) (certified_cells_line (certified_need image (with_cells plan cells) cert) (plan.areas - plan.reserve) (length cells))
       → IsCertifyingCells name image plan cells report
 
 -- reads an executable, a plan and its cells; then a certificate is made

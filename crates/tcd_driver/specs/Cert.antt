@@ -4,13 +4,13 @@ use Rattle.elf_image.specs.Images.{ImageData}
 use Rattle.tcd_plan.specs.PlanData.{PlanData}
 use Rattle.depth_cert.specs.declared.keys.Key.{Key}
 use Rattle.depth_cert.specs.Certs.{CertData}
-use Rattle.depth_cert.specs.Spelling.{bytes_of}
+use Rattle.depth_cert.specs.Spelling.{bytes_of_cert}
 use Rattle.cfg_recover.specs.RulesHoldOrFail.{certified_need}
 use Rattle.tcd_reading.specs.Reports.{Report, says, writes_file}
 use Rattle.tcd_reading.specs.Inputs.{Reading, input, answer}
 use Rattle.tcd_forms.specs.Forms.{elf_form, plan_form}
 use Rattle.tcd_forms.specs.Lines.{refused_line, certified_line}
-use Rattle.tcd_driver.specs.BestCert.{IsCertified, AreNone}
+use Rattle.tcd_driver.specs.BestCert.{IsAcceptedBestCert, HaveNoBestCert}
 use Rattle.tcd_reading.specs.declared.status.Status.TheVariants.{Refused}
 
 -- the names of the files that `cert` reads, and of the certificate that it writes
@@ -23,11 +23,11 @@ pub record CertNames : Type 0 where
 -- the best one is written under this name, and every run is safe with its need.
 pub data IsCertifying (name : List ℕ) (image : ImageData) (plan : PlanData) (report : Report) : Type 0 where
   refused :
-      (rule : ℕ) (key : Key) (addr : ℕ) → AreNone image plan rule key addr → report ≡ says Refused (refused_line rule key addr)
+      (rule : ℕ) (key : Key) (addr : ℕ) → HaveNoBestCert image plan rule key addr → report ≡ says Refused (refused_line rule key addr)
       → IsCertifying name image plan report
   certified :
-      (cert : CertData) → IsCertified image plan cert
-      → report ≡ writes_file name (bytes_of cert) (certified_line (certified_need image plan cert) (plan.areas - plan.reserve))
+      (cert : CertData) → IsAcceptedBestCert image plan cert
+      → report ≡ writes_file name (bytes_of_cert cert) (certified_line (certified_need image plan cert) (plan.areas - plan.reserve))
       → IsCertifying name image plan report
 
 -- an executable and a plan are read; then a certificate is made

@@ -10,7 +10,7 @@ use Rattle.tcd_reading.specs.Reports.{Report, says}
 use Rattle.tcd_reading.specs.Inputs.{Reading, input, answer}
 use Rattle.tcd_forms.specs.Forms.{elf_form, plan_form}
 use Rattle.tcd_forms.specs.Lines.{refused_line}
-use Rattle.tcd_driver.specs.BestCert.{IsCertified, AreNone}
+use Rattle.tcd_driver.specs.BestCert.{IsAcceptedBestCert, HaveNoBestCert}
 use Rattle.tcd_reading.specs.declared.status.Status.TheVariants.{Done, Refused}
 
 -- the names of the files that `cfg` reads
@@ -20,18 +20,18 @@ pub record CfgNames : Type 0 where
 
 -- The text is the graph of the best certificate, so every run is safe. The edge of each step of
 -- each run is on one of its lines, with its address and the key of its frame.
-pub record IsDrawn (image : ImageData) (plan : PlanData) (text : List ℕ) : Type 0 where
+pub record IsCfgText (image : ImageData) (plan : PlanData) (text : List ℕ) : Type 0 where
   pub cert : CertData
-  pub certified : IsCertified image plan cert
+  pub certified : IsAcceptedBestCert image plan cert
   pub graph : IsGraph image plan cert text
   pub edges : EdgesStand image plan cert graph.lines
 
 -- the report on an image and a plan: no certificate is accepted, and the line says why; or the text
 -- is the graph of the best one
-pub data IsDrawing (image : ImageData) (plan : PlanData) (told : Report) : Type 0 where
-  refused : (rule : ℕ) (key : Key) (addr : ℕ) → AreNone image plan rule key addr → told ≡ says Refused (refused_line rule key addr) → IsDrawing image plan told
-  drawn : (text : List ℕ) → IsDrawn image plan text → told ≡ says Done text → IsDrawing image plan told
+pub data IsCfgReport (image : ImageData) (plan : PlanData) (told : Report) : Type 0 where
+  refused : (rule : ℕ) (key : Key) (addr : ℕ) → HaveNoBestCert image plan rule key addr → told ≡ says Refused (refused_line rule key addr) → IsCfgReport image plan told
+  drawn : (text : List ℕ) → IsCfgText image plan text → told ≡ says Done text → IsCfgReport image plan told
 
 -- an executable and a plan are read; then the graph is reported
 abbrev pub cfg_reading : CfgNames → Reading
-cfg_reading names = input ImageData elf_form names.elf (λ image. input PlanData plan_form names.plan (λ plan. answer (IsDrawing image plan)))
+cfg_reading names = input ImageData elf_form names.elf (λ image. input PlanData plan_form names.plan (λ plan. answer (IsCfgReport image plan)))

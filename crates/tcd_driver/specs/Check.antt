@@ -20,16 +20,16 @@ pub record CheckNames : Type 0 where
 
 -- The verdict on an image, a plan and a certificate. Either the certificate isn't accepted, and the
 -- line has its first fault. Or it is accepted, and every run is safe with its need.
-pub data IsVerdict (image : ImageData) (plan : PlanData) (cert : CertData) (report : Report) : Type 0 where
+pub data IsCheckVerdict (image : ImageData) (plan : PlanData) (cert : CertData) (report : Report) : Type 0 where
   refused :
       (rule : ℕ) (key : Key) (addr : ℕ) → IsFirstFault image plan cert rule key addr → report ≡ says Refused (refused_line rule key addr)
-      → IsVerdict image plan cert report
+      → IsCheckVerdict image plan cert report
   certified :
       Accepts image plan cert → Safe image plan (certified_need image plan cert)
-      → report ≡ says Done (certified_line (certified_need image plan cert) (plan.areas - plan.reserve)) → IsVerdict image plan cert report
+      → report ≡ says Done (certified_line (certified_need image plan cert) (plan.areas - plan.reserve)) → IsCheckVerdict image plan cert report
 
 -- an executable, a plan and a certificate are read; then the verdict is reported
 abbrev pub check_reading : CheckNames → Reading
 check_reading names =
     input ImageData elf_form names.elf
-    (λ image. input PlanData plan_form names.plan (λ plan. input CertData cert_form names.cert (λ cert. answer (IsVerdict image plan cert))))
+    (λ image. input PlanData plan_form names.plan (λ plan. input CertData cert_form names.cert (λ cert. answer (IsCheckVerdict image plan cert))))

@@ -7,7 +7,7 @@ use Rattle.tcd_reading.specs.Inputs.{Reading, input, answer}
 use Rattle.tcd_forms.specs.Forms.{elf_form}
 use Rattle.tcd_reading.specs.declared.status.Status.TheVariants.{Done}
 
--- the listing of an image
+-- the report of `dis`: the listing of an image is printed
 abbrev pub IsListing : ImageData → Report → Type 0
 IsListing image report = report ≡ says Done (listing_of image)
 

@@ -1,11 +1,9 @@
 -- What `gen` reports.
-use Rattle.std.specs.Prelude.{◌≡◌, ◌-◌, ◌&&◌, nat_le, ℕ, List, length, Option, ◌≤◌, Some}
-use Rattle.std.specs.Bool.{then_some}
-use Rattle.std.specs.Option.{option_and_then}
+use Rattle.std.specs.Prelude.{◌≡◌, ◌-◌, ℕ, List, length, ◌≤◌, Some}
 use Rattle.elf_image.specs.Images.{ImageData}
 use Rattle.tcd_plan.specs.PlanData.{PlanData}
 use Rattle.tc_machine.specs.Safe.{Safe}
-use Rattle.tc_script.specs.Numbers.{number_of}
+use Rattle.tc_script.specs.Numbers.{script_number}
 use Rattle.depth_cert.specs.declared.keys.Key.{Key}
 use Rattle.depth_cert.specs.Certs.{CertData, IsCert}
 use Rattle.depth_cert.specs.Nodes.{count_points}
@@ -20,31 +18,27 @@ use Rattle.tcd_reading.specs.Inputs.{Reading, answer}
 use Rattle.tcd_forms.specs.Lines.{refused_line, generated_line}
 use Rattle.tcd_reading.specs.declared.status.Status.TheVariants.{Done, Refused}
 
--- the number of functions that a word asks for: 1 to 500, in decimal without leading zeros
-abbrev pub functions_in : List ℕ → Option ℕ
-functions_in word = option_and_then (λ n. then_some (nat_le 1 n && nat_le n 500) n) (number_of word)
-
 -- The report on an image of this number of functions and its plan. Either no certificate of version
 -- 1 is accepted, and the line says why. Or the least one is made, every run is safe with its need,
 -- and the line has the numbers of its nodes and points.
-pub data IsSummary (functions : ℕ) (image : ImageData) (plan : PlanData) (report : Report) : Type 0 where
+pub data IsGenReport (functions : ℕ) (image : ImageData) (plan : PlanData) (report : Report) : Type 0 where
   refused :
       (rule : ℕ) (key : Key) (addr : ℕ) → NoneAccepted image plan 1 → IsRefusal image plan 1 rule key addr → report ≡ says Refused (refused_line rule key addr)
-      → IsSummary functions image plan report
+      → IsGenReport functions image plan report
   certified :
       (cert : CertData) → IsCert cert → IsMade image plan 1 cert → Safe image plan (certified_need image plan cert)
       → report
       ≡ says Done
       (generated_line functions (length cert.nodes) (count_points cert.nodes) (certified_need image plan cert) (plan.areas - plan.reserve))
-      → IsSummary functions image plan report
+      → IsGenReport functions image plan report
 
 -- nothing is read: the image of this number of functions and its plan are generated, and a
 -- certificate is made
 abbrev pub gen_reading : ℕ → Reading
-gen_reading functions = answer (IsSummary functions (generated_image functions) generated_plan)
+gen_reading functions = answer (IsGenReport functions (generated_image functions) generated_plan)
 
 -- the word is this number of functions, 1 to 500
-pub record IsCount (word : List ℕ) (functions : ℕ) : Type 0 where
-  pub is : number_of word ≡ Some functions
+pub record IsGenFunctionCount (word : List ℕ) (functions : ℕ) : Type 0 where
+  pub is : script_number word ≡ Some functions
   pub some : 1 ≤ functions
   pub few : functions ≤ 500

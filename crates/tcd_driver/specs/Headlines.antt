@@ -10,9 +10,9 @@ use Rattle.std.specs.Prelude.{◌≡◌, ◌≢◌, ◌<◌, ◌≤◌, ◌-◌,
 use Rattle.std.specs.Fmt.{decimal}
 use Rattle.std.specs.FinMap.{get}
 use Rattle.elf_image.specs.Images.{ImageData}
-use Rattle.elf_image.specs.ReadElf.{image_of}
+use Rattle.elf_image.specs.ReadElf.{image_of_file}
 use Rattle.tcd_plan.specs.PlanData.{PlanData}
-use Rattle.tcd_plan.specs.Plans.{Gives}
+use Rattle.tcd_plan.specs.Plans.{GivesPlan}
 use Rattle.tc_machine.specs.declared.events.Event.{Event}
 use Rattle.tc_machine.specs.declared.state.Machine.{Machine}
 use Rattle.tc_machine.specs.Stepping.{run}
@@ -20,79 +20,79 @@ use Rattle.tc_machine.specs.Safe.{Starts, Safe}
 use Rattle.tc_machine.specs.Starting.{StartsInZeros}
 use Rattle.tc_script.specs.ScriptData.{ScriptData}
 use Rattle.tc_script.specs.ScriptText.{script_of}
-use Rattle.tc_script.specs.DrivenRuns.{peak_of}
+use Rattle.tc_script.specs.DrivenRuns.{driven_peak}
 use Rattle.tc_script.specs.ScriptRuns.{script_events}
 use Rattle.tcd_text.specs.Digits.{hex_word}
 use Rattle.depth_cert.specs.declared.keys.Key.{Key}
 use Rattle.depth_cert.specs.Nodes.{NodeData}
 use Rattle.depth_cert.specs.Certs.{CertData, find_node}
 use Rattle.depth_cert.specs.Grammar.{certificate_of}
-use Rattle.depth_cert.specs.Spelling.{bytes_of}
+use Rattle.depth_cert.specs.Spelling.{bytes_of_cert}
 use Rattle.cfg_recover.specs.Entries.{start_key}
 use Rattle.cfg_recover.specs.RulesHoldOrFail.{Accepts, IsFirstFault}
 use Rattle.tc_link.specs.Layouts.{LayoutData}
 use Rattle.tc_link.specs.LayoutFaults.{layout_of}
-use Rattle.tcd_base.specs.Files.{Map}
-use Rattle.tcd_forms.specs.Forms.{SourceData, IsSource}
-use Rattle.tcd_forms.specs.Lines.{end_text, certified_words}
-use Rattle.tcd_report.specs.Texts.{kind_words}
+use Rattle.tcd_base.specs.Files.{FileMap}
+use Rattle.tcd_forms.specs.Lines.{run_end_text, certified_words}
+use Rattle.tcd_report.specs.Texts.{key_kind_words}
 use Rattle.tcd_driver.specs.BestCert.{EachIsRefused, IsLeastOfItsVersion, NoneIsAccepted}
 
 -- ---- files
 -- the name was held, and its bytes are at most `most` and of this form
-pub record HoldsFile (m : Map) (name : List ℕ) (most : ℕ) (HasForm : List ℕ → Type 0) : Type 0 where
+pub record HoldsFile (m : FileMap) (name : List ℕ) (most : ℕ) (HasForm : List ℕ → Type 0) : Type 0 where
   pub bytes : List ℕ
   pub held : get m name ≡ Some bytes
   pub short : length bytes ≤ most
   pub form : HasForm bytes
 
 -- the name holds this executable, of at most 16,777,216 bytes
-abbrev pub HoldsImage : Map → List ℕ → ImageData → Type 0
-HoldsImage m name image = HoldsFile m name (2 ^ 24) (λ bytes. image_of bytes ≡ Ok image)
+abbrev pub HoldsImage : FileMap → List ℕ → ImageData → Type 0
+HoldsImage m name image = HoldsFile m name (2 ^ 24) (λ bytes. image_of_file bytes ≡ Ok image)
 
 -- the name holds this plan
-abbrev pub HoldsPlan : Map → List ℕ → PlanData → Type 0
-HoldsPlan m name plan = HoldsFile m name (2 ^ 24) (λ bytes. Gives bytes (Ok plan))
+abbrev pub HoldsPlan : FileMap → List ℕ → PlanData → Type 0
+HoldsPlan m name plan = HoldsFile m name (2 ^ 24) (λ bytes. GivesPlan bytes (Ok plan))
 
 -- the name holds this certificate, of at most 1,073,741,824 bytes
-abbrev pub HoldsCert : Map → List ℕ → CertData → Type 0
+abbrev pub HoldsCert : FileMap → List ℕ → CertData → Type 0
 HoldsCert m name cert = HoldsFile m name (2 ^ 30) (λ bytes. certificate_of bytes ≡ Ok cert)
 
 -- the name holds this layout
-abbrev pub HoldsLayout : Map → List ℕ → LayoutData → Type 0
+abbrev pub HoldsLayout : FileMap → List ℕ → LayoutData → Type 0
 HoldsLayout m name layout = HoldsFile m name (2 ^ 24) (λ bytes. layout_of bytes ≡ Ok layout)
 
 -- each name holds the value at its place in the list
-abbrev pub HoldEach : {A : Type 0} → Map → ℕ → (List ℕ → A → Type 0) → List (List ℕ) → List A → Type 0
-HoldEach m most Is [] [] = Unit {0}
-HoldEach m most Is [] (x ∷ xs) = ⊥
-HoldEach m most Is (name ∷ names) [] = ⊥
-HoldEach m most Is (name ∷ names) (x ∷ xs) = HoldsFile m name most (λ bytes. Is bytes x) × HoldEach m most Is names xs
+abbrev pub HoldEachFile : {A : Type 0} → FileMap → ℕ → (List ℕ → A → Type 0) → List (List ℕ) → List A → Type 0
+HoldEachFile m most Is [] [] = Unit {0}
+HoldEachFile m most Is [] (x ∷ xs) = ⊥
+HoldEachFile m most Is (name ∷ names) [] = ⊥
+HoldEachFile m most Is (name ∷ names) (x ∷ xs) = HoldsFile m name most (λ bytes. Is bytes x) × HoldEachFile m most Is names xs
 
--- The file has more than `most` bytes, or its bytes have a fault. `line` is the line that says so.
-pub data IsBadFile (m : Map) (name : List ℕ) (most : ℕ) (long_line : List ℕ) (HasFault : List ℕ → List ℕ → Type 0) (line : List ℕ) : Type 0 where
+-- In the headlines: the file has more than `most` bytes, or its bytes have a fault. `line` is the
+-- line that says so.
+pub data IsBadFile (m : FileMap) (name : List ℕ) (most : ℕ) (long_line : List ℕ) (HasFault : List ℕ → List ℕ → Type 0) (line : List ℕ) : Type 0 where
   too_long : (bytes : List ℕ) → get m name ≡ Some bytes → most < length bytes → line ≡ long_line → IsBadFile m name most long_line HasFault line
   faulty : HoldsFile m name most (λ bytes. HasFault bytes line) → IsBadFile m name most long_line HasFault line
 
 -- an executable and its plan
-pub record AreFirmwareFiles (before : Map) (elf_name plan_name : List ℕ) (image : ImageData) (plan : PlanData) : Type 0 where
+pub record AreFirmwareFiles (before : FileMap) (elf_name plan_name : List ℕ) (image : ImageData) (plan : PlanData) : Type 0 where
   pub elf_file : HoldsImage before elf_name image
   pub plan_file : HoldsPlan before plan_name plan
 
 -- an executable, its plan, and a certificate
-pub record AreCheckFiles (before : Map) (elf_name plan_name cert_name : List ℕ) (image : ImageData) (plan : PlanData) (cert : CertData) : Type 0 where
+pub record AreCheckFiles (before : FileMap) (elf_name plan_name cert_name : List ℕ) (image : ImageData) (plan : PlanData) (cert : CertData) : Type 0 where
   pub elf_file : HoldsImage before elf_name image
   pub plan_file : HoldsPlan before plan_name plan
   pub cert_file : HoldsCert before cert_name cert
 
 -- at the end the name holds these bytes, and each other name holds what it held before
-pub record IsWritten (before after : Map) (name bytes : List ℕ) : Type 0 where
+pub record IsOnlyFileWritten (before after : FileMap) (name bytes : List ℕ) : Type 0 where
   pub written : get after name ≡ Some bytes
   pub others : (other : List ℕ) → other ≢ name → get after other ≡ get before other
 
 -- ---- certificates
 -- the certificate is accepted, and this is the need of its start's node
-pub record IsAcceptedWith (image : ImageData) (plan : PlanData) (cert : CertData) (need : ℕ) : Type 0 where
+pub record IsAcceptedWithNeed (image : ImageData) (plan : PlanData) (cert : CertData) (need : ℕ) : Type 0 where
   pub accepted : Accepts image plan cert
   pub start : NodeData
   pub start_is : find_node (start_key image plan) cert.nodes ≡ Some start
@@ -101,41 +101,42 @@ pub record IsAcceptedWith (image : ImageData) (plan : PlanData) (cert : CertData
 -- The certificate that is made: it is accepted, so that every run is safe with its need, and no
 -- other of its version is better. It is of version 2 only if each of version 1 is refused. Its
 -- bytes read back as it.
-pub record IsBestWith (image : ImageData) (plan : PlanData) (cert : CertData) (need : ℕ) : Type 0 where
-  pub accepted : IsAcceptedWith image plan cert need
+pub record IsBestWithNeed (image : ImageData) (plan : PlanData) (cert : CertData) (need : ℕ) : Type 0 where
+  pub accepted : IsAcceptedWithNeed image plan cert need
   pub safe : Safe image plan need
   pub version : (cert.version ≡ 1) ⊎ ((cert.version ≡ 2) × EachIsRefused image plan 1)
   pub least : IsLeastOfItsVersion image plan cert
-  pub reads : certificate_of (bytes_of cert) ≡ Ok cert
+  pub reads : certificate_of (bytes_of_cert cert) ≡ Ok cert
 
 -- ---- lines
 
--- a frame: its kind, its entry, its interrupt priority, and whether it runs on the interrupt stack
+-- a frame in the line of a headline: its kind, its entry, its interrupt priority, and whether it
+-- runs on the interrupt stack
 abbrev pub frame_words : Key → List ℕ
 frame_words frame =
-    kind_words frame.kind ++ (hex_word frame.entry ++ (codes " prio " ++ (decimal frame.prio ++ (codes " is " ++ ((if frame.is then 49 else 48) ∷ 10 ∷ [])))))
+    key_kind_words frame.kind ++ (hex_word frame.entry ++ (codes " prio " ++ (decimal frame.prio ++ (codes " is " ++ ((if frame.is then 49 else 48) ∷ 10 ∷ [])))))
 
--- the line of a refusal: the rule that fails, the address, and the frame
+-- the line of a refusal in the headlines: the rule that fails, the address, and the frame
 abbrev pub refused_words : ℕ → Key → ℕ → List ℕ
 refused_words rule frame address = codes "refused K" ++ (decimal rule ++ (codes " at " ++ (hex_word address ++ (codes " in " ++ frame_words frame))))
 
 -- ---- check
--- `check` is done: the certificate is accepted for the executable and the plan, so that every run
--- is safe with its need.
-pub record HeadlineOfCheck (elf_name plan_name cert_name : List ℕ) (before after : Map) (printed : List ℕ) : Type 0 where
+-- The main headline: `check` is done. The certificate is accepted for the executable and the plan,
+-- so that every run is safe with its need.
+pub record HeadlineOfCheck (elf_name plan_name cert_name : List ℕ) (before after : FileMap) (printed : List ℕ) : Type 0 where
   pub image : ImageData
   pub plan : PlanData
   pub cert : CertData
   pub need : ℕ
   pub files : AreCheckFiles before elf_name plan_name cert_name image plan cert
-  pub accepted : IsAcceptedWith image plan cert need
+  pub accepted : IsAcceptedWithNeed image plan cert need
   pub safe : Safe image plan need
   pub prints : printed ≡ certified_words need (plan.areas - plan.reserve)
   pub stays : after ≡ before
 
--- `check` refuses: the certificate isn't accepted. This rule fails first, in this frame at this
--- address. `report` refuses so, too.
-pub record RefusalByCheck (elf_name plan_name cert_name : List ℕ) (before after : Map) (printed : List ℕ) : Type 0 where
+-- The counterpart of the main headline: `check` refuses. The certificate isn't accepted. This rule
+-- fails first, in this frame at this address. `report` refuses so, too.
+pub record RefusalByCheck (elf_name plan_name cert_name : List ℕ) (before after : FileMap) (printed : List ℕ) : Type 0 where
   pub image : ImageData
   pub plan : PlanData
   pub cert : CertData
@@ -150,18 +151,18 @@ pub record RefusalByCheck (elf_name plan_name cert_name : List ℕ) (before afte
 
 -- ---- cert
 -- `cert` is done: CERT now holds the best certificate for the executable and the plan.
-pub record HeadlineOfCert (elf_name plan_name cert_name : List ℕ) (before after : Map) (printed : List ℕ) : Type 0 where
+pub record HeadlineOfCert (elf_name plan_name cert_name : List ℕ) (before after : FileMap) (printed : List ℕ) : Type 0 where
   pub image : ImageData
   pub plan : PlanData
   pub cert : CertData
   pub need : ℕ
   pub files : AreFirmwareFiles before elf_name plan_name image plan
-  pub best : IsBestWith image plan cert need
-  pub writes : IsWritten before after cert_name (bytes_of cert)
+  pub best : IsBestWithNeed image plan cert need
+  pub writes : IsOnlyFileWritten before after cert_name (bytes_of_cert cert)
   pub prints : printed ≡ certified_words need (plan.areas - plan.reserve)
 
 -- `cert` refuses: no certificate is accepted. `cfg` refuses so, too.
-pub record RefusalByCert (elf_name plan_name : List ℕ) (before after : Map) (printed : List ℕ) : Type 0 where
+pub record RefusalByCert (elf_name plan_name : List ℕ) (before after : FileMap) (printed : List ℕ) : Type 0 where
   pub image : ImageData
   pub plan : PlanData
   pub rule : ℕ
@@ -172,17 +173,10 @@ pub record RefusalByCert (elf_name plan_name : List ℕ) (before after : Map) (p
   pub prints : printed ≡ refused_words rule frame address
   pub stays : after ≡ before
 
--- ---- ship
--- the text of a source, and the object that it is assembled to
-pub record IsSourceText (bytes : List ℕ) (source : SourceData) : Type 0 where
-  pub text : source.text ≡ bytes
-  pub object : IsSource bytes source.object
-
 -- ---- run
--- `run` is done: the script's events were run from a start state in which everything that the plan
--- leaves open is 0. The line has the number of events, the most areas in use, and how the machine
--- ended.
-pub record HeadlineOfRun (elf_name plan_name script_name : List ℕ) (before after : Map) (printed : List ℕ) : Type 0 where
+-- `run` is done: the script's events were run from a start in which all that the plan leaves open
+-- is 0. The line has the number of events, the most areas in use, and how the machine ended.
+pub record HeadlineOfRun (elf_name plan_name script_name : List ℕ) (before after : FileMap) (printed : List ℕ) : Type 0 where
   pub image : ImageData
   pub plan : PlanData
   pub script : ScriptData
@@ -197,5 +191,5 @@ pub record HeadlineOfRun (elf_name plan_name script_name : List ℕ) (before aft
   pub last_is : last ≡ run start events
   pub prints :
       printed
-      ≡ codes "events " ++ (decimal (length events) ++ (codes " peak " ++ (decimal (peak_of start events) ++ (codes " " ++ end_text last.end last.pc))))
+      ≡ codes "events " ++ (decimal (length events) ++ (codes " peak " ++ (decimal (driven_peak start events) ++ (codes " " ++ run_end_text last.end last.pc))))
   pub stays : after ≡ before

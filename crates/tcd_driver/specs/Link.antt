@@ -9,7 +9,7 @@ use Rattle.tc_link.specs.Refusals.{Refusal}
 use Rattle.tcd_reading.specs.Reports.{Report, says, writes_file}
 use Rattle.tcd_reading.specs.Inputs.{Reading, input, each, answer}
 use Rattle.tcd_forms.specs.Forms.{layout_form, object_form}
-use Rattle.tcd_forms.specs.Lines.{link_line, linked_line}
+use Rattle.tcd_forms.specs.Lines.{bad_link_line, linked_line}
 use Rattle.tcd_reading.specs.declared.status.Status.TheVariants.{BadInput}
 
 -- the names of the layout and of the objects that `link` reads, and of the image that it writes
@@ -18,17 +18,17 @@ pub record LinkNames : Type 0 where
   pub image : List ℕ
   pub objects : List (List ℕ)
 
--- the report with an image that is written under this name
+-- `link` reports an image, and writes its file under this name
 abbrev pub WritesImage : List ℕ → ImageData → Report → Type 0
 WritesImage name image report = report ≡ writes_file name (file_of image) (linked_line (length (file_of image)))
 
 -- the report on objects that are linked by a layout: the image, or the first refusal
-pub data IsLinked (name : List ℕ) (layout : LayoutData) (objects : List ObjectData) (report : Report) : Type 0 where
-  refused : (r : Refusal) → image_of_objects objects layout ≡ Err r → report ≡ says BadInput (link_line r) → IsLinked name layout objects report
-  image : (i : ImageData) → image_of_objects objects layout ≡ Ok i → WritesImage name i report → IsLinked name layout objects report
+pub data IsLinkReport (name : List ℕ) (layout : LayoutData) (objects : List ObjectData) (report : Report) : Type 0 where
+  refused : (r : Refusal) → image_of_objects objects layout ≡ Err r → report ≡ says BadInput (bad_link_line r) → IsLinkReport name layout objects report
+  image : (i : ImageData) → image_of_objects objects layout ≡ Ok i → WritesImage name i report → IsLinkReport name layout objects report
 
 -- a layout and the objects are read; then they are linked
 abbrev pub link_reading : LinkNames → Reading
 link_reading names =
     input LayoutData layout_form names.layout
-    (λ layout. each ObjectData object_form 0 names.objects (λ objects. answer (IsLinked names.image layout objects)))
+    (λ layout. each ObjectData object_form 0 names.objects (λ objects. answer (IsLinkReport names.image layout objects)))

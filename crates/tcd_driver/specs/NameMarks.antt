@@ -2,6 +2,6 @@
 use Rattle.std.specs.Prelude.{◌+◌, ◌*◌, ◌%◌, ℕ, List, [], ◌∷◌}
 
 -- the mark of a name whose bytes so far have this mark
-abbrev pub mark_of : ℕ → List ℕ → ℕ
-mark_of mark [] = mark
-mark_of mark (byte ∷ bytes) = mark_of ((31 * mark + byte) % 262144) bytes
+abbrev pub name_mark : ℕ → List ℕ → ℕ
+name_mark mark [] = mark
+name_mark mark (byte ∷ bytes) = name_mark ((31 * mark + byte) % 262144) bytes

@@ -6,7 +6,7 @@ use Rattle.tc_machine.specs.declared.state.Machine.{Machine}
 use Rattle.tc_machine.specs.Starting.{StartsInZeros}
 use Rattle.tc_machine.specs.Stepping as stepping
 use Rattle.tc_script.specs.ScriptData.{ScriptData}
-use Rattle.tc_script.specs.DrivenRuns.{peak_of}
+use Rattle.tc_script.specs.DrivenRuns.{driven_peak}
 use Rattle.tc_script.specs.ScriptRuns.{script_events}
 use Rattle.tcd_reading.specs.Reports.{Report, says}
 use Rattle.tcd_reading.specs.Inputs.{Reading, input, answer}
@@ -21,17 +21,17 @@ pub record RunNames : Type 0 where
   pub script : List ℕ
 
 -- the line on the run of the script's events from a start state
-abbrev pub told_run : PlanData → ScriptData → Machine → List ℕ
-told_run plan script m =
-    run_line (length (script_events plan script m)) (peak_of m (script_events plan script m)) (stepping.run m (script_events plan script m))
+abbrev pub script_run_line : PlanData → ScriptData → Machine → List ℕ
+script_run_line plan script m =
+    run_line (length (script_events plan script m)) (driven_peak m (script_events plan script m)) (stepping.run m (script_events plan script m))
 
 -- the machine is started, with 0 for everything that the plan leaves open, and runs the script's
 -- events
-pub data IsRun (image : ImageData) (plan : PlanData) (script : ScriptData) (report : Report) : Type 0 where
-  ran : (m : Machine) → StartsInZeros image plan m → report ≡ says Done (told_run plan script m) → IsRun image plan script report
+pub data IsRunReport (image : ImageData) (plan : PlanData) (script : ScriptData) (report : Report) : Type 0 where
+  ran : (m : Machine) → StartsInZeros image plan m → report ≡ says Done (script_run_line plan script m) → IsRunReport image plan script report
 
 -- an executable, a plan and a script for the plan are read; then the run is reported
 abbrev pub run_reading : RunNames → Reading
 run_reading names =
     input ImageData elf_form names.elf
-    (λ image. input PlanData plan_form names.plan (λ plan. input ScriptData (script_form plan) names.script (λ script. answer (IsRun image plan script))))
+    (λ image. input PlanData plan_form names.plan (λ plan. input ScriptData (script_form plan) names.script (λ script. answer (IsRunReport image plan script))))

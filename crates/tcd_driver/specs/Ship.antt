@@ -1,24 +1,24 @@
 -- What `ship` reads, reports and writes.
 use Rattle.std.specs.Prelude.{◌≡◌, ◌-◌, ℕ, List, map, string_bytes, Ok, Err}
 use Rattle.elf_image.specs.Images.{ImageData}
-use Rattle.elf_image.specs.ReadElf.{image_of}
+use Rattle.elf_image.specs.ReadElf.{image_of_file}
 use Rattle.elf_image.specs.WrittenElf.{file_of}
 use Rattle.tcd_plan.specs.PlanData.{PlanData}
 use Rattle.tc_object.specs.Objects.{ObjectData}
 use Rattle.tc_link.specs.Layouts.{LayoutData}
 use Rattle.tc_link.specs.Linked.{image_of_objects}
 use Rattle.tc_link.specs.Refusals.{Refusal}
-use Rattle.tc_program.specs.PlacementLaws.{AreAssembled}
+use Rattle.tc_program.specs.PlacementLaws.{AreProgramObjects}
 use Rattle.tc_program.specs.Placed.{Placed}
 use Rattle.depth_cert.specs.declared.keys.Key.{Key}
 use Rattle.depth_cert.specs.Certs.{CertData}
-use Rattle.depth_cert.specs.Spelling.{bytes_of}
+use Rattle.depth_cert.specs.Spelling.{bytes_of_cert}
 use Rattle.cfg_recover.specs.RulesHoldOrFail.{certified_need}
 use Rattle.tcd_reading.specs.Reports.{Report, says, writes_two}
 use Rattle.tcd_reading.specs.Inputs.{Reading, input, each, answer}
 use Rattle.tcd_forms.specs.Forms.{SourceData, plan_form, layout_form, placed_source_form}
-use Rattle.tcd_forms.specs.Lines.{link_line, refused_line, certified_line}
-use Rattle.tcd_driver.specs.BestCert.{IsCertified, AreNone}
+use Rattle.tcd_forms.specs.Lines.{bad_link_line, refused_line, certified_line}
+use Rattle.tcd_driver.specs.BestCert.{IsAcceptedBestCert, HaveNoBestCert}
 use Rattle.tcd_driver.specs.declared.commands.ship.Shipment.{Shipment}
 use Rattle.tcd_reading.specs.declared.status.Status.TheVariants.{Refused, BadInput}
 
@@ -30,31 +30,31 @@ pub record ShipNames : Type 0 where
   pub cert : List ℕ
   pub sources : List (List ℕ)
 
--- the objects of sources
-abbrev pub objects_of : List SourceData → List ObjectData
-objects_of sources = map (λ s. s.object) sources
+-- the objects of the sources that `ship` reads
+abbrev pub objects_of_sources : List SourceData → List ObjectData
+objects_of_sources sources = map (λ s. s.object) sources
 
 -- the texts of sources
-abbrev pub texts_of : List SourceData → List (List ℕ)
-texts_of sources = map (λ s. s.text) sources
+abbrev pub texts_of_sources : List SourceData → List (List ℕ)
+texts_of_sources sources = map (λ s. s.text) sources
 
--- the image of the sources by the layout: it is linked from their objects, and has the bytes of
--- each statement
-pub record IsImageOf (layout : LayoutData) (sources : List SourceData) (image : ImageData) : Type 0 where
-  pub linked_is : image_of_objects (objects_of sources) layout ≡ Ok image
-  pub placed : Placed (texts_of sources) layout image
+-- the image that `ship` makes of its sources by the layout: it is linked from their objects, and
+-- has the bytes of each statement
+pub record IsImageOfSources (layout : LayoutData) (sources : List SourceData) (image : ImageData) : Type 0 where
+  pub linked_is : image_of_objects (objects_of_sources sources) layout ≡ Ok image
+  pub placed : Placed (texts_of_sources sources) layout image
 
 -- The report on an image and a plan. Either no certificate is accepted, and the line says why. Or
 -- two files are written: the image, whose bytes read back as it, and the best certificate; and
 -- every run is safe with its need.
 pub data IsShipping (elf cert : List ℕ) (plan : PlanData) (image : ImageData) (report : Report) : Type 0 where
   refused :
-      (rule : ℕ) (key : Key) (addr : ℕ) → AreNone image plan rule key addr → report ≡ says Refused (refused_line rule key addr)
+      (rule : ℕ) (key : Key) (addr : ℕ) → HaveNoBestCert image plan rule key addr → report ≡ says Refused (refused_line rule key addr)
       → IsShipping elf cert plan image report
   shipped :
-      (c : CertData) → IsCertified image plan c → image_of (file_of image) ≡ Ok image
+      (c : CertData) → IsAcceptedBestCert image plan c → image_of_file (file_of image) ≡ Ok image
       → report
-      ≡ writes_two (record { name = elf; bytes = file_of image }) (record { name = cert; bytes = bytes_of c })
+      ≡ writes_two (record { name = elf; bytes = file_of image }) (record { name = cert; bytes = bytes_of_cert c })
       (certified_line (certified_need image plan c) (plan.areas - plan.reserve))
       → IsShipping elf cert plan image report
 
@@ -62,10 +62,10 @@ pub data IsShipping (elf cert : List ℕ) (plan : PlanData) (image : ImageData) 
 -- their image
 pub data IsShipped (elf cert : List ℕ) (plan : PlanData) (layout : LayoutData) (sources : List SourceData) (report : Report) : Type 0 where
   unlinked :
-      (r : Refusal) → image_of_objects (objects_of sources) layout ≡ Err r → report ≡ says BadInput (link_line r)
+      (r : Refusal) → image_of_objects (objects_of_sources sources) layout ≡ Err r → report ≡ says BadInput (bad_link_line r)
       → IsShipped elf cert plan layout sources report
   of_image :
-      (i : ImageData) → IsImageOf layout sources i → IsShipping elf cert plan i report → IsShipped elf cert plan layout sources report
+      (i : ImageData) → IsImageOfSources layout sources i → IsShipping elf cert plan i report → IsShipped elf cert plan layout sources report
 
 -- a plan, a layout and the sources are read; then their image is made and certified
 abbrev pub ship_reading : ShipNames → Reading
@@ -75,20 +75,20 @@ ship_reading names =
     (λ layout. each SourceData placed_source_form 0 names.sources (λ sources. answer (IsShipped names.elf names.cert plan layout sources))))
 
 -- ---- the same, by the values in the code
--- the names of the files
+-- the names of the files of `ship`, as plain data
 abbrev pub ship_names : Shipment → ShipNames
 ship_names s = record { plan = s.plan.now; layout = s.layout.now; elf = s.elf.now; cert = s.cert.now; sources = map string_bytes s.sources.now }
 
--- sources that break no rule, with these objects
-pub record AreSourcesOf (sources : List SourceData) (objects : List ObjectData) : Type 0 where
-  pub objects_are : objects ≡ objects_of sources
-  pub assembled : AreAssembled (texts_of sources) (objects_of sources)
+-- the sources of `ship`, which break no rule, with these objects
+pub record AreSourcesOfObjects (sources : List SourceData) (objects : List ObjectData) : Type 0 where
+  pub objects_are : objects ≡ objects_of_sources sources
+  pub assembled : AreProgramObjects (texts_of_sources sources) (objects_of_sources sources)
 
 -- the report on sources, with the names of the two files to write
 abbrev pub shipped_by : Shipment → PlanData → LayoutData → List SourceData → Report → Type 0
 shipped_by s plan layout sources = IsShipped s.elf.now s.cert.now plan layout sources
 
 -- these bytes are the file of the image, and read back as it
-pub record SpellImage (image : ImageData) (bytes : List ℕ) : Type 0 where
+pub record SpellShippedImage (image : ImageData) (bytes : List ℕ) : Type 0 where
   pub spell : bytes ≡ file_of image
-  pub read : image_of (file_of image) ≡ Ok image
+  pub read : image_of_file (file_of image) ≡ Ok image

@@ -3,7 +3,7 @@ use Rattle.std.specs.Prelude.{◌≡◌, ◌-◌, ◌<◌, ◌≤◌, ℕ, List,
 use Rattle.elf_image.specs.Images.{ImageData}
 use Rattle.tcd_plan.specs.PlanData.{PlanData}
 use Rattle.depth_cert.specs.Certs.{CertData, IsCert}
-use Rattle.depth_cert.specs.Spelling.{bytes_of}
+use Rattle.depth_cert.specs.Spelling.{bytes_of_cert}
 use Rattle.depth_cert.specs.declared.keys.Key.{Key}
 use Rattle.tc_machine.specs.Safe.{Safe}
 use Rattle.cfg_recover.specs.RulesHoldOrFail.{Accepts, certified_need}
@@ -14,19 +14,18 @@ use Rattle.task_chains.specs.Tasks.{TasksData, count}
 use Rattle.task_chains.specs.SwitchRoutine.{HasRoutine, IsRoutineFault}
 use Rattle.task_chains.specs.Views.{view_image_of, view_plan_of}
 use Rattle.task_chains.specs.Rule17.{KeepsApart, IsTaskFault}
-use Rattle.task_chains.specs.SafeTasks.{SafeTasks}
-use Rattle.tcd_reading.specs.Reports.{Report, Written, says, writes_files}
+use Rattle.task_chains.specs.SafeTasks.{SafeTasks, IsJudged}
+use Rattle.tcd_reading.specs.Reports.{Report, ReportFile, says, writes_files}
 use Rattle.tcd_reading.specs.Inputs.{Reading, input, answer}
 use Rattle.tcd_driver.specs.CellAndTaskForms.{tasks_form}
 use Rattle.tcd_forms.specs.Forms.{elf_form, plan_form}
-use Rattle.tcd_forms.specs.Lines.{switch_line, refused_task_line, sum_line, certified_tasks_line}
-use Rattle.tcd_driver.specs.Tasks.{cert_of, needs_of, sum_of_needs, with_a_name_each}
+use Rattle.tcd_forms.specs.Lines.{refused_switch_line, refused_task_line, refused_sum_line, certified_tasks_line}
+use Rattle.tcd_driver.specs.Tasks.{cert_of_task, needs_of, sum_of_needs, with_name_per_task}
 use Rattle.tcd_driver.specs.declared.cert_making.Making.{Making}
 use Rattle.tcd_driver.specs.declared.cert_making.Making.TheVariants as making
 use Rattle.tcd_driver.specs.declared.commands.taskcert.TasksMaking.{TasksMaking}
 use Rattle.tcd_driver.specs.declared.commands.taskcert.TasksMaking.TheVariants as all
 use Rattle.tcd_reading.specs.declared.status.Status.TheVariants.{Refused}
-use Rattle.tcd_driver.specs.Headlines.Tasks.{IsTaskMade, SpellTask}
 
 -- the names of the files that `taskcert` reads, and of the certificates that it writes
 pub record TaskcertNames : Type 0 where
@@ -38,32 +37,38 @@ pub record TaskcertNames : Type 0 where
 -- ---- one task
 
 -- each certificate of version 2 that is accepted for a view fails rule 17
-abbrev pub NoneApart : ImageData → PlanData → TasksData → Type 0
-NoneApart view plan tasks =
+abbrev pub NoneKeepsTaskApart : ImageData → PlanData → TasksData → Type 0
+NoneKeepsTaskApart view plan tasks =
     (cert : CertData) → IsCert cert → cert.version ≡ 2 → Accepts view plan cert → KeepsApart view plan tasks cert → ⊥
 
--- no certificate of version 2 is accepted for a view, for this reason; or each one that is accepted
--- fails rule 17, and this is the first place at which the least one fails it
-pub data IsUncertified (view : ImageData) (plan : PlanData) (tasks : TasksData) : ℕ → Key → ℕ → Type 0 where
-  unaccepted : (rule : ℕ) (key : Key) (addr : ℕ) → NoneAccepted view plan 2 → IsRefusal view plan 2 rule key addr → IsUncertified view plan tasks rule key addr
+-- `taskcert` has no certificate for a view: none of version 2 is accepted, for this reason; or each
+-- accepted one fails rule 17, and this is the first place at which the least one does
+pub data IsTaskUncertified (view : ImageData) (plan : PlanData) (tasks : TasksData) : ℕ → Key → ℕ → Type 0 where
+  unaccepted : (rule : ℕ) (key : Key) (addr : ℕ) → NoneAccepted view plan 2 → IsRefusal view plan 2 rule key addr → IsTaskUncertified view plan tasks rule key addr
   not_apart :
-      (cert : CertData) (key : Key) (addr : ℕ) → IsCert cert → IsMade view plan 2 cert → IsTaskFault view plan tasks cert key addr → NoneApart view plan tasks
-      → IsUncertified view plan tasks 17 key addr
+      (cert : CertData) (key : Key) (addr : ℕ) → IsCert cert → IsMade view plan 2 cert → IsTaskFault view plan tasks cert key addr → NoneKeepsTaskApart view plan tasks
+      → IsTaskUncertified view plan tasks 17 key addr
+
+-- this is the least certificate of version 2 that is accepted for the task's view, and it is judged
+-- well
+pub record IsTaskCertMade (image : ImageData) (plan : PlanData) (tasks : TasksData) (u : ℕ) (cert : CertData) : Type 0 where
+  pub made : IsMade (view_image_of image tasks u) (view_plan_of plan tasks u) 2 cert
+  pub judged : IsJudged image plan tasks cert u
 
 -- ---- all tasks
 -- these are the certificates of the first tasks
 abbrev pub AreTasksMade : ImageData → PlanData → TasksData → List CertData → Type 0
-AreTasksMade image plan tasks certs = (u : ℕ) → u < length certs → IsTaskMade image plan tasks u (cert_of certs u)
+AreTasksMade image plan tasks certs = (u : ℕ) → u < length certs → IsTaskCertMade image plan tasks u (cert_of_task certs u)
 
 -- task u is the first for which no certificate is judged well
 pub record IsFirstUncertified (image : ImageData) (plan : PlanData) (tasks : TasksData) (u rule : ℕ) (key : Key) (addr : ℕ) : Type 0 where
   pub task : u < count tasks
-  pub before : (w : ℕ) → w < u → (cert : CertData) × IsTaskMade image plan tasks w cert
-  pub uncertified : IsUncertified (view_image_of image tasks u) (view_plan_of plan tasks u) tasks rule key addr
+  pub before : (w : ℕ) → w < u → (cert : CertData) × IsTaskCertMade image plan tasks w cert
+  pub uncertified : IsTaskUncertified (view_image_of image tasks u) (view_plan_of plan tasks u) tasks rule key addr
 
 -- a file for each certificate, under its name
-unfoldable pub cert_files : List (List ℕ) → List CertData → List Written
-cert_files (name ∷ names) (cert ∷ certs) = record { name = name; bytes = bytes_of cert } ∷ cert_files names certs
+unfoldable pub cert_files : List (List ℕ) → List CertData → List ReportFile
+cert_files (name ∷ names) (cert ∷ certs) = record { name = name; bytes = bytes_of_cert cert } ∷ cert_files names certs
 cert_files _ _ = []
 
 -- The report on an image, a plan and its tasks. The image doesn't have the switch routine; or it
@@ -71,14 +76,14 @@ cert_files _ _ = []
 -- but the sum of the least ones' needs is above the areas without the reserve. Else the least ones
 -- are written under their names, and every run of all tasks is safe.
 pub data IsTaskcerting (names : List (List ℕ)) (image : ImageData) (plan : PlanData) (tasks : TasksData) (report : Report) : Type 0 where
-  no_switch : (addr : ℕ) → IsRoutineFault image plan tasks addr → report ≡ says Refused (switch_line addr) → IsTaskcerting names image plan tasks report
+  no_switch : (addr : ℕ) → IsRoutineFault image plan tasks addr → report ≡ says Refused (refused_switch_line addr) → IsTaskcerting names image plan tasks report
   refused :
       (u rule : ℕ) (key : Key) (addr : ℕ) → HasRoutine image plan tasks → IsFirstUncertified image plan tasks u rule key addr
       → report ≡ says Refused (refused_task_line rule key addr u) → IsTaskcerting names image plan tasks report
   above :
       (certs : List CertData) → HasRoutine image plan tasks → length certs ≡ count tasks → AreTasksMade image plan tasks certs
       → plan.areas - plan.reserve < sum_of_needs image plan tasks certs
-      → report ≡ says Refused (sum_line (sum_of_needs image plan tasks certs) (plan.areas - plan.reserve)) → IsTaskcerting names image plan tasks report
+      → report ≡ says Refused (refused_sum_line (sum_of_needs image plan tasks certs) (plan.areas - plan.reserve)) → IsTaskcerting names image plan tasks report
   certified :
       (certs : List CertData) → HasRoutine image plan tasks → length certs ≡ count tasks → AreTasksMade image plan tasks certs
       → sum_of_needs image plan tasks certs ≤ plan.areas - plan.reserve → SafeTasks image plan tasks (needs_of image plan tasks certs)
@@ -91,33 +96,40 @@ taskcert_reading names =
     input ImageData elf_form names.elf
     (λ image. input PlanData plan_form names.plan
     (λ plan. input TasksData (tasks_form plan) names.tasks
-    (λ tasks. with_a_name_each names.certs tasks (answer (IsTaskcerting names.certs image plan tasks)))))
+    (λ tasks. with_name_per_task names.certs tasks (answer (IsTaskcerting names.certs image plan tasks)))))
 
 -- ---- by what the code has
 -- the bytes spell the least certificate of a view, which keeps rule 17, and this is its need
-pub record SpellApart (view : ImageData) (plan : PlanData) (tasks : TasksData) (bytes : List ℕ) (need : ℕ) : Type 0 where
+pub record SpellTaskViewCert (view : ImageData) (plan : PlanData) (tasks : TasksData) (bytes : List ℕ) (need : ℕ) : Type 0 where
   pub cert : CertData
-  pub spell : bytes ≡ bytes_of cert
+  pub spell : bytes ≡ bytes_of_cert cert
   pub is_cert : IsCert cert
   pub made : IsMade view plan 2 cert
   pub apart : KeepsApart view plan tasks cert
   pub safe : Safe view plan need
   pub need_is : need ≡ certified_need view plan cert
 
--- the result of making a certificate for a view
-abbrev pub MakesApart : ImageData → PlanData → TasksData → Making → Type 0
-MakesApart view plan tasks (making.Certified bytes need) = SpellApart view plan tasks bytes.items need
-MakesApart view plan tasks (making.Refused rule key addr) = IsUncertified view plan tasks rule key addr
-MakesApart view plan tasks making.NoMemory = Unit {0}
+-- the result of making a certificate for a task's view
+abbrev pub MakesTaskViewCert : ImageData → PlanData → TasksData → Making → Type 0
+MakesTaskViewCert view plan tasks (making.Certified bytes need) = SpellTaskViewCert view plan tasks bytes.items need
+MakesTaskViewCert view plan tasks (making.Refused rule key addr) = IsTaskUncertified view plan tasks rule key addr
+MakesTaskViewCert view plan tasks making.NoMemory = Unit {0}
+
+-- the bytes spell the certificate of task u, with this need
+pub record SpellTaskCert (image : ImageData) (plan : PlanData) (tasks : TasksData) (u : ℕ) (bytes : List ℕ) (need : ℕ) : Type 0 where
+  pub cert : CertData
+  pub spell : bytes ≡ bytes_of_cert cert
+  pub made : IsTaskCertMade image plan tasks u cert
+  pub need_is : need ≡ certified_need (view_image_of image tasks u) (view_plan_of plan tasks u) cert
 
 -- the result of making a certificate for task u
-abbrev pub MakesTask : ImageData → PlanData → TasksData → ℕ → Making → Type 0
-MakesTask image plan tasks u (making.Certified bytes need) = SpellTask image plan tasks u bytes.items need
-MakesTask image plan tasks u (making.Refused rule key addr) = IsUncertified (view_image_of image tasks u) (view_plan_of plan tasks u) tasks rule key addr
-MakesTask image plan tasks u making.NoMemory = Unit {0}
+abbrev pub MakesTaskCert : ImageData → PlanData → TasksData → ℕ → Making → Type 0
+MakesTaskCert image plan tasks u (making.Certified bytes need) = SpellTaskCert image plan tasks u bytes.items need
+MakesTaskCert image plan tasks u (making.Refused rule key addr) = IsTaskUncertified (view_image_of image tasks u) (view_plan_of plan tasks u) tasks rule key addr
+MakesTaskCert image plan tasks u making.NoMemory = Unit {0}
 
--- these are the files of a certificate for each task, and this is the sum of the needs
-pub record AreFiles (names : List (List ℕ)) (image : ImageData) (plan : PlanData) (tasks : TasksData) (writes : List Written) (sum : ℕ) : Type 0 where
+-- the files that `taskcert` writes, a certificate for each task, with the sum of the needs
+pub record AreTaskCertFiles (names : List (List ℕ)) (image : ImageData) (plan : PlanData) (tasks : TasksData) (writes : List ReportFile) (sum : ℕ) : Type 0 where
   pub certs : List CertData
   pub many : length certs ≡ count tasks
   pub made : AreTasksMade image plan tasks certs
@@ -125,7 +137,7 @@ pub record AreFiles (names : List (List ℕ)) (image : ImageData) (plan : PlanDa
   pub sum_is : sum ≡ sum_of_needs image plan tasks certs
 
 -- the result of making a certificate for each task
-abbrev pub MakesAll : List (List ℕ) → ImageData → PlanData → TasksData → TasksMaking → Type 0
-MakesAll names image plan tasks (all.Certified writes sum) = AreFiles names image plan tasks writes.items sum
-MakesAll names image plan tasks (all.Against u rule key addr) = IsFirstUncertified image plan tasks u rule key addr
-MakesAll names image plan tasks all.NoMemory = Unit {0}
+abbrev pub MakesAllTaskCerts : List (List ℕ) → ImageData → PlanData → TasksData → TasksMaking → Type 0
+MakesAllTaskCerts names image plan tasks (all.Certified writes sum) = AreTaskCertFiles names image plan tasks writes.items sum
+MakesAllTaskCerts names image plan tasks (all.Against u rule key addr) = IsFirstUncertified image plan tasks u rule key addr
+MakesAllTaskCerts names image plan tasks all.NoMemory = Unit {0}

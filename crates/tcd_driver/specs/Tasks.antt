@@ -1,6 +1,6 @@
 -- What `tasks` reads and prints.
 use Rattle.std.specs.Prelude.{◌≡◌, ◌-◌, ◌<◌, ◌≤◌, ◌==◌, ℕ, Bool, true, false, List, [], length, slice_index_or}
-use Rattle.csa_chain.specs.SeveralChains.{sum_below}
+use Rattle.csa_chain.specs.SeveralChains.{sum_over_chains}
 use Rattle.elf_image.specs.Images.{ImageData}
 use Rattle.tcd_plan.specs.PlanData.{PlanData}
 use Rattle.depth_cert.specs.Certs.{CertData}
@@ -18,8 +18,8 @@ use Rattle.tcd_reading.specs.Reports.{Report, says}
 use Rattle.tcd_reading.specs.Inputs.{Reading, input, each, answer}
 use Rattle.tcd_driver.specs.CellAndTaskForms.{tasks_form}
 use Rattle.tcd_forms.specs.Forms.{elf_form, plan_form, cert_form}
-use Rattle.tcd_forms.specs.Lines.{switch_line, refused_task_line, sum_line, certified_tasks_line}
-use Rattle.tcd_driver.specs.BadInputLines.{tasks_line}
+use Rattle.tcd_forms.specs.Lines.{refused_switch_line, refused_task_line, refused_sum_line, certified_tasks_line}
+use Rattle.tcd_driver.specs.BadInputLines.{bad_tasks_line}
 use Rattle.tcd_driver.specs.declared.commands.tasks.Tally.{Tally}
 use Rattle.tcd_driver.specs.declared.commands.tasks.Tally.TheVariants.{Sum, Against}
 use Rattle.tcd_reading.specs.declared.status.Status.TheVariants.{Done, Refused, BadInput}
@@ -31,9 +31,9 @@ pub record TasksNames : Type 0 where
   pub tasks : List ℕ
   pub certs : List (List ℕ)
 
--- the certificate of task u
-abbrev pub cert_of : List CertData → ℕ → CertData
-cert_of certs u = slice_index_or certs u (record { version = 1; nodes = [] })
+-- the certificate of task u in the list that `tasks` reads
+abbrev pub cert_of_task : List CertData → ℕ → CertData
+cert_of_task certs u = slice_index_or certs u (record { version = 1; nodes = [] })
 
 -- ---- one task
 -- the certificate isn't accepted for the task's view, and its first fault is this; or it is
@@ -53,27 +53,27 @@ JudgesTask image plan tasks cert u (Yes n) =
 JudgesTask image plan tasks cert u (No rule key addr) = IsTaskRefused image plan tasks cert u rule key addr
 
 -- ---- all tasks
--- the needs that count: at least two for each task except the first
+-- the needs that `tasks` counts for the tasks: at least two for each task except the first
 abbrev pub needs_of : ImageData → PlanData → TasksData → List CertData → ℕ → ℕ
-needs_of image plan tasks certs = need_of_task image plan tasks (cert_of certs)
+needs_of image plan tasks certs = need_of_task image plan tasks (cert_of_task certs)
 
--- the sum of the needs
+-- the sum of the needs of all tasks, which `tasks` compares with the areas
 abbrev pub sum_of_needs : ImageData → PlanData → TasksData → List CertData → ℕ
-sum_of_needs image plan tasks certs = sum_below (count tasks) (needs_of image plan tasks certs)
+sum_of_needs image plan tasks certs = sum_over_chains (count tasks) (needs_of image plan tasks certs)
 
 -- the certificates of the tasks below n are judged well
-abbrev pub AreJudged : ImageData → PlanData → TasksData → List CertData → ℕ → Type 0
-AreJudged image plan tasks certs n = (u : ℕ) → u < n → IsJudged image plan tasks (cert_of certs u) u
+abbrev pub AreTasksJudged : ImageData → PlanData → TasksData → List CertData → ℕ → Type 0
+AreTasksJudged image plan tasks certs n = (u : ℕ) → u < n → IsJudged image plan tasks (cert_of_task certs u) u
 
 -- task u is the first whose certificate is refused
 pub record IsFirstRefused (image : ImageData) (plan : PlanData) (tasks : TasksData) (certs : List CertData) (u rule : ℕ) (key : Key) (addr : ℕ) : Type 0 where
   pub task : u < count tasks
-  pub before : AreJudged image plan tasks certs u
-  pub refused : IsTaskRefused image plan tasks (cert_of certs u) u rule key addr
+  pub before : AreTasksJudged image plan tasks certs u
+  pub refused : IsTaskRefused image plan tasks (cert_of_task certs u) u rule key addr
 
 -- the sum of the needs, or the first task that is refused
 abbrev pub Tallies : ImageData → PlanData → TasksData → List CertData → Tally → Type 0
-Tallies image plan tasks certs (Sum n) = AreJudged image plan tasks certs (count tasks) × (n ≡ sum_of_needs image plan tasks certs)
+Tallies image plan tasks certs (Sum n) = AreTasksJudged image plan tasks certs (count tasks) × (n ≡ sum_of_needs image plan tasks certs)
 Tallies image plan tasks certs (Against u rule key addr) = IsFirstRefused image plan tasks certs u rule key addr
 
 -- The verdict on an image, a plan, its tasks and a certificate for each. The image doesn't have the
@@ -81,37 +81,37 @@ Tallies image plan tasks certs (Against u rule key addr) = IsFirstRefused image 
 -- certificate is refused, and the sum of the needs is above the areas without the reserve. Else
 -- every run of all tasks is safe with these needs.
 pub data IsTasksVerdict (image : ImageData) (plan : PlanData) (tasks : TasksData) (certs : List CertData) (report : Report) : Type 0 where
-  no_switch : (addr : ℕ) → IsRoutineFault image plan tasks addr → report ≡ says Refused (switch_line addr) → IsTasksVerdict image plan tasks certs report
+  no_switch : (addr : ℕ) → IsRoutineFault image plan tasks addr → report ≡ says Refused (refused_switch_line addr) → IsTasksVerdict image plan tasks certs report
   refused :
       (u rule : ℕ) (key : Key) (addr : ℕ) → HasRoutine image plan tasks → IsFirstRefused image plan tasks certs u rule key addr
       → report ≡ says Refused (refused_task_line rule key addr u) → IsTasksVerdict image plan tasks certs report
   above :
-      HasRoutine image plan tasks → AreJudged image plan tasks certs (count tasks) → plan.areas - plan.reserve < sum_of_needs image plan tasks certs
-      → report ≡ says Refused (sum_line (sum_of_needs image plan tasks certs) (plan.areas - plan.reserve)) → IsTasksVerdict image plan tasks certs report
+      HasRoutine image plan tasks → AreTasksJudged image plan tasks certs (count tasks) → plan.areas - plan.reserve < sum_of_needs image plan tasks certs
+      → report ≡ says Refused (refused_sum_line (sum_of_needs image plan tasks certs) (plan.areas - plan.reserve)) → IsTasksVerdict image plan tasks certs report
   certified :
-      HasRoutine image plan tasks → AreJudged image plan tasks certs (count tasks) → sum_of_needs image plan tasks certs ≤ plan.areas - plan.reserve
+      HasRoutine image plan tasks → AreTasksJudged image plan tasks certs (count tasks) → sum_of_needs image plan tasks certs ≤ plan.areas - plan.reserve
       → SafeTasks image plan tasks (needs_of image plan tasks certs)
       → report ≡ says Done (certified_tasks_line (sum_of_needs image plan tasks certs) (plan.areas - plan.reserve) (count tasks))
       → IsTasksVerdict image plan tasks certs report
 
 -- ---- what is read
 -- reads this if there are as many names as tasks; else that is printed, and nothing more is read
-abbrev pub if_as_many : Bool → Reading → Reading
-if_as_many true reading = reading
-if_as_many false reading = answer (λ report. report ≡ says BadInput (tasks_line Count))
+abbrev pub tasks_reading_if : Bool → Reading → Reading
+tasks_reading_if true reading = reading
+tasks_reading_if false reading = answer (λ report. report ≡ says BadInput (bad_tasks_line Count))
 
--- reads this if there are as many of these names as tasks
-abbrev pub with_a_name_each : List (List ℕ) → TasksData → Reading → Reading
-with_a_name_each names tasks reading = if_as_many (length names == count tasks) reading
+-- what `tasks` or `taskcert` reads next, if there are as many names of certificates as tasks
+abbrev pub with_name_per_task : List (List ℕ) → TasksData → Reading → Reading
+with_name_per_task names tasks reading = tasks_reading_if (length names == count tasks) reading
 
 -- reads a certificate for each task; then the verdict is printed
-abbrev pub certs_reading : List (List ℕ) → ImageData → PlanData → TasksData → Reading
-certs_reading names image plan tasks =
-    with_a_name_each names tasks (each CertData (λ _. cert_form) 0 names (λ certs. answer (IsTasksVerdict image plan tasks certs)))
+abbrev pub task_certs_reading : List (List ℕ) → ImageData → PlanData → TasksData → Reading
+task_certs_reading names image plan tasks =
+    with_name_per_task names tasks (each CertData (λ _. cert_form) 0 names (λ certs. answer (IsTasksVerdict image plan tasks certs)))
 
 -- reads an executable, a plan and its tasks, and then the certificates
 abbrev pub tasks_reading : TasksNames → Reading
 tasks_reading names =
     input ImageData elf_form names.elf
     (λ image. input PlanData plan_form names.plan
-    (λ plan. input TasksData (tasks_form plan) names.tasks (λ tasks. certs_reading names.certs image plan tasks)))
+    (λ plan. input TasksData (tasks_form plan) names.tasks (λ tasks. task_certs_reading names.certs image plan tasks)))

@@ -1,26 +1,27 @@
 -- How a call of the tool ends: for words that are no command, and for each command.
 use Rattle.std.specs.Prelude.{◌≡◌, ℕ, List, [], ◌∷◌, ◌++◌, codes, Some}
-use Rattle.tcd_base.specs.Files.{Map, FilesSeen}
+use Rattle.tcd_base.specs.Files.{FileMap, FilesSeen}
 use Rattle.tcd_base.specs.Sink.{SinkSeen}
-use Rattle.tcd_reading.specs.Endings.{Prints}
+use Rattle.tcd_reading.specs.Endings.{PrintsWithStatus}
 use Rattle.tcd_reading.specs.declared.status.Status.{Status}
 use Rattle.tcd_reading.specs.declared.status.Status.TheVariants.{Done, Refused, BadInput, BadWords}
 use Rattle.tcd_driver.specs.BadInputLines.{bad_words_line}
 use Rattle.tcd_driver.specs.Headlines.{HeadlineOfCheck, RefusalByCheck, HeadlineOfCert, RefusalByCert, HeadlineOfRun}
-use Rattle.tcd_driver.specs.Headlines.Builds.{HeadlineOfShip, RefusalByShip, HeadlineOfAsm, RefusalByAsm, HeadlineOfLink, RefusalByLink, RefusalByGen}
+use Rattle.tcd_driver.specs.Headlines.Builds.{HeadlineOfShip, RefusalByShip, HeadlineOfAsm, RefusalByAsm, HeadlineOfLink, RefusalByLink}
+use Rattle.tcd_driver.specs.Headlines.Reports.{RefusalByGen, HeadlineOfCfg, HeadlineOfReport, HeadlineOfDis, RefusalByDis, HeadlineOfGen}
 use Rattle.tcd_driver.specs.Headlines.Boots.{HeadlineOfBoot, RefusalByBoot, HeadlineOfBootgen}
 use Rattle.tcd_driver.specs.Headlines.Cells.{HeadlineOfCells, RefusalByCells, HeadlineOfCellcert, RefusalByCellcert}
 use Rattle.tcd_driver.specs.Headlines.Tasks.{HeadlineOfTasks, RefusalByTasks, HeadlineOfTaskcert, RefusalByTaskcert}
-use Rattle.tcd_driver.specs.Headlines.Reports.{HeadlineOfCfg, HeadlineOfReport, HeadlineOfDis, RefusalByDis, HeadlineOfGen}
 
--- How words that are no command end: the files stay, and `bad words` is printed, or the sink failed
--- within this text. A sink with room doesn't fail.
+-- How a call of the tool with words that are no command ends: the files stay, and `bad words` is
+-- printed, or the sink failed within this text. A sink with room doesn't fail.
 pub record EndsWithBadWords (files files' : FilesSeen) (sink sink' : SinkSeen) (result : Status) : Type 0 where
   pub files_stay : files' ≡ files
-  pub prints : Prints BadWords bad_words_line sink sink' result
+  pub prints : PrintsWithStatus BadWords bad_words_line sink sink' result
 
--- one call: its words, the views of the files and of the sink before and after it, and its status
-pub record Call : Type 0 where
+-- one call of the tool: its words, the views of the files and of the sink before and after it, and
+-- its status
+pub record ToolCall : Type 0 where
   pub words : List (List ℕ)
   pub files : FilesSeen
   pub files_after : FilesSeen
@@ -31,64 +32,64 @@ pub record Call : Type 0 where
 -- If the words were these and the call ended with this status, `Holds` is true of the files before
 -- and after the call and of the printed text. The files must reveal their contents. If the sink
 -- reveals its contents, they grew by the printed text.
-abbrev pub Means : Call → List (List ℕ) → Status → (Map → Map → List ℕ → Type 0) → Type 0
-Means call words status Holds =
-    (before : Map) → call.words ≡ words → call.status ≡ status → (call.files).held ≡ Some before
-    → (after : Map) × (printed : List ℕ) × ((call.files_after).held ≡ Some after)
+abbrev pub ToolCallMeans : ToolCall → List (List ℕ) → Status → (FileMap → FileMap → List ℕ → Type 0) → Type 0
+ToolCallMeans call words status Holds =
+    (before : FileMap) → call.words ≡ words → call.status ≡ status → (call.files).held ≡ Some before
+    → (after : FileMap) × (printed : List ℕ) × ((call.files_after).held ≡ Some after)
     × ((text : List ℕ) → (call.sink).written ≡ Some text → (call.sink_after).written ≡ Some (text ++ printed)) × Holds before after printed
 
 -- What the tool promises of each command, by the words that were typed: for status 0, for status 1,
 -- and for status 2 of `dis`, `asm` and `link`. All other endings are in the clauses `bad_words`,
 -- `no_form` and `command` of `tool`.
-pub record ToolSays (call : Call) : Type 0 where
-  pub check : (elf plan cert : List ℕ) → Means call (codes "check" ∷ elf ∷ plan ∷ cert ∷ []) Done (HeadlineOfCheck elf plan cert)
-  pub check_refuses : (elf plan cert : List ℕ) → Means call (codes "check" ∷ elf ∷ plan ∷ cert ∷ []) Refused (RefusalByCheck elf plan cert)
-  pub cert : (elf plan cert : List ℕ) → Means call (codes "cert" ∷ elf ∷ plan ∷ cert ∷ []) Done (HeadlineOfCert elf plan cert)
-  pub cert_refuses : (elf plan cert : List ℕ) → Means call (codes "cert" ∷ elf ∷ plan ∷ cert ∷ []) Refused (RefusalByCert elf plan)
+pub record ToolSays (call : ToolCall) : Type 0 where
+  pub check : (elf plan cert : List ℕ) → ToolCallMeans call (codes "check" ∷ elf ∷ plan ∷ cert ∷ []) Done (HeadlineOfCheck elf plan cert)
+  pub check_refuses : (elf plan cert : List ℕ) → ToolCallMeans call (codes "check" ∷ elf ∷ plan ∷ cert ∷ []) Refused (RefusalByCheck elf plan cert)
+  pub cert : (elf plan cert : List ℕ) → ToolCallMeans call (codes "cert" ∷ elf ∷ plan ∷ cert ∷ []) Done (HeadlineOfCert elf plan cert)
+  pub cert_refuses : (elf plan cert : List ℕ) → ToolCallMeans call (codes "cert" ∷ elf ∷ plan ∷ cert ∷ []) Refused (RefusalByCert elf plan)
   pub ship :
       (plan layout elf cert : List ℕ) (sources : List (List ℕ))
-      → Means call (codes "ship" ∷ plan ∷ layout ∷ elf ∷ cert ∷ sources) Done (HeadlineOfShip plan layout elf cert sources)
+      → ToolCallMeans call (codes "ship" ∷ plan ∷ layout ∷ elf ∷ cert ∷ sources) Done (HeadlineOfShip plan layout elf cert sources)
   pub ship_refuses :
       (plan layout elf cert : List ℕ) (sources : List (List ℕ))
-      → Means call (codes "ship" ∷ plan ∷ layout ∷ elf ∷ cert ∷ sources) Refused (RefusalByShip plan layout sources)
-  pub run : (elf plan script : List ℕ) → Means call (codes "run" ∷ elf ∷ plan ∷ script ∷ []) Done (HeadlineOfRun elf plan script)
-  pub report : (elf plan cert : List ℕ) → Means call (codes "report" ∷ elf ∷ plan ∷ cert ∷ []) Done (HeadlineOfReport elf plan cert)
-  pub report_refuses : (elf plan cert : List ℕ) → Means call (codes "report" ∷ elf ∷ plan ∷ cert ∷ []) Refused (RefusalByCheck elf plan cert)
-  pub cfg : (elf plan : List ℕ) → Means call (codes "cfg" ∷ elf ∷ plan ∷ []) Done (HeadlineOfCfg elf plan)
-  pub cfg_refuses : (elf plan : List ℕ) → Means call (codes "cfg" ∷ elf ∷ plan ∷ []) Refused (RefusalByCert elf plan)
-  pub dis : (elf : List ℕ) → Means call (codes "dis" ∷ elf ∷ []) Done (HeadlineOfDis elf)
-  pub dis_refuses : (elf : List ℕ) → Means call (codes "dis" ∷ elf ∷ []) BadInput (RefusalByDis elf)
-  pub gen : (word : List ℕ) → Means call (codes "gen" ∷ word ∷ []) Done (HeadlineOfGen word)
-  pub gen_refuses : (word : List ℕ) → Means call (codes "gen" ∷ word ∷ []) Refused (RefusalByGen word)
-  pub asm : (source object : List ℕ) → Means call (codes "asm" ∷ source ∷ object ∷ []) Done (HeadlineOfAsm source object)
-  pub asm_refuses : (source object : List ℕ) → Means call (codes "asm" ∷ source ∷ object ∷ []) BadInput (RefusalByAsm source)
+      → ToolCallMeans call (codes "ship" ∷ plan ∷ layout ∷ elf ∷ cert ∷ sources) Refused (RefusalByShip plan layout sources)
+  pub run : (elf plan script : List ℕ) → ToolCallMeans call (codes "run" ∷ elf ∷ plan ∷ script ∷ []) Done (HeadlineOfRun elf plan script)
+  pub report : (elf plan cert : List ℕ) → ToolCallMeans call (codes "report" ∷ elf ∷ plan ∷ cert ∷ []) Done (HeadlineOfReport elf plan cert)
+  pub report_refuses : (elf plan cert : List ℕ) → ToolCallMeans call (codes "report" ∷ elf ∷ plan ∷ cert ∷ []) Refused (RefusalByCheck elf plan cert)
+  pub cfg : (elf plan : List ℕ) → ToolCallMeans call (codes "cfg" ∷ elf ∷ plan ∷ []) Done (HeadlineOfCfg elf plan)
+  pub cfg_refuses : (elf plan : List ℕ) → ToolCallMeans call (codes "cfg" ∷ elf ∷ plan ∷ []) Refused (RefusalByCert elf plan)
+  pub dis : (elf : List ℕ) → ToolCallMeans call (codes "dis" ∷ elf ∷ []) Done (HeadlineOfDis elf)
+  pub dis_refuses : (elf : List ℕ) → ToolCallMeans call (codes "dis" ∷ elf ∷ []) BadInput (RefusalByDis elf)
+  pub gen : (word : List ℕ) → ToolCallMeans call (codes "gen" ∷ word ∷ []) Done (HeadlineOfGen word)
+  pub gen_refuses : (word : List ℕ) → ToolCallMeans call (codes "gen" ∷ word ∷ []) Refused (RefusalByGen word)
+  pub asm : (source object : List ℕ) → ToolCallMeans call (codes "asm" ∷ source ∷ object ∷ []) Done (HeadlineOfAsm source object)
+  pub asm_refuses : (source object : List ℕ) → ToolCallMeans call (codes "asm" ∷ source ∷ object ∷ []) BadInput (RefusalByAsm source)
   pub link :
-      (layout elf : List ℕ) (objects : List (List ℕ)) → Means call (codes "link" ∷ layout ∷ elf ∷ objects) Done (HeadlineOfLink layout elf objects)
+      (layout elf : List ℕ) (objects : List (List ℕ)) → ToolCallMeans call (codes "link" ∷ layout ∷ elf ∷ objects) Done (HeadlineOfLink layout elf objects)
   pub link_refuses :
-      (layout elf : List ℕ) (objects : List (List ℕ)) → Means call (codes "link" ∷ layout ∷ elf ∷ objects) BadInput (RefusalByLink layout objects)
+      (layout elf : List ℕ) (objects : List (List ℕ)) → ToolCallMeans call (codes "link" ∷ layout ∷ elf ∷ objects) BadInput (RefusalByLink layout objects)
   pub boot :
-      (elf plan cert at : List ℕ) → Means call (codes "boot" ∷ elf ∷ plan ∷ cert ∷ at ∷ []) Done (HeadlineOfBoot elf plan cert at)
+      (elf plan cert at : List ℕ) → ToolCallMeans call (codes "boot" ∷ elf ∷ plan ∷ cert ∷ at ∷ []) Done (HeadlineOfBoot elf plan cert at)
   pub boot_refuses :
-      (elf plan cert at : List ℕ) → Means call (codes "boot" ∷ elf ∷ plan ∷ cert ∷ at ∷ []) Refused (RefusalByBoot elf plan cert at)
+      (elf plan cert at : List ℕ) → ToolCallMeans call (codes "boot" ∷ elf ∷ plan ∷ cert ∷ at ∷ []) Refused (RefusalByBoot elf plan cert at)
   pub bootgen :
-      (plan entry at source : List ℕ) → Means call (codes "bootgen" ∷ plan ∷ entry ∷ at ∷ source ∷ []) Done (HeadlineOfBootgen plan entry at source)
+      (plan entry at source : List ℕ) → ToolCallMeans call (codes "bootgen" ∷ plan ∷ entry ∷ at ∷ source ∷ []) Done (HeadlineOfBootgen plan entry at source)
   pub cells :
-      (elf plan list cert : List ℕ) → Means call (codes "cells" ∷ elf ∷ plan ∷ list ∷ cert ∷ []) Done (HeadlineOfCells elf plan list cert)
+      (elf plan list cert : List ℕ) → ToolCallMeans call (codes "cells" ∷ elf ∷ plan ∷ list ∷ cert ∷ []) Done (HeadlineOfCells elf plan list cert)
   pub cells_refuse :
-      (elf plan list cert : List ℕ) → Means call (codes "cells" ∷ elf ∷ plan ∷ list ∷ cert ∷ []) Refused (RefusalByCells elf plan list cert)
+      (elf plan list cert : List ℕ) → ToolCallMeans call (codes "cells" ∷ elf ∷ plan ∷ list ∷ cert ∷ []) Refused (RefusalByCells elf plan list cert)
   pub cellcert :
-      (elf plan list cert : List ℕ) → Means call (codes "cellcert" ∷ elf ∷ plan ∷ list ∷ cert ∷ []) Done (HeadlineOfCellcert elf plan list cert)
+      (elf plan list cert : List ℕ) → ToolCallMeans call (codes "cellcert" ∷ elf ∷ plan ∷ list ∷ cert ∷ []) Done (HeadlineOfCellcert elf plan list cert)
   pub cellcert_refuses :
-      (elf plan list cert : List ℕ) → Means call (codes "cellcert" ∷ elf ∷ plan ∷ list ∷ cert ∷ []) Refused (RefusalByCellcert elf plan list)
+      (elf plan list cert : List ℕ) → ToolCallMeans call (codes "cellcert" ∷ elf ∷ plan ∷ list ∷ cert ∷ []) Refused (RefusalByCellcert elf plan list)
   pub tasks :
       (elf plan list : List ℕ) (certs : List (List ℕ))
-      → Means call (codes "tasks" ∷ elf ∷ plan ∷ list ∷ certs) Done (HeadlineOfTasks elf plan list certs)
+      → ToolCallMeans call (codes "tasks" ∷ elf ∷ plan ∷ list ∷ certs) Done (HeadlineOfTasks elf plan list certs)
   pub tasks_refuse :
       (elf plan list : List ℕ) (certs : List (List ℕ))
-      → Means call (codes "tasks" ∷ elf ∷ plan ∷ list ∷ certs) Refused (RefusalByTasks elf plan list certs)
+      → ToolCallMeans call (codes "tasks" ∷ elf ∷ plan ∷ list ∷ certs) Refused (RefusalByTasks elf plan list certs)
   pub taskcert :
       (elf plan list : List ℕ) (certs : List (List ℕ))
-      → Means call (codes "taskcert" ∷ elf ∷ plan ∷ list ∷ certs) Done (HeadlineOfTaskcert elf plan list certs)
+      → ToolCallMeans call (codes "taskcert" ∷ elf ∷ plan ∷ list ∷ certs) Done (HeadlineOfTaskcert elf plan list certs)
   pub taskcert_refuses :
       (elf plan list : List ℕ) (certs : List (List ℕ))
-      → Means call (codes "taskcert" ∷ elf ∷ plan ∷ list ∷ certs) Refused (RefusalByTaskcert elf plan list certs)
+      → ToolCallMeans call (codes "taskcert" ∷ elf ∷ plan ∷ list ∷ certs) Refused (RefusalByTaskcert elf plan list certs)

@@ -1,11 +1,11 @@
 // The forms of files of cells and of tasks.
-use crate::lines::{cells_line, tasks_line};
+use crate::lines::{bad_cells_line, bad_tasks_line};
 use std::alloc::Global;
 use task_chains::Tasks;
 use tcd_base::NoMemory;
-use tcd_forms::{LIMIT, line_of, long_cells_line, long_tasks_line};
+use tcd_forms::{LIMIT, copy_printed_line, long_cells_line, long_tasks_line};
 use tcd_plan::Plan;
-use tcd_reading::{Form, Outcome, bad_input};
+use tcd_reading::{Form, Outcome, bad_input_outcome};
 use value_cells::Cells;
 
 /// A file of cells for a plan.
@@ -30,13 +30,13 @@ impl<'a> Form for CellsFile<'a> {
     }
 
     fn long_line(&self, alloc: Global) -> Result<Vec<u8>, NoMemory> {
-        line_of(alloc, long_cells_line())
+        copy_printed_line(alloc, long_cells_line())
     }
 
     fn value(&self, alloc: Global, bytes: Vec<u8>) -> Result<Cells, Outcome> {
         match Cells::read(&bytes, self.plan) {
             Ok(cells) => Ok(cells),
-            Err(e) => Err(bad_input(alloc, cells_line(alloc, e))),
+            Err(e) => Err(bad_input_outcome(alloc, bad_cells_line(alloc, e))),
         }
     }
 }
@@ -63,13 +63,13 @@ impl<'a> Form for TasksFile<'a> {
     }
 
     fn long_line(&self, alloc: Global) -> Result<Vec<u8>, NoMemory> {
-        line_of(alloc, long_tasks_line())
+        copy_printed_line(alloc, long_tasks_line())
     }
 
     fn value(&self, alloc: Global, bytes: Vec<u8>) -> Result<Tasks, Outcome> {
         match Tasks::read(&bytes, self.plan) {
             Ok(tasks) => Ok(tasks),
-            Err(e) => Err(bad_input(alloc, tasks_line(alloc, e))),
+            Err(e) => Err(bad_input_outcome(alloc, bad_tasks_line(alloc, e))),
         }
     }
 }

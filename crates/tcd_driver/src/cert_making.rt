@@ -1,6 +1,6 @@
 // Makes the best certificate for an image and a plan, and checks it.
 ghost use Rattle.depth_maker.specs.Answers.{NoneAccepted};
-ghost use Rattle.tcd_driver.specs.BestCert.{Makes, SpellBest};
+ghost use Rattle.tcd_driver.specs.BestCert.{MakesBestCert, SpellBestCert};
 
 use depth_cert::{CertErr, Key};
 use depth_check::{Verdict, check_packed};
@@ -21,9 +21,9 @@ pub(crate) enum Making {
 }
 
 // Checks the best certificate, which these bytes spell.
-fn check_made(alloc: Global, image: &Image, plan: &Plan, bytes: Vec<u8>) -> Making
-    requires { SpellBest image.now plan.now bytes.items }
-    ensures { Makes image.now plan.now result }
+fn check_best_cert(alloc: Global, image: &Image, plan: &Plan, bytes: Vec<u8>) -> Making
+    requires { SpellBestCert image.now plan.now bytes.items }
+    ensures { MakesBestCert image.now plan.now result }
 {
     let cert = match PackedCert::read(alloc, bytes) {
         Ok(cert) => cert,
@@ -40,12 +40,12 @@ fn check_made(alloc: Global, image: &Image, plan: &Plan, bytes: Vec<u8>) -> Maki
 }
 
 // Makes the least certificate of version 2, and checks it. None of version 1 is accepted.
-fn make_second(alloc: Global, image: &Image, plan: &Plan) -> Making
+fn make_version_2_cert(alloc: Global, image: &Image, plan: &Plan) -> Making
     requires { NoneAccepted image.now plan.now 1 }
-    ensures { Makes image.now plan.now result }
+    ensures { MakesBestCert image.now plan.now result }
 {
     match make_bytes(alloc, image, plan, 2) {
-        Ok(bytes) => check_made(alloc, image, plan, bytes),
+        Ok(bytes) => check_best_cert(alloc, image, plan, bytes),
         Err(MakeErr::Refused { rule, key, addr }) => Making::Refused { rule, key, addr },
         Err(MakeErr::NoMemory) => Making::NoMemory,
     }
@@ -53,12 +53,12 @@ fn make_second(alloc: Global, image: &Image, plan: &Plan) -> Making
 
 /// Makes the least certificate of version 1, or of version 2 if none of version 1 is accepted, and
 /// checks it.
-pub(crate) fn make_best(alloc: Global, image: &Image, plan: &Plan) -> Making
-    ensures { Makes image.now plan.now result }
+pub(crate) fn make_best_cert(alloc: Global, image: &Image, plan: &Plan) -> Making
+    ensures { MakesBestCert image.now plan.now result }
 {
     match make_bytes(alloc, image, plan, 1) {
-        Ok(bytes) => check_made(alloc, image, plan, bytes),
-        Err(MakeErr::Refused { .. }) => make_second(alloc, image, plan),
+        Ok(bytes) => check_best_cert(alloc, image, plan, bytes),
+        Err(MakeErr::Refused { .. }) => make_version_2_cert(alloc, image, plan),
         Err(MakeErr::NoMemory) => Making::NoMemory,
     }
 }

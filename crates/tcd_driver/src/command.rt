@@ -2,9 +2,8 @@
 ghost use Rattle.std.specs.Prelude.{◌≡◌, ◌≤◌, ◌==◌, ◌&&◌, ◌||◌, nat_le, map, slice_index, string_bytes, IfSome};
 ghost use Rattle.std.specs.Bool.{then_some};
 ghost use Rattle.std.specs.Option.{option_map};
-ghost use Rattle.tcd_driver.specs.Commands.{command, link_form, is_link, ship_form, is_ship, tasks_words, is_tasks, is_taskcert, fixed_form, one_word, two_words, three_words, four_words, boot_form, bootgen_form, asked, generate, reading_of, KeepsLimits};
-ghost use Rattle.tcd_driver.specs.Gen.{functions_in};
-ghost use Rattle.tcd_reading.specs.Outcomes.{Comes};
+ghost use Rattle.tcd_driver.specs.Commands.{command, link_command_of, is_link, ship_command_of, is_ship, tasks_command_of, is_tasks, is_taskcert, fixed_command_of, one_word_command, two_word_command, three_word_command, four_word_command, boot_command_of, bootgen_command_of, command_of_value, generate, reading_of, CommandKeepsLimits, gen_function_count};
+ghost use Rattle.tcd_reading.specs.Outcomes.{IsCommandOutcome};
 
 use crate::commands::asm::assemble_file;
 use crate::commands::boot::boot_files;
@@ -15,14 +14,14 @@ use crate::commands::cert::certify_files;
 use crate::commands::cfg::draw_files;
 use crate::commands::check::check_files;
 use crate::commands::dis::list_file;
-use crate::commands::generating::generate_image;
+use crate::commands::generating::certify_generated_image;
 use crate::commands::link::link_files;
 use crate::commands::report::report_files;
 use crate::commands::run::run_files;
 use crate::commands::ship::{Shipment, ship_files};
 use crate::commands::taskcert::certify_tasks;
 use crate::commands::tasks::check_tasks;
-use crate::distinct_names::are_different;
+use crate::distinct_names::are_distinct_names;
 use std::alloc::Global;
 use tcd_base::Files;
 use tcd_reading::Outcome;
@@ -125,8 +124,8 @@ pub(crate) enum Command<'a> {
 
 /// The command that words ask for. No memory is allocated.
 pub(crate) fn asked_command(words: &[String]) -> Option<Command<'_>>
-    ensures is { option_map asked result ≡ command (map string_bytes words.now) }
-    ensures limits { IfSome result KeepsLimits }
+    ensures is { option_map command_of_value result ≡ command (map string_bytes words.now) }
+    ensures limits { IfSome result CommandKeepsLimits }
 {
     match link_command(words) {
         Some(command) => Some(command),
@@ -142,8 +141,8 @@ pub(crate) fn asked_command(words: &[String]) -> Option<Command<'_>>
 
 // The command `link` with its objects.
 fn link_command(words: &[String]) -> Option<Command<'_>>
-    ensures is { option_map asked result ≡ link_form (map string_bytes words.now) }
-    ensures limits { IfSome result KeepsLimits }
+    ensures is { option_map command_of_value result ≡ link_command_of (map string_bytes words.now) }
+    ensures limits { IfSome result CommandKeepsLimits }
 {
     match words {
         [verb, layout, image, objects @ ..] if is_link(verb.as_str(), objects) => {
@@ -166,8 +165,8 @@ fn is_link(verb: &str, objects: &[String]) -> bool
 
 // The command `ship` with its sources.
 fn ship_command(words: &[String]) -> Option<Command<'_>>
-    ensures is { option_map asked result ≡ ship_form (map string_bytes words.now) }
-    ensures limits { IfSome result KeepsLimits }
+    ensures is { option_map command_of_value result ≡ ship_command_of (map string_bytes words.now) }
+    ensures limits { IfSome result CommandKeepsLimits }
 {
     match words {
         [verb, plan, layout, elf, cert, sources @ ..]
@@ -186,8 +185,9 @@ fn ship_command(words: &[String]) -> Option<Command<'_>>
 
 // The commands `tasks` and `taskcert` with their certificates.
 fn tasks_command(words: &[String]) -> Option<Command<'_>>
-    ensures is { option_map asked result ≡ tasks_words (map string_bytes words.now) }
-    ensures limits { IfSome result KeepsLimits }
+    ensures is { option_map command_of_value result
+        ≡ tasks_command_of (map string_bytes words.now) }
+    ensures limits { IfSome result CommandKeepsLimits }
 {
     match words {
         [verb, elf, plan, tasks, certs @ ..] if is_tasks(verb.as_str(), certs) => {
@@ -230,26 +230,30 @@ fn is_tasks(verb: &str, certs: &[String]) -> bool
 fn is_taskcert(verb: &str, certs: &[String]) -> bool
     ensures { result ≡ is_taskcert verb.now (map string_bytes certs.now) }
 {
-    verb == "taskcert" && !certs.is_empty() && certs.len() <= MOST_CERTS && are_different(certs)
+    verb == "taskcert"
+        && !certs.is_empty()
+        && certs.len() <= MOST_CERTS
+        && are_distinct_names(certs)
 }
 
 // A command with a fixed number of words.
 fn fixed_command(words: &[String]) -> Option<Command<'_>>
-    ensures is { option_map asked result ≡ fixed_form (map string_bytes words.now) }
-    ensures limits { IfSome result KeepsLimits }
+    ensures is { option_map command_of_value result
+        ≡ fixed_command_of (map string_bytes words.now) }
+    ensures limits { IfSome result CommandKeepsLimits }
 {
     match words {
-        [verb, first] => one_word(verb.as_str(), first.as_str()),
-        [verb, first, second] => two_words(verb.as_str(), first.as_str(), second.as_str()),
+        [verb, first] => one_word_command(verb.as_str(), first.as_str()),
+        [verb, first, second] => two_word_command(verb.as_str(), first.as_str(), second.as_str()),
         [verb, first, second, third] => {
-            three_words(
+            three_word_command(
                 verb.as_str(),
                 first.as_str(),
                 second.as_str(),
                 third.as_str(),
             )
         }
-        [verb, first, second, third, fourth] => four_words(
+        [verb, first, second, third, fourth] => four_word_command(
             verb.as_str(),
             first.as_str(),
             second.as_str(),
@@ -261,9 +265,9 @@ fn fixed_command(words: &[String]) -> Option<Command<'_>>
 }
 
 // A command with one word after its verb.
-fn one_word<'a>(verb: &str, word: &'a str) -> Option<Command<'a>>
-    ensures is { option_map asked result ≡ one_word verb.now word.now }
-    ensures limits { IfSome result KeepsLimits }
+fn one_word_command<'a>(verb: &str, word: &'a str) -> Option<Command<'a>>
+    ensures is { option_map command_of_value result ≡ one_word_command verb.now word.now }
+    ensures limits { IfSome result CommandKeepsLimits }
 {
     if verb == "dis" {
         Some(Command::Dis { elf: word })
@@ -276,29 +280,30 @@ fn one_word<'a>(verb: &str, word: &'a str) -> Option<Command<'a>>
 
 // The command `gen` with this word after its verb.
 fn gen_command<'a>(word: &str) -> Option<Command<'a>>
-    ensures is { option_map asked result ≡ option_map generate (functions_in word.now) }
-    ensures limits { IfSome result KeepsLimits }
+    ensures is { option_map command_of_value result
+        ≡ option_map generate (gen_function_count word.now) }
+    ensures limits { IfSome result CommandKeepsLimits }
 {
-    let functions = functions_in(word)?;
+    let functions = gen_function_count(word)?;
     Some(Command::Gen { functions })
 }
 
-// The number of functions that a word asks for.
-fn functions_in(word: &str) -> Option<u32>
-    ensures is { result ≡ functions_in word.now }
+/// The number of functions that the word after `gen` asks for.
+fn gen_function_count(word: &str) -> Option<u32>
+    ensures is { result ≡ gen_function_count word.now }
     ensures limits { IfSome result (λ n. (1 ≤ n) × (n ≤ 500)) }
 {
-    if is_marked(word) {
+    if has_zero_or_plus(word) {
         return None;
     }
     match word.parse::<u32>() {
-        Ok(n) => few_functions(n),
+        Ok(n) => gen_count_in_range(n),
         Err(_) => None,
     }
 }
 
-// Whether the first character of a word is 0 or a plus sign.
-fn is_marked(word: &str) -> bool
+/// Whether a word begins with 0 or a plus sign, so that `gen` doesn't take it as a number.
+fn has_zero_or_plus(word: &str) -> bool
     ensures { result ≡ (slice_index word.now 0 == 48 || slice_index word.now 0 == 43) }
 {
     match word.as_bytes().first() {
@@ -308,7 +313,7 @@ fn is_marked(word: &str) -> bool
 }
 
 // The number of functions, if it is in the range of `gen`.
-fn few_functions(n: u32) -> Option<u32>
+fn gen_count_in_range(n: u32) -> Option<u32>
     ensures is { result ≡ then_some (nat_le 1 n && nat_le n 500) n }
     ensures limits { IfSome result (λ n. (1 ≤ n) × (n ≤ 500)) }
 {
@@ -320,9 +325,10 @@ fn few_functions(n: u32) -> Option<u32>
 }
 
 // A command with two words after its verb.
-fn two_words<'a>(verb: &str, first: &'a str, second: &'a str) -> Option<Command<'a>>
-    ensures is { option_map asked result ≡ two_words verb.now first.now second.now }
-    ensures limits { IfSome result KeepsLimits }
+fn two_word_command<'a>(verb: &str, first: &'a str, second: &'a str) -> Option<Command<'a>>
+    ensures is { option_map command_of_value result
+        ≡ two_word_command verb.now first.now second.now }
+    ensures limits { IfSome result CommandKeepsLimits }
 {
     if verb == "asm" {
         Some(Command::Asm {
@@ -340,9 +346,15 @@ fn two_words<'a>(verb: &str, first: &'a str, second: &'a str) -> Option<Command<
 }
 
 // A command with three words after its verb.
-fn three_words<'a>(verb: &str, elf: &'a str, plan: &'a str, third: &'a str) -> Option<Command<'a>>
-    ensures is { option_map asked result ≡ three_words verb.now elf.now plan.now third.now }
-    ensures limits { IfSome result KeepsLimits }
+fn three_word_command<'a>(
+    verb: &str,
+    elf: &'a str,
+    plan: &'a str,
+    third: &'a str,
+) -> Option<Command<'a>>
+    ensures is { option_map command_of_value result
+        ≡ three_word_command verb.now elf.now plan.now third.now }
+    ensures limits { IfSome result CommandKeepsLimits }
 {
     if verb == "check" {
         Some(Command::Check {
@@ -374,16 +386,16 @@ fn three_words<'a>(verb: &str, elf: &'a str, plan: &'a str, third: &'a str) -> O
 }
 
 // A command with four words after its verb.
-fn four_words<'a>(
+fn four_word_command<'a>(
     verb: &str,
     first: &'a str,
     second: &'a str,
     third: &'a str,
     fourth: &'a str,
 ) -> Option<Command<'a>>
-    ensures is { option_map asked result ≡
-        four_words verb.now first.now second.now third.now fourth.now }
-    ensures limits { IfSome result KeepsLimits }
+    ensures is { option_map command_of_value result ≡
+        four_word_command verb.now first.now second.now third.now fourth.now }
+    ensures limits { IfSome result CommandKeepsLimits }
 {
     if verb == "cells" {
         Some(Command::Cells {
@@ -410,8 +422,9 @@ fn four_words<'a>(
 
 // The command `boot` with these words after its verb.
 fn boot_command<'a>(elf: &'a str, plan: &'a str, cert: &'a str, at: &str) -> Option<Command<'a>>
-    ensures is { option_map asked result ≡ boot_form elf.now plan.now cert.now at.now }
-    ensures limits { IfSome result KeepsLimits }
+    ensures is { option_map command_of_value result
+        ≡ boot_command_of elf.now plan.now cert.now at.now }
+    ensures limits { IfSome result CommandKeepsLimits }
 {
     let at = hex_number(at.as_bytes())?;
     Some(Command::Boot {
@@ -424,8 +437,9 @@ fn boot_command<'a>(elf: &'a str, plan: &'a str, cert: &'a str, at: &str) -> Opt
 
 // The command `bootgen` with these words after its verb.
 fn bootgen_command<'a>(plan: &'a str, entry: &str, at: &str, source: &'a str) -> Option<Command<'a>>
-    ensures is { option_map asked result ≡ bootgen_form plan.now entry.now at.now source.now }
-    ensures limits { IfSome result KeepsLimits }
+    ensures is { option_map command_of_value result
+        ≡ bootgen_command_of plan.now entry.now at.now source.now }
+    ensures limits { IfSome result CommandKeepsLimits }
 {
     let entry = hex_number(entry.as_bytes())?;
     let at = hex_number(at.as_bytes())?;
@@ -445,8 +459,9 @@ impl<'a> Command<'a> {
     /// Reads the inputs of the command, and returns its outcome.
     // No command is inlined here, so that the stack has the locals of one command only.
     pub(crate) fn outcome<F: Files>(self, alloc: Global, files: &mut F) -> Outcome
-        requires { KeepsLimits self }
-        ensures { Comes (reading_of (asked self.entry)) (F.seen files.old) (F.seen files.new)
+        requires { CommandKeepsLimits self }
+        ensures { IsCommandOutcome (reading_of (command_of_value self.entry)) (F.seen files.old)
+            (F.seen files.new)
             result }
     {
         match self {
@@ -493,7 +508,7 @@ impl<'a> Command<'a> {
                 tasks,
                 certs,
             } => check_tasks(alloc, elf, plan, tasks, certs, files),
-            Command::Gen { functions } => generate_image(alloc, functions),
+            Command::Gen { functions } => certify_generated_image(alloc, functions),
             Command::Taskcert {
                 elf,
                 plan,

@@ -1,14 +1,15 @@
 // The printed lines for words that are no command, and on faults of boot sequences, of files of
 // cells, and of files of tasks.
-ghost use Rattle.std.specs.Prelude.{◌≡◌, IfOk};
-ghost use Rattle.tcd_driver.specs.BadInputLines.{bad_words_line, unbooted_line, cells_line, tasks_line};
+ghost use Rattle.std.specs.Prelude.{◌≡◌, IfOk, ◌<◌, ◌++◌, ◌∷◌, [], codes};
+ghost use Rattle.tcd_driver.specs.BadInputLines.{bad_words_line, refused_boot_line, bad_cells_line, bad_tasks_line};
+ghost use Rattle.tcd_text.specs.Digits.{hex_word};
 
-use crate::distinct_names::differing_line;
 use std::alloc::Global;
 use task_chains::TasksErr;
 use tc_boot::BootErr;
 use tcd_base::NoMemory;
-use tcd_forms::line_of;
+use tcd_forms::{append_to_printed_line, copy_printed_line};
+use tcd_text::hex_word;
 use value_cells::CellsErr;
 
 // The line for words that are no command.
@@ -20,22 +21,23 @@ pub(crate) fn bad_words_line() -> &'static [u8]
 }
 
 // The line on a boot sequence that is refused.
-#[tactic(auto, unfolding(crate::specs::BadInputLines::unbooted_line))]
-pub(crate) fn unbooted_line(alloc: Global, e: BootErr) -> Result<Vec<u8>, NoMemory>
-    ensures { IfOk result (λ line. line.items ≡ unbooted_line e) }
+#[tactic(auto, unfolding(crate::specs::BadInputLines::refused_boot_line))]
+pub(crate) fn refused_boot_line(alloc: Global, e: BootErr) -> Result<Vec<u8>, NoMemory>
+    ensures { IfOk result (λ line. line.items ≡ refused_boot_line e) }
 {
     match e {
-        BootErr::Enabled => line_of(alloc, b"refused boot 1\n"),
-        BootErr::Odd => line_of(alloc, b"refused boot 2\n"),
-        BootErr::Outside => line_of(alloc, b"refused boot 3\n"),
-        BootErr::Differs(addr) => differing_line(alloc, addr),
+        BootErr::Enabled => copy_printed_line(alloc, b"refused boot 1\n"),
+        BootErr::Odd => copy_printed_line(alloc, b"refused boot 2\n"),
+        BootErr::Outside => copy_printed_line(alloc, b"refused boot 3\n"),
+        BootErr::Differs(addr) => boot_difference_line(alloc, addr),
     }
 }
 
-// The line that says why a file isn't in the form of cells.
-#[tactic(auto, unfolding(crate::specs::BadInputLines::cells_line, tcd_forms::specs::Lines::at_one))]
-pub(crate) fn cells_line(alloc: Global, e: CellsErr) -> Result<Vec<u8>, NoMemory>
-    ensures { IfOk result (λ line. line.items ≡ cells_line e) }
+/// Returns the printed line on a file that isn't in the form of cells: the number of the fault, and
+/// its line.
+#[tactic(auto, unfolding(crate::specs::BadInputLines::bad_cells_line, tcd_forms::specs::Lines::line_end_at_one))]
+pub(crate) fn bad_cells_line(alloc: Global, e: CellsErr) -> Result<Vec<u8>, NoMemory>
+    ensures { IfOk result (λ line. line.items ≡ bad_cells_line e) }
 {
     match e {
         CellsErr::BadLine(n) => Ok(format!(in alloc; "bad cells 1 at {n}\n")?.into_bytes()),
@@ -45,18 +47,30 @@ pub(crate) fn cells_line(alloc: Global, e: CellsErr) -> Result<Vec<u8>, NoMemory
     }
 }
 
-// The line that says why a file isn't in the form of tasks.
-#[tactic(auto, unfolding(crate::specs::BadInputLines::tasks_line, tcd_forms::specs::Lines::at_one))]
-pub(crate) fn tasks_line(alloc: Global, e: TasksErr) -> Result<Vec<u8>, NoMemory>
-    ensures { IfOk result (λ line. line.items ≡ tasks_line e) }
+/// Returns the printed line on a file that isn't in the form of tasks: the number of the fault, and
+/// for the first two its line.
+#[tactic(auto, unfolding(crate::specs::BadInputLines::bad_tasks_line, tcd_forms::specs::Lines::line_end_at_one))]
+pub(crate) fn bad_tasks_line(alloc: Global, e: TasksErr) -> Result<Vec<u8>, NoMemory>
+    ensures { IfOk result (λ line. line.items ≡ bad_tasks_line e) }
 {
     match e {
         TasksErr::BadLine(n) => Ok(format!(in alloc; "bad tasks 1 at {n}\n")?.into_bytes()),
         TasksErr::TooMany(n) => Ok(format!(in alloc; "bad tasks 2 at {n}\n")?.into_bytes()),
-        TasksErr::TooFew => line_of(alloc, b"bad tasks 3\n"),
-        TasksErr::NotRam => line_of(alloc, b"bad tasks 4\n"),
-        TasksErr::NoRoom => line_of(alloc, b"bad tasks 5\n"),
-        TasksErr::OnIsp => line_of(alloc, b"bad tasks 6\n"),
-        TasksErr::Count => line_of(alloc, b"bad tasks 7\n"),
+        TasksErr::TooFew => copy_printed_line(alloc, b"bad tasks 3\n"),
+        TasksErr::NotRam => copy_printed_line(alloc, b"bad tasks 4\n"),
+        TasksErr::NoRoom => copy_printed_line(alloc, b"bad tasks 5\n"),
+        TasksErr::OnIsp => copy_printed_line(alloc, b"bad tasks 6\n"),
+        TasksErr::Count => copy_printed_line(alloc, b"bad tasks 7\n"),
     }
+}
+
+// The line on a byte that differs from the boot sequence, with its address.
+pub(crate) fn boot_difference_line(alloc: Global, addr: u32) -> Result<Vec<u8>, NoMemory>
+    ensures { IfOk result
+        (λ line. line.items ≡ codes "refused boot 4 at " ++ (hex_word addr ++ 10 ∷ [])) }
+{
+    let mut line = copy_printed_line(alloc, b"refused boot 4 at ")?;
+    append_to_printed_line(&mut line, &hex_word(addr))?;
+    append_to_printed_line(&mut line, b"\n")?;
+    Ok(line)
 }

@@ -7,7 +7,7 @@ use elf_image::ImageErr;
 use tcd_plan::PlanErr;
 
 /// The cause of an error in reading an executable that the program wrote: memory ran out.
-pub(crate) fn only_image_memory(e: ImageErr)
+pub(crate) fn own_image_memory_error(e: ImageErr)
     requires { e ≡ image.NoMemory }
 {
     match e {
@@ -17,7 +17,7 @@ pub(crate) fn only_image_memory(e: ImageErr)
 }
 
 /// The cause of an error in reading a plan that the program generated: memory ran out.
-pub(crate) fn only_plan_memory(e: PlanErr)
+pub(crate) fn own_plan_memory_error(e: PlanErr)
     requires { e ≡ plan.NoMemory }
 {
     match e {

@@ -8,7 +8,7 @@ use crate::command::asked_command;
 use crate::lines::bad_words_line;
 use std::alloc::Global;
 use tcd_base::{Files, Sink};
-use tcd_reading::{Status, finish, print};
+use tcd_reading::{Status, finish_outcome, print_with_status};
 
 /// Runs the program on the words after its name: reads input files, writes output files, prints one
 /// text, and returns the status. Words that are no command are refused before any memory is
@@ -59,8 +59,8 @@ pub fn tool<F: Files, S: Sink>(
     match asked_command(words) {
         Some(command) => {
             let outcome = command.outcome(alloc, files);
-            finish(alloc, outcome, files, out)
+            finish_outcome(alloc, outcome, files, out)
         }
-        None => print(out, bad_words_line(), Status::BadWords),
+        None => print_with_status(out, bad_words_line(), Status::BadWords),
     }
 }

@@ -2,16 +2,16 @@
 use Rattle.std.proofs.Common.{◌≡◌, ℕ, List, [], length, Option, Some, Result, Ok, Err, refl, sym, ap, ◌∙◌}
 use Rattle.serde_json.specs.Data.{Data}
 use Rattle.serde_json.specs.Read.{read}
-use Rattle.elf_image.specs.ReadElf.{image_of}
+use Rattle.elf_image.specs.ReadElf.{image_of_file}
 use Rattle.tcd_plan.specs.PlanData.{PlanData}
-use Rattle.tcd_plan.specs.Plans.{Gives, Answers, plan_of}
+use Rattle.tcd_plan.specs.Plans.{GivesPlan, AnswersPlan, plan_of}
 use Rattle.tcd_plan.specs.declared.plans.PlanErr.{PlanErr}
 use Rattle.tcd_plan.specs.declared.plans.PlanErr.TheVariants as plan
 use Rattle.depth_cert.specs.Grammar.{certificate_of}
 use Rattle.tc_script.specs.ScriptText.{script_of}
 use Rattle.tc_object.specs.Grammar as grammar
 use Rattle.tc_stmt.specs.Lines.{LineData, lines_in}
-use Rattle.tc_asm.specs.DraftedSources.{KeepsRules, IsLeast}
+use Rattle.tc_asm.specs.DraftedSources.{KeepsRules, IsLeastBrokenLine}
 use Rattle.tc_link.specs.LayoutFaults.{layout_of}
 use Rattle.tcd_forms.specs.Forms.{elf_form, plan_form, cert_form, script_form, source_form, placed_source_form, layout_form, object_form}
 use Rattle.tcd_reading.proofs.Decided.{IsLawful}
@@ -26,23 +26,23 @@ ok_err r x y e f = cc
 same_data : (o : Option Data) (a b : Data) → o ≡ Some a → o ≡ Some b → a ≡ b
 same_data o a b e f = cc
 
-gives_same : (bytes : List ℕ) (r s : Result PlanData PlanErr) → Gives bytes r → Gives bytes s → r ≡ s
+gives_same : (bytes : List ℕ) (r s : Result PlanData PlanErr) → GivesPlan bytes r → GivesPlan bytes s → r ≡ s
 gives_same bytes r s h k = sym h.3 ∙ ap (λ (d : Data). plan_of d) (same_data (read bytes) h.0 k.0 h.2 k.2) ∙ k.3
 
-plan_same : (bytes : List ℕ) (a b : PlanData) → Gives bytes (Ok a) → Gives bytes (Ok b) → a ≡ b
+plan_same : (bytes : List ℕ) (a b : PlanData) → GivesPlan bytes (Ok a) → GivesPlan bytes (Ok b) → a ≡ b
 plan_same bytes a b h k = let e = gives_same bytes (Ok a) (Ok b) h k in cc
 
-plan_err : (bytes : List ℕ) (p : PlanData) (e : PlanErr) → Gives bytes (Ok p) → Gives bytes (Err e) → ⊥
+plan_err : (bytes : List ℕ) (p : PlanData) (e : PlanErr) → GivesPlan bytes (Ok p) → GivesPlan bytes (Err e) → ⊥
 plan_err bytes p e h k = let same = gives_same bytes (Ok p) (Err e) h k in cc
 
 -- bytes that are a plan aren't refused
-not_refused : (bytes : List ℕ) (p : PlanData) (e : PlanErr) → Gives bytes (Ok p) → Answers bytes (Err e) → (e ≡ plan.NoMemory → ⊥) → ⊥
+not_refused : (bytes : List ℕ) (p : PlanData) (e : PlanErr) → GivesPlan bytes (Ok p) → AnswersPlan bytes (Err e) → (e ≡ plan.NoMemory → ⊥) → ⊥
 not_refused bytes p plan.NotJson h k some = let e = sym h.3 ∙ k h.0 h.1 h.2 in cc
 not_refused bytes p plan.NoMemory h k some = some refl
 not_refused bytes p _ h k some = plan_err bytes p _ h k
 
 -- ---- no source both keeps the rules and breaks one
-no_least : (lines : List LineData) (line rule : ℕ) (d : LineData) → KeepsRules lines (length lines) → IsLeast lines line rule → ⊥
+no_least : (lines : List LineData) (line rule : ℕ) (d : LineData) → KeepsRules lines (length lines) → IsLeastBrokenLine lines line rule → ⊥
 no_least lines line rule d keeps least = least.some (sym (least.broken d) ∙ keeps least.place d least.within)
 
 a_line : LineData
@@ -50,7 +50,7 @@ a_line = record { rule = 15; items = [] }
 
 -- ---- the forms
 pub elf_lawful : IsLawful elf_form
-elf_lawful = record { one = λ b x y h k. ok_same (image_of b) x y h k; apart = λ b t x h k. ok_err (image_of b) x k.0 h k.1 }
+elf_lawful = record { one = λ b x y h k. ok_same (image_of_file b) x y h k; apart = λ b t x h k. ok_err (image_of_file b) x k.0 h k.1 }
 
 pub plan_lawful : IsLawful plan_form
 plan_lawful = record { one = λ b x y h k. plan_same b x y h k; apart = λ b t x h k. not_refused b x k.0 h k.1 k.2 }

@@ -2,10 +2,10 @@
 use Rattle.std.specs.Prelude.{◌≡◌, ◌≢◌, ◌^◌, ℕ, List, length, Ok, Err}
 use Rattle.tcd_base.specs.declared.errors.FormErr.{FormErr}
 use Rattle.elf_image.specs.Images.{ImageData}
-use Rattle.elf_image.specs.ReadElf.{image_of}
+use Rattle.elf_image.specs.ReadElf.{image_of_file}
 use Rattle.elf_image.specs.declared.errors.ImageErr.{ImageErr}
 use Rattle.tcd_plan.specs.PlanData.{PlanData}
-use Rattle.tcd_plan.specs.Plans.{Gives, Answers}
+use Rattle.tcd_plan.specs.Plans.{GivesPlan, AnswersPlan}
 use Rattle.tcd_plan.specs.declared.plans.PlanErr.{PlanErr}
 use Rattle.tcd_plan.specs.declared.plans.PlanErr.TheVariants as plan
 use Rattle.depth_cert.specs.Certs.{CertData}
@@ -17,21 +17,20 @@ use Rattle.tc_object.specs.Objects.{ObjectData}
 use Rattle.tc_object.specs.Grammar as grammar
 use Rattle.tc_stmt.specs.Lines.{lines_in}
 use Rattle.tc_asm.specs.Objects.{object_of}
-use Rattle.tc_asm.specs.DraftedSources.{symbols_of, KeepsRules, IsLeast}
-use Rattle.tc_asm.specs.Drafts.{drafted}
+use Rattle.tc_asm.specs.DraftedSources.{symbols_of, KeepsRules, IsLeastBrokenLine, draft_from_lines}
 use Rattle.tc_link.specs.Layouts.{LayoutData}
 use Rattle.tc_link.specs.LayoutFaults.{layout_of}
 use Rattle.tc_link.specs.declared.layout_errors.LayoutErr.{LayoutErr}
 use Rattle.tcd_reading.specs.Inputs.{FormSeen}
-use Rattle.tcd_forms.specs.Lines.{long_elf_line, elf_line, long_plan_line, plan_line, long_cert_line, cert_line, long_script_line, script_line, long_source_line, source_line, long_layout_line, layout_line, long_object_line, object_line}
+use Rattle.tcd_forms.specs.Lines.{long_elf_line, bad_elf_line, long_plan_line, bad_plan_line, long_cert_line, bad_cert_line, long_script_line, bad_script_line, long_source_line, bad_source_line, long_layout_line, bad_layout_line, long_object_line, bad_object_line}
 
 -- an executable
 abbrev pub elf_form : FormSeen ImageData
 elf_form = record {
   limit = 2 ^ 24;
   long_line = long_elf_line;
-  Is = λ bytes image. image_of bytes ≡ Ok image;
-  IsBad = λ bytes text. (e : ImageErr) × (image_of bytes ≡ Err e) × (text ≡ elf_line e);
+  Is = λ bytes image. image_of_file bytes ≡ Ok image;
+  IsBad = λ bytes text. (e : ImageErr) × (image_of_file bytes ≡ Err e) × (text ≡ bad_elf_line e);
 }
 
 -- a plan
@@ -39,8 +38,8 @@ abbrev pub plan_form : FormSeen PlanData
 plan_form = record {
   limit = 2 ^ 24;
   long_line = long_plan_line;
-  Is = λ bytes p. Gives bytes (Ok p);
-  IsBad = λ bytes text. (e : PlanErr) × Answers bytes (Err e) × (e ≢ plan.NoMemory) × (text ≡ plan_line e);
+  Is = λ bytes p. GivesPlan bytes (Ok p);
+  IsBad = λ bytes text. (e : PlanErr) × AnswersPlan bytes (Err e) × (e ≢ plan.NoMemory) × (text ≡ bad_plan_line e);
 }
 
 -- a certificate
@@ -49,7 +48,7 @@ cert_form = record {
   limit = 2 ^ 30;
   long_line = long_cert_line;
   Is = λ bytes cert. certificate_of bytes ≡ Ok cert;
-  IsBad = λ bytes text. (e : FormErr) × (certificate_of bytes ≡ Err e) × (text ≡ cert_line e);
+  IsBad = λ bytes text. (e : FormErr) × (certificate_of bytes ≡ Err e) × (text ≡ bad_cert_line e);
 }
 
 -- a script for a plan
@@ -58,13 +57,13 @@ script_form p = record {
   limit = 2 ^ 24;
   long_line = long_script_line;
   Is = λ bytes script. script_of p bytes ≡ Ok script;
-  IsBad = λ bytes text. (e : ScriptErr) × (script_of p bytes ≡ Err e) × (text ≡ script_line e);
+  IsBad = λ bytes text. (e : ScriptErr) × (script_of p bytes ≡ Err e) × (text ≡ bad_script_line e);
 }
 
 -- the bytes are a source that breaks no rule, and this is its object
 pub record IsSource (bytes : List ℕ) (object : ObjectData) : Type 0 where
   pub keeps : KeepsRules (lines_in bytes) (length (lines_in bytes))
-  pub is : object ≡ object_of (drafted (symbols_of (lines_in bytes)) (lines_in bytes))
+  pub is : object ≡ object_of (draft_from_lines (symbols_of (lines_in bytes)) (lines_in bytes))
 
 -- A single source, whose value is its object. For a source that breaks a rule, the line has the
 -- least bad line and the least rule there.
@@ -73,7 +72,7 @@ source_form = record {
   limit = 2 ^ 24;
   long_line = long_source_line 0;
   Is = λ bytes object. IsSource bytes object;
-  IsBad = λ bytes text. (line : ℕ) × (rule : ℕ) × IsLeast (lines_in bytes) line rule × (text ≡ source_line 0 rule line);
+  IsBad = λ bytes text. (line : ℕ) × (rule : ℕ) × IsLeastBrokenLine (lines_in bytes) line rule × (text ≡ bad_source_line 0 rule line);
 }
 
 -- a source and its object
@@ -87,7 +86,7 @@ placed_source_form place = record {
   limit = 2 ^ 24;
   long_line = long_source_line place;
   Is = λ bytes source. (source.text ≡ bytes) × IsSource bytes source.object;
-  IsBad = λ bytes text. (line : ℕ) × (rule : ℕ) × IsLeast (lines_in bytes) line rule × (text ≡ source_line place rule line);
+  IsBad = λ bytes text. (line : ℕ) × (rule : ℕ) × IsLeastBrokenLine (lines_in bytes) line rule × (text ≡ bad_source_line place rule line);
 }
 
 -- a layout
@@ -96,7 +95,7 @@ layout_form = record {
   limit = 2 ^ 24;
   long_line = long_layout_line;
   Is = λ bytes l. layout_of bytes ≡ Ok l;
-  IsBad = λ bytes text. (e : LayoutErr) × (layout_of bytes ≡ Err e) × (text ≡ layout_line e);
+  IsBad = λ bytes text. (e : LayoutErr) × (layout_of bytes ≡ Err e) × (text ≡ bad_layout_line e);
 }
 
 -- an object among several, with its place among them
@@ -105,5 +104,5 @@ object_form place = record {
   limit = 2 ^ 24;
   long_line = long_object_line place;
   Is = λ bytes object. grammar.object_of bytes ≡ Ok object;
-  IsBad = λ bytes text. (e : FormErr) × (grammar.object_of bytes ≡ Err e) × (text ≡ object_line place e);
+  IsBad = λ bytes text. (e : FormErr) × (grammar.object_of bytes ≡ Err e) × (text ≡ bad_object_line place e);
 }

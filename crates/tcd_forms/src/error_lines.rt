@@ -1,8 +1,6 @@
 // The printed lines on malformed files, and on objects that can't be linked.
-ghost use Rattle.std.specs.Prelude.{◌≡◌, ◌<◌, ◌++◌, ◌∷◌, [], if◌then◌else◌, length, codes, IsErr, IfOk, IfSome, OnOk};
-ghost use Rattle.std.specs.Fmt.{decimal};
-ghost use Rattle.tcd_forms.specs.Lines.{long_elf_line, long_plan_line, long_cert_line, long_script_line, long_source_line, at_key, elf_line, plan_line, cert_line, script_line, source_line, long_layout_line, long_cells_line, long_tasks_line, layout_line, long_object_line, object_line, field_fault, link_line};
-ghost use Rattle.tc_lex.specs.Cut.{at_name};
+ghost use Rattle.std.specs.Prelude.{◌≡◌, ◌<◌, ◌++◌, length, IsErr, IfOk, IfSome, OnOk};
+ghost use Rattle.tcd_forms.specs.Lines.{long_elf_line, long_plan_line, long_cert_line, long_script_line, long_source_line, line_end_at_key, bad_elf_line, bad_plan_line, bad_cert_line, bad_script_line, bad_source_line, long_layout_line, long_cells_line, long_tasks_line, bad_layout_line, long_object_line, bad_object_line, printed_reloc_fault, bad_link_line, name_at_line_end};
 ghost use Rattle.tcd_plan.specs.Plans.{HasText};
 ghost use Rattle.tc_link.specs.Errors.{refusal_of};
 ghost use Rattle.tcd_plan.specs.Keys.{key_texts};
@@ -15,23 +13,16 @@ use tc_script::ScriptErr;
 use tcd_base::{FormErr, NoMemory};
 use tcd_plan::{PlanErr, PlanKey, key_text};
 
-/// Appends bytes to a line.
-pub fn append(line: &mut Vec<u8>, bytes: &[u8]) -> Result<(), NoMemory>
+/// Appends bytes to a printed line, such as one on an error in a file.
+pub fn append_to_printed_line(line: &mut Vec<u8>, bytes: &[u8]) -> Result<(), NoMemory>
     ensures { OnOk result (line.new.items ≡ line.old.items ++ bytes.now) }
 {
     line.extend_from_slice(bytes)?;
     Ok(())
 }
 
-// The digit for the interrupt stack (1: in use), and the line feed.
-pub(crate) fn stack_text(is: bool) -> &'static [u8]
-    ensures { result.now ≡ (if is then 49 else 48) ∷ 10 ∷ [] }
-{
-    if is { b"1\n" } else { b"0\n" }
-}
-
-/// A copy of a fixed line.
-pub fn line_of(alloc: Global, text: &[u8]) -> Result<Vec<u8>, NoMemory>
+/// Returns a copy of a fixed printed line, such as one on an error in a file.
+pub fn copy_printed_line(alloc: Global, text: &[u8]) -> Result<Vec<u8>, NoMemory>
     ensures { IfOk result (λ line. line.items ≡ text.now) }
 {
     Ok(Vec::from_slice(alloc, text)?)
@@ -94,74 +85,67 @@ pub fn long_tasks_line() -> &'static [u8]
 }
 
 /// The line that says why a file is no executable.
-#[tactic(auto, unfolding(crate::specs::Lines::elf_line, crate::specs::Lines::at_one, crate::specs::Lines::at_two))]
-pub fn elf_line(alloc: Global, e: ImageErr) -> Result<Vec<u8>, NoMemory>
-    ensures line { IfOk result (λ line. line.items ≡ elf_line e) }
+#[tactic(auto, unfolding(crate::specs::Lines::bad_elf_line, crate::specs::Lines::line_end_at_one, crate::specs::Lines::line_end_at_two))]
+pub fn bad_elf_line(alloc: Global, e: ImageErr) -> Result<Vec<u8>, NoMemory>
+    ensures line { IfOk result (λ line. line.items ≡ bad_elf_line e) }
     ensures memory { e ≡ ImageErr.NoMemory → IsErr result }
 {
     match e {
-        ImageErr::Short => line_of(alloc, b"bad elf 1\n"),
-        ImageErr::NotElf32Le => line_of(alloc, b"bad elf 2\n"),
-        ImageErr::NotTriCore => line_of(alloc, b"bad elf 3\n"),
-        ImageErr::NotExec => line_of(alloc, b"bad elf 4\n"),
+        ImageErr::Short => copy_printed_line(alloc, b"bad elf 1\n"),
+        ImageErr::NotElf32Le => copy_printed_line(alloc, b"bad elf 2\n"),
+        ImageErr::NotTriCore => copy_printed_line(alloc, b"bad elf 3\n"),
+        ImageErr::NotExec => copy_printed_line(alloc, b"bad elf 4\n"),
         ImageErr::BadSegment(i) => Ok(format!(in alloc; "bad elf 5 at {i}\n")?.into_bytes()),
-        ImageErr::TooLarge => line_of(alloc, b"bad elf 6\n"),
+        ImageErr::TooLarge => copy_printed_line(alloc, b"bad elf 6\n"),
         ImageErr::Overlap(i, j) => Ok(format!(in alloc; "bad elf 7 at {i} {j}\n")?.into_bytes()),
         ImageErr::NoMemory => Err(NoMemory),
     }
 }
 
 // The line of a refusal that names a key of the plan.
-#[tactic(auto, unfolding(crate::specs::Lines::at_key))]
+#[tactic(auto, unfolding(crate::specs::Lines::line_end_at_key))]
 fn plan_key_line(alloc: Global, front: &str, key: PlanKey) -> Result<Vec<u8>, NoMemory>
     requires { key.0 < length key_texts }
-    ensures { IfOk result (λ line. line.items ≡ front.now ++ at_key key) }
+    ensures { IfOk result (λ line. line.items ≡ front.now ++ line_end_at_key key) }
 {
     let text = key_text(key);
     Ok(format!(in alloc; "{front} key {text}\n")?.into_bytes())
 }
 
 /// The line that says why a file is no plan.
-#[tactic(auto, unfolding(crate::specs::Lines::plan_line, crate::specs::Lines::at_two))]
-pub fn plan_line(alloc: Global, e: PlanErr) -> Result<Vec<u8>, NoMemory>
+#[tactic(auto, unfolding(crate::specs::Lines::bad_plan_line, crate::specs::Lines::line_end_at_two))]
+pub fn bad_plan_line(alloc: Global, e: PlanErr) -> Result<Vec<u8>, NoMemory>
     requires { HasText e }
-    ensures line { IfOk result (λ line. line.items ≡ plan_line e) }
+    ensures line { IfOk result (λ line. line.items ≡ bad_plan_line e) }
     ensures memory { e ≡ PlanErr.NoMemory → IsErr result }
 {
     match e {
-        PlanErr::NotJson => line_of(alloc, b"bad plan 1\n"),
+        PlanErr::NotJson => copy_printed_line(alloc, b"bad plan 1\n"),
         PlanErr::Missing(key) => plan_key_line(alloc, "bad plan 2", key),
         PlanErr::Unknown(key) => plan_key_line(alloc, "bad plan 3", key),
         PlanErr::BadValue(key) => plan_key_line(alloc, "bad plan 4", key),
         PlanErr::TooMany(key) => plan_key_line(alloc, "bad plan 5", key),
-        PlanErr::BadCsa => line_of(alloc, b"bad plan 6\n"),
-        PlanErr::BadVector => line_of(alloc, b"bad plan 7\n"),
+        PlanErr::BadCsa => copy_printed_line(alloc, b"bad plan 6\n"),
+        PlanErr::BadVector => copy_printed_line(alloc, b"bad plan 7\n"),
         PlanErr::Overlap(i, j) => Ok(format!(in alloc; "bad plan 8 at {i} {j}\n")?.into_bytes()),
         PlanErr::NoMemory => Err(NoMemory),
     }
 }
 
 /// The line that says why a file is no certificate.
-#[tactic(auto, unfolding(crate::specs::Lines::cert_line, crate::specs::Lines::at_one))]
-pub fn cert_line(alloc: Global, e: FormErr) -> Result<Vec<u8>, NoMemory>
-    ensures { IfOk result (λ line. line.items ≡ cert_line e) }
+#[tactic(auto, unfolding(crate::specs::Lines::bad_cert_line, crate::specs::Lines::line_end_at_one))]
+pub fn bad_cert_line(alloc: Global, e: FormErr) -> Result<Vec<u8>, NoMemory>
+    ensures { IfOk result (λ line. line.items ≡ bad_cert_line e) }
 {
     let kind = e.kind;
     let at = e.at;
     Ok(format!(in alloc; "bad cert {kind} at {at}\n")?.into_bytes())
 }
 
-// The priority in a key.
-pub(crate) fn prio_text(alloc: Global, prio: u8) -> Result<Vec<u8>, NoMemory>
-    ensures { IfOk result (λ text. text.items ≡ codes " prio " ++ (decimal prio ++ codes " is ")) }
-{
-    Ok(format!(in alloc; " prio {prio} is ")?.into_bytes())
-}
-
 /// The line that says why a file is no script.
-#[tactic(auto, unfolding(crate::specs::Lines::script_line, crate::specs::Lines::at_one))]
-pub fn script_line(alloc: Global, e: ScriptErr) -> Result<Vec<u8>, NoMemory>
-    ensures line { IfOk result (λ line. line.items ≡ script_line e) }
+#[tactic(auto, unfolding(crate::specs::Lines::bad_script_line, crate::specs::Lines::line_end_at_one))]
+pub fn bad_script_line(alloc: Global, e: ScriptErr) -> Result<Vec<u8>, NoMemory>
+    ensures line { IfOk result (λ line. line.items ≡ bad_script_line e) }
     ensures memory { e ≡ ScriptErr.NoMemory → IsErr result }
 {
     match e {
@@ -175,17 +159,17 @@ pub fn script_line(alloc: Global, e: ScriptErr) -> Result<Vec<u8>, NoMemory>
 
 /// The line on a source that breaks a rule: the place of the source, the least bad line and the
 /// least rule there.
-#[tactic(auto, unfolding(crate::specs::Lines::source_line, crate::specs::Lines::at_two))]
-pub fn source_line(alloc: Global, place: u32, rule: u8, line: u32) -> Result<Vec<u8>, NoMemory>
-    ensures { IfOk result (λ text. text.items ≡ source_line place rule line) }
+#[tactic(auto, unfolding(crate::specs::Lines::bad_source_line, crate::specs::Lines::line_end_at_two))]
+pub fn bad_source_line(alloc: Global, place: u32, rule: u8, line: u32) -> Result<Vec<u8>, NoMemory>
+    ensures { IfOk result (λ text. text.items ≡ bad_source_line place rule line) }
 {
     Ok(format!(in alloc; "bad source {rule} at {place} {line}\n")?.into_bytes())
 }
 
 /// The line that says why a file is no layout.
-#[tactic(auto, unfolding(crate::specs::Lines::layout_line, crate::specs::Lines::at_one))]
-pub fn layout_line(alloc: Global, e: LayoutErr) -> Result<Vec<u8>, NoMemory>
-    ensures line { IfOk result (λ line. line.items ≡ layout_line e) }
+#[tactic(auto, unfolding(crate::specs::Lines::bad_layout_line, crate::specs::Lines::line_end_at_one))]
+pub fn bad_layout_line(alloc: Global, e: LayoutErr) -> Result<Vec<u8>, NoMemory>
+    ensures line { IfOk result (λ line. line.items ≡ bad_layout_line e) }
     ensures memory { e ≡ LayoutErr.NoMemory → IsErr result }
 {
     match e {
@@ -198,7 +182,7 @@ pub fn layout_line(alloc: Global, e: LayoutErr) -> Result<Vec<u8>, NoMemory>
 }
 
 /// The line for the source at this place, if it is above its limit.
-#[tactic(auto, unfolding(crate::specs::Lines::long_source_line, crate::specs::Lines::at_one))]
+#[tactic(auto, unfolding(crate::specs::Lines::long_source_line, crate::specs::Lines::line_end_at_one))]
 pub fn long_source_line(alloc: Global, place: u32) -> Result<Vec<u8>, NoMemory>
     ensures { IfOk result (λ line. line.items ≡ long_source_line place) }
 {
@@ -206,7 +190,7 @@ pub fn long_source_line(alloc: Global, place: u32) -> Result<Vec<u8>, NoMemory>
 }
 
 /// The line for the object at this place, if it is above its limit.
-#[tactic(auto, unfolding(crate::specs::Lines::long_object_line, crate::specs::Lines::at_one))]
+#[tactic(auto, unfolding(crate::specs::Lines::long_object_line, crate::specs::Lines::line_end_at_one))]
 pub fn long_object_line(alloc: Global, place: u32) -> Result<Vec<u8>, NoMemory>
     ensures { IfOk result (λ line. line.items ≡ long_object_line place) }
 {
@@ -214,9 +198,9 @@ pub fn long_object_line(alloc: Global, place: u32) -> Result<Vec<u8>, NoMemory>
 }
 
 /// The line that says why the file at this place is no object.
-#[tactic(auto, unfolding(crate::specs::Lines::object_line, crate::specs::Lines::at_two))]
-pub fn object_line(alloc: Global, place: u32, e: FormErr) -> Result<Vec<u8>, NoMemory>
-    ensures { IfOk result (λ line. line.items ≡ object_line place e) }
+#[tactic(auto, unfolding(crate::specs::Lines::bad_object_line, crate::specs::Lines::line_end_at_two))]
+pub fn bad_object_line(alloc: Global, place: u32, e: FormErr) -> Result<Vec<u8>, NoMemory>
+    ensures { IfOk result (λ line. line.items ≡ bad_object_line place e) }
 {
     let kind = e.kind;
     let offset = e.at;
@@ -224,17 +208,17 @@ pub fn object_line(alloc: Global, place: u32, e: FormErr) -> Result<Vec<u8>, NoM
 }
 
 // The line of a refusal to link that names a symbol or a section.
-#[tactic(auto, unfolding(tc_lex::specs::Cut::at_name))]
-fn name_line(alloc: Global, front: &str, name: &str) -> Result<Vec<u8>, NoMemory>
-    ensures { IfOk result (λ line. line.items ≡ front.now ++ at_name name.now) }
+#[tactic(auto, unfolding(crate::specs::Lines::name_at_line_end))]
+fn bad_link_name_line(alloc: Global, front: &str, name: &str) -> Result<Vec<u8>, NoMemory>
+    ensures { IfOk result (λ line. line.items ≡ front.now ++ name_at_line_end name.now) }
 {
     Ok(format!(in alloc; "{front} name {name}\n")?.into_bytes())
 }
 
-// The number of a reason why a field can't be filled.
-#[tactic(auto, unfolding(crate::specs::Lines::field_fault))]
-fn field_fault(err: RelocErr) -> u8
-    ensures { result ≡ field_fault err }
+/// The number that the line of a link prints for why a field can't be filled.
+#[tactic(auto, unfolding(crate::specs::Lines::printed_reloc_fault))]
+fn printed_reloc_fault(err: RelocErr) -> u8
+    ensures { result ≡ printed_reloc_fault err }
 {
     match err {
         RelocErr::Odd => 1,
@@ -244,36 +228,28 @@ fn field_fault(err: RelocErr) -> u8
 }
 
 /// The line that says why objects can't be linked.
-#[tactic(auto, unfolding(crate::specs::Lines::link_line))]
-pub fn link_line(alloc: Global, e: LinkErr) -> Result<Vec<u8>, NoMemory>
-    ensures line { IfOk result (λ line. IfSome (refusal_of e) (λ r. line.items ≡ link_line r)) }
+#[tactic(auto, unfolding(crate::specs::Lines::bad_link_line))]
+pub fn bad_link_line(alloc: Global, e: LinkErr) -> Result<Vec<u8>, NoMemory>
+    ensures line { IfOk result (λ line. IfSome (refusal_of e) (λ r. line.items ≡ bad_link_line r)) }
     ensures memory { e ≡ LinkErr.NoMemory → IsErr result }
 {
     match e {
-        LinkErr::Twice(name) => name_line(alloc, "bad link 1", name.as_str()),
-        LinkErr::Missing(name) => name_line(alloc, "bad link 2", name.as_str()),
-        LinkErr::NoPlace(name) => name_line(alloc, "bad link 3", name.as_str()),
-        LinkErr::NoRoom(name) => name_line(alloc, "bad link 4", name.as_str()),
+        LinkErr::Twice(name) => bad_link_name_line(alloc, "bad link 1", name.as_str()),
+        LinkErr::Missing(name) => bad_link_name_line(alloc, "bad link 2", name.as_str()),
+        LinkErr::NoPlace(name) => bad_link_name_line(alloc, "bad link 3", name.as_str()),
+        LinkErr::NoRoom(name) => bad_link_name_line(alloc, "bad link 4", name.as_str()),
         LinkErr::Reloc {
             object,
             section,
             offset,
             err,
         } => {
-            let fault = field_fault(err);
+            let fault = printed_reloc_fault(err);
             Ok(format!(in alloc;
                 "bad link 5 at {object} {section} {offset} {fault}\n"
             )?.into_bytes())
         }
-        LinkErr::NoEntry => line_of(alloc, b"bad link 6\n"),
+        LinkErr::NoEntry => copy_printed_line(alloc, b"bad link 6\n"),
         LinkErr::NoMemory => Err(NoMemory),
     }
-}
-
-// The number of a task, and the line feed.
-pub(crate) fn task_text(alloc: Global, u: usize) -> Result<Vec<u8>, NoMemory>
-    ensures { IfOk result
-        (λ line. line.items ≡ codes " of task " ++ (decimal u ++ 10 ∷ [])) }
-{
-    Ok(format!(in alloc; " of task {u}\n")?.into_bytes())
 }

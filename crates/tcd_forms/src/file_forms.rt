@@ -1,8 +1,8 @@
 // The forms of input files, from executables to objects.
 use crate::error_lines::{
-    cert_line, elf_line, layout_line, line_of, long_cert_line, long_elf_line, long_layout_line,
-    long_object_line, long_plan_line, long_script_line, long_source_line, object_line, plan_line,
-    script_line, source_line,
+    bad_cert_line, bad_elf_line, bad_layout_line, bad_object_line, bad_plan_line, bad_script_line,
+    bad_source_line, copy_printed_line, long_cert_line, long_elf_line, long_layout_line,
+    long_object_line, long_plan_line, long_script_line, long_source_line,
 };
 use bumpalo::Bump;
 use depth_cert::CertErr;
@@ -16,7 +16,7 @@ use tc_object::{ObjErr, Object, ObjectRef};
 use tc_script::Script;
 use tcd_base::NoMemory;
 use tcd_plan::Plan;
-use tcd_reading::{Form, Outcome, bad_input};
+use tcd_reading::{Form, Outcome, bad_input_outcome};
 
 /// The most bytes of a file other than a certificate.
 pub const LIMIT: u32 = 16_777_216;
@@ -42,13 +42,13 @@ impl Form for ElfFile {
     }
 
     fn long_line(&self, alloc: Global) -> Result<Vec<u8>, NoMemory> {
-        line_of(alloc, long_elf_line())
+        copy_printed_line(alloc, long_elf_line())
     }
 
     fn value(&self, alloc: Global, bytes: Vec<u8>) -> Result<Image, Outcome> {
         match Image::read(alloc, &bytes) {
             Ok(image) => Ok(image),
-            Err(e) => Err(bad_input(alloc, elf_line(alloc, e))),
+            Err(e) => Err(bad_input_outcome(alloc, bad_elf_line(alloc, e))),
         }
     }
 }
@@ -71,13 +71,13 @@ impl Form for PlanFile {
     }
 
     fn long_line(&self, alloc: Global) -> Result<Vec<u8>, NoMemory> {
-        line_of(alloc, long_plan_line())
+        copy_printed_line(alloc, long_plan_line())
     }
 
     fn value(&self, alloc: Global, bytes: Vec<u8>) -> Result<Plan, Outcome> {
         match Plan::read(alloc, &bytes) {
             Ok(plan) => Ok(plan),
-            Err(e) => Err(bad_input(alloc, plan_line(alloc, e))),
+            Err(e) => Err(bad_input_outcome(alloc, bad_plan_line(alloc, e))),
         }
     }
 }
@@ -100,13 +100,13 @@ impl Form for CertFile {
     }
 
     fn long_line(&self, alloc: Global) -> Result<Vec<u8>, NoMemory> {
-        line_of(alloc, long_cert_line())
+        copy_printed_line(alloc, long_cert_line())
     }
 
     fn value(&self, alloc: Global, bytes: Vec<u8>) -> Result<PackedCert, Outcome> {
         match PackedCert::read(alloc, bytes) {
             Ok(cert) => Ok(cert),
-            Err(CertErr::Bad(e)) => Err(bad_input(alloc, cert_line(alloc, e))),
+            Err(CertErr::Bad(e)) => Err(bad_input_outcome(alloc, bad_cert_line(alloc, e))),
             Err(CertErr::NoMemory) => Err(Outcome::NoMemory),
         }
     }
@@ -134,13 +134,13 @@ impl<'a> Form for ScriptFile<'a> {
     }
 
     fn long_line(&self, alloc: Global) -> Result<Vec<u8>, NoMemory> {
-        line_of(alloc, long_script_line())
+        copy_printed_line(alloc, long_script_line())
     }
 
     fn value(&self, alloc: Global, bytes: Vec<u8>) -> Result<Script, Outcome> {
         match Script::read(alloc, &bytes, self.plan) {
             Ok(script) => Ok(script),
-            Err(e) => Err(bad_input(alloc, script_line(alloc, e))),
+            Err(e) => Err(bad_input_outcome(alloc, bad_script_line(alloc, e))),
         }
     }
 }
@@ -170,7 +170,7 @@ impl Form for SourceFile {
         match assemble(alloc, &bytes) {
             Ok(object) => Ok(object),
             Err(AsmErr::Bad { line, rule }) => {
-                Err(bad_input(alloc, source_line(alloc, 0, rule, line)))
+                Err(bad_input_outcome(alloc, bad_source_line(alloc, 0, rule, line)))
             }
             Err(AsmErr::NoMemory) => Err(Outcome::NoMemory),
         }
@@ -227,7 +227,7 @@ impl Form for PlacedSourceFile {
                 object,
             }),
             Err(AsmErr::Bad { line, rule }) => {
-                Err(bad_input(alloc, source_line(alloc, self.place, rule, line)))
+                Err(bad_input_outcome(alloc, bad_source_line(alloc, self.place, rule, line)))
             }
             Err(AsmErr::NoMemory) => Err(Outcome::NoMemory),
         }
@@ -252,13 +252,13 @@ impl Form for LayoutFile {
     }
 
     fn long_line(&self, alloc: Global) -> Result<Vec<u8>, NoMemory> {
-        line_of(alloc, long_layout_line())
+        copy_printed_line(alloc, long_layout_line())
     }
 
     fn value(&self, alloc: Global, bytes: Vec<u8>) -> Result<Layout, Outcome> {
         match Layout::read(alloc, &bytes) {
             Ok(layout) => Ok(layout),
-            Err(e) => Err(bad_input(alloc, layout_line(alloc, e))),
+            Err(e) => Err(bad_input_outcome(alloc, bad_layout_line(alloc, e))),
         }
     }
 }
@@ -295,7 +295,10 @@ impl<'a> Form for ObjectFile<'a> {
         };
         match ObjectRef::read(alloc, kept) {
             Ok(object) => Ok(object),
-            Err(ObjErr::Bad(e)) => Err(bad_input(alloc, object_line(alloc, self.place, e))),
+            Err(ObjErr::Bad(e)) => Err(bad_input_outcome(
+                alloc,
+                bad_object_line(alloc, self.place, e),
+            )),
             Err(ObjErr::NoMemory) => Err(Outcome::NoMemory),
         }
     }

@@ -1,12 +1,12 @@
 // The printed lines on results: runs, files that were written, certified needs, and refusals.
-ghost use Rattle.std.specs.Prelude.{◌≡◌, ◌++◌, ◌∷◌, [], length, codes, IfOk, ◌<◌, OnOk};
+ghost use Rattle.std.specs.Prelude.{◌≡◌, ◌++◌, ◌∷◌, [], length, codes, IfOk, ◌<◌, OnOk, if◌then◌else◌};
 ghost use Rattle.std.specs.Fmt.{decimal};
 ghost use Rattle.depth_cert.specs.Nodes.{count_points};
-ghost use Rattle.tcd_forms.specs.Lines.{boots_line, generated_boot_line, certified_cells_line, certified_tasks_line, generated_line, assembled_line, linked_line, cause_text, end_text, run_line, certified_line, key_line, refused_line, switch_line, of_task, refused_task_line, sum_line};
+ghost use Rattle.tcd_forms.specs.Lines.{boots_line, generated_boot_line, certified_cells_line, certified_tasks_line, generated_line, assembled_line, linked_line, printed_death_cause, run_end_text, run_line, certified_line, key_line, refused_line, refused_switch_line, line_with_task, refused_task_line, refused_sum_line};
 ghost use Rattle.tcd_text.specs.Digits.{hex_word};
 
-use crate::error_lines::{append, line_of, prio_text, stack_text, task_text};
-use depth_cert::{Key, kind_text};
+use crate::error_lines::{append_to_printed_line, copy_printed_line};
+use depth_cert::{Key, key_kind_text};
 use packed_cert::PackedCert;
 use std::alloc::Global;
 use tc_machine::{Cause, End, Machine};
@@ -89,10 +89,10 @@ pub fn certified_line(alloc: Global, need: u32, areas: u32) -> Result<Vec<u8>, N
     Ok(format!(in alloc; "certified {need} of {areas} areas\n")?.into_bytes())
 }
 
-// The word for a cause of death.
-#[tactic(auto, unfolding(crate::specs::Lines::cause_text))]
-fn cause_text(cause: Cause) -> &'static [u8]
-    ensures { result.now ≡ cause_text cause }
+/// The word that the line of a run prints for a cause of death.
+#[tactic(auto, unfolding(crate::specs::Lines::printed_death_cause))]
+fn printed_death_cause(cause: Cause) -> &'static [u8]
+    ensures { result.now ≡ printed_death_cause cause }
 {
     match cause {
         Cause::Fcd => b"fcd",
@@ -106,29 +106,30 @@ fn cause_text(cause: Cause) -> &'static [u8]
 }
 
 // Appends whether the machine runs, or the cause and the address of its death, and the line feed.
-#[tactic(auto, unfolding(crate::specs::Lines::end_text))]
-fn append_end(line: &mut Vec<u8>, end: End, pc: u32) -> Result<(), NoMemory>
-    ensures { OnOk result (line.new.items ≡ line.old.items ++ end_text end pc) }
+#[tactic(auto, unfolding(crate::specs::Lines::run_end_text))]
+fn append_run_end(line: &mut Vec<u8>, end: End, pc: u32) -> Result<(), NoMemory>
+    ensures { OnOk result (line.new.items ≡ line.old.items ++ run_end_text end pc) }
 {
     match end {
-        End::Running => append(line, b"running\n"),
-        End::Dead(cause) => append_death(line, cause, pc),
+        End::Running => append_to_printed_line(line, b"running\n"),
+        End::Dead(cause) => append_run_death(line, cause, pc),
     }
 }
 
-fn append_death(line: &mut Vec<u8>, cause: Cause, pc: u32) -> Result<(), NoMemory>
+/// Appends that the machine of a run is dead, with the cause and the address, and the line feed.
+fn append_run_death(line: &mut Vec<u8>, cause: Cause, pc: u32) -> Result<(), NoMemory>
     ensures { OnOk result (line.new.items ≡ line.old.items ++ (codes "dead "
-        ++ (cause_text cause ++ (codes " at " ++ (hex_word pc ++ 10 ∷ []))))) }
+        ++ (printed_death_cause cause ++ (codes " at " ++ (hex_word pc ++ 10 ∷ []))))) }
 {
-    append(line, b"dead ")?;
-    append(line, cause_text(cause))?;
-    append(line, b" at ")?;
-    append(line, &hex_word(pc))?;
-    append(line, b"\n")
+    append_to_printed_line(line, b"dead ")?;
+    append_to_printed_line(line, printed_death_cause(cause))?;
+    append_to_printed_line(line, b" at ")?;
+    append_to_printed_line(line, &hex_word(pc))?;
+    append_to_printed_line(line, b"\n")
 }
 
 // The start of a line on a run.
-fn run_front(alloc: Global, events: u32, peak: u32) -> Result<Vec<u8>, NoMemory>
+fn run_line_front(alloc: Global, events: u32, peak: u32) -> Result<Vec<u8>, NoMemory>
     ensures { IfOk result (λ line. line.items ≡ codes "events "
         ++ (decimal events ++ (codes " peak " ++ (decimal peak ++ codes " ")))) }
 {
@@ -140,8 +141,8 @@ fn run_front(alloc: Global, events: u32, peak: u32) -> Result<Vec<u8>, NoMemory>
 pub fn run_line(alloc: Global, events: u32, peak: u32, m: &Machine) -> Result<Vec<u8>, NoMemory>
     ensures { IfOk result (λ line. line.items ≡ run_line events peak m.now) }
 {
-    let mut line = run_front(alloc, events, peak)?;
-    append_end(&mut line, m.end, m.pc)?;
+    let mut line = run_line_front(alloc, events, peak)?;
+    append_run_end(&mut line, m.end, m.pc)?;
     Ok(line)
 }
 
@@ -163,8 +164,8 @@ pub fn linked_line(alloc: Global, bytes: &[u8]) -> Result<Vec<u8>, NoMemory>
     Ok(format!(in alloc; "image {size} bytes\n")?.into_bytes())
 }
 
-// The start of a line on a rule that fails.
-fn refused_front(alloc: Global, rule: u8) -> Result<Vec<u8>, NoMemory>
+/// Returns the start of the line on a refusal, with the rule that fails.
+fn refused_line_front(alloc: Global, rule: u8) -> Result<Vec<u8>, NoMemory>
     ensures { IfOk result
         (λ line. line.items ≡ codes "refused K" ++ (decimal rule ++ codes " at ")) }
 {
@@ -173,14 +174,14 @@ fn refused_front(alloc: Global, rule: u8) -> Result<Vec<u8>, NoMemory>
 
 // Appends a key and the line feed.
 #[tactic(auto, unfolding(crate::specs::Lines::key_line))]
-fn append_key(alloc: Global, line: &mut Vec<u8>, key: Key) -> Result<(), NoMemory>
+fn append_key_to_line(alloc: Global, line: &mut Vec<u8>, key: Key) -> Result<(), NoMemory>
     ensures { OnOk result (line.new.items ≡ line.old.items ++ key_line key) }
 {
-    append(line, kind_text(key.kind).as_bytes())?;
-    append(line, &hex_word(key.entry))?;
-    let prio = prio_text(alloc, key.prio)?;
-    append(line, &prio)?;
-    append(line, stack_text(key.is))
+    append_to_printed_line(line, key_kind_text(key.kind).as_bytes())?;
+    append_to_printed_line(line, &hex_word(key.entry))?;
+    let prio = key_priority_text(alloc, key.prio)?;
+    append_to_printed_line(line, &prio)?;
+    append_to_printed_line(line, key_stack_digit(key.is))
 }
 
 /// The line on a rule that fails, with the address and the key.
@@ -188,26 +189,26 @@ fn append_key(alloc: Global, line: &mut Vec<u8>, key: Key) -> Result<(), NoMemor
 pub fn refused_line(alloc: Global, rule: u8, key: Key, addr: u32) -> Result<Vec<u8>, NoMemory>
     ensures { IfOk result (λ line. line.items ≡ refused_line rule key addr) }
 {
-    let mut line = refused_front(alloc, rule)?;
-    append(&mut line, &hex_word(addr))?;
-    append(&mut line, b" in ")?;
-    append_key(alloc, &mut line, key)?;
+    let mut line = refused_line_front(alloc, rule)?;
+    append_to_printed_line(&mut line, &hex_word(addr))?;
+    append_to_printed_line(&mut line, b" in ")?;
+    append_key_to_line(alloc, &mut line, key)?;
     Ok(line)
 }
 
 /// The line for an image without the switch routine at this address.
-#[tactic(auto, unfolding(crate::specs::Lines::switch_line))]
-pub fn switch_line(alloc: Global, addr: u32) -> Result<Vec<u8>, NoMemory>
-    ensures { IfOk result (λ line. line.items ≡ switch_line addr) }
+#[tactic(auto, unfolding(crate::specs::Lines::refused_switch_line))]
+pub fn refused_switch_line(alloc: Global, addr: u32) -> Result<Vec<u8>, NoMemory>
+    ensures { IfOk result (λ line. line.items ≡ refused_switch_line addr) }
 {
-    let mut line = line_of(alloc, b"refused switch at ")?;
-    append(&mut line, &hex_word(addr))?;
-    append(&mut line, b"\n")?;
+    let mut line = copy_printed_line(alloc, b"refused switch at ")?;
+    append_to_printed_line(&mut line, &hex_word(addr))?;
+    append_to_printed_line(&mut line, b"\n")?;
     Ok(line)
 }
 
 /// The line on a rule that fails in a task's certificate.
-#[tactic(auto, unfolding(crate::specs::Lines::of_task))]
+#[tactic(auto, unfolding(crate::specs::Lines::line_with_task))]
 pub fn refused_task_line(
     alloc: Global,
     rule: u8,
@@ -219,15 +220,38 @@ pub fn refused_task_line(
 {
     let mut line = refused_line(alloc, rule, key, addr)?;
     let _end = line.pop();
-    let text = task_text(alloc, u)?;
-    append(&mut line, &text)?;
+    let text = task_line_end(alloc, u)?;
+    append_to_printed_line(&mut line, &text)?;
     Ok(line)
 }
 
 /// The line for tasks whose needs together exceed the CSAs of the plan.
-#[tactic(auto, unfolding(crate::specs::Lines::sum_line))]
-pub fn sum_line(alloc: Global, sum: u64, areas: u32) -> Result<Vec<u8>, NoMemory>
-    ensures { IfOk result (λ line. line.items ≡ sum_line sum areas) }
+#[tactic(auto, unfolding(crate::specs::Lines::refused_sum_line))]
+pub fn refused_sum_line(alloc: Global, sum: u64, areas: u32) -> Result<Vec<u8>, NoMemory>
+    ensures { IfOk result (λ line. line.items ≡ refused_sum_line sum areas) }
 {
     Ok(format!(in alloc; "refused sum {sum} of {areas} areas\n")?.into_bytes())
+}
+
+/// Returns the digit for the interrupt stack (1: in use) of a key in the line of a result, and the
+/// line feed.
+pub(crate) fn key_stack_digit(is: bool) -> &'static [u8]
+    ensures { result.now ≡ (if is then 49 else 48) ∷ 10 ∷ [] }
+{
+    if is { b"1\n" } else { b"0\n" }
+}
+
+/// Returns the interrupt priority of a key as the line of a result prints it.
+pub(crate) fn key_priority_text(alloc: Global, prio: u8) -> Result<Vec<u8>, NoMemory>
+    ensures { IfOk result (λ text. text.items ≡ codes " prio " ++ (decimal prio ++ codes " is ")) }
+{
+    Ok(format!(in alloc; " prio {prio} is ")?.into_bytes())
+}
+
+/// Returns the end of a refusal's line that names a task: its number, and the line feed.
+pub(crate) fn task_line_end(alloc: Global, u: usize) -> Result<Vec<u8>, NoMemory>
+    ensures { IfOk result
+        (λ line. line.items ≡ codes " of task " ++ (decimal u ++ 10 ∷ [])) }
+{
+    Ok(format!(in alloc; " of task {u}\n")?.into_bytes())
 }

@@ -9,22 +9,22 @@ use Rattle.std.proofs.lemmas.Fmt.{decimal_is_IsNumeral}
 use Rattle.std.proofs.lemmas.Str.Parse.{digit_from_value}
 use Rattle.std.proofs.lemmas.List.Elements.{All-head, All-tail}
 use Rattle.std.proofs.lemmas.List.Folds.{list_all-append}
-use Rattle.tcd_text.specs.Lines.{lines_of}
+use Rattle.tcd_text.specs.Lines.{text_lines}
 use Rattle.elf_image.specs.Images.{ImageData}
 use Rattle.tcd_plan.specs.PlanData.{PlanData}
 use Rattle.depth_cert.specs.declared.keys.Key.{Key}
 use Rattle.depth_cert.specs.declared.points.Point.{Point}
 use Rattle.depth_cert.specs.Nodes.{NodeData}
 use Rattle.depth_cert.specs.Certs.{CertData, IsCert}
-use Rattle.cfg_recover.specs.StepEdges.{Way, to, call, irq, sys, aln, ret, rfe}
+use Rattle.cfg_recover.specs.StepEdges.{EdgeWay, to, call, irq, sys, aln, ret, rfe}
 use Rattle.depth_check.proofs.Sound.{accepted_is_safe}
 use Rattle.depth_check.proofs.Held.{edges_are_owed}
 use Rattle.tcd_text.specs.Digits.{hex_digit, hex_byte, hex_word}
-use Rattle.tcd_report.specs.Texts.{kind_text, key_text}
-use Rattle.tcd_report.specs.Graphs.{Arrow, goes, back, key_front, line_front, end_to, way_end, arrow_end, line_text, ArePointLines, AreParts, AreJoined, AreNodeLines, AreGraphLines}
+use Rattle.tcd_report.specs.Texts.{key_kind_text, key_text}
+use Rattle.tcd_report.specs.Graphs.{Arrow, goes, back, key_front, line_front, line_end_to, way_end, arrow_end, line_text, ArePointLines, AreLineParts, AreJoinedLines, AreNodeLines, AreGraphLines}
 use Rattle.tcd_report.specs.Graphs.EdgeLaws.{EdgesStand}
 use Rattle.tcd_report.proofs.GraphLemmas.EdgeProofs.{edges_stand}
-use Rattle.tcd_laws.specs.EdgesOnLines.{printed_lines, AcceptedEdgesStand}
+use Rattle.tcd_laws.specs.EdgesOnLines.{printed_graph_lines, AcceptedEdgesStand}
 
 -- ---- texts without a line feed
 abbrev passes : ℕ → Bool
@@ -62,8 +62,8 @@ digits_pass (c ∷ cs) h = let r = digit_from_value c h.0 in record { none = and
 decimal_passes : (n : ℕ) → n < 2 ^ 8 → NoFeed (decimal n)
 decimal_passes n h = digits_pass (decimal n) (decimal_is_IsNumeral n (omega arith)).0.1
 
-kind_passes : (k : ℕ) → NoFeed (kind_text k)
-unfolding kind_text
+kind_passes : (k : ℕ) → NoFeed (key_kind_text k)
+unfolding key_kind_text
 kind_passes k = by_tests (k == 0) (k == 1) (k == 2) (k == 3)
   where
     by_tests : (a b c d : Bool) → NoFeed (cond a (codes "start ") (cond b (codes "call ") (cond c (codes "irq ") (cond d (codes "sys ") (codes "aln ")))))
@@ -97,10 +97,10 @@ record IsLine (l : List ℕ) : Type 0 where
   are : l ≡ body ++ 10 ∷ []
   plain : NoFeed body
 
-ended : (word : List ℕ) (q : ℕ) → NoFeed word → IsLine (end_to word q)
+ended : (word : List ℕ) (q : ℕ) → NoFeed word → IsLine (line_end_to word q)
 ended word q h = record { body = word ++ hex_word q; are = sym (append_assoc word (hex_word q) (10 ∷ [])); plain = joined word (hex_word q) h (word_passes q) }
 
-way_line : (w : Way) → IsLine (way_end w)
+way_line : (w : EdgeWay) → IsLine (way_end w)
 way_line (to q) = ended (codes "to ") q (record { none = refl })
 way_line (call q) = ended (codes "call ") q (record { none = refl })
 way_line (irq q) = ended (codes "irq ") q (record { none = refl })
@@ -137,14 +137,14 @@ unfolding AreLines
 texts_lines key p [] small = tt
 texts_lines key p (a ∷ arrows) small = (text_line key p a small, texts_lines key p arrows small)
 
-parts_lines : {A : Type 0} (Has : A → List (List ℕ) → Type 0) (Q : A → Type 0) (xs : List A) (parts : List (List (List ℕ))) → ((x : A) (p : List (List ℕ)) → Q x → Has x p → AreLines p) → All Q xs → AreParts Has xs parts → AreLines (flat_map (λ p. p) parts)
+parts_lines : {A : Type 0} (Has : A → List (List ℕ) → Type 0) (Q : A → Type 0) (xs : List A) (parts : List (List (List ℕ))) → ((x : A) (p : List (List ℕ)) → Q x → Has x p → AreLines p) → All Q xs → AreLineParts Has xs parts → AreLines (flat_map (λ p. p) parts)
 unfolding AreLines
 parts_lines Has Q [] [] good all h = tt
 parts_lines Has Q [] (p ∷ ps) good all h = absurd h
 parts_lines Has Q (x ∷ xs) [] good all h = absurd h
 parts_lines Has Q (x ∷ xs) (p ∷ ps) good all h = lines_both p (flat_map (λ p. p) ps) (good x p (All-head Q x xs all) h.0) (parts_lines Has Q xs ps good (All-tail Q x xs all) h.1)
 
-joined_lines : {A : Type 0} (Has : A → List (List ℕ) → Type 0) (Q : A → Type 0) (xs : List A) (lines : List (List ℕ)) → ((x : A) (p : List (List ℕ)) → Q x → Has x p → AreLines p) → All Q xs → AreJoined Has xs lines → AreLines lines
+joined_lines : {A : Type 0} (Has : A → List (List ℕ) → Type 0) (Q : A → Type 0) (xs : List A) (lines : List (List ℕ)) → ((x : A) (p : List (List ℕ)) → Q x → Has x p → AreLines p) → All Q xs → AreJoinedLines Has xs lines → AreLines lines
 joined_lines Has Q xs lines good all h = subst AreLines (sym h.are) (parts_lines Has Q xs h.parts good all h.each)
 
 module _ (image : ImageData) (plan : PlanData) (cert : CertData) where
@@ -163,29 +163,29 @@ module _ (image : ImageData) (plan : PlanData) (cert : CertData) where
       joined_lines (AreNodeLines image plan cert) HasSmallPrio cert.nodes lines node_lines (λ k d less. ((is_cert.nodes k d less).key).prio) h
 
 -- ---- their text
-lines_front : (body rest : List ℕ) → NoFeed body → lines_of (body ++ 10 ∷ rest) ≡ body ∷ lines_of rest
-unfolding lines_of
+lines_front : (body rest : List ℕ) → NoFeed body → text_lines (body ++ 10 ∷ rest) ≡ body ∷ text_lines rest
+unfolding text_lines
 lines_front [] rest h = refl
 lines_front (c ∷ body) rest h = by_feed (c == 10) (λ k. lines_front body rest k) h.none
   where
-    by_feed : (b : Bool) → (NoFeed body → lines_of (body ++ 10 ∷ rest) ≡ body ∷ lines_of rest) → (not b && list_all passes body) ≡ true → cond b ([] ∷ lines_of (body ++ 10 ∷ rest)) (onto_first c (lines_of (body ++ 10 ∷ rest))) ≡ (c ∷ body) ∷ lines_of rest
+    by_feed : (b : Bool) → (NoFeed body → text_lines (body ++ 10 ∷ rest) ≡ body ∷ text_lines rest) → (not b && list_all passes body) ≡ true → cond b ([] ∷ text_lines (body ++ 10 ∷ rest)) (onto_first c (text_lines (body ++ 10 ∷ rest))) ≡ (c ∷ body) ∷ text_lines rest
     by_feed true behind k = cc
     by_feed false behind k = ap (onto_first c) (behind (record { none = k }))
 
-printed_front : (l rest : List ℕ) → IsLine l → printed_lines (l ++ rest) ≡ l ∷ printed_lines rest
+printed_front : (l rest : List ℕ) → IsLine l → printed_graph_lines (l ++ rest) ≡ l ∷ printed_graph_lines rest
 printed_front l rest h =
     let b : List ℕ = h.body in
     let moved : l ++ rest ≡ b ++ 10 ∷ rest = ap (λ (bs : List ℕ). bs ++ rest) h.are ∙ append_assoc b (10 ∷ []) rest in
-    ap printed_lines moved ∙ ap (map (λ (x : List ℕ). x ++ 10 ∷ [])) (lines_front b rest h.plain) ∙ ap (λ (x : List ℕ). x ∷ printed_lines rest) (sym h.are)
+    ap printed_graph_lines moved ∙ ap (map (λ (x : List ℕ). x ++ 10 ∷ [])) (lines_front b rest h.plain) ∙ ap (λ (x : List ℕ). x ∷ printed_graph_lines rest) (sym h.are)
 
-printed_all : (lines : List (List ℕ)) → AreLines lines → printed_lines (flat_map (λ l. l) lines) ≡ lines
-unfolding AreLines lines_of
+printed_all : (lines : List (List ℕ)) → AreLines lines → printed_graph_lines (flat_map (λ l. l) lines) ≡ lines
+unfolding AreLines text_lines
 printed_all [] h = refl
 printed_all (l ∷ ls) h = printed_front l (flat_map (λ l. l) ls) h.0 ∙ ap (λ (xs : List (List ℕ)). l ∷ xs) (printed_all ls h.1)
 
 -- ---- the law
 pub accepted_edges_stand : AcceptedEdgesStand
 accepted_edges_stand image plan cert text entry ok is_cert accepted g =
-    let same : printed_lines text ≡ g.lines = ap printed_lines g.text_is ∙ printed_all g.lines (graph_lines image plan cert g.lines is_cert g.are) in
+    let same : printed_graph_lines text ≡ g.lines = ap printed_graph_lines g.text_is ∙ printed_all g.lines (graph_lines image plan cert g.lines is_cert g.are) in
     subst (EdgesStand image plan cert) (sym same)
     (edges_stand image plan cert g.lines ok is_cert entry (accepted_is_safe image plan cert ok is_cert accepted) (edges_are_owed image plan cert ok is_cert accepted) g.are)

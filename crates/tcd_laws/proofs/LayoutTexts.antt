@@ -9,16 +9,15 @@ use Rattle.std.specs.Str.Parse.{digits_value, AllDigits}
 use Rattle.std.proofs.lemmas.Bool.{and_parts, eqb-true, ltb-true, leb-true, leb-false}
 use Rattle.std.proofs.lemmas.Int.Digits.{digits_value-lt}
 use Rattle.std.proofs.lemmas.List.Elements.{All-nil, All-head, All-push, filter_map-append}
-use Rattle.tcd_text.specs.Lines.{words_of, lines_of}
-use Rattle.tcd_text.specs.HexNumbers.{hex_number_of}
-use Rattle.tcd_text.specs.Digits.{is_upper_hex}
-use Rattle.tc_object.specs.Names.{is_length, is_name, name_of}
+use Rattle.tcd_text.specs.Lines.{line_words, text_lines}
+use Rattle.tcd_text.specs.HexNumbers.{hex_number_of, is_upper_hex}
+use Rattle.tc_object.specs.Names.{is_name_length, is_object_name, object_name_of}
 use Rattle.tc_object.specs.Objects.{InTurn}
-use Rattle.tc_link.specs.Layouts.{PlaceData, LayoutData, IsPlace, IsPlaceAfter, IsLayout, shares, is_placed}
-use Rattle.tc_link.specs.LayoutLines.{LineData, blank, entry, place, place_of_words, line_in, line_of, entry_in, region_in, entries_of, places_of, IsGood}
-use Rattle.tcd_base.specs.Refusing.{unless}
+use Rattle.tc_link.specs.Layouts.{PlaceData, LayoutData, IsPlace, IsPlaceAfter, IsLayout, are_overlapping_places, is_placed}
+use Rattle.tc_link.specs.LayoutLines.{LayoutLineData, blank, entry, place, place_of_words, line_in, layout_line_contents, entry_in, region_in, layout_entries, places_of, IsGoodLayoutLine}
+use Rattle.tcd_base.specs.Refusing.{unless_refused}
 use Rattle.tc_link.specs.LayoutFaults.{fault_of, first_fault}
-use Rattle.tc_link.specs.LayoutDrafts.{with_entry, DraftData, IsDraft, with_line}
+use Rattle.tc_link.specs.LayoutDrafts.{with_entry, LayoutDraftData, IsLayoutDraft, with_layout_line}
 use Rattle.tc_link.specs.declared.layout_errors.LayoutErr.{LayoutErr}
 use Rattle.tc_link.proofs.TurnLaws.{turn_push}
 use Rattle.tcd_laws.specs.LimitsKept.{TextsGiveLayouts}
@@ -44,25 +43,25 @@ hex_small cs n e =
     omega arith
 
 -- a name is that of itself
-own_name : (t : Bool) (bs name : List ℕ) → (is_length (length bs) && is_name bs) ≡ t → then_some t bs ≡ Some name → name_of name ≡ Some name
+own_name : (t : Bool) (bs name : List ℕ) → (is_name_length (length bs) && is_object_name bs) ≡ t → then_some t bs ≡ Some name → object_name_of name ≡ Some name
 own_name true bs name e f =
     let same : bs ≡ name = cc in
-    subst (λ (x : List ℕ). name_of x ≡ Some x) same (ap (λ (b : Bool). then_some b bs) e)
+    subst (λ (x : List ℕ). object_name_of x ≡ Some x) same (ap (λ (b : Bool). then_some b bs) e)
 own_name false bs name e f = cc
 
-named : (bs name : List ℕ) → name_of bs ≡ Some name → name_of name ≡ Some name
-named bs name e = own_name (is_length (length bs) && is_name bs) bs name refl e
+named : (bs name : List ℕ) → object_name_of bs ≡ Some name → object_name_of name ≡ Some name
+named bs name e = own_name (is_name_length (length bs) && is_object_name bs) bs name refl e
 
 -- ---- one line
-entry_good : (o : Option (List ℕ)) (l : LineData) → ((name : List ℕ) → o ≡ Some name → name_of name ≡ Some name) → option_map entry o ≡ Some l → IsGood l
+entry_good : (o : Option (List ℕ)) (l : LayoutLineData) → ((name : List ℕ) → o ≡ Some name → object_name_of name ≡ Some name) → option_map entry o ≡ Some l → IsGoodLayoutLine l
 entry_good None l good e = cc
-entry_good (Some name) l good e = let same : entry name ≡ l = cc in subst IsGood same (good name refl)
+entry_good (Some name) l good e = let same : entry name ≡ l = cc in subst IsGoodLayoutLine same (good name refl)
 
-tested_good : (b : Bool) (p : PlaceData) (l : LineData) → (b ≡ true → IsPlace p) → then_some b (place p) ≡ Some l → IsGood l
-tested_good true p l good e = let same : place p ≡ l = cc in subst IsGood same (good refl)
+tested_good : (b : Bool) (p : PlaceData) (l : LayoutLineData) → (b ≡ true → IsPlace p) → then_some b (place p) ≡ Some l → IsGoodLayoutLine l
+tested_good true p l good e = let same : place p ≡ l = cc in subst IsGoodLayoutLine same (good refl)
 tested_good false p l good e = cc
 
-place_good : (section at most : List ℕ) (s : Option (List ℕ)) (x n : Option ℕ) (l : LineData) → name_of section ≡ s → hex_number_of at ≡ x → hex_number_of most ≡ n → place_of_words s x n ≡ Some l → IsGood l
+place_good : (section at most : List ℕ) (s : Option (List ℕ)) (x n : Option ℕ) (l : LayoutLineData) → object_name_of section ≡ s → hex_number_of at ≡ x → hex_number_of most ≡ n → place_of_words s x n ≡ Some l → IsGoodLayoutLine l
 place_good section at most (Some name) (Some a) (Some m) l e f g h =
     tested_good (a % 4 == 0 && nat_le (a + m) (2 ^ 32)) (record { section = name; at = a; most = m }) l
     (λ t. let p = and_parts _ _ t in record { name = named section name e; aligned = eqb-true (a % 4) 0 p.0; word = hex_small at a f; within = leb-true (a + m) (2 ^ 32) p.1 }) h
@@ -70,75 +69,75 @@ place_good section at most (Some name) (Some a) None l e f g h = cc
 place_good section at most (Some name) None n l e f g h = cc
 place_good section at most None x n l e f g h = cc
 
-when : (b : Bool) (o : Option LineData) (l : LineData) → ((k : LineData) → o ≡ Some k → IsGood k) → cond b o None ≡ Some l → IsGood l
+when : (b : Bool) (o : Option LayoutLineData) (l : LayoutLineData) → ((k : LayoutLineData) → o ≡ Some k → IsGoodLayoutLine k) → cond b o None ≡ Some l → IsGoodLayoutLine l
 when true o l good e = good l e
 when false o l good e = cc
 
-blank_good : (b : Bool) (l : LineData) → then_some b blank ≡ Some l → IsGood l
-blank_good true l e = let same : blank ≡ l = cc in subst IsGood same tt
+blank_good : (b : Bool) (l : LayoutLineData) → then_some b blank ≡ Some l → IsGoodLayoutLine l
+blank_good true l e = let same : blank ≡ l = cc in subst IsGoodLayoutLine same tt
 blank_good false l e = cc
 
-words_good : (ws : List (List ℕ)) (l : LineData) → line_in ws ≡ Some l → IsGood l
+words_good : (ws : List (List ℕ)) (l : LayoutLineData) → line_in ws ≡ Some l → IsGoodLayoutLine l
 words_good [] l e = cc
 words_good (w ∷ []) l e = blank_good (length w == 0) l e
-words_good (w ∷ name ∷ []) l e = when (bytes_eq w (codes "entry")) (option_map entry (name_of name)) l (λ k f. entry_good (name_of name) k (λ n g. named name n g) f) e
+words_good (w ∷ name ∷ []) l e = when (bytes_eq w (codes "entry")) (option_map entry (object_name_of name)) l (λ k f. entry_good (object_name_of name) k (λ n g. named name n g) f) e
 words_good (w ∷ section ∷ at ∷ []) l e = cc
 words_good (w ∷ section ∷ at ∷ most ∷ []) l e =
-    when (bytes_eq w (codes "place")) (place_of_words (name_of section) (hex_number_of at) (hex_number_of most)) l
-    (λ k f. place_good section at most (name_of section) (hex_number_of at) (hex_number_of most) k refl refl refl f) e
+    when (bytes_eq w (codes "place")) (place_of_words (object_name_of section) (hex_number_of at) (hex_number_of most)) l
+    (λ k f. place_good section at most (object_name_of section) (hex_number_of at) (hex_number_of most) k refl refl refl f) e
 words_good (w ∷ section ∷ at ∷ most ∷ more ∷ rest) l e = cc
 
-line_good : (line : List ℕ) (l : LineData) → line_of line ≡ Some l → IsGood l
-unfolding line_of
-line_good line l e = words_good (words_of line) l e
+line_good : (line : List ℕ) (l : LayoutLineData) → layout_line_contents line ≡ Some l → IsGoodLayoutLine l
+unfolding layout_line_contents
+line_good line l e = words_good (line_words line) l e
 
 -- ---- the lines
-abbrev draft_of : List (List ℕ) → DraftData
-draft_of lines = record { entries = entries_of lines; places = places_of lines }
+abbrev draft_of : List (List ℕ) → LayoutDraftData
+draft_of lines = record { entries = layout_entries lines; places = places_of lines }
 
 as_list : {A : Type 0} (o : Option A) → cons_option o [] ≡ option_to_list o
 as_list None = refl
 as_list (Some x) = refl
 
-pushed : {A : Type 0} (f : LineData → Option A) (lines : List (List ℕ)) (line : List ℕ) → filter_map (λ l. option_and_then f (line_of l)) (lines ++ line ∷ []) ≡ filter_map (λ l. option_and_then f (line_of l)) lines ++ option_to_list (option_and_then f (line_of line))
-pushed f lines line = filter_map-append (λ l. option_and_then f (line_of l)) lines (line ∷ []) ∙ ap (λ ys. filter_map (λ l. option_and_then f (line_of l)) lines ++ ys) (as_list (option_and_then f (line_of line)))
+pushed : {A : Type 0} (f : LayoutLineData → Option A) (lines : List (List ℕ)) (line : List ℕ) → filter_map (λ l. option_and_then f (layout_line_contents l)) (lines ++ line ∷ []) ≡ filter_map (λ l. option_and_then f (layout_line_contents l)) lines ++ option_to_list (option_and_then f (layout_line_contents line))
+pushed f lines line = filter_map-append (λ l. option_and_then f (layout_line_contents l)) lines (line ∷ []) ∙ ap (λ ys. filter_map (λ l. option_and_then f (layout_line_contents l)) lines ++ ys) (as_list (option_and_then f (layout_line_contents line)))
 
-draft_pushed : (lines : List (List ℕ)) (line : List ℕ) → draft_of (lines ++ line ∷ []) ≡ with_line (draft_of lines) (line_of line)
-unfolding entries_of places_of
+draft_pushed : (lines : List (List ℕ)) (line : List ℕ) → draft_of (lines ++ line ∷ []) ≡ with_layout_line (draft_of lines) (layout_line_contents line)
+unfolding layout_entries places_of
 draft_pushed lines line = λ i. record { entries = pushed entry_in lines line i; places = pushed region_in lines line i }
 
 -- a place that has no fault
 may_stand : (n : ℕ) (entries : List (List ℕ)) (places : List PlaceData) (p : PlaceData) → IsPlace p → fault_of n entries places (Some (place p)) ≡ None → IsPlaceAfter places p × (length places < 64)
 may_stand n entries places p is e = by_name (is_placed places p.section) refl e
   where
-    by_shares : is_placed places p.section ≡ false → length places < 64 → (c : Bool) → list_any (shares p) places ≡ c → then_some c (LayoutErr.Overlap n) ≡ None → IsPlaceAfter places p × (length places < 64)
+    by_shares : is_placed places p.section ≡ false → length places < 64 → (c : Bool) → list_any (are_overlapping_places p) places ≡ c → then_some c (LayoutErr.Overlap n) ≡ None → IsPlaceAfter places p × (length places < 64)
     by_shares new few true s f = cc
     by_shares new few false s f = (record { place = is; new = new; apart = s }, few)
 
-    by_count : is_placed places p.section ≡ false → (b : Bool) → nat_le 64 (length places) ≡ b → cond b (Some (LayoutErr.TooMany n)) (then_some (list_any (shares p) places) (LayoutErr.Overlap n)) ≡ None → IsPlaceAfter places p × (length places < 64)
+    by_count : is_placed places p.section ≡ false → (b : Bool) → nat_le 64 (length places) ≡ b → cond b (Some (LayoutErr.TooMany n)) (then_some (list_any (are_overlapping_places p) places) (LayoutErr.Overlap n)) ≡ None → IsPlaceAfter places p × (length places < 64)
     by_count new true c f = cc
-    by_count new false c f = by_shares new (let most = leb-false 64 (length places) c in omega arith) (list_any (shares p) places) refl f
+    by_count new false c f = by_shares new (let most = leb-false 64 (length places) c in omega arith) (list_any (are_overlapping_places p) places) refl f
 
-    by_name : (a : Bool) → is_placed places p.section ≡ a → cond a (Some (LayoutErr.Twice n)) (cond (nat_le 64 (length places)) (Some (LayoutErr.TooMany n)) (then_some (list_any (shares p) places) (LayoutErr.Overlap n))) ≡ None → IsPlaceAfter places p × (length places < 64)
+    by_name : (a : Bool) → is_placed places p.section ≡ a → cond a (Some (LayoutErr.Twice n)) (cond (nat_le 64 (length places)) (Some (LayoutErr.TooMany n)) (then_some (list_any (are_overlapping_places p) places) (LayoutErr.Overlap n))) ≡ None → IsPlaceAfter places p × (length places < 64)
     by_name true a f = cc
     by_name false a f = by_count a (nat_le 64 (length places)) refl f
 
 -- a draft with a line more that has no fault
-draft_more : (d : DraftData) (n : ℕ) (o : Option LineData) → ((l : LineData) → o ≡ Some l → IsGood l) → IsDraft d → fault_of n d.entries d.places o ≡ None → IsDraft (with_line d o)
+draft_more : (d : LayoutDraftData) (n : ℕ) (o : Option LayoutLineData) → ((l : LayoutLineData) → o ≡ Some l → IsGoodLayoutLine l) → IsLayoutDraft d → fault_of n d.entries d.places o ≡ None → IsLayoutDraft (with_layout_line d o)
 draft_more d n None good h e = cc
 draft_more d n (Some blank) good h e = record {
-  entries = subst (λ (xs : List (List ℕ)). All (λ x. name_of x ≡ Some x) xs) (sym (append-nil d.entries)) h.entries;
+  entries = subst (λ (xs : List (List ℕ)). All (λ x. object_name_of x ≡ Some x) xs) (sym (append-nil d.entries)) h.entries;
   few = subst (λ (ps : List PlaceData). length ps ≤ 64) (sym (append-nil d.places)) h.few;
   places = subst (λ (ps : List PlaceData). InTurn IsPlaceAfter [] ps) (sym (append-nil d.places)) h.places;
 }
 draft_more d n (Some (entry name)) good h e = record {
-  entries = All-push (λ x. name_of x ≡ Some x) d.entries name h.entries (good (entry name) refl);
+  entries = All-push (λ x. object_name_of x ≡ Some x) d.entries name h.entries (good (entry name) refl);
   few = subst (λ (ps : List PlaceData). length ps ≤ 64) (sym (append-nil d.places)) h.few;
   places = subst (λ (ps : List PlaceData). InTurn IsPlaceAfter [] ps) (sym (append-nil d.places)) h.places;
 }
 draft_more d n (Some (place p)) good h e =
     let stands = may_stand n d.entries d.places p (good (place p) refl) e in record {
-      entries = subst (λ (xs : List (List ℕ)). All (λ x. name_of x ≡ Some x) xs) (sym (append-nil d.entries)) h.entries;
+      entries = subst (λ (xs : List (List ℕ)). All (λ x. object_name_of x ≡ Some x) xs) (sym (append-nil d.entries)) h.entries;
       few = omega (arith, length-append d.places (p ∷ []), stands.1);
       places = turn_push IsPlaceAfter d.places p h.places stands.0;
     }
@@ -147,28 +146,28 @@ none_parts : {B : Type 0} (a b : Option B) → option_or a b ≡ None → (a ≡
 none_parts None b e = (refl, e)
 none_parts (Some x) b e = cc
 
-all_good : (before rest : List (List ℕ)) → IsDraft (draft_of before) → first_fault before rest ≡ None → IsDraft (draft_of (before ++ rest))
+all_good : (before rest : List (List ℕ)) → IsLayoutDraft (draft_of before) → first_fault before rest ≡ None → IsLayoutDraft (draft_of (before ++ rest))
 unfolding first_fault
-all_good before [] h e = subst (λ (ls : List (List ℕ)). IsDraft (draft_of ls)) (sym (append-nil before)) h
+all_good before [] h e = subst (λ (ls : List (List ℕ)). IsLayoutDraft (draft_of ls)) (sym (append-nil before)) h
 all_good before (line ∷ lines) h e =
     let n = none_parts _ _ e in
-    let more : IsDraft (draft_of (before ++ line ∷ [])) = subst IsDraft (sym (draft_pushed before line)) (draft_more (draft_of before) (length before + 1) (line_of line) (line_good line) h n.0) in
-    subst (λ (ls : List (List ℕ)). IsDraft (draft_of ls)) (append_assoc before (line ∷ []) lines) (all_good (before ++ line ∷ []) lines more n.1)
+    let more : IsLayoutDraft (draft_of (before ++ line ∷ [])) = subst IsLayoutDraft (sym (draft_pushed before line)) (draft_more (draft_of before) (length before + 1) (layout_line_contents line) (line_good line) h n.0) in
+    subst (λ (ls : List (List ℕ)). IsLayoutDraft (draft_of ls)) (append_assoc before (line ∷ []) lines) (all_good (before ++ line ∷ []) lines more n.1)
 
-no_lines : IsDraft (draft_of [])
-unfolding entries_of places_of
-no_lines = record { entries = All-nil (λ x. name_of x ≡ Some x); few = omega arith; places = tt }
+no_lines : IsLayoutDraft (draft_of [])
+unfolding layout_entries places_of
+no_lines = record { entries = All-nil (λ x. object_name_of x ≡ Some x); few = omega arith; places = tt }
 
 -- ---- the layout
-with_entry_good : (n : ℕ) (entries : List (List ℕ)) (places : List PlaceData) (l : LayoutData) → IsDraft (record { entries = entries; places = places }) → with_entry n entries places ≡ Ok l → IsLayout l
+with_entry_good : (n : ℕ) (entries : List (List ℕ)) (places : List PlaceData) (l : LayoutData) → IsLayoutDraft (record { entries = entries; places = places }) → with_entry n entries places ≡ Ok l → IsLayout l
 with_entry_good n [] places l h e = cc
 with_entry_good n (name ∷ names) places l h e =
     let same : record { entry = name; places = places } ≡ l = cc in
-    subst IsLayout same (record { entry = All-head (λ x. name_of x ≡ Some x) name names h.entries; few = h.few; places = h.places })
+    subst IsLayout same (record { entry = All-head (λ x. object_name_of x ≡ Some x) name names h.entries; few = h.few; places = h.places })
 
 pub texts_give_layouts : TextsGiveLayouts
-texts_give_layouts text layout e = by_fault (first_fault [] (lines_of text)) refl e
+texts_give_layouts text layout e = by_fault (first_fault [] (text_lines text)) refl e
   where
-    by_fault : (o : Option LayoutErr) → first_fault [] (lines_of text) ≡ o → unless o (with_entry (length (lines_of text)) (entries_of (lines_of text)) (places_of (lines_of text))) ≡ Ok layout → IsLayout layout
+    by_fault : (o : Option LayoutErr) → first_fault [] (text_lines text) ≡ o → unless_refused o (with_entry (length (text_lines text)) (layout_entries (text_lines text)) (places_of (text_lines text))) ≡ Ok layout → IsLayout layout
     by_fault (Some x) f g = cc
-    by_fault None f g = with_entry_good (length (lines_of text)) (entries_of (lines_of text)) (places_of (lines_of text)) layout (all_good [] (lines_of text) no_lines f) g
+    by_fault None f g = with_entry_good (length (text_lines text)) (layout_entries (text_lines text)) (places_of (text_lines text)) layout (all_good [] (text_lines text) no_lines f) g

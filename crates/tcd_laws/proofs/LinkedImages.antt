@@ -6,84 +6,84 @@ use Rattle.std.specs.List.{flat_map, find}
 use Rattle.std.specs.Str.{bytes_eq}
 use Rattle.std.proofs.lemmas.Option.{get_or_from_slice_get, slice_get_within}
 use Rattle.std.proofs.lemmas.List.Elements.{All-nil, All-head, All-tail, All-append, All-replicate, All-take, All-drop, All-set, All-map, All-filter}
-use Rattle.tcd_base.specs.Bytes.{word_at}
-use Rattle.elf_image.specs.Images.{SegmentData, AreBytes, IsImage}
+use Rattle.tcd_base.specs.Bytes.{word_in_bytes}
+use Rattle.elf_image.specs.Images.{SegmentData, AreSegmentBytes, IsImage}
 use Rattle.tc_object.specs.declared.relocs.Reloc.{Reloc}
 use Rattle.tc_object.specs.Objects.{SectionData, SymbolData, ObjectData}
 use Rattle.tc_link.specs.Layouts.{PlaceData}
 use Rattle.tc_link.specs.Placing.{PlacedData, bases_after, placed_after, placed_of}
 use Rattle.tc_link.specs.Names.{GlobalData, is_global, global_data, globals_of, global_address}
-use Rattle.tc_link.specs.PlaceSizes.{round_up}
-use Rattle.tc_reloc.specs.Fields.{content_of, spread_of, rest_of, field_at, with_field}
-use Rattle.tc_link.specs.Relocated.{field_place, value_of, with_relocation, with_reloc, relocated_sections, contents_of}
-use Rattle.tc_link.specs.Segments.{with_padding, with_section, joined_sections, segment_of, segments_of}
+use Rattle.tc_link.specs.PlaceSizes.{round_up_place_size}
+use Rattle.tc_reloc.specs.Fields.{reloc_field_number, reloc_field_bits, bits_outside_reloc_field, with_reloc_field}
+use Rattle.tc_link.specs.Relocated.{reloc_field_at, field_place, reloc_value, with_relocation, with_reloc, relocated_sections, contents_of}
+use Rattle.tc_link.specs.Segments.{with_segment_padding, with_section, joined_sections, segment_of, segments_of}
 use Rattle.tc_link.proofs.ImageLaws.{image_of_bytes}
 use Rattle.tc_link.proofs.LinkLaws.{linked_image}
 use Rattle.tc_program.proofs.Laws.{parts_of}
-use Rattle.tcd_laws.specs.LimitsKept.{IsByte, HoldsBytes, IsObjectOfBytes, LinksGiveImages}
+use Rattle.tcd_laws.specs.LimitsKept.{IsByte, SectionHoldsBytes, IsObjectOfBytes, LinksGiveImages}
 use Rattle.tcd_laws.proofs.ObjectBytes.{word_small}
 
 -- ---- relocations
 module _ (g : List GlobalData) (p : PlacedData) where
-  written_small : (r : Reloc) (s : SectionData) → HoldsBytes s → HoldsBytes (with_relocation g p r s)
+  written_small : (r : Reloc) (s : SectionData) → SectionHoldsBytes s → SectionHoldsBytes (with_relocation g p r s)
   written_small r s h =
-      let old : List ℕ = field_at s.bytes r.offset in
-      let content : ℕ = content_of r.kind (field_place p r) (value_of g p r) in
-      let new : List ℕ = with_field r.kind old content in
+      let old : List ℕ = reloc_field_at s.bytes r.offset in
+      let content : ℕ = reloc_field_number r.kind (field_place p r) (reloc_value g p r) in
+      let new : List ℕ = with_reloc_field r.kind old content in
       let rest : List ℕ = drop (r.offset + 4) s.bytes in
       All-append IsByte (take r.offset s.bytes) (new ++ rest) (All-take IsByte r.offset s.bytes h)
-      (All-append IsByte new rest (word_small (rest_of r.kind (word_at old 0) + spread_of r.kind content)) (All-drop IsByte (r.offset + 4) s.bytes h))
+      (All-append IsByte new rest (word_small (bits_outside_reloc_field r.kind (word_in_bytes old 0) + reloc_field_bits r.kind content)) (All-drop IsByte (r.offset + 4) s.bytes h))
 
-  with_small : (ss : List SectionData) (r : Reloc) → All HoldsBytes ss → All HoldsBytes (with_reloc g p ss r)
+  with_small : (ss : List SectionData) (r : Reloc) → All SectionHoldsBytes ss → All SectionHoldsBytes (with_reloc g p ss r)
   with_small ss r h = by_section (slice_get ss r.section) refl
     where
-      by_section : (o : Option SectionData) → slice_get ss r.section ≡ o → All HoldsBytes (option_map_or (λ x. set ss r.section (with_relocation g p r x)) o ss)
+      by_section : (o : Option SectionData) → slice_get ss r.section ≡ o → All SectionHoldsBytes (option_map_or (λ x. set ss r.section (with_relocation g p r x)) o ss)
       by_section None e = h
       by_section (Some x) e =
-          let here : HoldsBytes x = subst HoldsBytes (get_or_from_slice_get ss r.section x x e) (h r.section x (slice_get_within ss r.section x e)) in
-          All-set HoldsBytes ss r.section (with_relocation g p r x) (written_small r x here) h
+          let here : SectionHoldsBytes x = subst SectionHoldsBytes (get_or_from_slice_get ss r.section x x e) (h r.section x (slice_get_within ss r.section x e)) in
+          All-set SectionHoldsBytes ss r.section (with_relocation g p r x) (written_small r x here) h
 
-  all_with_small : (rs : List Reloc) (ss : List SectionData) → All HoldsBytes ss → All HoldsBytes (fold (with_reloc g p) ss rs)
+  all_with_small : (rs : List Reloc) (ss : List SectionData) → All SectionHoldsBytes ss → All SectionHoldsBytes (fold (with_reloc g p) ss rs)
   all_with_small [] ss h = h
   all_with_small (r ∷ rs) ss h = all_with_small rs (with_reloc g p ss r) (with_small ss r h)
 
-  relocated_small : All HoldsBytes (p.object).sections → All HoldsBytes (relocated_sections g p)
+  relocated_small : All SectionHoldsBytes (p.object).sections → All SectionHoldsBytes (relocated_sections g p)
   unfolding relocated_sections
   relocated_small h = all_with_small (p.object).relocs (p.object).sections h
 
-contents_small : (g : List GlobalData) (places : List PlaceData) (before : List SectionData) (objects : List ObjectData) → All IsObjectOfBytes objects → All HoldsBytes (flat_map (relocated_sections g) (placed_after places before objects))
+contents_small : (g : List GlobalData) (places : List PlaceData) (before : List SectionData) (objects : List ObjectData) → All IsObjectOfBytes objects → All SectionHoldsBytes (flat_map (relocated_sections g) (placed_after places before objects))
 unfolding placed_after
-contents_small g places before [] h = All-nil HoldsBytes
+contents_small g places before [] h = All-nil SectionHoldsBytes
 contents_small g places before (o ∷ os) h =
     let here : PlacedData = record { object = o; bases = bases_after places before o.sections } in
-    All-append HoldsBytes (relocated_sections g here) (flat_map (relocated_sections g) (placed_after places (before ++ o.sections) os)) (relocated_small g here (All-head IsObjectOfBytes o os h).bytes) (contents_small g places (before ++ o.sections) os (All-tail IsObjectOfBytes o os h))
+    All-append SectionHoldsBytes (relocated_sections g here) (flat_map (relocated_sections g) (placed_after places (before ++ o.sections) os)) (relocated_small g here (All-head IsObjectOfBytes o os h).bytes) (contents_small g places (before ++ o.sections) os (All-tail IsObjectOfBytes o os h))
 
 -- ---- segments
 zero_small : IsByte 0
 zero_small = lit< tt
 
-padded_small : (bs : List ℕ) → All IsByte bs → All IsByte (with_padding bs)
+padded_small : (bs : List ℕ) → All IsByte bs → All IsByte (with_segment_padding bs)
 padded_small bs h =
-    let n : ℕ = round_up (length bs) - length bs in
+    let n : ℕ = round_up_place_size (length bs) - length bs in
     All-append IsByte bs (replicate n 0) h (All-replicate IsByte n 0 zero_small)
 
-section_small : (name bs : List ℕ) (s : SectionData) → All IsByte bs → HoldsBytes s → (b : Bool) → All IsByte (cond b (with_padding bs ++ s.bytes) bs)
-section_small name bs s h k true = All-append IsByte (with_padding bs) s.bytes (padded_small bs h) k
+section_small : (name bs : List ℕ) (s : SectionData) → All IsByte bs → SectionHoldsBytes s → (b : Bool) → All IsByte (cond b (with_segment_padding bs ++ s.bytes) bs)
+section_small name bs s h k true = All-append IsByte (with_segment_padding bs) s.bytes (padded_small bs h) k
 section_small name bs s h k false = h
 
-all_joined_small : (name : List ℕ) (sections : List SectionData) (bs : List ℕ) → All HoldsBytes sections → All IsByte bs → All IsByte (fold (with_section name) bs sections)
+all_joined_small : (name : List ℕ) (sections : List SectionData) (bs : List ℕ) → All SectionHoldsBytes sections → All IsByte bs → All IsByte (fold (with_section name) bs sections)
 all_joined_small name [] bs h k = k
 all_joined_small name (s ∷ ss) bs h k =
-    all_joined_small name ss (with_section name bs s) (All-tail HoldsBytes s ss h) (section_small name bs s k (All-head HoldsBytes s ss h) (bytes_eq name s.name))
+    all_joined_small name ss (with_section name bs s) (All-tail SectionHoldsBytes s ss h) (section_small name bs s k (All-head SectionHoldsBytes s ss h) (bytes_eq name s.name))
 
-joined_small : (name : List ℕ) (sections : List SectionData) → All HoldsBytes sections → All IsByte (joined_sections name sections)
+joined_small : (name : List ℕ) (sections : List SectionData) → All SectionHoldsBytes sections → All IsByte (joined_sections name sections)
 unfolding joined_sections
 joined_small name sections h = all_joined_small name sections [] h (All-nil IsByte)
 
 abbrev IsSmall : SegmentData → Type 0
 IsSmall s = All (λ b. b < 2 ^ 8) s.bytes
 
-segments_small : (places : List PlaceData) (sections : List SectionData) → All HoldsBytes sections → AreBytes (segments_of places sections)
+segments_small : (places : List PlaceData) (sections : List SectionData) → All SectionHoldsBytes sections → AreSegmentBytes (segments_of places sections)
 unfolding segments_of
 segments_small places sections h =
     All-filter (λ (s : SegmentData). nat_lt 0 (length s.bytes)) IsSmall (map (segment_of sections) places)
@@ -122,5 +122,5 @@ links_give_images objects layout image good is_layout e =
     let placed = placed_of layout objects in
     let entry : image.entry < 2 ^ 32 = global_low (globals_of placed) layout.entry image.entry (globals_low placed) parts.entry in
     let limits = linked_image objects layout placed is_layout (λ k d less. (good k d less).object) parts.early refl image.entry entry in
-    let small : AreBytes (segments_of layout.places (contents_of placed)) = segments_small layout.places (contents_of placed) (contents_small (globals_of placed) layout.places [] objects good) in
+    let small : AreSegmentBytes (segments_of layout.places (contents_of placed)) = segments_small layout.places (contents_of placed) (contents_small (globals_of placed) layout.places [] objects good) in
     subst (λ (ss : List SegmentData). IsImage (record { entry = image.entry; segments = ss })) (sym parts.segments) (image_of_bytes _ limits small)

@@ -7,11 +7,11 @@ use Rattle.std.proofs.lemmas.List.Elements.{All-nil, All-cons, All-head, All-tai
 use Rattle.tcd_base.specs.Bytes.{bytes_of_half, bytes_of_word}
 use Rattle.tc_object.specs.declared.relocs.Reloc.{Reloc}
 use Rattle.tcd_base.specs.NameBytes.{is_name_byte, is_name_first}
-use Rattle.tc_object.specs.Names.{IsName}
+use Rattle.tc_object.specs.Names.{IsNewObjectName}
 use Rattle.tc_object.specs.Objects.{SectionData, SymbolData, ObjectData, InTurn, IsSection, IsSymbol, IsReloc, is_section_name, is_symbol_name}
 use Rattle.tc_object.specs.Spelling.{bytes_of_name, bytes_of_section, bytes_of_symbol, bytes_of_reloc, bytes_of_header, bytes_of}
 use Rattle.tc_asm.proofs.ListLaws.{all_from_each}
-use Rattle.tcd_laws.specs.LimitsKept.{IsByte, HoldsBytes, ObjectsSpellBytes}
+use Rattle.tcd_laws.specs.LimitsKept.{IsByte, SectionHoldsBytes, ObjectsSpellBytes}
 
 -- ---- numbers
 half_small : (x : ℕ) → All IsByte (bytes_of_half x)
@@ -52,7 +52,7 @@ all_further : (cs : List ℕ) → list_all is_name_byte cs ≡ true → All IsBy
 all_further [] e = All-nil IsByte
 all_further (c ∷ cs) e = let p = and_parts _ _ e in All-cons IsByte c cs (further_small c p.0) (all_further cs p.1)
 
-name_small : (used : List ℕ → Bool) (name : List ℕ) → IsName used name → All IsByte (bytes_of_name name)
+name_small : (used : List ℕ → Bool) (name : List ℕ) → IsNewObjectName used name → All IsByte (bytes_of_name name)
 unfolding bytes_of_name
 name_small used name is =
     let few = is.few in
@@ -61,7 +61,7 @@ name_small used name is =
     All-cons IsByte (length name) name long (all_further name (and_parts (is_name_first (slice_index name 0)) (list_all is_name_byte name) written.1).1)
 
 -- ---- sections, symbols and relocations
-section_small : (before : List SectionData) (s : SectionData) → IsSection before s → HoldsBytes s → All IsByte (bytes_of_section s)
+section_small : (before : List SectionData) (s : SectionData) → IsSection before s → SectionHoldsBytes s → All IsByte (bytes_of_section s)
 unfolding bytes_of_section
 section_small before s is small =
     All-append IsByte (bytes_of_name s.name) (bytes_of_word (length s.bytes) ++ s.bytes) (name_small (is_section_name before) s.name is.name)
@@ -87,10 +87,10 @@ reloc_small sections symbols before r is =
     (All-cons IsByte r.kind rest kind (All-append IsByte (bytes_of_half r.symbol) (bytes_of_word r.addend) (half_small r.symbol) (word_small r.addend))))
 
 -- ---- all of them
-sections_small : (before ss : List SectionData) → InTurn IsSection before ss → All HoldsBytes ss → All IsByte (flat_map bytes_of_section ss)
+sections_small : (before ss : List SectionData) → InTurn IsSection before ss → All SectionHoldsBytes ss → All IsByte (flat_map bytes_of_section ss)
 sections_small before [] are small = All-nil IsByte
 sections_small before (s ∷ ss) are small =
-    All-append IsByte (bytes_of_section s) (flat_map bytes_of_section ss) (section_small before s are.0 (All-head HoldsBytes s ss small)) (sections_small (before ++ s ∷ []) ss are.1 (All-tail HoldsBytes s ss small))
+    All-append IsByte (bytes_of_section s) (flat_map bytes_of_section ss) (section_small before s are.0 (All-head SectionHoldsBytes s ss small)) (sections_small (before ++ s ∷ []) ss are.1 (All-tail SectionHoldsBytes s ss small))
 
 symbols_small : (sections : List SectionData) (before ss : List SymbolData) → InTurn (IsSymbol sections) before ss → All IsByte (flat_map bytes_of_symbol ss)
 symbols_small sections before [] are = All-nil IsByte

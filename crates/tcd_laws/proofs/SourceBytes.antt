@@ -15,27 +15,27 @@ use Rattle.tc_isa.specs.Spelling.{word_of, spelling_of, spelling}
 use Rattle.tcd_base.specs.Bytes.{four_bytes, two_bytes}
 use Rattle.tc_isa.proofs.TableFacts.{row_at}
 use Rattle.tc_encode.proofs.Bytes.{word-lt, short-lt}
-use Rattle.tc_encode.specs.Decoding.{do_fit}
+use Rattle.tc_encode.specs.Decoding.{are_fitting_fields}
 use Rattle.tc_encode.proofs.Spelled.{below_from}
 use Rattle.tc_lex.specs.Pieces.{PieceData, text_at}
 use Rattle.tc_lex.specs.Operands.{OperandData, operands}
 use Rattle.tc_stmt.specs.RowFields.{RowFieldsData}
 use Rattle.tc_stmt.specs.Items.{ReferenceData, ItemData, label, section, global, code, bytes, zeros}
 use Rattle.tc_stmt.specs.Filling.{symbol_rule, reference}
-use Rattle.tc_stmt.specs.OperandForms.{shape_index, is_symbol, is_half, wrap, fits_width}
+use Rattle.tc_stmt.specs.OperandForms.{shape_index, is_symbol_operand, is_half_operand, wrap_into_field}
+use Rattle.tc_stmt.specs.DataDirectives.{is_value_within_width, value_rule, value_item, space_item}
 use Rattle.tc_stmt.specs.StatementRow.{statement}
-use Rattle.tc_stmt.specs.DataDirectives.{value_rule, value_item, space_item}
-use Rattle.tc_stmt.specs.Lines.{LineData, line_data, word_of as name_operand, named_line, space_line, values_line, code_line, stated_line, line_from, has_label, line_with_label, pieces_line, piece_in, label_of, label_before, cut_line, line_in, lines_in, items_in}
+use Rattle.tc_stmt.specs.Lines.{LineData, line_data, only_operand_name as name_operand, named_line, space_line, values_line, code_line, stated_line, line_from, has_label, line_with_label, pieces_line, line_token_with_text, label_of, label_before, cut_line, line_in, lines_in, items_in}
 use Rattle.tc_asm.specs.Symbols.{SymbolData}
-use Rattle.tc_asm.specs.Drafts.{PartData, DraftData, start, has_section, has_room, spelled_code, resolved, code_bytes, stepped}
+use Rattle.tc_asm.specs.Drafts.{PartData, DraftData, start, has_section, has_room, assembled_row_code, row_fields_with_target, code_bytes, draft_after_item, bytes_at}
 use Rattle.tc_asm.specs.DraftedSources.{symbols_of, draft_in}
 use Rattle.tc_asm.specs.Objects.{section_of}
-use Rattle.tc_asm.specs.DraftInvariants.{Each}
-use Rattle.tc_asm.specs.Statements.{StatementData, content_of, standing, statements_from, section_bytes, bytes_at}
+use Rattle.tc_asm.specs.DraftInvariants.{EachInDraft}
+use Rattle.tc_asm.specs.Statements.{StatementData, content_of, standing_statement, statements_from, section_bytes}
 use Rattle.tc_asm.proofs.LaidLaws.{drafted-bytes}
 use Rattle.tc_asm.proofs.ListLaws.{all_from_each}
 use Rattle.tc_asm.proofs.SourceDrafts.{source_object}
-use Rattle.tcd_laws.specs.LimitsKept.{IsByte, HoldsBytes, SourcesGiveObjects}
+use Rattle.tcd_laws.specs.LimitsKept.{IsByte, SectionHoldsBytes, SourcesGiveObjects}
 
 -- ---- numbers as bytes
 four_small : (w : ℕ) → w < 2 ^ 32 → All IsByte (four_bytes w)
@@ -62,27 +62,27 @@ no_word : All IsByte (0 ∷ 0 ∷ 0 ∷ 0 ∷ [])
 no_word = all_from_each IsByte (0 ∷ 0 ∷ 0 ∷ 0 ∷ []) (zero_small, (zero_small, (zero_small, (zero_small, tt))))
 
 -- ---- instructions
-spelled_small : (row : RowData) (f : Fields) → IsRow row → All IsByte (spelled_code row f)
-unfolding spelled_code
-spelled_small row f is = by_fit (do_fit row f) refl
+spelled_small : (row : RowData) (f : Fields) → IsRow row → All IsByte (assembled_row_code row f)
+unfolding assembled_row_code
+spelled_small row f is = by_fit (are_fitting_fields row f) refl
   where
-    by_size : do_fit row f ≡ true → (b : Bool) → is_long row ≡ b → All IsByte (spelling_of b (word_of row f))
+    by_size : are_fitting_fields row f ≡ true → (b : Bool) → is_long row ≡ b → All IsByte (spelling_of b (word_of row f))
     by_size fit true e = four_small (word_of row f) (word-lt row.form row.op1 row.op2 f is.first is.second (below_from f (bounds row.form) (and_parts _ _ (and_parts _ _ fit).0).0))
     by_size fit false e =
         two_small (word_of row f)
         (short-lt row.form row.op1 row.op2 f is.first is.second (below_from f (bounds row.form) (and_parts _ _ (and_parts _ _ fit).0).0) (sym is.size ∙ e))
 
-    by_fit : (b : Bool) → do_fit row f ≡ b → All IsByte (cond b (spelling row f) [])
+    by_fit : (b : Bool) → are_fitting_fields row f ≡ b → All IsByte (cond b (spelling row f) [])
     by_fit true fit = by_size fit (is_long row) refl
     by_fit false fit = All-nil IsByte
 
-row_small : (o : Option RowData) (k : ℕ) (f : Fields) → slice_get listed k ≡ o → All IsByte (option_map_or (λ row. spelled_code row f) o [])
+row_small : (o : Option RowData) (k : ℕ) (f : Fields) → slice_get listed k ≡ o → All IsByte (option_map_or (λ row. assembled_row_code row f) o [])
 row_small None k f e = All-nil IsByte
 row_small (Some row) k f e = spelled_small row f (row_at k row e)
 
 code_small : (labels : List SymbolData) (d : DraftData) (k : ℕ) (f : Fields) (r : Option ReferenceData) → All IsByte (code_bytes labels d k f r)
 unfolding code_bytes
-code_small labels d k f r = row_small (slice_get listed k) k (resolved labels d k f r).fields refl
+code_small labels d k f r = row_small (slice_get listed k) k (row_fields_with_target labels d k f r).fields refl
 
 -- ---- what lines add
 -- a thing that adds bytes
@@ -91,14 +91,14 @@ GoodItem (bytes bs r) = All IsByte bs
 GoodItem _ = Unit {0}
 
 GoodLine : LineData → Type 0
-GoodLine l = Each GoodItem l.items
+GoodLine l = EachInDraft GoodItem l.items
 
 choose : (b : Bool) (x y : LineData) → GoodLine x → GoodLine y → GoodLine (cond b x y)
 choose true x y h k = h
 choose false x y h k = k
 
 -- a number that fits a width is a word
-wrapped_small : (bound : ℕ) (minus : Bool) (size : ℕ) → bound ≤ 2 ^ 32 → cond minus (leb size (bound / 2)) (ltb size bound) ≡ true → wrap (2 ^ 32) minus size < 2 ^ 32
+wrapped_small : (bound : ℕ) (minus : Bool) (size : ℕ) → bound ≤ 2 ^ 32 → cond minus (leb size (bound / 2)) (ltb size bound) ≡ true → wrap_into_field (2 ^ 32) minus size < 2 ^ 32
 wrapped_small bound true size most e = by_zero (size == 0) refl
   where
     by_zero : (b : Bool) → (size == 0) ≡ b → cond (not b) (2 ^ 32 - size) size < 2 ^ 32
@@ -111,11 +111,11 @@ unfolding GoodItem
 rest_good width r true = All-take IsByte width (0 ∷ 0 ∷ 0 ∷ 0 ∷ []) no_word
 rest_good width r false = tt
 
-value_good : (width : ℕ) (minus : Bool) (size rest : ℕ) (r : ReferenceData) (memory one fits : Bool) → (fits ≡ true → wrap (2 ^ 32) minus size < 2 ^ 32)
-    → GoodItem (cond (not (cond memory 3 (cond one (cond fits 15 5) rest) == 15)) (zeros width) (cond one (bytes (take width (four_bytes (wrap (2 ^ 32) minus size))) None) (bytes (take width (0 ∷ 0 ∷ 0 ∷ 0 ∷ [])) (Some r))))
+value_good : (width : ℕ) (minus : Bool) (size rest : ℕ) (r : ReferenceData) (memory one fits : Bool) → (fits ≡ true → wrap_into_field (2 ^ 32) minus size < 2 ^ 32)
+    → GoodItem (cond (not (cond memory 3 (cond one (cond fits 15 5) rest) == 15)) (zeros width) (cond one (bytes (take width (four_bytes (wrap_into_field (2 ^ 32) minus size))) None) (bytes (take width (0 ∷ 0 ∷ 0 ∷ 0 ∷ [])) (Some r))))
 unfolding GoodItem
 value_good width minus size rest r true one fits small = tt
-value_good width minus size rest r false true true small = All-take IsByte width (four_bytes (wrap (2 ^ 32) minus size)) (four_small (wrap (2 ^ 32) minus size) (small refl))
+value_good width minus size rest r false true true small = All-take IsByte width (four_bytes (wrap_into_field (2 ^ 32) minus size)) (four_small (wrap_into_field (2 ^ 32) minus size) (small refl))
 value_good width minus size rest r false true false small = tt
 value_good width minus size rest r false false fits small = rest_good width r (rest == 15)
 
@@ -124,12 +124,12 @@ unfolding value_item value_rule
 value_item_good width most o =
     value_good width (o.value).minus (o.value).size
     (cond (shape_index (o.value).shape == 7) 5
-    (cond (is_symbol (shape_index (o.value).shape)) (cond (width == 4) (symbol_rule o.value) (min 10 (symbol_rule o.value)))
-    (cond (is_half (shape_index (o.value).shape)) (min 10 (symbol_rule o.value)) 3)))
-    (reference 7 o.value) o.is_memory (shape_index (o.value).shape == 1) (fits_width (8 * width) (o.value).minus (o.value).size)
+    (cond (is_symbol_operand (shape_index (o.value).shape)) (cond (width == 4) (symbol_rule o.value) (min 10 (symbol_rule o.value)))
+    (cond (is_half_operand (shape_index (o.value).shape)) (min 10 (symbol_rule o.value)) 3)))
+    (reference 7 o.value) o.is_memory (shape_index (o.value).shape == 1) (is_value_within_width (8 * width) (o.value).minus (o.value).size)
     (wrapped_small (2 ^ (8 * width)) (o.value).minus (o.value).size most)
 
-values_good : (width : ℕ) → 2 ^ (8 * width) ≤ 2 ^ 32 → (os : List OperandData) → Each GoodItem (map (value_item width) os)
+values_good : (width : ℕ) → 2 ^ (8 * width) ≤ 2 ^ 32 → (os : List OperandData) → EachInDraft GoodItem (map (value_item width) os)
 values_good width most [] = tt
 values_good width most (o ∷ os) = (value_item_good width most o, values_good width most os)
 
@@ -190,28 +190,28 @@ pieces_good : (ps : List PieceData) → GoodLine (pieces_line ps)
 unfolding pieces_line
 pieces_good ps = choose _ _ _ (label_line_good (text_at ps 0) (line_from ps 2) (from_good ps 2)) (from_good ps 0)
 
-label_good : (ps : List PieceData) → Each GoodItem (label_of ps)
+label_good : (ps : List PieceData) → EachInDraft GoodItem (label_of ps)
 unfolding GoodItem label_of
 label_good ps = by_label (has_label ps)
   where
-    by_label : (b : Bool) → Each GoodItem (cond b (label (text_at ps 0) ∷ []) [])
+    by_label : (b : Bool) → EachInDraft GoodItem (cond b (label (text_at ps 0) ∷ []) [])
     by_label true = (tt, tt)
     by_label false = tt
 
-before_good : (text : List ℕ) (r : Result (List Token) ℕ) → Each GoodItem (label_before text r)
-before_good text (Ok ts) = label_good (map (piece_in text) ts)
+before_good : (text : List ℕ) (r : Result (List Token) ℕ) → EachInDraft GoodItem (label_before text r)
+before_good text (Ok ts) = label_good (map (line_token_with_text text) ts)
 before_good text (Err at) = tt
 
 cut_good : (line : List ℕ) (r : Result (List Token) ℕ) → GoodLine (cut_line line r)
 unfolding GoodLine
-cut_good line (Ok ts) = pieces_good (map (piece_in line) ts)
+cut_good line (Ok ts) = pieces_good (map (line_token_with_text line) ts)
 cut_good line (Err at) = before_good (take at line) (tokens_of (take at line))
 
-each_both : {A : Type 0} (P : A → Type 0) (xs ys : List A) → Each P xs → Each P ys → Each P (xs ++ ys)
+each_both : {A : Type 0} (P : A → Type 0) (xs ys : List A) → EachInDraft P xs → EachInDraft P ys → EachInDraft P (xs ++ ys)
 each_both P [] ys h k = k
 each_both P (x ∷ xs) ys h k = (h.0, each_both P xs ys h.1 k)
 
-lines_good : (ls : List (List ℕ)) → Each GoodItem (items_in (map line_in ls))
+lines_good : (ls : List (List ℕ)) → EachInDraft GoodItem (items_in (map line_in ls))
 unfolding GoodLine
 lines_good [] = tt
 lines_good (l ∷ ls) = each_both GoodItem (line_in l).items (items_in (map line_in ls)) (cut_good l (tokens_of l)) (lines_good ls)
@@ -227,21 +227,21 @@ content_good labels d (bytes bs r) h = h
 content_good labels d (zeros n) h = zeros_small n
 content_good labels d _ h = tt
 
-standing_good : (d : DraftData) (o : Option StatementData) → IfSome o GoodStatement → Each GoodStatement (standing d o)
+standing_good : (d : DraftData) (o : Option StatementData) → IfSome o GoodStatement → EachInDraft GoodStatement (standing_statement d o)
 standing_good d None h = tt
 standing_good d (Some t) h = by_room (has_section d && has_room d (length t.bytes))
   where
-    by_room : (b : Bool) → Each GoodStatement (cond b (t ∷ []) [])
+    by_room : (b : Bool) → EachInDraft GoodStatement (cond b (t ∷ []) [])
     by_room true = (h, tt)
     by_room false = tt
 
-statements_good : (labels : List SymbolData) (d : DraftData) (is : List ItemData) → Each GoodItem is → Each GoodStatement (statements_from labels d is)
+statements_good : (labels : List SymbolData) (d : DraftData) (is : List ItemData) → EachInDraft GoodItem is → EachInDraft GoodStatement (statements_from labels d is)
 statements_good labels d [] h = tt
 statements_good labels d (i ∷ is) h =
-    each_both GoodStatement (standing d (content_of labels d i)) (statements_from labels (stepped labels d i) is) (standing_good d (content_of labels d i) (content_good labels d i h.0))
-    (statements_good labels (stepped labels d i) is h.1)
+    each_both GoodStatement (standing_statement d (content_of labels d i)) (statements_from labels (draft_after_item labels d i) is) (standing_good d (content_of labels d i) (content_good labels d i h.0))
+    (statements_good labels (draft_after_item labels d i) is h.1)
 
-section_small : (s : ℕ) (ts : List StatementData) → Each GoodStatement ts → All IsByte (section_bytes s ts)
+section_small : (s : ℕ) (ts : List StatementData) → EachInDraft GoodStatement ts → All IsByte (section_bytes s ts)
 section_small s [] h = All-nil IsByte
 section_small s (t ∷ ts) h = All-append IsByte (cond (t.section == s) t.bytes []) (section_bytes s ts) (by_section (t.section == s)) (section_small s ts h.1)
   where
@@ -250,9 +250,9 @@ section_small s (t ∷ ts) h = All-append IsByte (cond (t.section == s) t.bytes 
     by_section false = All-nil IsByte
 
 -- ---- sections
-parts_small : (ps : List PartData) → ((s : ℕ) → All IsByte (bytes_at ps s)) → All HoldsBytes (map section_of ps)
-parts_small [] h = All-nil HoldsBytes
-parts_small (p ∷ ps) h = All-cons HoldsBytes (section_of p) (map section_of ps) (h 0) (parts_small ps (λ s. h (suc s)))
+parts_small : (ps : List PartData) → ((s : ℕ) → All IsByte (bytes_at ps s)) → All SectionHoldsBytes (map section_of ps)
+parts_small [] h = All-nil SectionHoldsBytes
+parts_small (p ∷ ps) h = All-cons SectionHoldsBytes (section_of p) (map section_of ps) (h 0) (parts_small ps (λ s. h (suc s)))
 
 source_bytes : (source : List ℕ) (s : ℕ) → All IsByte (bytes_at (draft_in source).parts s)
 source_bytes source s =

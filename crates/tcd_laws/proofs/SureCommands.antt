@@ -8,7 +8,7 @@ use Rattle.tc_link.specs.Layouts.{LayoutData}
 use Rattle.tc_link.specs.Linked.{image_of_objects}
 use Rattle.tc_link.specs.Refusals.{Refusal}
 use Rattle.tc_disasm.specs.Listing.{listing_of}
-use Rattle.tcd_base.specs.Files.{Map}
+use Rattle.tcd_base.specs.Files.{FileMap}
 use Rattle.tcd_reading.specs.Reports.{Report, says, writes_file}
 use Rattle.tcd_reading.specs.Inputs.{HoldsInput, each, answer}
 use Rattle.tcd_reading.specs.declared.status.Status.TheVariants.{Done}
@@ -16,17 +16,17 @@ use Rattle.tcd_forms.specs.Forms.{source_form, object_form, layout_form, elf_for
 use Rattle.tcd_forms.specs.Lines.{assembled_line, linked_line}
 use Rattle.tcd_forms.proofs.FormLaws.{ok_err, source_lawful, object_lawful, layout_lawful, elf_lawful}
 use Rattle.tcd_driver.specs.Asm.{AsmNames, WritesObject, asm_reading}
-use Rattle.tcd_driver.specs.Link.{LinkNames, IsLinked, refused, image, link_reading}
+use Rattle.tcd_driver.specs.Link.{LinkNames, IsLinkReport, refused, image, link_reading}
 use Rattle.tcd_driver.specs.Dis.{IsListing, dis_reading}
-use Rattle.tcd_laws.specs.Sequences.{IsSure}
-use Rattle.tcd_laws.specs.HandedFiles.{HoldEach}
+use Rattle.tcd_laws.specs.Sequences.{IsSureInSequence}
+use Rattle.tcd_laws.specs.HandedFiles.{HoldEachHanded}
 use Rattle.tcd_laws.proofs.HeldFiles.{sure_input, sure_each, sure_answer}
 
 abbrev pub object_report : List ℕ → ObjectData → Report
 object_report name object = writes_file name (bytes_of object) (assembled_line (length (bytes_of object)))
 
 -- one report, which is done
-pub sure_asm : (m : Map) (names : AsmNames) (object : ObjectData) → HoldsInput source_form (Some m) names.source object → IsSure (asm_reading names) (Some m) (object_report names.object object)
+pub sure_asm : (m : FileMap) (names : AsmNames) (object : ObjectData) → HoldsInput source_form (Some m) names.source object → IsSureInSequence (asm_reading names) (Some m) (object_report names.object object)
 sure_asm m names object h =
     sure_input source_form m names.source object (λ o. answer (WritesObject names.object o)) (object_report names.object object) source_lawful h
     (sure_answer (WritesObject names.object object) (Some m) (object_report names.object object) refl (λ o e. e) refl)
@@ -37,17 +37,17 @@ same_image o i j e f = cc
 abbrev pub image_report : List ℕ → ImageData → Report
 image_report name i = writes_file name (file_of i) (linked_line (length (file_of i)))
 
-only_image : (name : List ℕ) (l : LayoutData) (objects : List ObjectData) (i : ImageData) → image_of_objects objects l ≡ Ok i → (o : Report) → IsLinked name l objects o → o ≡ image_report name i
+only_image : (name : List ℕ) (l : LayoutData) (objects : List ObjectData) (i : ImageData) → image_of_objects objects l ≡ Ok i → (o : Report) → IsLinkReport name l objects o → o ≡ image_report name i
 only_image name l objects i is o (refused r e f) = absurd (ok_err (image_of_objects objects l) i r is e)
 only_image name l objects i is o (image j e f) = f ∙ ap (λ (x : ImageData). writes_file name (file_of x) (linked_line (length (file_of x)))) (same_image (image_of_objects objects l) j i e is)
 
-pub sure_link : (m : Map) (names : LinkNames) (l : LayoutData) (objects : List ObjectData) (i : ImageData) → HoldsInput layout_form (Some m) names.layout l → HoldEach object_form 0 (Some m) names.objects objects → image_of_objects objects l ≡ Ok i →
-    IsSure (link_reading names) (Some m) (image_report names.image i)
+pub sure_link : (m : FileMap) (names : LinkNames) (l : LayoutData) (objects : List ObjectData) (i : ImageData) → HoldsInput layout_form (Some m) names.layout l → HoldEachHanded object_form 0 (Some m) names.objects objects → image_of_objects objects l ≡ Ok i →
+    IsSureInSequence (link_reading names) (Some m) (image_report names.image i)
 sure_link m names l objects i is_layout are is =
-    sure_input layout_form m names.layout l (λ l. each ObjectData object_form 0 names.objects (λ os. answer (IsLinked names.image l os))) (image_report names.image i) layout_lawful is_layout
-    (sure_each object_form 0 m names.objects objects (λ os. answer (IsLinked names.image l os)) (image_report names.image i) object_lawful are
-    (sure_answer (IsLinked names.image l objects) (Some m) (image_report names.image i) (image i is refl) (only_image names.image l objects i is) refl))
+    sure_input layout_form m names.layout l (λ l. each ObjectData object_form 0 names.objects (λ os. answer (IsLinkReport names.image l os))) (image_report names.image i) layout_lawful is_layout
+    (sure_each object_form 0 m names.objects objects (λ os. answer (IsLinkReport names.image l os)) (image_report names.image i) object_lawful are
+    (sure_answer (IsLinkReport names.image l objects) (Some m) (image_report names.image i) (image i is refl) (only_image names.image l objects i is) refl))
 
-pub sure_dis : (m : Map) (elf : List ℕ) (i : ImageData) → HoldsInput elf_form (Some m) elf i → IsSure (dis_reading elf) (Some m) (says Done (listing_of i))
+pub sure_dis : (m : FileMap) (elf : List ℕ) (i : ImageData) → HoldsInput elf_form (Some m) elf i → IsSureInSequence (dis_reading elf) (Some m) (says Done (listing_of i))
 sure_dis m elf i h =
     sure_input elf_form m elf i (λ x. answer (IsListing x)) (says Done (listing_of i)) elf_lawful h (sure_answer (IsListing i) (Some m) (says Done (listing_of i)) refl (λ o e. e) refl)

@@ -7,42 +7,42 @@ use Rattle.tc_object.specs.Spelling.{bytes_of}
 use Rattle.tc_link.specs.Layouts.{LayoutData}
 use Rattle.tc_link.specs.Linked.{image_of_objects}
 use Rattle.tc_disasm.specs.Listing.{listing_of}
-use Rattle.tcd_base.specs.Files.{Map, FilesSeen}
+use Rattle.tcd_base.specs.Files.{FileMap, FilesSeen}
 use Rattle.tcd_base.specs.Sink.{SinkSeen, HasRoomFor}
-use Rattle.tcd_reading.specs.Reports.{Report, says, writes_file, all_text}
+use Rattle.tcd_reading.specs.Reports.{Report, says, writes_file}
+use Rattle.tcd_laws.specs.Sequences.{all_report_texts, EndInSequence, AreSureInSequence, SequenceEndsSurely}
 use Rattle.tcd_reading.specs.Inputs.{HoldsInput}
 use Rattle.tcd_reading.specs.declared.status.Status.{Status}
 use Rattle.tcd_reading.specs.declared.status.Status.TheVariants.{Done}
 use Rattle.tcd_forms.specs.Forms.{source_form, layout_form}
 use Rattle.tcd_forms.specs.Lines.{assembled_line, linked_line}
 use Rattle.tcd_driver.specs.Asm.{AsmNames}
-use Rattle.tcd_driver.specs.Commands.{Command, asm, link, dis, are_different}
-use Rattle.tcd_laws.specs.Sequences.{EndInSequence, AreSureInSequence, EndsSurely}
+use Rattle.tcd_driver.specs.Commands.{Command, asm, link, dis, are_distinct_names}
 
--- the names of a source and its object, and what it is assembled to
-pub record PartData : Type 0 where
+-- a part of a build: the names of a source and its object, and what it is assembled to
+pub record BuildPartData : Type 0 where
   pub names : AsmNames
   pub object : ObjectData
 
 -- the parts, the name of the layout and what it says, and the name of the executable and its image
 pub record BuildData : Type 0 where
-  pub parts : List PartData
+  pub parts : List BuildPartData
   pub layout : List ℕ
   pub rules : LayoutData
   pub elf : List ℕ
   pub image : ImageData
 
--- the names of their objects
-abbrev pub object_names : List PartData → List (List ℕ)
+-- the names of the objects of a build's parts
+abbrev pub object_names : List BuildPartData → List (List ℕ)
 object_names parts = map (λ p. (p.names).object) parts
 
--- their objects, in their order
-abbrev pub objects_of : List PartData → List ObjectData
-objects_of parts = map (λ p. p.object) parts
+-- the objects of a build's parts, in their order
+abbrev pub objects_of_parts : List BuildPartData → List ObjectData
+objects_of_parts parts = map (λ p. p.object) parts
 
 -- ---- the commands, and what they report
--- `asm` of a source
-abbrev pub asm_command : PartData → Command
+-- the command `asm` of a part of a build
+abbrev pub asm_command : BuildPartData → Command
 asm_command p = asm p.names
 
 -- `asm` of each source, then `link` of the objects, then `dis` of the executable
@@ -51,8 +51,8 @@ build_commands b =
     map asm_command b.parts
     ++ link (record { layout = b.layout; image = b.elf; objects = object_names b.parts }) ∷ dis b.elf ∷ []
 
--- the object is written, and how many bytes it has is told
-abbrev pub asm_report : PartData → Report
+-- the report of a part's `asm`: the object is written, and its size in bytes is printed
+abbrev pub asm_report : BuildPartData → Report
 asm_report p = writes_file (p.names).object (bytes_of p.object) (assembled_line (length (bytes_of p.object)))
 
 -- the objects, the executable and the listing, in this order
@@ -62,33 +62,33 @@ build_reports b =
 
 -- ---- what is asked of them
 -- the source is held and breaks no rule, and its object isn't longer than what `link` reads
-pub record IsPart (held : Option Map) (p : PartData) : Type 0 where
+pub record IsPart (held : Option FileMap) (p : BuildPartData) : Type 0 where
   pub source : HoldsInput source_form held (p.names).source p.object
   pub short : length (bytes_of p.object) ≤ 2 ^ 24
 
 -- no object goes to the name of another, of a source or of the layout
 pub record AreApart (b : BuildData) : Type 0 where
-  pub different : are_different (object_names b.parts) ≡ true
+  pub different : are_distinct_names (object_names b.parts) ≡ true
   pub sources : All (λ p. All (λ q. (p.names).object ≢ (q.names).source) b.parts) b.parts
   pub layout : All (λ p. (p.names).object ≢ b.layout) b.parts
 
 -- The sources and the layout are held, the objects can be linked by the layout, and their image
 -- isn't longer than what `dis` reads.
-pub record IsBuild (held : Option Map) (b : BuildData) : Type 0 where
+pub record IsBuild (held : Option FileMap) (b : BuildData) : Type 0 where
   pub parts : All (IsPart held) b.parts
   pub apart : AreApart b
   pub layout : HoldsInput layout_form held b.layout b.rules
-  pub linked_is : image_of_objects (objects_of b.parts) b.rules ≡ Ok b.image
+  pub linked_is : image_of_objects (objects_of_parts b.parts) b.rules ≡ Ok b.image
   pub short : length (file_of b.image) ≤ 2 ^ 24
 
 -- ---- the laws
 -- each command of a build has what it reads, and its report is sure
 abbrev pub BuildsReport : Type 0
-BuildsReport = (b : BuildData) (held : Option Map) → IsSome held → IsBuild held b → AreSureInSequence (build_commands b) held (build_reports b)
+BuildsReport = (b : BuildData) (held : Option FileMap) → IsSome held → IsBuild held b → AreSureInSequence (build_commands b) held (build_reports b)
 
 -- so over steady files with room for all that is printed a build ends Done or for want of memory
 abbrev pub BuildsEnd : Type 0
 BuildsEnd =
     (b : BuildData) (files files' : FilesSeen) (sink sink' : SinkSeen) (result : Status)
-    → IsTrue files.steady → IsSome files.held → IsBuild files.held b → HasRoomFor sink (all_text (build_reports b))
-    → EndInSequence (build_commands b) files files' sink sink' result → EndsSurely (build_reports b) files files' sink sink' result
+    → IsTrue files.steady → IsSome files.held → IsBuild files.held b → HasRoomFor sink (all_report_texts (build_reports b))
+    → EndInSequence (build_commands b) files files' sink sink' result → SequenceEndsSurely (build_reports b) files files' sink sink' result

@@ -4,13 +4,13 @@ use Rattle.elf_image.specs.Images.{ImageData}
 use Rattle.tcd_plan.specs.PlanData.{PlanData, IsPlan}
 use Rattle.depth_cert.specs.Certs.{CertData, IsCert}
 use Rattle.cfg_recover.specs.RulesHoldOrFail.{Accepts}
-use Rattle.tcd_text.specs.Lines.{lines_of}
+use Rattle.tcd_text.specs.Lines.{text_lines}
 use Rattle.tcd_report.specs.Graphs.{IsGraph}
 use Rattle.tcd_report.specs.Graphs.EdgeLaws.{EdgesStand}
 
--- the lines of a text as it is printed, each with the line feed that ends it
-abbrev pub printed_lines : List ℕ → List (List ℕ)
-printed_lines text = map (λ l. l ++ 10 ∷ []) (lines_of text)
+-- the lines of a graph's text as it is printed, each with the line feed that ends it
+abbrev pub printed_graph_lines : List ℕ → List (List ℕ)
+printed_graph_lines text = map (λ l. l ++ 10 ∷ []) (text_lines text)
 
 -- The graph of a certificate that is accepted: the edge of each step of each run that starts as the
 -- plan says, after any events that fit, stands on a line of its text, with the key of its frame and
@@ -18,4 +18,4 @@ printed_lines text = map (λ l. l ++ 10 ∷ []) (lines_of text)
 abbrev pub AcceptedEdgesStand : Type 0
 AcceptedEdgesStand =
     (image : ImageData) (plan : PlanData) (cert : CertData) (text : List ℕ) → image.entry < 2 ^ 32 → IsPlan plan → IsCert cert
-    → Accepts image plan cert → IsGraph image plan cert text → EdgesStand image plan cert (printed_lines text)
+    → Accepts image plan cert → IsGraph image plan cert text → EdgesStand image plan cert (printed_graph_lines text)

@@ -7,9 +7,9 @@ use Rattle.tc_object.specs.Objects.{ObjectData}
 use Rattle.tc_object.specs.Spelling.{bytes_of}
 use Rattle.tc_link.specs.Layouts.{LayoutData}
 use Rattle.tc_link.specs.Linked.{image_of_objects}
-use Rattle.tcd_base.specs.Files.{Map, FilesSeen, with_file}
+use Rattle.tcd_base.specs.Files.{FileMap, FilesSeen, files_after_write}
 use Rattle.tcd_base.specs.Sink.{SinkSeen}
-use Rattle.tcd_reading.specs.Inputs.{FormSeen, HoldsInput, IsRefusal}
+use Rattle.tcd_reading.specs.Inputs.{FormSeen, HoldsInput, IsInputRefusal}
 use Rattle.tcd_reading.specs.Endings.{Ends}
 use Rattle.tcd_reading.specs.declared.status.Status.TheVariants.{Done}
 use Rattle.tcd_forms.specs.Forms.{source_form, object_form, layout_form, elf_form}
@@ -18,55 +18,55 @@ use Rattle.tcd_driver.specs.Link.{LinkNames, link_reading}
 use Rattle.tcd_laws.specs.LimitsKept.{IsByte}
 
 -- the file of this name is exactly this value: it is it, it is no other, and it isn't refused
-pub record IsExactly {A : Type 0} (form : FormSeen A) (held : Option Map) (name : List ℕ) (x : A) : Type 0 where
+pub record IsHandedExactly {A : Type 0} (form : FormSeen A) (held : Option FileMap) (name : List ℕ) (x : A) : Type 0 where
   pub is : HoldsInput form held name x
   pub only : (y : A) → HoldsInput form held name y → y ≡ x
-  pub good : (text : List ℕ) → IsRefusal form held name text → ⊥
+  pub good : (text : List ℕ) → IsInputRefusal form held name text → ⊥
 
 -- the files of these names are these values, each in the form of its place in the list
-abbrev pub HoldEach : {A : Type 0} → (ℕ → FormSeen A) → ℕ → Option Map → List (List ℕ) → List A → Type 0
-HoldEach form place held [] [] = Unit {0}
-HoldEach form place held [] (x ∷ xs) = ⊥
-HoldEach form place held (name ∷ names) [] = ⊥
-HoldEach form place held (name ∷ names) (x ∷ xs) = HoldsInput (form place) held name x × HoldEach form (place + 1) held names xs
+abbrev pub HoldEachHanded : {A : Type 0} → (ℕ → FormSeen A) → ℕ → Option FileMap → List (List ℕ) → List A → Type 0
+HoldEachHanded form place held [] [] = Unit {0}
+HoldEachHanded form place held [] (x ∷ xs) = ⊥
+HoldEachHanded form place held (name ∷ names) [] = ⊥
+HoldEachHanded form place held (name ∷ names) (x ∷ xs) = HoldsInput (form place) held name x × HoldEachHanded form (place + 1) held names xs
 
 -- what these names hold are bytes: the map that files tell is of lists of numbers, which doesn't
 -- say so
-abbrev pub HoldBytes : Option Map → List (List ℕ) → Type 0
-HoldBytes held names = IfSome held (λ m. All (λ name. IfSome (get m name) (All IsByte)) names)
+abbrev pub HandedFilesHoldBytes : Option FileMap → List (List ℕ) → Type 0
+HandedFilesHoldBytes held names = IfSome held (λ m. All (λ name. IfSome (get m name) (All IsByte)) names)
 
 -- ---- an object
 -- the source's object was written, which holds bytes, and is read as exactly this object, unless it
 -- is too long to be read
-pub record IsAssembled (names : AsmNames) (held held' : Option Map) : Type 0 where
+pub record IsObjectHandedOver (names : AsmNames) (held held' : Option FileMap) : Type 0 where
   pub object : ObjectData
   pub source : HoldsInput source_form held names.source object
-  pub written : held' ≡ with_file held names.object (bytes_of object)
-  pub bytes : HoldBytes held' (names.object ∷ [])
-  pub read : (place : ℕ) → length (bytes_of object) ≤ 2 ^ 24 → IsExactly (object_form place) held' names.object object
+  pub written : held' ≡ files_after_write held names.object (bytes_of object)
+  pub bytes : HandedFilesHoldBytes held' (names.object ∷ [])
+  pub read : (place : ℕ) → length (bytes_of object) ≤ 2 ^ 24 → IsHandedExactly (object_form place) held' names.object object
 
--- so after each `asm` that is done, over files that tell what they hold
+-- what each `asm` that is done hands to `link`, over files that tell what they hold
 abbrev pub AsmHandsOver : Type 0
 AsmHandsOver =
     (names : AsmNames) (files files' : FilesSeen) (sink sink' : SinkSeen) → IsSome files.held
-    → Ends (asm_reading names) files files' sink sink' Done → IsAssembled names files.held files'.held
+    → Ends (asm_reading names) files files' sink sink' Done → IsObjectHandedOver names files.held files'.held
 
 -- ---- an executable
 -- the image of the objects by the layout was written, and is read as exactly this image, unless it
 -- is too long to be read
-pub record IsLinkedTo (names : LinkNames) (held held' : Option Map) : Type 0 where
+pub record IsImageHandedOver (names : LinkNames) (held held' : Option FileMap) : Type 0 where
   pub layout : LayoutData
   pub layout_is : HoldsInput layout_form held names.layout layout
   pub objects : List ObjectData
-  pub objects_are : HoldEach object_form 0 held names.objects objects
+  pub objects_are : HoldEachHanded object_form 0 held names.objects objects
   pub image : ImageData
   pub linked_is : image_of_objects objects layout ≡ Ok image
-  pub written : held' ≡ with_file held names.image (file_of image)
-  pub read : length (file_of image) ≤ 2 ^ 24 → IsExactly elf_form held' names.image image
+  pub written : held' ≡ files_after_write held names.image (file_of image)
+  pub read : length (file_of image) ≤ 2 ^ 24 → IsHandedExactly elf_form held' names.image image
 
 -- So after each `link` that is done, over files that tell what they hold, and whose objects are of
 -- bytes: those that `asm` wrote are, and so is all that a file system holds.
 abbrev pub LinkHandsOver : Type 0
 LinkHandsOver =
-    (names : LinkNames) (files files' : FilesSeen) (sink sink' : SinkSeen) → IsSome files.held → HoldBytes files.held names.objects
-    → Ends (link_reading names) files files' sink sink' Done → IsLinkedTo names files.held files'.held
+    (names : LinkNames) (files files' : FilesSeen) (sink sink' : SinkSeen) → IsSome files.held → HandedFilesHoldBytes files.held names.objects
+    → Ends (link_reading names) files files' sink sink' Done → IsImageHandedOver names files.held files'.held

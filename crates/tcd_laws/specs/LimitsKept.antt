@@ -11,32 +11,33 @@ use Rattle.tc_link.specs.Layouts.{LayoutData, IsLayout}
 use Rattle.tc_link.specs.LayoutFaults.{layout_of}
 use Rattle.tc_link.specs.Linked.{image_of_objects}
 
--- a number of eight bits
+-- a byte: a number of at most eight bits
 abbrev pub IsByte : ℕ → Type 0
 IsByte b = b < 2 ^ 8
 
--- what a section holds are bytes
-abbrev pub HoldsBytes : SectionData → Type 0
-HoldsBytes s = All IsByte s.bytes
+-- the section keeps the limits of bytes: what it holds are numbers of eight bits
+abbrev pub SectionHoldsBytes : SectionData → Type 0
+SectionHoldsBytes s = All IsByte s.bytes
 
--- an object, whose sections hold bytes
+-- the object keeps the limits of objects, and its sections those of bytes
 pub record IsObjectOfBytes (o : ObjectData) : Type 0 where
   pub object : IsObject o
-  pub bytes : All HoldsBytes o.sections
+  pub bytes : All SectionHoldsBytes o.sections
 
--- the object of a source that breaks no rule is one
+-- assembling keeps limits: the object of a source that breaks no rule is an object, whose sections
+-- hold bytes
 abbrev pub SourcesGiveObjects : Type 0
 SourcesGiveObjects = (source : List ℕ) → KeepsRules (lines_in source) (length (lines_in source)) → IsObjectOfBytes (object_of (draft_in source))
 
--- what is written of such an object are bytes
+-- writing objects keeps limits: the file of an object whose sections hold bytes holds bytes
 abbrev pub ObjectsSpellBytes : Type 0
 ObjectsSpellBytes = (o : ObjectData) → IsObjectOfBytes o → All IsByte (bytes_of o)
 
--- what a text gives without a fault is a layout
+-- reading keeps limits: what a text gives without a fault is a layout
 abbrev pub TextsGiveLayouts : Type 0
 TextsGiveLayouts = (text : List ℕ) (layout : LayoutData) → layout_of text ≡ Ok layout → IsLayout layout
 
--- what objects are linked to by a layout is an image
+-- linking keeps limits: what objects are linked to by a layout is an image
 abbrev pub LinksGiveImages : Type 0
 LinksGiveImages =
     (objects : List ObjectData) (layout : LayoutData) (image : ImageData) → All IsObjectOfBytes objects → IsLayout layout

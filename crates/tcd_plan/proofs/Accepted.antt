@@ -3,12 +3,12 @@ use Rattle.std.proofs.Common.{◌≡◌, ℕ, ◌+◌, ◌*◌, ◌%◌, ◌/◌
 use Rattle.std.proofs.lemmas.Bool.{and_parts, leb-true, ltb-true, eqb-true}
 use Rattle.std.proofs.lemmas.List.{length-map}
 use Rattle.serde_json.specs.Data.{Data}
-use Rattle.tcd_plan.specs.Objects.{objects_of, places_of}
-use Rattle.tcd_plan.specs.PlanData.{PlanData, AreFew, are_areas, are_few, has_areas, has_vectors, too_many_of}
-use Rattle.tcd_plan.specs.Plans.{device_of, irq_of, range_of, refusal_of, refusals, plan_in}
-use Rattle.tcd_plan.specs.Regions.{overlap_of}
-use Rattle.tcd_plan.specs.KeyFaults.{bad_value_of, numbered}
-use Rattle.tcd_plan.specs.JsonValues.{word_in}
+use Rattle.tcd_plan.specs.Objects.{plan_objects_of}
+use Rattle.tcd_plan.specs.JsonValues.{json_elements_of, json_word_in}
+use Rattle.tcd_plan.specs.PlanData.{PlanData, are_areas, are_ranges_few, has_areas, has_vectors, too_many_of}
+use Rattle.tcd_plan.specs.Plans.{HasShortPlanArrays, plan_device_of, irq_of, plan_range_of, plan_refusal, refusals, plan_in}
+use Rattle.tcd_plan.specs.Regions.{plan_range_overlap}
+use Rattle.tcd_plan.specs.KeyFaults.{first_bad_key, refused_key}
 use Rattle.tcd_plan.specs.declared.plans.PlanErr.TheVariants.{BadValue, TooMany, BadCsa, BadVector}
 use Rattle.tcd_base.specs.declared.range.Range.{Range}
 use Rattle.tcd_plan.specs.declared.key_table.Holder.TheVariants.{Rom, Ram, Devices}
@@ -26,20 +26,20 @@ pub record AreasHold (at areas reserve : ℕ) : Type 0 where
   pub fit : at % 2 ^ 22 + 64 * areas ≤ 2 ^ 22
 
 pub record IsAccepted (d : Data) : Type 0 where
-  pub bad_value : bad_value_of d ≡ None
+  pub bad_value : first_bad_key d ≡ None
   pub too_many : too_many_of (plan_in d) ≡ None
   pub areas : has_areas (plan_in d) ≡ true
   pub vectors : has_vectors (plan_in d) ≡ true
-  pub overlap : overlap_of (plan_in d) ≡ None
+  pub overlap : plan_range_overlap (plan_in d) ≡ None
 
-stands : (d : Data) → refusal_of d ≡ None → (i : ℕ) → i < 8 → get_or (refusals d) i None ≡ None
-unfolding refusal_of
+stands : (d : Data) → plan_refusal d ≡ None → (i : ℕ) → i < 8 → get_or (refusals d) i None ≡ None
+unfolding plan_refusal
 stands d e i within = first_some_none (refusals d) i e within
 
-pub accepted : (d : Data) → refusal_of d ≡ None → IsAccepted d
+pub accepted : (d : Data) → plan_refusal d ≡ None → IsAccepted d
 accepted d e =
     record {
-      bad_value = option_map_none BadValue (bad_value_of d) (stands d e 3 (lit< tt));
+      bad_value = option_map_none BadValue (first_bad_key d) (stands d e 3 (lit< tt));
       too_many = option_map_none TooMany (too_many_of (plan_in d)) (stands d e 4 (lit< tt));
       areas = where_none (has_areas (plan_in d)) BadCsa (stands d e 5 (lit< tt));
       vectors = where_none (has_vectors (plan_in d)) BadVector (stands d e 6 (lit< tt));
@@ -47,11 +47,11 @@ accepted d e =
     }
 
 -- the tests of a document's values, one by one
-pub few_ranges : (p : PlanData) → too_many_of p ≡ None → (are_few p.rom ≡ true) × (are_few p.ram ≡ true) × (nat_le (length p.devices) 16 ≡ true) × (nat_le (length p.irqs) 32 ≡ true)
+pub few_ranges : (p : PlanData) → too_many_of p ≡ None → (are_ranges_few p.rom ≡ true) × (are_ranges_few p.ram ≡ true) × (nat_le (length p.devices) 16 ≡ true) × (nat_le (length p.irqs) 32 ≡ true)
 unfolding too_many_of
-few_ranges p e = four_hold (are_few p.rom) (are_few p.ram) (nat_le (length p.devices) 16) (nat_le (length p.irqs) 32) (numbered 1) (numbered 4) (numbered 7) (numbered 20) e
+few_ranges p e = four_hold (are_ranges_few p.rom) (are_ranges_few p.ram) (nat_le (length p.devices) 16) (nat_le (length p.irqs) 32) (refused_key 1) (refused_key 4) (refused_key 7) (refused_key 20) e
 
-few_of : (rs : List Range) → are_few rs ≡ true → length rs ≤ 16
+few_of : (rs : List Range) → are_ranges_few rs ≡ true → length rs ≤ 16
 few_of rs e = leb-true _ _ (and_parts (nat_le (length rs) 16) _ e).0
 
 pub are_areas_parts : (at areas reserve : ℕ) → are_areas at areas reserve ≡ true → AreasHold at areas reserve
@@ -74,18 +74,18 @@ are_areas_parts at areas reserve e =
       fit = leb-true _ _ fit.1;
     }
 
-pub few_arrays : (d : Data) → too_many_of (plan_in d) ≡ None → has_areas (plan_in d) ≡ true → AreFew d
+pub few_arrays : (d : Data) → too_many_of (plan_in d) ≡ None → has_areas (plan_in d) ≡ true → HasShortPlanArrays d
 unfolding plan_in has_areas
 few_arrays d many areas =
     let few = few_ranges (plan_in d) many in
-    let rom = few_of (map range_of (objects_of Rom d)) few.0 in
-    let ram = few_of (map range_of (objects_of Ram d)) few.1 in
-    let devices = leb-true (length (map device_of (objects_of Devices d))) 16 few.2 in
-    let irqs = leb-true (length (map irq_of (places_of (codes "irqs") d))) 32 few.3 in
+    let rom = few_of (map plan_range_of (plan_objects_of Rom d)) few.0 in
+    let ram = few_of (map plan_range_of (plan_objects_of Ram d)) few.1 in
+    let devices = leb-true (length (map plan_device_of (plan_objects_of Devices d))) 16 few.2 in
+    let irqs = leb-true (length (map irq_of (json_elements_of (codes "irqs") d))) 32 few.3 in
     record {
-      rom = omega (arith, rom, length-map (objects_of Rom d) range_of);
-      ram = omega (arith, ram, length-map (objects_of Ram d) range_of);
-      devices = omega (arith, devices, length-map (objects_of Devices d) device_of);
-      irqs = omega (arith, irqs, length-map (places_of (codes "irqs") d) irq_of);
-      areas = (are_areas_parts (word_in (codes "csa") (codes "at") d) (word_in (codes "csa") (codes "areas") d) (word_in (codes "csa") (codes "reserve") d) areas).few;
+      rom = omega (arith, rom, length-map (plan_objects_of Rom d) plan_range_of);
+      ram = omega (arith, ram, length-map (plan_objects_of Ram d) plan_range_of);
+      devices = omega (arith, devices, length-map (plan_objects_of Devices d) plan_device_of);
+      irqs = omega (arith, irqs, length-map (json_elements_of (codes "irqs") d) irq_of);
+      areas = (are_areas_parts (json_word_in (codes "csa") (codes "at") d) (json_word_in (codes "csa") (codes "areas") d) (json_word_in (codes "csa") (codes "reserve") d) areas).few;
     }

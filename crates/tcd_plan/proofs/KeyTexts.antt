@@ -6,11 +6,11 @@ use Rattle.std.proofs.lemmas.Bool.{and_parts, ltb-true}
 use Rattle.serde_json.specs.Data.{Data}
 use Rattle.tcd_base.specs.declared.range.Range.{Range}
 use Rattle.tcd_plan.specs.KeyRows.{KeyRow, holder_key, holders, key_rows}
-use Rattle.tcd_plan.specs.Objects.{objects_of}
-use Rattle.tcd_plan.specs.KeyFaults.{has_unknown, is_bad, lacks, bad_value_of, first_key, missing_of, numbered, unknown_of}
-use Rattle.tcd_plan.specs.PlanData.{PlanData, all_ranges, ranges_apart, are_few, has_areas, has_vectors, too_many_of}
-use Rattle.tcd_plan.specs.Plans.{HasText, refusal_of, plan_in, refusal_if}
-use Rattle.tcd_plan.specs.Regions.{overlap_from, overlap_of}
+use Rattle.tcd_plan.specs.Objects.{plan_objects_of}
+use Rattle.tcd_plan.specs.KeyFaults.{has_unknown_key, is_key_value_bad, lacks_key, first_bad_key, first_key, first_missing_key, refused_key, first_unknown_key}
+use Rattle.tcd_plan.specs.PlanData.{PlanData, all_ranges, are_ranges_apart, are_ranges_few, has_areas, has_vectors, too_many_of}
+use Rattle.tcd_plan.specs.Plans.{HasText, plan_refusal, plan_in, refusal_if}
+use Rattle.tcd_plan.specs.Regions.{overlap_from, plan_range_overlap}
 use Rattle.tcd_plan.specs.JsonValues.{is_object}
 use Rattle.tcd_plan.specs.declared.plans.PlanErr.{PlanErr}
 use Rattle.tcd_plan.specs.declared.plans.PlanErr.TheVariants.{NotJson, Missing, Unknown, BadValue, TooMany, BadCsa, BadVector, Overlap}
@@ -31,7 +31,7 @@ found_passes {T} test good (x ∷ xs) e =
     let parts = and_parts (good x) (list_all good xs) e in
     elim (test x) as (λ b. IfSome (cond b (Some x) (find test xs)) (λ y. good y ≡ true)) [ true ↦ parts.0 | false ↦ found_passes test good xs parts.1 ]
 
-keyed : (o : Option KeyRow) → IfSome o (λ r. nat_lt r.key 32 ≡ true) → IfSome (option_map (λ r. numbered r.key) o) IsKey
+keyed : (o : Option KeyRow) → IfSome o (λ r. nat_lt r.key 32 ≡ true) → IfSome (option_map (λ r. refused_key r.key) o) IsKey
 keyed None h = tt
 keyed (Some r) h = ltb-true r.key 32 h
 
@@ -40,27 +40,27 @@ unfolding key_rows
 keys_small = refl
 
 first_key-small : (test : KeyRow → Data → Bool) (d : Data) → IfSome (first_key test d) IsKey
-first_key-small test d = keyed _ (found_passes (λ r. list_any (test r) (objects_of r.holder d)) (λ r. nat_lt r.key 32) key_rows keys_small)
+first_key-small test d = keyed _ (found_passes (λ r. list_any (test r) (plan_objects_of r.holder d)) (λ r. nat_lt r.key 32) key_rows keys_small)
 
-missing-small : (d : Data) → IfSome (missing_of d) IsKey
-unfolding missing_of
-missing-small d = first_key-small lacks d
+missing-small : (d : Data) → IfSome (first_missing_key d) IsKey
+unfolding first_missing_key
+missing-small d = first_key-small lacks_key d
 
-bad_value-small : (d : Data) → IfSome (bad_value_of d) IsKey
-unfolding bad_value_of
-bad_value-small d = first_key-small is_bad d
+bad_value-small : (d : Data) → IfSome (first_bad_key d) IsKey
+unfolding first_bad_key
+bad_value-small d = first_key-small is_key_value_bad d
 
 holder_small : (h : Holder) → holder_key h < 32
 holder_small Root = lit< tt
 holder_small _ = lit< tt
 
-held : (o : Option Holder) → IfSome (option_map (λ h. numbered (holder_key h)) o) IsKey
+held : (o : Option Holder) → IfSome (option_map (λ h. refused_key (holder_key h)) o) IsKey
 held None = tt
 held (Some h) = holder_small h
 
-unknown-small : (d : Data) → IfSome (unknown_of d) IsKey
-unfolding unknown_of
-unknown-small d = held (find (λ h. list_any (has_unknown h) (objects_of h d)) holders)
+unknown-small : (d : Data) → IfSome (first_unknown_key d) IsKey
+unfolding first_unknown_key
+unknown-small d = held (find (λ h. list_any (has_unknown_key h) (plan_objects_of h d)) holders)
 
 if_not : {T : Type 0} (P : T → Type 0) (b : Bool) (x : T) (o : Option T) → P x → IfSome o P → IfSome (cond (not b) (Some x) o) P
 if_not P true x o hx ho = ho
@@ -69,9 +69,9 @@ if_not P false x o hx ho = hx
 too_many-small : (p : PlanData) → IfSome (too_many_of p) IsKey
 unfolding too_many_of
 too_many-small p =
-    if_not IsKey (are_few p.rom) (numbered 1) _ (lit< tt)
-    (if_not IsKey (are_few p.ram) (numbered 4) _ (lit< tt)
-    (if_not IsKey (nat_le (length p.devices) 16) (numbered 7) _ (lit< tt) (if_not IsKey (nat_le (length p.irqs) 32) (numbered 20) None (lit< tt) tt)))
+    if_not IsKey (are_ranges_few p.rom) (refused_key 1) _ (lit< tt)
+    (if_not IsKey (are_ranges_few p.ram) (refused_key 4) _ (lit< tt)
+    (if_not IsKey (nat_le (length p.devices) 16) (refused_key 7) _ (lit< tt) (if_not IsKey (nat_le (length p.irqs) 32) (refused_key 20) None (lit< tt) tt)))
 
 wrapped : (err : PlanKey → PlanErr) (o : Option PlanKey) → ((key : PlanKey) → IsKey key → HasText (err key)) → IfSome o IsKey → IfSome (option_map err o) HasText
 wrapped err None tells h = tt
@@ -87,23 +87,23 @@ paired i (Some k) rest h = tt
 
 overlap-text : (i : ℕ) (rs : List Range) → IfSome (overlap_from i rs) HasText
 overlap-text i [] = tt
-overlap-text i (r ∷ rs) = paired i (position (λ s. not (ranges_apart r s)) rs) (overlap_from (i + 1) rs) (overlap-text (i + 1) rs)
+overlap-text i (r ∷ rs) = paired i (position (λ s. not (are_ranges_apart r s)) rs) (overlap_from (i + 1) rs) (overlap-text (i + 1) rs)
 
-overlap_of-text : (p : PlanData) → IfSome (overlap_of p) HasText
-unfolding overlap_of
+overlap_of-text : (p : PlanData) → IfSome (plan_range_overlap p) HasText
+unfolding plan_range_overlap
 overlap_of-text p = overlap-text 0 (all_ranges p)
 
-pub refusal_of-text : (d : Data) → IfSome (refusal_of d) HasText
-unfolding refusal_of
+pub refusal_of-text : (d : Data) → IfSome (plan_refusal d) HasText
+unfolding plan_refusal
 refusal_of-text d =
     either HasText (refusal_if (not (is_object d)) NotJson) _ (stated _ NotJson tt)
-    (either HasText (option_map Missing (missing_of d)) _ (wrapped Missing _ (λ key h. h) (missing-small d))
-    (either HasText (option_map Unknown (unknown_of d)) _ (wrapped Unknown _ (λ key h. h) (unknown-small d))
-    (either HasText (option_map BadValue (bad_value_of d)) _ (wrapped BadValue _ (λ key h. h) (bad_value-small d))
+    (either HasText (option_map Missing (first_missing_key d)) _ (wrapped Missing _ (λ key h. h) (missing-small d))
+    (either HasText (option_map Unknown (first_unknown_key d)) _ (wrapped Unknown _ (λ key h. h) (unknown-small d))
+    (either HasText (option_map BadValue (first_bad_key d)) _ (wrapped BadValue _ (λ key h. h) (bad_value-small d))
     (either HasText (option_map TooMany (too_many_of (plan_in d))) _ (wrapped TooMany _ (λ key h. h) (too_many-small (plan_in d)))
     (either HasText (refusal_if (not (has_areas (plan_in d))) BadCsa) _ (stated _ BadCsa tt)
     (either HasText (refusal_if (not (has_vectors (plan_in d))) BadVector) _ (stated _ BadVector tt)
-    (either HasText (overlap_of (plan_in d)) None (overlap_of-text (plan_in d)) tt)))))))
+    (either HasText (plan_range_overlap (plan_in d)) None (overlap_of-text (plan_in d)) tt)))))))
 
-pub refused-text : (d : Data) (err : PlanErr) → refusal_of d ≡ Some err → HasText err
+pub refused-text : (d : Data) (err : PlanErr) → plan_refusal d ≡ Some err → HasText err
 refused-text d err e = let P : Option PlanErr → Type 0 = λ o. IfSome o HasText in subst P e (refusal_of-text d)

@@ -5,15 +5,15 @@ use Rattle.std.specs.Option.{option_map_or}
 use Rattle.std.proofs.lemmas.List.{at_drop_more, take_all, length-drop}
 use Rattle.serde_json.specs.Data.{Data}
 use Rattle.tcd_base.specs.declared.range.Range.{Range}
-use Rattle.tcd_plan.specs.PlanData.{all_ranges, areas_range, ranges_apart}
-use Rattle.tcd_plan.specs.Objects.{objects_of}
-use Rattle.tcd_plan.specs.Plans.{device_of, range_of, plan_in}
+use Rattle.tcd_plan.specs.PlanData.{all_ranges, areas_range, are_ranges_apart}
+use Rattle.tcd_plan.specs.Objects.{plan_objects_of}
+use Rattle.tcd_plan.specs.Plans.{plan_device_of, plan_range_of, plan_in}
 use Rattle.tcd_plan.specs.Regions.{overlap_from}
 use Rattle.tcd_plan.specs.declared.key_table.Holder.TheVariants.{Rom, Ram, Devices}
 use Rattle.tcd_plan.specs.declared.plans.PlanErr.TheVariants.{Overlap}
 
 abbrev pub sharing : Range → List Range → Option ℕ
-sharing r rs = position (λ s. not (ranges_apart r s)) rs
+sharing r rs = position (λ s. not (are_ranges_apart r s)) rs
 
 -- one range after another: the answer of the ranges after it, else that of the later ones
 pub overlap_step : (ranges : List Range) (i : ℕ) (r : Range) (found : Option ℕ) → i < length ranges → found ≡ sharing (get_or ranges i r) (take (length ranges - (i + 1)) (drop (i + 1) ranges))
@@ -23,13 +23,13 @@ overlap_step ranges i r found within is =
     at_drop_more (overlap_from i) ranges i r within
     ∙ ap (λ o. option_map_or (λ k. Some (Overlap i (i + 1 + k))) o (overlap_from (i + 1) (drop (i + 1) ranges))) (sym (is ∙ ap (sharing (get_or ranges i r)) all))
 
-pub ranges_of_devices : (objects : List Data) → map (λ d. d.range) (map device_of objects) ≡ map range_of objects
+pub ranges_of_devices : (objects : List Data) → map (λ d. d.range) (map plan_device_of objects) ≡ map plan_range_of objects
 ranges_of_devices [] = refl
-ranges_of_devices (o ∷ objects) = ap (λ rs. range_of o ∷ rs) (ranges_of_devices objects)
+ranges_of_devices (o ∷ objects) = ap (λ rs. plan_range_of o ∷ rs) (ranges_of_devices objects)
 
 -- rom, ram, devices and the save areas, one after another
-pub all_gathered : (d : Data) (rom ram devices all : List Range) → rom ≡ map range_of (objects_of Rom d) → ram ≡ rom ++ map range_of (objects_of Ram d) → devices ≡ ram ++ map range_of (objects_of Devices d)
+pub all_gathered : (d : Data) (rom ram devices all : List Range) → rom ≡ map plan_range_of (plan_objects_of Rom d) → ram ≡ rom ++ map plan_range_of (plan_objects_of Ram d) → devices ≡ ram ++ map plan_range_of (plan_objects_of Devices d)
     → all ≡ devices ++ areas_range (plan_in d) ∷ [] → all ≡ all_ranges (plan_in d)
 unfolding plan_in
 all_gathered d rom ram devices all is_rom is_ram is_devices is_all =
-    let e = ranges_of_devices (objects_of Devices d) in cc
+    let e = ranges_of_devices (plan_objects_of Devices d) in cc

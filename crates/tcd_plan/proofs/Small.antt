@@ -3,18 +3,18 @@ use Rattle.std.proofs.Common.{◌≡◌, ℕ, suc, zero, ◌+◌, ◌<◌, ◌�
 use Rattle.std.specs.List.{find, list_all, list_any, position, prefix_len}
 use Rattle.std.specs.Option.{option_or}
 use Rattle.std.proofs.lemmas.Bool.{and_from, or_parts, ltb-false}
-use Rattle.tcd_plan.specs.ValueForms.{passes}
-use Rattle.tcd_plan.specs.Plans.{first_some, refusal_if}
+use Rattle.tcd_plan.specs.ValueForms.{is_present_and_passing}
+use Rattle.tcd_plan.specs.Plans.{first_given_refusal, refusal_if}
 use Rattle.tcd_plan.specs.declared.plans.PlanErr.{PlanErr}
 
 pub option_or_none : {T : Type 0} (a b : Option T) → option_or a b ≡ None → (a ≡ None) × (b ≡ None)
 option_or_none None b e = (refl, e)
 option_or_none (Some x) b e = cc
 
-pub first_some_none : {T : Type 0} (os : List (Option T)) (i : ℕ) → first_some os ≡ None → i < length os → get_or os i None ≡ None
+pub first_some_none : {T : Type 0} (os : List (Option T)) (i : ℕ) → first_given_refusal os ≡ None → i < length os → get_or os i None ≡ None
 first_some_none [] i e within = absurd (omega arith)
-first_some_none (o ∷ os) zero e within = (option_or_none o (first_some os) e).0
-first_some_none (o ∷ os) (suc i) e within = first_some_none os i (option_or_none o (first_some os) e).1 (omega arith)
+first_some_none (o ∷ os) zero e within = (option_or_none o (first_given_refusal os) e).0
+first_some_none (o ∷ os) (suc i) e within = first_some_none os i (option_or_none o (first_given_refusal os) e).1 (omega arith)
 
 pub option_map_none : {X Y : Type 0} (f : X → Y) (o : Option X) → option_map f o ≡ None → o ≡ None
 option_map_none f None e = refl
@@ -37,7 +37,7 @@ four_hold a b c d w x y z e =
     (first.0, second.0, third.0, (cond_none d z _ third.1).0)
 
 -- a value that passes is there, or the default
-pub passes-unwrap_or : {T : Type 0} (test : T → Bool) (o : Option T) (d : T) → passes test o ≡ true → test (unwrap_or o d) ≡ true
+pub passes-unwrap_or : {T : Type 0} (test : T → Bool) (o : Option T) (d : T) → is_present_and_passing test o ≡ true → test (unwrap_or o d) ≡ true
 passes-unwrap_or test None d e = cc
 passes-unwrap_or test (Some x) d e = e
 

@@ -7,13 +7,13 @@ use Rattle.std.proofs.lemmas.List.{length-map}
 use Rattle.serde_json.specs.Data.{Data}
 use Rattle.serde_json.specs.Find.{get}
 use Rattle.tcd_base.specs.declared.range.Range.{Range}
-use Rattle.tcd_plan.specs.Objects.{objects_of, places_of}
-use Rattle.tcd_plan.specs.ValueForms.{ascend_above, has_form}
-use Rattle.tcd_plan.specs.PlanData.{AreAreas, AreIrqs, AreRanges, AreWords, IsPlan, PlanData, all_apart, all_ranges, ranges_apart, are_few, has_areas, has_vectors}
-use Rattle.tcd_plan.specs.Plans.{range_of, refusal_of, plan_in}
-use Rattle.tcd_plan.specs.Regions.{overlap_from, overlap_of}
-use Rattle.tcd_plan.specs.KeyFaults.{bad_value_of}
-use Rattle.tcd_plan.specs.JsonValues.{places_at, word_at, word_in}
+use Rattle.tcd_plan.specs.Objects.{plan_objects_of}
+use Rattle.tcd_plan.specs.JsonValues.{json_elements_of, json_elements_at, json_word_at, json_word_in}
+use Rattle.tcd_plan.specs.ValueForms.{are_irqs_above, has_value_form}
+use Rattle.tcd_plan.specs.PlanData.{AreAreas, ArePlanIrqs, AreRanges, ArePlanWords, IsPlan, PlanData, are_all_ranges_apart, all_ranges, are_ranges_apart, are_ranges_few, has_areas, has_vectors}
+use Rattle.tcd_plan.specs.Plans.{plan_range_of, plan_refusal, plan_in}
+use Rattle.tcd_plan.specs.Regions.{overlap_from, plan_range_overlap}
+use Rattle.tcd_plan.specs.KeyFaults.{first_bad_key}
 use Rattle.tcd_plan.specs.declared.plans.PlanErr.TheVariants.{Overlap}
 use Rattle.tcd_plan.specs.declared.key_table.Form.TheVariants.{Irqs, Object, Ranges}
 use Rattle.tcd_plan.specs.declared.key_table.Holder.TheVariants.{Devices, Ram, Rom}
@@ -27,17 +27,17 @@ use Rattle.tcd_plan.proofs.Words.{word_at-lt, word_in-lt}
 alone : (test : Data → Bool) (d : Data) → list_all test (d ∷ []) ≡ true → test d ≡ true
 alone test d e = (and_parts (test d) true e).0
 
-pub ascending : (d : Data) → bad_value_of d ≡ None → ascend_above 0 (places_of (codes "irqs") d) ≡ true
-ascending d e = passes-unwrap_or (ascend_above 0) (places_at (codes "irqs") d) [] (alone (has_form Irqs (codes "irqs")) d (irqs_form d e))
+pub ascending : (d : Data) → first_bad_key d ≡ None → are_irqs_above 0 (json_elements_of (codes "irqs") d) ≡ true
+ascending d e = passes-unwrap_or (are_irqs_above 0) (json_elements_at (codes "irqs") d) [] (alone (has_value_form Irqs (codes "irqs")) d (irqs_form d e))
 
-pub ccpn-lt : (d : Data) → bad_value_of d ≡ None → word_in (codes "start") (codes "ccpn") d < 2 ^ 8
+pub ccpn-lt : (d : Data) → first_bad_key d ≡ None → json_word_in (codes "start") (codes "ccpn") d < 2 ^ 8
 ccpn-lt d e =
-    ltb-true _ _ (inner_word (λ n. nat_lt n 256) (codes "ccpn") (get (codes "start") d) (alone (has_form Object (codes "start")) d (start_form d e)) (start_ccpn d e))
+    ltb-true _ _ (inner_word (λ n. nat_lt n 256) (codes "ccpn") (get (codes "start") d) (alone (has_value_form Object (codes "start")) d (start_form d e)) (start_ccpn d e))
 
-rom_some : (d : Data) → bad_value_of d ≡ None → 0 < length (objects_of Rom d)
-rom_some d e = some_objects (places_at (codes "rom") d) (alone (has_form Ranges (codes "rom")) d (rom_form d e))
+rom_some : (d : Data) → first_bad_key d ≡ None → 0 < length (plan_objects_of Rom d)
+rom_some d e = some_objects (json_elements_at (codes "rom") d) (alone (has_value_form Ranges (codes "rom")) d (rom_form d e))
 
-sum_of : (rs : List Range) → are_few rs ≡ true → sum_by (λ r. r.len) rs ≤ 2 ^ 22
+sum_of : (rs : List Range) → are_ranges_few rs ≡ true → sum_by (λ r. r.len) rs ≤ 2 ^ 22
 sum_of rs e = leb-true _ _ (and_parts (nat_le (length rs) 16) _ e).1
 
 are_ranges : (d : Data) → IsAccepted d → AreRanges (plan_in d)
@@ -46,21 +46,21 @@ are_ranges d a =
     let few = few_ranges (plan_in d) a.too_many in
     let some = rom_some d a.bad_value in
     record {
-      some = omega (arith, some, length-map (objects_of Rom d) range_of);
-      few_rom = leb-true _ _ (and_parts (nat_le (length (map range_of (objects_of Rom d))) 16) _ few.0).0;
-      few_ram = leb-true _ _ (and_parts (nat_le (length (map range_of (objects_of Ram d))) 16) _ few.1).0;
+      some = omega (arith, some, length-map (plan_objects_of Rom d) plan_range_of);
+      few_rom = leb-true _ _ (and_parts (nat_le (length (map plan_range_of (plan_objects_of Rom d))) 16) _ few.0).0;
+      few_ram = leb-true _ _ (and_parts (nat_le (length (map plan_range_of (plan_objects_of Ram d))) 16) _ few.1).0;
       few_devices = leb-true _ _ few.2;
-      rom = ranges_are (objects_of Rom d) (rom_at d a.bad_value) (rom_len d a.bad_value);
-      ram = ranges_are (objects_of Ram d) (ram_at d a.bad_value) (ram_len d a.bad_value);
-      devices = devices_are (objects_of Devices d) (devices_at d a.bad_value) (devices_len d a.bad_value) (devices_hi d a.bad_value);
-      small_rom = sum_of (map range_of (objects_of Rom d)) few.0;
-      small_ram = sum_of (map range_of (objects_of Ram d)) few.1;
+      rom = ranges_are (plan_objects_of Rom d) (rom_at d a.bad_value) (rom_len d a.bad_value);
+      ram = ranges_are (plan_objects_of Ram d) (ram_at d a.bad_value) (ram_len d a.bad_value);
+      devices = devices_are (plan_objects_of Devices d) (devices_at d a.bad_value) (devices_len d a.bad_value) (devices_hi d a.bad_value);
+      small_rom = sum_of (map plan_range_of (plan_objects_of Rom d)) few.0;
+      small_ram = sum_of (map plan_range_of (plan_objects_of Ram d)) few.1;
     }
 
 are_areas : (d : Data) → IsAccepted d → AreAreas (plan_in d)
 unfolding plan_in has_areas
 are_areas d a =
-    let hold = are_areas_parts (word_in (codes "csa") (codes "at") d) (word_in (codes "csa") (codes "areas") d) (word_in (codes "csa") (codes "reserve") d) a.areas in
+    let hold = are_areas_parts (json_word_in (codes "csa") (codes "at") d) (json_word_in (codes "csa") (codes "areas") d) (json_word_in (codes "csa") (codes "reserve") d) a.areas in
     record {
       some = hold.some;
       few = hold.few;
@@ -73,14 +73,14 @@ are_areas d a =
       fit = hold.fit;
     }
 
-words_small : (d : Data) (names : List (List ℕ)) → list_all (λ w. nat_lt w (2 ^ 32)) (map (λ name. word_in (codes "globals") name d) names) ≡ true
+words_small : (d : Data) (names : List (List ℕ)) → list_all (λ w. nat_lt w (2 ^ 32)) (map (λ name. json_word_in (codes "globals") name d) names) ≡ true
 words_small d [] = refl
 words_small d (name ∷ names) = and_from _ _ (lt-ltb _ _ (word_in-lt (codes "globals") name d)) (words_small d names)
 
-are_words : (d : Data) → IsAccepted d → AreWords (plan_in d)
+are_words : (d : Data) → IsAccepted d → ArePlanWords (plan_in d)
 unfolding plan_in has_vectors
 are_words d a =
-    let even = and_parts (word_at (codes "biv") d % 2 == 0) (word_at (codes "btv") d % 2 == 0) a.vectors in
+    let even = and_parts (json_word_at (codes "biv") d % 2 == 0) (json_word_at (codes "btv") d % 2 == 0) a.vectors in
     record {
       sp = word_at-lt (codes "sp") d;
       isp = word_at-lt (codes "isp") d;
@@ -93,31 +93,31 @@ are_words d a =
       globals = words_small d (codes "a0" ∷ codes "a1" ∷ codes "a8" ∷ codes "a9" ∷ []);
     }
 
-are_irqs : (d : Data) → IsAccepted d → AreIrqs (plan_in d).irqs
+are_irqs : (d : Data) → IsAccepted d → ArePlanIrqs (plan_in d).irqs
 unfolding plan_in
 are_irqs d a =
     let few = few_ranges (plan_in d) a.too_many in
     record {
       few = leb-true _ _ few.3;
-      rising = irqs_rise 0 (places_of (codes "irqs") d) (ascending d a.bad_value);
-      each = irqs_each 0 (places_of (codes "irqs") d) (ascending d a.bad_value);
+      rising = irqs_rise 0 (json_elements_of (codes "irqs") d) (ascending d a.bad_value);
+      each = irqs_each 0 (json_elements_of (codes "irqs") d) (ascending d a.bad_value);
     }
 
 after_none : {T : Type 0} (f : ℕ → T) (rest : Option T) (o : Option ℕ) → option_map_or (λ k. Some (f k)) o rest ≡ None → (o ≡ None) × (rest ≡ None)
 after_none f rest None e = (refl, e)
 after_none f rest (Some k) e = cc
 
-apart_from : (i : ℕ) (rs : List Range) → overlap_from i rs ≡ None → all_apart rs ≡ true
+apart_from : (i : ℕ) (rs : List Range) → overlap_from i rs ≡ None → are_all_ranges_apart rs ≡ true
 apart_from i [] e = refl
 apart_from i (r ∷ rs) e =
     let parts = after_none (λ k. Overlap i (i + 1 + k)) (overlap_from (i + 1) rs) _ e in
-    and_from _ _ (no_position (ranges_apart r) rs parts.0) (apart_from (i + 1) rs parts.1)
+    and_from _ _ (no_position (are_ranges_apart r) rs parts.0) (apart_from (i + 1) rs parts.1)
 
-are_apart : (p : PlanData) → overlap_of p ≡ None → all_apart (all_ranges p) ≡ true
-unfolding overlap_of
+are_apart : (p : PlanData) → plan_range_overlap p ≡ None → are_all_ranges_apart (all_ranges p) ≡ true
+unfolding plan_range_overlap
 are_apart p e = apart_from 0 (all_ranges p) e
 
-pub tells_plan : (d : Data) → refusal_of d ≡ None → IsPlan (plan_in d)
+pub tells_plan : (d : Data) → plan_refusal d ≡ None → IsPlan (plan_in d)
 tells_plan d e =
     let a = accepted d e in
     record {

@@ -1,12 +1,15 @@
 -- Ranges without a block of bytes.
-use Rattle.std.specs.Prelude.{◌+◌, ℕ, min, max, List, ◌++◌, flat_map}
+use Rattle.std.specs.Prelude.{◌+◌, ℕ, min, max, List, ◌++◌, flat_map, ◌∷◌, ◌-◌, nat_lt, if◌then◌else◌, []}
 use Rattle.tcd_base.specs.declared.range.Range.{Range}
-use Rattle.tcd_base.specs.Ranges.{between}
+
+-- the range from one address up to another, as a list; an empty list if the range has no byte
+abbrev pub range_between : ℕ → ℕ → List Range
+range_between from upto = if nat_lt from upto then record { at = from; len = upto - from } ∷ [] else []
 
 -- the parts of a range below and above the n bytes from x on
-abbrev pub without : ℕ → ℕ → Range → List Range
-without x n r = between r.at (min x (r.at + r.len)) ++ between (max (x + n) r.at) (r.at + r.len)
+abbrev pub cut_range_parts : ℕ → ℕ → Range → List Range
+cut_range_parts x n r = range_between r.at (min x (r.at + r.len)) ++ range_between (max (x + n) r.at) (r.at + r.len)
 
 -- the parts of all ranges, ascending if the ranges are
-abbrev pub ranges_without : ℕ → ℕ → List Range → List Range
-ranges_without x n rs = flat_map (without x n) rs
+abbrev pub cut_plan_ranges : ℕ → ℕ → List Range → List Range
+cut_plan_ranges x n rs = flat_map (cut_range_parts x n) rs

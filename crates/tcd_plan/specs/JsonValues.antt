@@ -1,5 +1,5 @@
 -- The values of a plan's document: objects, arrays, texts, and numbers of 32 bits.
-use Rattle.std.specs.Prelude.{ℕ, ◌^◌, ◌&&◌, ◌==◌, List, [], ◌∷◌, length, Bool, false, nat_lt, nat_le, if◌then◌else◌, Option, Some, None, option_map, option_and_then, is_some, unwrap_or}
+use Rattle.std.specs.Prelude.{ℕ, ◌^◌, ◌&&◌, ◌==◌, List, ◌∷◌, length, Bool, false, nat_lt, nat_le, if◌then◌else◌, Option, Some, None, option_map, option_and_then, is_some, unwrap_or, []}
 use Rattle.std.specs.Char.{digit_value}
 use Rattle.std.specs.List.{list_all}
 use Rattle.std.specs.Option.{option_map_or}
@@ -13,61 +13,65 @@ abbrev pub list_of : Items → List Data
 list_of no_items = []
 list_of (item d ds) = d ∷ list_of ds
 
--- the keys of an object's members, in order
-abbrev pub names_of : Members → List (List ℕ)
-names_of no_members = []
-names_of (member name d ms) = name ∷ names_of ms
+-- the keys of the members of an object in a document, in order
+abbrev pub json_member_names : Members → List (List ℕ)
+json_member_names no_members = []
+json_member_names (member name d ms) = name ∷ json_member_names ms
 
 -- the value is an object
 abbrev pub is_object : Data → Bool
 is_object d = is_some (as_object d)
 
 -- the keys of an object
-abbrev pub names_in : Data → List (List ℕ)
-names_in d = option_map_or names_of (as_object d) []
+abbrev pub json_names_in : Data → List (List ℕ)
+json_names_in d = option_map_or json_member_names (as_object d) []
 
 -- the elements of the array at a key
-abbrev pub places_at : List ℕ → Data → Option (List Data)
-places_at name d = option_map list_of (option_and_then as_array (get name d))
+abbrev pub json_elements_at : List ℕ → Data → Option (List Data)
+json_elements_at name d = option_map list_of (option_and_then as_array (get name d))
 
 -- the value is this text
-abbrev pub is_text : List ℕ → Data → Bool
-is_text text d = option_map_or (λ s. bytes_eq s text) (as_str d) false
+abbrev pub is_json_text : List ℕ → Data → Bool
+is_json_text text d = option_map_or (λ s. bytes_eq s text) (as_str d) false
 
 -- a number below 2 ^ 32
-abbrev pub word : ℕ → Option ℕ
-word n = if nat_lt n (2 ^ 32) then Some n else None
+abbrev pub json_word : ℕ → Option ℕ
+json_word n = if nat_lt n (2 ^ 32) then Some n else None
 
 -- a hex digit of either case
-abbrev pub is_hex : ℕ → Bool
-is_hex c = nat_lt (digit_value c) 16
+abbrev pub is_json_hex : ℕ → Bool
+is_json_hex c = nat_lt (digit_value c) 16
 
 -- 1 to 8 hex digits of either case
-abbrev pub hex_word : List ℕ → Option ℕ
-hex_word digits = if nat_le 1 (length digits) && nat_le (length digits) 8 && list_all is_hex digits then Some (digits_value 16 digits) else None
+abbrev pub json_hex_word : List ℕ → Option ℕ
+json_hex_word digits = if nat_le 1 (length digits) && nat_le (length digits) 8 && list_all is_json_hex digits then Some (digits_value 16 digits) else None
 
 -- `0x` and 1 to 8 hex digits
-abbrev pub text_word : List ℕ → Option ℕ
-text_word (a ∷ b ∷ digits) = if a == 48 && b == 120 then hex_word digits else None
-text_word cs = None
+abbrev pub json_text_word : List ℕ → Option ℕ
+json_text_word (a ∷ b ∷ digits) = if a == 48 && b == 120 then json_hex_word digits else None
+json_text_word cs = None
 
 -- a number of 32 bits: a JSON number that is an unsigned integer, or a text of hex digits
-abbrev pub number_of : Data → Option ℕ
-number_of null = None
-number_of (boolean b) = None
-number_of (number n) = option_and_then word (as_u64 n)
-number_of (string s) = text_word s
-number_of (array ds) = None
-number_of (object ms) = None
+abbrev pub json_number_of : Data → Option ℕ
+json_number_of null = None
+json_number_of (boolean b) = None
+json_number_of (number n) = option_and_then json_word (as_u64 n)
+json_number_of (string s) = json_text_word s
+json_number_of (array ds) = None
+json_number_of (object ms) = None
 
 -- the number at a key
-abbrev pub number_at : List ℕ → Data → Option ℕ
-number_at name d = option_and_then number_of (get name d)
+abbrev pub json_number_at : List ℕ → Data → Option ℕ
+json_number_at name d = option_and_then json_number_of (get name d)
 
 -- the number at a key, 0 if there is none
-abbrev pub word_at : List ℕ → Data → ℕ
-word_at name d = unwrap_or (number_at name d) 0
+abbrev pub json_word_at : List ℕ → Data → ℕ
+json_word_at name d = unwrap_or (json_number_at name d) 0
 
 -- the number at a key of the object at another key, 0 if there is none
-abbrev pub word_in : List ℕ → List ℕ → Data → ℕ
-word_in outer name d = unwrap_or (option_and_then (number_at name) (get outer d)) 0
+abbrev pub json_word_in : List ℕ → List ℕ → Data → ℕ
+json_word_in outer name d = unwrap_or (option_and_then (json_number_at name) (get outer d)) 0
+
+-- the elements of the array with this key in the document
+abbrev pub json_elements_of : List ℕ → Data → List Data
+json_elements_of name d = unwrap_or (json_elements_at name d) []

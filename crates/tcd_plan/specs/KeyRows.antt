@@ -1,7 +1,7 @@
 -- The table of keys: the object that each key is in, and the form of its value.
-use Rattle.std.specs.Prelude.{ℕ, ◌==◌, Bool, List, ◌∷◌, ◌++◌, codes, if◌then◌else◌, slice_get, unwrap_or, true, false, []}
+use Rattle.std.specs.Prelude.{ℕ, ◌==◌, Bool, List, ◌∷◌, ◌++◌, codes, if◌then◌else◌, ◌&&◌, []}
 use Rattle.std.specs.Str.{bytes_eq}
-use Rattle.tcd_plan.specs.Keys.{key_texts}
+use Rattle.tcd_plan.specs.Keys.{key_text_of}
 use Rattle.tcd_plan.specs.declared.key_table.Row.{Row}
 use Rattle.tcd_plan.specs.declared.key_table.Form.{Form}
 use Rattle.tcd_plan.specs.declared.key_table.Form.TheVariants.{Ranges, Objects, Object, At, Len, Hi, Word, Byte, Truth, Irqs, Traps, CoreText}
@@ -60,11 +60,12 @@ key_rows =
     row 31 Root (codes "core") CoreText ∷
     []
 
--- the objects of a document, in the order in which their keys are printed
+-- the objects that the rows of the table of keys are in, in the order in which their keys are
+-- printed
 abbrev pub holders : List Holder
 holders = Root ∷ Rom ∷ Ram ∷ Devices ∷ Csa ∷ Start ∷ Globals ∷ []
 
--- the number of the key that an object has in the document
+-- for the rows of the table of keys: the number of the key that an object has in the document
 abbrev pub holder_key : Holder → ℕ
 holder_key Root = 0
 holder_key Rom = 1
@@ -74,15 +75,10 @@ holder_key Csa = 12
 holder_key Start = 22
 holder_key Globals = 26
 
--- the printed text of a key
-abbrev pub text_of : ℕ → List ℕ
-text_of key = unwrap_or (slice_get key_texts key) []
-
 -- a key is printed by its name, after the key of the objects that it is in
 abbrev pub is_printed : KeyRow → Bool
-is_printed r = bytes_eq (text_of r.key) (if holder_key r.holder == 0 then r.name else text_of (holder_key r.holder) ++ codes "." ++ r.name)
+is_printed r = bytes_eq (key_text_of r.key) (if holder_key r.holder == 0 then r.name else key_text_of (holder_key r.holder) ++ codes "." ++ r.name)
 
--- only `core` can be absent
-abbrev pub may_be_absent : Form → Bool
-may_be_absent CoreText = true
-may_be_absent _ = false
+-- a row is of this key of the object
+abbrev pub is_row_of_key : Holder → List ℕ → KeyRow → Bool
+is_row_of_key h name r = (holder_key r.holder == holder_key h) && bytes_eq r.name name

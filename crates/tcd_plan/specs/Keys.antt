@@ -1,5 +1,5 @@
 -- The printed keys of a plan.
-use Rattle.std.specs.Prelude.{ℕ, List, [], ◌∷◌, codes}
+use Rattle.std.specs.Prelude.{ℕ, List, ◌∷◌, codes, slice_get, unwrap_or, []}
 
 -- the texts of the keys in the order of their numbers, from 0; `root` is the whole document
 abbrev pub key_texts : List (List ℕ)
@@ -37,3 +37,7 @@ key_texts =
     codes "globals.a9" ∷
     codes "core" ∷
     []
+
+-- the printed text of a plan's key, by the number of the key
+abbrev pub key_text_of : ℕ → List ℕ
+key_text_of key = unwrap_or (slice_get key_texts key) []

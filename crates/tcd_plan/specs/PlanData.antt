@@ -1,17 +1,13 @@
 -- Plans as plain data, and what holds of every plan.
-use Rattle.std.specs.Prelude.{◌≡◌, ◌≤◌, ◌<◌, ◌+◌, ◌*◌, ◌/◌, ◌%◌, ◌^◌, ℕ, List, ◌∷◌, ◌++◌, length, map, sum_by, Bool, true, IsTrue, nat_le, nat_lt, ◌&&◌, ◌||◌, ◌==◌, if◌then◌else◌, slice_index, codes, not, Option, Some, None, []}
+use Rattle.std.specs.Prelude.{◌≡◌, ◌≤◌, ◌<◌, ◌+◌, ◌*◌, ◌/◌, ◌%◌, ◌^◌, ℕ, List, ◌∷◌, ◌++◌, length, map, sum_by, Bool, true, IsTrue, nat_le, nat_lt, ◌&&◌, ◌||◌, ◌==◌, if◌then◌else◌, slice_index, not, Option, Some, None, []}
 use Rattle.std.specs.List.{list_all, list_any}
 use Rattle.std.specs.List.Sorted.{IsStrictlyIncreasing}
 use Rattle.tcd_base.specs.declared.range.Range.{Range}
 use Rattle.tcd_base.specs.declared.core_version.Core.{Core}
 use Rattle.tcd_plan.specs.declared.plans.Device.{Device}
 use Rattle.tcd_plan.specs.declared.plans.Plan.TheInside.{Inside}
-use Rattle.serde_json.specs.Data.{Data}
-use Rattle.tcd_plan.specs.Objects.{objects_of, places_of}
-use Rattle.tcd_plan.specs.KeyFaults.{numbered}
-use Rattle.tcd_plan.specs.JsonValues.{word_in}
+use Rattle.tcd_plan.specs.KeyFaults.{refused_key}
 use Rattle.tcd_plan.specs.declared.plans.PlanKey.{PlanKey}
-use Rattle.tcd_plan.specs.declared.key_table.Holder.TheVariants.{Rom, Ram, Devices}
 
 -- a plan: the board's memory and devices, the save areas, the start state, the interrupts, and the
 -- traps
@@ -58,30 +54,32 @@ plan_data p = record {
   core = p.core;
 }
 
--- a range of whole words, at least one, that ends at 2^32 or below
+-- what holds of every plan's ranges: whole words, at least one, and an end at 2^32 or below
 abbrev pub is_range : Range → Bool
 is_range r = (r.at % 4 == 0) && (r.len % 4 == 0) && nat_lt 0 r.len && nat_le (r.at + r.len) (2 ^ 32)
 
--- a range, and bounds in order for the words that it answers
+-- what holds of every plan's devices: a range, and bounds in order for the words that the device
+-- answers
 abbrev pub is_device : Device → Bool
 is_device d = is_range d.range && nat_le d.lo d.hi && nat_lt d.hi (2 ^ 32)
 
--- the save areas, of 64 bytes each
+-- the range of the save areas in a plan's data, of 64 bytes each
 abbrev pub areas_range : PlanData → Range
 areas_range p = record { at = p.csa_at; len = 64 * p.areas }
 
--- all ranges of the plan, in the order in which overlaps number them
+-- all ranges of a plan's data, in the order in which overlaps number them: rom, ram, devices, save
+-- areas
 abbrev pub all_ranges : PlanData → List Range
 all_ranges p = p.rom ++ p.ram ++ map (λ d. d.range) p.devices ++ areas_range p ∷ []
 
--- two ranges share no byte
-abbrev pub ranges_apart : Range → Range → Bool
-ranges_apart r s = nat_le (r.at + r.len) s.at || nat_le (s.at + s.len) r.at
+-- two ranges of a plan share no byte
+abbrev pub are_ranges_apart : Range → Range → Bool
+are_ranges_apart r s = nat_le (r.at + r.len) s.at || nat_le (s.at + s.len) r.at
 
--- no two of the ranges share a byte
-abbrev pub all_apart : List Range → Bool
-all_apart [] = true
-all_apart (r ∷ rs) = list_all (ranges_apart r) rs && all_apart rs
+-- what holds of every plan's ranges: no two of them share a byte
+abbrev pub are_all_ranges_apart : List Range → Bool
+are_all_ranges_apart [] = true
+are_all_ranges_apart (r ∷ rs) = list_all (are_ranges_apart r) rs && are_all_ranges_apart rs
 
 -- rom, ram and devices
 pub record AreRanges (p : PlanData) : Type 0 where
@@ -108,7 +106,7 @@ pub record AreAreas (p : PlanData) : Type 0 where
   pub fit : p.csa_at % 2 ^ 22 + 64 * p.areas ≤ 2 ^ 22
 
 -- the words of the start state
-pub record AreWords (p : PlanData) : Type 0 where
+pub record ArePlanWords (p : PlanData) : Type 0 where
   pub sp : p.sp < 2 ^ 32
   pub isp : p.isp < 2 ^ 32
   pub biv : p.biv < 2 ^ 32
@@ -119,53 +117,47 @@ pub record AreWords (p : PlanData) : Type 0 where
   pub four : length p.globals ≡ 4
   pub globals : IsTrue (list_all (λ w. nat_lt w (2 ^ 32)) p.globals)
 
--- the interrupts: ascending, from 1 to 255
-pub record AreIrqs (irqs : List ℕ) : Type 0 where
+-- what holds of every plan's interrupts: at most 32, ascending, from 1 to 255
+pub record ArePlanIrqs (irqs : List ℕ) : Type 0 where
   pub few : length irqs ≤ 32
   pub rising : IsStrictlyIncreasing irqs
   pub each : IsTrue (list_all (λ q. nat_lt 0 q && nat_lt q (2 ^ 8)) irqs)
 
--- what holds of every plan
+-- what holds of every plan as plain data: its ranges, save areas, start words and interrupts are
+-- within their limits, and no two of its ranges share a byte
 pub record IsPlan (p : PlanData) : Type 0 where
   pub ranges : AreRanges p
   pub areas : AreAreas p
-  pub words : AreWords p
-  pub irqs : AreIrqs p.irqs
-  pub apart : IsTrue (all_apart (all_ranges p))
+  pub words : ArePlanWords p
+  pub irqs : ArePlanIrqs p.irqs
+  pub apart : IsTrue (are_all_ranges_apart (all_ranges p))
 
--- the interrupt is one of the plan's
+-- the interrupt is one of those in a plan's data
 abbrev pub is_source : PlanData → ℕ → Bool
 is_source plan irq = list_any (λ q. q == irq) plan.irqs
 
--- the plan's word of A0, A1, A8 or A9
+-- the word that a plan's data has for the start of A0, A1, A8 or A9, by the register's number
 abbrev pub global_of : PlanData → ℕ → ℕ
 global_of p r = slice_index p.globals (if r == 16 then 0 else if r == 17 then 1 else if r == 24 then 2 else 3)
 
--- at most 16 ranges, with at most 2^22 bytes together
-abbrev pub are_few : List Range → Bool
-are_few rs = nat_le (length rs) 16 && nat_le (sum_by (λ r. r.len) rs) (2 ^ 22)
+-- what holds of every plan's rom and ram: at most 16 ranges, with at most 2^22 bytes together
+abbrev pub are_ranges_few : List Range → Bool
+are_ranges_few rs = nat_le (length rs) 16 && nat_le (sum_by (λ r. r.len) rs) (2 ^ 22)
 
--- the first array with too many elements, or with too many bytes in its ranges
+-- the key of the first array of a plan's data with too many elements, or with too many bytes in its
+-- ranges
 unfoldable pub too_many_of : PlanData → Option PlanKey
-too_many_of p = if not (are_few p.rom) then Some (numbered 1) else if not (are_few p.ram) then Some (numbered 4) else if not (nat_le (length p.devices) 16) then Some (numbered 7) else if not (nat_le (length p.irqs) 32) then Some (numbered 20) else None
+too_many_of p = if not (are_ranges_few p.rom) then Some (refused_key 1) else if not (are_ranges_few p.ram) then Some (refused_key 4) else if not (nat_le (length p.devices) 16) then Some (refused_key 7) else if not (nat_le (length p.irqs) 32) then Some (refused_key 20) else None
 
--- 1 to 4096 areas of 64 bytes from `at` on, in one segment of 2^22 bytes, whose first link isn't 0;
--- at least 1 is in reserve (TriCore 1 architecture manual, volume 1, context management)
+-- 1 to 4096 save areas of 64 bytes from `at` on in one segment of 2^22 bytes, first link not 0, at
+-- least 1 in reserve (TriCore 1 architecture manual, volume 1, context management)
 abbrev pub are_areas : ℕ → ℕ → ℕ → Bool
 are_areas at areas reserve = nat_le 1 areas && nat_le areas 4096 && nat_le 1 reserve && nat_le reserve areas && (at % 64 == 0) && (at / 2 ^ 22 % 2 ^ 6 == 0) && nat_lt 0 at && nat_le (at % 2 ^ 22 + 64 * areas) (2 ^ 22)
 
--- the save areas are within their limits
+-- what holds of every plan's data: the save areas are within their limits
 unfoldable pub has_areas : PlanData → Bool
 has_areas p = are_areas p.csa_at p.areas p.reserve
 
 -- BIV and BTV are even (TriCore 1 architecture manual, volume 1, interrupts and traps)
 unfoldable pub has_vectors : PlanData → Bool
 has_vectors p = (p.biv % 2 == 0) && (p.btv % 2 == 0)
-
--- no array of a document is too long, and there are not too many save areas
-pub record AreFew (d : Data) : Type 0 where
-  pub rom : length (objects_of Rom d) ≤ 16
-  pub ram : length (objects_of Ram d) ≤ 16
-  pub devices : length (objects_of Devices d) ≤ 16
-  pub irqs : length (places_of (codes "irqs") d) ≤ 32
-  pub areas : word_in (codes "csa") (codes "areas") d ≤ 4096

@@ -1,8 +1,8 @@
 -- What a plan maps, which of its ranges overlap, and what its devices can answer.
 use Rattle.std.specs.Prelude.{◌≡◌, ℕ, ◌+◌, ◌*◌, ◌^◌, ◌<◌, ◌≤◌, ◌⊎◌, List, ◌∷◌, Option, All, IfSome, not, Some, None, position, []}
-use Rattle.tcd_base.specs.Ranges.{IsWithin, IsInOne}
+use Rattle.tcd_base.specs.Ranges.{IsWithinRange, IsInOneRange}
 use Rattle.tcd_plan.specs.declared.plans.Device.{Device}
-use Rattle.tcd_plan.specs.PlanData.{PlanData, all_ranges, ranges_apart}
+use Rattle.tcd_plan.specs.PlanData.{PlanData, all_ranges, are_ranges_apart}
 use Rattle.std.specs.Option.{option_map_or}
 use Rattle.tcd_base.specs.declared.range.Range.{Range}
 use Rattle.tcd_plan.specs.declared.plans.PlanErr.{PlanErr}
@@ -11,33 +11,36 @@ use Rattle.tcd_plan.specs.declared.plans.PlanErr.TheVariants.{Overlap}
 -- the n addresses from x on are in the range of one device
 abbrev pub IsInDevice : ℕ → ℕ → List Device → Type 0
 IsInDevice x n [] = ⊥
-IsInDevice x n (d ∷ ds) = IsWithin x n d.range ⊎ IsInDevice x n ds
+IsInDevice x n (d ∷ ds) = IsWithinRange x n d.range ⊎ IsInDevice x n ds
 
--- the address is in the save areas
+-- the address is in the region of a plan's save areas
 abbrev pub IsInAreas : PlanData → ℕ → Type 0
 IsInAreas plan x = (plan.csa_at ≤ x) × (x < plan.csa_at + 64 * plan.areas)
 
--- the mapped memory of a plan: rom, ram and the save areas
+-- the address is in a region that the plan maps: rom, ram or the save areas
 abbrev pub IsMappedBy : PlanData → ℕ → Type 0
-IsMappedBy plan x = IsInOne x 1 plan.rom ⊎ IsInOne x 1 plan.ram ⊎ IsInAreas plan x
+IsMappedBy plan x = IsInOneRange x 1 plan.rom ⊎ IsInOneRange x 1 plan.ram ⊎ IsInAreas plan x
 
--- the input is within the bounds of each device that has the four bytes at x
+-- what a plan's devices can answer: the input is within the bounds of each device that has the four
+-- bytes at x
 abbrev pub AnswersAt : ℕ → ℕ → List Device → Type 0
-AnswersAt x input ds = All (λ d. IsWithin x 4 d.range → (d.lo ≤ input) × (input ≤ d.hi)) ds
+AnswersAt x input ds = All (λ d. IsWithinRange x 4 d.range → (d.lo ≤ input) × (input ≤ d.hi)) ds
 
--- a word that is loaded from a device is within the device's bounds
+-- what a plan's devices can answer: a word that is loaded from a device is within the device's
+-- bounds
 abbrev pub AnswersLoad : PlanData → ℕ → Option (ℕ × ℕ) → Type 0
 AnswersLoad plan input load = IfSome load (λ l. l.1 ≡ 4 → AnswersAt l.0 input plan.devices)
 
--- a store doesn't pass 2^32, and is wholly in one ram range or one device range
+-- a store is in the regions where a plan allows it: not past 2^32, and wholly in one ram range or
+-- one device range
 abbrev pub IsStoreInRange : PlanData → ℕ × ℕ → Type 0
-IsStoreInRange plan at = (at.0 + at.1 ≤ 2 ^ 32) × (IsInOne at.0 at.1 plan.ram ⊎ IsInDevice at.0 at.1 plan.devices)
+IsStoreInRange plan at = (at.0 + at.1 ≤ 2 ^ 32) × (IsInOneRange at.0 at.1 plan.ram ⊎ IsInDevice at.0 at.1 plan.devices)
 
 -- the first pair of ranges that share a byte; the first of the list is the range i
 abbrev pub overlap_from : ℕ → List Range → Option PlanErr
 overlap_from i [] = None
-overlap_from i (r ∷ rs) = option_map_or (λ k. Some (Overlap i (i + 1 + k))) (position (λ s. not (ranges_apart r s)) rs) (overlap_from (i + 1) rs)
+overlap_from i (r ∷ rs) = option_map_or (λ k. Some (Overlap i (i + 1 + k))) (position (λ s. not (are_ranges_apart r s)) rs) (overlap_from (i + 1) rs)
 
 -- the first pair of the plan's ranges that share a byte, if there is one
-unfoldable pub overlap_of : PlanData → Option PlanErr
-overlap_of p = overlap_from 0 (all_ranges p)
+unfoldable pub plan_range_overlap : PlanData → Option PlanErr
+plan_range_overlap p = overlap_from 0 (all_ranges p)

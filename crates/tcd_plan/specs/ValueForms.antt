@@ -4,46 +4,46 @@ use Rattle.std.specs.List.{list_all}
 use Rattle.std.specs.Option.{option_map_or}
 use Rattle.serde_json.specs.Data.{Data}
 use Rattle.serde_json.specs.Find.{get}
-use Rattle.tcd_plan.specs.JsonValues.{is_object, is_text, number_at, number_of, places_at, word_at}
+use Rattle.tcd_plan.specs.JsonValues.{is_object, is_json_text, json_number_at, json_number_of, json_elements_at, json_word_at}
 use Rattle.tcd_plan.specs.declared.key_table.Form.{Form}
 use Rattle.tcd_plan.specs.declared.key_table.Form.TheVariants.{Ranges, Objects, Object, At, Len, Hi, Word, Byte, Truth, Irqs, Traps, CoreText}
 
 -- a value that is present and passes a test
-abbrev pub passes : {T : Type 0} → (T → Bool) → Option T → Bool
-passes test o = option_map_or test o false
+abbrev pub is_present_and_passing : {T : Type 0} → (T → Bool) → Option T → Bool
+is_present_and_passing test o = option_map_or test o false
 
 -- ascending numbers from above `low` up to 255
-abbrev pub ascend_above : ℕ → List Data → Bool
-ascend_above low [] = true
-ascend_above low (d ∷ ds) = passes (λ q. nat_lt low q && nat_lt q 256 && ascend_above q ds) (number_of d)
+abbrev pub are_irqs_above : ℕ → List Data → Bool
+are_irqs_above low [] = true
+are_irqs_above low (d ∷ ds) = is_present_and_passing (λ q. nat_lt low q && nat_lt q 256 && are_irqs_above q ds) (json_number_of d)
 
 -- the text of a trap that a plan may state
 abbrev pub is_trap : Data → Bool
-is_trap d = is_text (codes "sys") d || is_text (codes "aln") d
+is_trap d = is_json_text (codes "sys") d || is_json_text (codes "aln") d
 
 -- a list of `sys` and `aln` without repeats
 abbrev pub are_traps : List Data → Bool
-are_traps ds = list_all is_trap ds && nat_le (count_by (is_text (codes "sys")) ds) 1 && nat_le (count_by (is_text (codes "aln")) ds) 1
+are_traps ds = list_all is_trap ds && nat_le (count_by (is_json_text (codes "sys")) ds) 1 && nat_le (count_by (is_json_text (codes "aln")) ds) 1
 
 -- a multiple of 4, not 0, and with `at` at most 2^32
-abbrev pub is_len : ℕ → ℕ → Bool
-is_len at len = nat_lt 0 len && (len % 4 == 0) && nat_le (at + len) (2 ^ 32)
+abbrev pub is_range_len : ℕ → ℕ → Bool
+is_range_len at len = nat_lt 0 len && (len % 4 == 0) && nat_le (at + len) (2 ^ 32)
 
 -- `1.3` or `1.6`, or absent
-abbrev pub is_core : Option Data → Bool
-is_core o = option_map_or (λ d. is_text (codes "1.3") d || is_text (codes "1.6") d) o true
+abbrev pub is_core_text : Option Data → Bool
+is_core_text o = option_map_or (λ d. is_json_text (codes "1.3") d || is_json_text (codes "1.6") d) o true
 
 -- the value of a key in an object has the form
-abbrev pub has_form : Form → List ℕ → Data → Bool
-has_form Ranges name o = passes (λ ds. nat_lt 0 (length ds) && list_all is_object ds) (places_at name o)
-has_form Objects name o = passes (list_all is_object) (places_at name o)
-has_form Object name o = passes is_object (get name o)
-has_form At name o = passes (λ n. n % 4 == 0) (number_at name o)
-has_form Len name o = passes (is_len (word_at (codes "at") o)) (number_at name o)
-has_form Hi name o = passes (λ n. nat_le (word_at (codes "lo") o) n) (number_at name o)
-has_form Word name o = is_some (number_at name o)
-has_form Byte name o = passes (λ n. nat_lt n 256) (number_at name o)
-has_form Truth name o = passes (λ n. nat_lt n 2) (number_at name o)
-has_form Irqs name o = passes (ascend_above 0) (places_at name o)
-has_form Traps name o = passes are_traps (places_at name o)
-has_form CoreText name o = is_core (get name o)
+abbrev pub has_value_form : Form → List ℕ → Data → Bool
+has_value_form Ranges name o = is_present_and_passing (λ ds. nat_lt 0 (length ds) && list_all is_object ds) (json_elements_at name o)
+has_value_form Objects name o = is_present_and_passing (list_all is_object) (json_elements_at name o)
+has_value_form Object name o = is_present_and_passing is_object (get name o)
+has_value_form At name o = is_present_and_passing (λ n. n % 4 == 0) (json_number_at name o)
+has_value_form Len name o = is_present_and_passing (is_range_len (json_word_at (codes "at") o)) (json_number_at name o)
+has_value_form Hi name o = is_present_and_passing (λ n. nat_le (json_word_at (codes "lo") o) n) (json_number_at name o)
+has_value_form Word name o = is_some (json_number_at name o)
+has_value_form Byte name o = is_present_and_passing (λ n. nat_lt n 256) (json_number_at name o)
+has_value_form Truth name o = is_present_and_passing (λ n. nat_lt n 2) (json_number_at name o)
+has_value_form Irqs name o = is_present_and_passing (are_irqs_above 0) (json_elements_at name o)
+has_value_form Traps name o = is_present_and_passing are_traps (json_elements_at name o)
+has_value_form CoreText name o = is_core_text (get name o)

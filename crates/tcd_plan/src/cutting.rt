@@ -1,18 +1,17 @@
 // Cuts a block of bytes out of ranges.
 ghost use Rattle.std.specs.Prelude.{◌≡◌, ◌≤◌, ◌<◌, ◌+◌, ◌^◌, ◌++◌, length, All};
 ghost use Rattle.tcd_plan.specs.Cutting as cutting;
-ghost use Rattle.tcd_plan.specs.Cutting.{without};
-ghost use Rattle.tcd_base.specs.Ranges.{between};
+ghost use Rattle.tcd_plan.specs.Cutting.{cut_range_parts, range_between};
 
 use arrayvec::ArrayVec;
 use tcd_base::Range;
 
 // Appends the range from one address up to another, if it has a byte.
-fn push_between(ranges: &mut ArrayVec<Range, 32>, from: u64, upto: u64)
+fn push_cut_part(ranges: &mut ArrayVec<Range, 32>, from: u64, upto: u64)
     requires room { length ranges.old.items < 32 }
     requires end { upto ≤ 2 ^ 32 }
     requires small { upto < from + 2 ^ 32 }
-    ensures ranges { ranges.new.items ≡ ranges.old.items ++ between from upto }
+    ensures ranges { ranges.new.items ≡ ranges.old.items ++ range_between from upto }
     ensures few { length ranges.new.items ≤ length ranges.old.items + 1 }
 {
     if from < upto {
@@ -24,29 +23,29 @@ fn push_between(ranges: &mut ArrayVec<Range, 32>, from: u64, upto: u64)
 }
 
 // Appends the parts of a range below and above the `n` bytes from `x` on.
-fn push_without(ranges: &mut ArrayVec<Range, 32>, r: &Range, x: u32, n: u32)
+fn push_cut_range(ranges: &mut ArrayVec<Range, 32>, r: &Range, x: u32, n: u32)
     requires room { length ranges.old.items ≤ 30 }
     requires fits { r.now.at + r.now.len ≤ 2 ^ 32 }
-    ensures ranges { ranges.new.items ≡ ranges.old.items ++ without x n r.now }
+    ensures ranges { ranges.new.items ≡ ranges.old.items ++ cut_range_parts x n r.now }
     ensures few { length ranges.new.items ≤ length ranges.old.items + 2 }
 {
     let start = u64::from(r.at);
     let end = start + u64::from(r.len);
     let block = u64::from(x);
-    push_between(ranges, start, block.min(end));
-    push_between(ranges, (block + u64::from(n)).max(start), end);
+    push_cut_part(ranges, start, block.min(end));
+    push_cut_part(ranges, (block + u64::from(n)).max(start), end);
 }
 
 /// Returns the parts of ranges below and above the `n` bytes from `x` on, at most two of each
 /// range.
-pub fn ranges_without(ranges: &[Range], x: u32, n: u32) -> ArrayVec<Range, 32>
+pub fn cut_plan_ranges(ranges: &[Range], x: u32, n: u32) -> ArrayVec<Range, 32>
     requires few { length ranges.now ≤ 16 }
     requires fit { All (λ r. r.at + r.len ≤ 2 ^ 32) ranges.now }
-    ensures { result.items ≡ cutting.ranges_without x n ranges.now }
+    ensures { result.items ≡ cutting.cut_plan_ranges x n ranges.now }
 {
     let mut parts = ArrayVec::new();
     for r in ranges {
-        push_without(&mut parts, r, x, n);
+        push_cut_range(&mut parts, r, x, n);
     }
     parts
 }

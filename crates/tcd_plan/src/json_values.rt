@@ -3,23 +3,22 @@ ghost use Rattle.std.specs.Prelude.{◌≡◌, ◌<◌, ◌≤◌, ◌^◌, Some
 ghost use Rattle.std.specs.List.{list_all, list_any};
 ghost use Rattle.std.specs.Str.Parse.{digits_value};
 ghost use Rattle.serde_json.specs.View.{view};
-ghost use Rattle.tcd_plan.specs.JsonValues.{is_hex, is_text, number_of, number_at, places_at, text_word, word_at, word_in};
-ghost use Rattle.tcd_plan.specs.Objects.{places_of};
+ghost use Rattle.tcd_plan.specs.JsonValues.{is_json_hex, is_json_text, json_number_of, json_number_at, json_elements_at, json_text_word, json_word_at, json_word_in, json_elements_of};
 
 use serde_json::Value;
 
 #[tactic(auto, using(crate::proofs::ViewLemmas::list_of_items))]
-/// Returns the elements of the array at a key.
-pub fn places_at<'a>(value: &'a Value, name: &str) -> Option<&'a [Value]>
-    ensures { option_map (λ s. map view s.now) result ≡ places_at name.now (view value.now) }
+/// Returns the elements of the JSON array at a key of an object.
+pub fn json_elements_at<'a>(value: &'a Value, name: &str) -> Option<&'a [Value]>
+    ensures { option_map (λ s. map view s.now) result ≡ json_elements_at name.now (view value.now) }
 {
     let list = value.get(name)?.as_array()?;
     Some(list.as_slice())
 }
 
 /// Returns true if the value is this text.
-pub fn is_text(value: &Value, text: &str) -> bool
-    ensures { result ≡ is_text text.now (view value.now) }
+pub fn is_json_text(value: &Value, text: &str) -> bool
+    ensures { result ≡ is_json_text text.now (view value.now) }
 {
     match value {
         Value::String(string) => string.as_str() == text,
@@ -28,54 +27,58 @@ pub fn is_text(value: &Value, text: &str) -> bool
 }
 
 /// Returns the number at a key, or 0 if there is none.
-pub fn word_at(value: &Value, name: &str) -> u32
-    ensures { result ≡ word_at name.now (view value.now) }
+pub fn json_word_at(value: &Value, name: &str) -> u32
+    ensures { result ≡ json_word_at name.now (view value.now) }
 {
-    number_at(value, name).unwrap_or(0)
+    json_number_at(value, name).unwrap_or(0)
 }
 
 /// Returns the number at a key of the object at another key, or 0 if there is none.
-pub fn word_in(value: &Value, outer: &str, name: &str) -> u32
-    ensures { result ≡ word_in outer.now name.now (view value.now) }
+pub fn json_word_in(value: &Value, outer: &str, name: &str) -> u32
+    ensures { result ≡ json_word_in outer.now name.now (view value.now) }
 {
     match value.get(outer) {
-        Some(inner) => word_at(inner, name),
+        Some(inner) => json_word_at(inner, name),
         None => 0,
     }
 }
 
 /// Returns the number at a key.
-pub fn number_at(value: &Value, name: &str) -> Option<u32>
-    ensures { result ≡ number_at name.now (view value.now) }
+pub fn json_number_at(value: &Value, name: &str) -> Option<u32>
+    ensures { result ≡ json_number_at name.now (view value.now) }
 {
-    value.get(name).and_then(number_of)
+    value.get(name).and_then(json_number_of)
 }
 
 /// Returns the number that a value is: a JSON number that is an unsigned integer of 32 bits, or a
 /// text `0x` with 1 to 8 hex digits.
-pub fn number_of(value: &Value) -> Option<u32>
-    ensures { result ≡ number_of (view value.now) }
+pub fn json_number_of(value: &Value) -> Option<u32>
+    ensures { result ≡ json_number_of (view value.now) }
 {
     match value {
         Value::Number(n) => n.as_u64().and_then(|n| u32::try_from(n).ok()),
-        Value::String(text) => text_word(text.as_bytes()),
+        Value::String(text) => json_text_word(text.as_bytes()),
         _ => None,
     }
 }
 
-fn text_word(text: &[u8]) -> Option<u32>
-    ensures { result ≡ text_word text.now }
+/// Returns the number that a JSON text spells: `0x` with 1 to 8 hex digits.
+fn json_text_word(text: &[u8]) -> Option<u32>
+    ensures { result ≡ json_text_word text.now }
 {
     match text {
-        [b'0', b'x', digits @ ..] if !digits.is_empty() && digits.len() <= 8 => hex_digits(digits),
+        [b'0', b'x', digits @ ..] if !digits.is_empty() && digits.len() <= 8 => json_hex_digits(
+            digits,
+        ),
         _ => None,
     }
 }
 
-fn hex_digits(digits: &[u8]) -> Option<u32>
+/// Returns the number that up to 8 hex digits of either case spell.
+fn json_hex_digits(digits: &[u8]) -> Option<u32>
     requires { length digits.now ≤ 8 }
     ensures { result ≡
-        (if list_all is_hex digits.now then Some (digits_value 16 digits.now) else None) }
+        (if list_all is_json_hex digits.now then Some (digits_value 16 digits.now) else None) }
 {
     let mut value = 0u32;
     for c in digits {
@@ -88,23 +91,23 @@ fn hex_digits(digits: &[u8]) -> Option<u32>
 }
 
 /// Returns the elements of the array with this key in the document.
-pub fn places_of<'a>(value: &'a Value, name: &str) -> &'a [Value]
-    ensures { map view result.now ≡ places_of name.now (view value.now) }
+pub fn json_elements_of<'a>(value: &'a Value, name: &str) -> &'a [Value]
+    ensures { map view result.now ≡ json_elements_of name.now (view value.now) }
 {
-    places_at(value, name).unwrap_or(&[])
+    json_elements_at(value, name).unwrap_or(&[])
 }
 
-/// Returns true if one of the elements is this text.
-pub fn lists(places: &[Value], text: &str) -> bool
-    ensures { result ≡ list_any (is_text text.now) (map view places.now) }
+/// Returns true if one of the elements of a JSON array is this text.
+pub fn has_json_text(places: &[Value], text: &str) -> bool
+    ensures { result ≡ list_any (is_json_text text.now) (map view places.now) }
 {
-    places.iter().any(|place| is_text(place, text))
+    places.iter().any(|place| is_json_text(place, text))
 }
 
 /// Reads a number below 256 at a key of an object in the document.
-pub fn byte_in(value: &Value, outer: &str, name: &str) -> u8
-    requires { word_in outer.now name.now (view value.now) < 2 ^ 8 }
-    ensures { result ≡ word_in outer.now name.now (view value.now) }
+pub fn json_byte_in(value: &Value, outer: &str, name: &str) -> u8
+    requires { json_word_in outer.now name.now (view value.now) < 2 ^ 8 }
+    ensures { result ≡ json_word_in outer.now name.now (view value.now) }
 {
-    word_in(value, outer, name) as u8
+    json_word_in(value, outer, name) as u8
 }

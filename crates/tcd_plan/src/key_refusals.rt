@@ -1,100 +1,133 @@
 // Refusals by keys: each is checked over the whole document.
-ghost use Rattle.std.specs.Prelude.{◌≡◌, map, option_map, string_bytes};
+ghost use Rattle.std.specs.Prelude.{◌≡◌, map, option_map, string_bytes, true};
 ghost use Rattle.std.specs.List.{find, list_all, list_any};
 ghost use Rattle.std.specs.BTreeMap.{keys};
 ghost use Rattle.serde_json.specs.View.{view};
-ghost use Rattle.tcd_plan.specs.KeyRows.{holder_key, row_of, may_be_absent};
-ghost use Rattle.tcd_plan.specs.Objects.{objects_of};
-ghost use Rattle.tcd_plan.specs.KeyFaults.{has_unknown, is_bad, is_known, is_named, lacks, bad_value_of, missing_of, numbered, unknown_of};
-ghost use Rattle.tcd_plan.specs.ValueForms.{has_form};
+ghost use Rattle.tcd_plan.specs.KeyRows.{holder_key, row_of, is_row_of_key};
+ghost use Rattle.tcd_plan.specs.KeyFaults.{may_key_be_absent, has_unknown_key, is_key_value_bad, is_known_key, lacks_key, first_bad_key, first_missing_key, refused_key, first_unknown_key};
+ghost use Rattle.tcd_plan.specs.Objects.{plan_objects_of};
+ghost use Rattle.tcd_plan.specs.ValueForms.{has_value_form};
 
 use crate::PlanKey;
-use crate::key_table::{Form, Holder, Row, holder_key, holders, is_named, rows};
-use crate::object_forms::{has_form, lacks, objects_of};
+use crate::key_table::{Form, Holder, Row, holder_key, holders, is_row_of_key, key_table_rows};
+use crate::object_forms::{has_value_form, plan_objects_of};
 use serde_json::{Map, Value};
 
 /// Returns the first key that an object lacks.
-pub fn missing(value: &Value) -> Option<PlanKey>
-    ensures { result ≡ missing_of (view value.now) }
+pub fn first_missing_key(value: &Value) -> Option<PlanKey>
+    ensures { result ≡ first_missing_key (view value.now) }
 {
-    key_of(rows().iter().find(|row| is_missing(row, value)))
+    key_of(
+        key_table_rows()
+            .iter()
+            .find(|row| is_key_missing(row, value)),
+    )
 }
 
-fn is_missing(row: &Row, value: &Value) -> bool
-    ensures { result ≡ list_any (lacks (row_of row.now))
-        (objects_of row.now.holder (view value.now)) }
+/// Returns true if an object of the plan that should have the row's key lacks it.
+fn is_key_missing(row: &Row, value: &Value) -> bool
+    ensures { result ≡ list_any (lacks_key (row_of row.now))
+        (plan_objects_of row.now.holder (view value.now)) }
 {
-    objects_of(row.holder, value)
+    plan_objects_of(row.holder, value)
         .iter()
-        .any(|object| lacks(row, object))
+        .any(|object| lacks_key(row, object))
 }
 
 /// Returns the first key whose value doesn't have its form.
-pub fn bad_value(value: &Value) -> Option<PlanKey>
-    ensures { result ≡ bad_value_of (view value.now) }
+pub fn first_bad_key(value: &Value) -> Option<PlanKey>
+    ensures { result ≡ first_bad_key (view value.now) }
 {
-    key_of(rows().iter().find(|row| is_bad(row, value)))
+    key_of(
+        key_table_rows()
+            .iter()
+            .find(|row| has_bad_key_value(row, value)),
+    )
 }
 
-fn is_bad(row: &Row, value: &Value) -> bool
-    ensures { result ≡ list_any (is_bad (row_of row.now))
-        (objects_of row.now.holder (view value.now)) }
+/// Returns true if the value of the row's key in one of the holder's objects doesn't have its form.
+fn has_bad_key_value(row: &Row, value: &Value) -> bool
+    ensures { result ≡ list_any (is_key_value_bad (row_of row.now))
+        (plan_objects_of row.now.holder (view value.now)) }
 {
-    objects_of(row.holder, value)
+    plan_objects_of(row.holder, value)
         .iter()
-        .any(|object| !has_form(row.form, row.name, object))
+        .any(|object| !has_value_form(row.form, row.name, object))
 }
 
+/// Returns the key of a row of the table, if there is a row.
 fn key_of(row: Option<&Row>) -> Option<PlanKey>
-    ensures { result ≡ option_map (λ r. numbered r.now.key) row.entry }
+    ensures { result ≡ option_map (λ r. refused_key r.now.key) row.entry }
 {
     row.map(|row| PlanKey(row.key))
 }
 
 /// Returns the first object, or array of objects, with a key that isn't one of its own.
-pub fn unknown(value: &Value) -> Option<PlanKey>
-    ensures { result ≡ unknown_of (view value.now) }
+pub fn first_unknown_key(value: &Value) -> Option<PlanKey>
+    ensures { result ≡ first_unknown_key (view value.now) }
 {
-    key_of_holder(holders().iter().find(|holder| is_unknown(**holder, value)))
+    key_of_holder(
+        holders()
+            .iter()
+            .find(|holder| have_unknown_key(**holder, value)),
+    )
 }
 
+/// Returns the key of a holder, if there is one.
 fn key_of_holder(holder: Option<&Holder>) -> Option<PlanKey>
-    ensures { result ≡ option_map (λ h. numbered (holder_key h.now)) holder.entry }
+    ensures { result ≡ option_map (λ h. refused_key (holder_key h.now)) holder.entry }
 {
     holder.map(|holder| PlanKey(holder_key(*holder)))
 }
 
-fn is_unknown(holder: Holder, value: &Value) -> bool
-    ensures { result ≡ list_any (has_unknown holder) (objects_of holder (view value.now)) }
+/// Returns true if one of a holder's objects has a key that isn't one of its own.
+fn have_unknown_key(holder: Holder, value: &Value) -> bool
+    ensures { result ≡ list_any (has_unknown_key holder) (plan_objects_of holder (view value.now)) }
 {
-    objects_of(holder, value)
+    plan_objects_of(holder, value)
         .iter()
-        .any(|object| has_unknown(holder, object))
+        .any(|object| has_unknown_key(holder, object))
 }
 
-fn has_unknown(holder: Holder, object: &Value) -> bool
-    ensures { result ≡ has_unknown holder (view object.now) }
+/// Returns true if an object has a key that isn't one of its holder's.
+fn has_unknown_key(holder: Holder, object: &Value) -> bool
+    ensures { result ≡ has_unknown_key holder (view object.now) }
 {
     match object.as_object() {
-        Some(members) => !are_known(holder, members),
+        Some(members) => !are_known_keys(holder, members),
         None => false,
     }
 }
 
-fn are_known(holder: Holder, members: &Map<String, Value>) -> bool
-    ensures { result ≡ list_all (λ name. is_known holder (string_bytes name)) (keys members.now) }
+/// Returns true if all members of an object are keys of its holder.
+fn are_known_keys(holder: Holder, members: &Map<String, Value>) -> bool
+    ensures { result ≡ list_all (λ name. is_known_key holder (string_bytes name))
+        (keys members.now) }
 {
-    members.keys().all(|name| is_known(holder, name.as_str()))
+    members
+        .keys()
+        .all(|name| is_known_key(holder, name.as_str()))
 }
 
-fn is_known(holder: Holder, name: &str) -> bool
-    ensures { result ≡ is_known holder name.now }
+/// Returns true if a holder's objects can have the key with this name.
+fn is_known_key(holder: Holder, name: &str) -> bool
+    ensures { result ≡ is_known_key holder name.now }
 {
-    rows().iter().any(|row| is_named(row, holder, name))
+    key_table_rows()
+        .iter()
+        .any(|row| is_row_of_key(row, holder, name))
 }
 
-pub(crate) fn may_be_absent(form: Form) -> bool
-    ensures { result ≡ may_be_absent form }
+/// Returns true if an object lacks the row's key.
+pub fn lacks_key(row: &Row, object: &Value) -> bool
+    ensures { result ≡ lacks_key (row_of row.now) (view object.now) }
+{
+    !may_key_be_absent(row.form) && object.get(row.name).is_none()
+}
+
+/// Returns true if a key whose value has this form may be absent from its object: `core` alone.
+pub(crate) fn may_key_be_absent(form: Form) -> bool
+    ensures { result ≡ may_key_be_absent form }
 {
     matches!(form, Form::CoreText)
 }

@@ -1,8 +1,7 @@
 // The table of keys: the object that each key is in, and the form of its value.
 ghost use Rattle.std.specs.Prelude.{◌≡◌, map, true};
 ghost use Rattle.std.specs.List.{list_all, range_with_len};
-ghost use Rattle.tcd_plan.specs.KeyRows.{holder_key, holders, is_printed, key_rows, row_of};
-ghost use Rattle.tcd_plan.specs.KeyFaults.{is_named};
+ghost use Rattle.tcd_plan.specs.KeyRows.{holder_key, holders, is_printed, key_rows, row_of, is_row_of_key};
 
 /// The number of the key `root`, which is the whole document.
 const ROOT: u8 = 0;
@@ -279,7 +278,7 @@ static HOLDERS: [Holder; 7] = [
 
 /// Returns the rows of the table, in the order of the keys' numbers.
 #[tactic(auto, unfolding(crate::specs::KeyRows::key_rows))]
-pub fn rows() -> &'static [Row]
+pub fn key_table_rows() -> &'static [Row]
     ensures rows { map row_of result.now ≡ key_rows }
     ensures numbers { map (λ r. r.key) key_rows ≡ range_with_len 1 31 }
     ensures texts { list_all is_printed key_rows ≡ true }
@@ -309,8 +308,9 @@ pub fn holder_key(holder: Holder) -> u8
     }
 }
 
-pub(crate) fn is_named(row: &Row, holder: Holder, name: &str) -> bool
-    ensures { result ≡ is_named holder name.now (row_of row.now) }
+/// Returns true if a row of the table is of the key with this name in the holder's objects.
+pub(crate) fn is_row_of_key(row: &Row, holder: Holder, name: &str) -> bool
+    ensures { result ≡ is_row_of_key holder name.now (row_of row.now) }
 {
     holder_key(row.holder) == holder_key(holder) && row.name == name
 }

@@ -12,6 +12,6 @@ mod plans;
 mod reader;
 mod texts;
 
-pub use cutting::ranges_without;
+pub use cutting::cut_plan_ranges;
 pub use plans::{Device, Plan, PlanErr, PlanKey};
 pub use texts::key_text;

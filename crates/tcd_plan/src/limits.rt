@@ -1,14 +1,14 @@
 // Refusals by values: arrays that are too long, save areas, vectors, and ranges that overlap.
 ghost use Rattle.std.specs.Prelude.{◌≡◌, ◌<◌, ◌≤◌, ◌+◌, IfSome, None, length, map, not, position, sum_by, true};
 ghost use Rattle.serde_json.specs.View.{view};
-ghost use Rattle.tcd_plan.specs.PlanData.{areas_range, ranges_apart, AreFew, are_areas, are_few, has_areas, has_vectors, too_many_of};
-ghost use Rattle.tcd_plan.specs.Plans.{range_of, plan_in};
-ghost use Rattle.tcd_plan.specs.Regions.{overlap_from, overlap_of};
+ghost use Rattle.tcd_plan.specs.PlanData.{areas_range, are_ranges_apart, are_areas, are_ranges_few, has_areas, has_vectors, too_many_of};
+ghost use Rattle.tcd_plan.specs.Plans.{HasShortPlanArrays, plan_range_of, plan_in};
+ghost use Rattle.tcd_plan.specs.Regions.{overlap_from, plan_range_overlap};
 
-use crate::json_values::{places_of, word_at, word_in};
+use crate::json_values::{json_elements_of, json_word_at, json_word_in};
 use crate::key_table::{DEVICES, Holder, IRQS, RAM, ROM};
-use crate::object_forms::objects_of;
-use crate::plan_parts::push_ranges;
+use crate::object_forms::plan_objects_of;
+use crate::plan_parts::{areas_range, push_ranges};
 use crate::{PlanErr, PlanKey};
 use arrayvec::ArrayVec;
 use serde_json::Value;
@@ -19,24 +19,24 @@ use tcd_base::Range;
 pub fn too_many(value: &Value) -> Option<PlanKey>
     ensures { result ≡ too_many_of (plan_in (view value.now)) }
 {
-    if !are_few(objects_of(Holder::Rom, value)) {
+    if !are_ranges_few(plan_objects_of(Holder::Rom, value)) {
         return Some(PlanKey(ROM));
     }
-    if !are_few(objects_of(Holder::Ram, value)) {
+    if !are_ranges_few(plan_objects_of(Holder::Ram, value)) {
         return Some(PlanKey(RAM));
     }
-    if objects_of(Holder::Devices, value).len() > 16 {
+    if plan_objects_of(Holder::Devices, value).len() > 16 {
         return Some(PlanKey(DEVICES));
     }
-    if places_of(value, "irqs").len() > 32 {
+    if json_elements_of(value, "irqs").len() > 32 {
         return Some(PlanKey(IRQS));
     }
     None
 }
 
 /// Returns true if there are at most 16 ranges, with at most 2^22 bytes together.
-fn are_few(objects: &[Value]) -> bool
-    ensures { result ≡ are_few (map range_of (map view objects.now)) }
+fn are_ranges_few(objects: &[Value]) -> bool
+    ensures { result ≡ are_ranges_few (map plan_range_of (map view objects.now)) }
 {
     objects.len() <= 16 && total_len(objects) <= 1 << 22
 }
@@ -44,11 +44,11 @@ fn are_few(objects: &[Value]) -> bool
 /// Returns the number of bytes in all ranges together.
 fn total_len(objects: &[Value]) -> u64
     requires { length objects.now ≤ 16 }
-    ensures { result ≡ sum_by (λ r. r.len) (map range_of (map view objects.now)) }
+    ensures { result ≡ sum_by (λ r. r.len) (map plan_range_of (map view objects.now)) }
 {
     let mut total = 0u64;
     for object in objects {
-        total += u64::from(word_at(object, "len"));
+        total += u64::from(json_word_at(object, "len"));
     }
     total
 }
@@ -59,9 +59,9 @@ pub fn has_areas(value: &Value) -> bool
     ensures { result ≡ has_areas (plan_in (view value.now)) }
 {
     are_areas(
-        word_in(value, "csa", "at"),
-        word_in(value, "csa", "areas"),
-        word_in(value, "csa", "reserve"),
+        json_word_in(value, "csa", "at"),
+        json_word_in(value, "csa", "areas"),
+        json_word_in(value, "csa", "reserve"),
     )
 }
 
@@ -85,56 +85,51 @@ fn are_areas(at: u32, areas: u32, reserve: u32) -> bool
 pub fn has_vectors(value: &Value) -> bool
     ensures { result ≡ has_vectors (plan_in (view value.now)) }
 {
-    word_at(value, "biv") % 2 == 0 && word_at(value, "btv") % 2 == 0
+    json_word_at(value, "biv") % 2 == 0 && json_word_at(value, "btv") % 2 == 0
 }
 
 /// Returns the first pair of ranges that share a byte, numbered over rom, ram, devices and the save
 /// areas.
-pub fn overlap(value: &Value) -> Option<PlanErr>
-    requires { AreFew (view value.now) }
-    ensures { result ≡ overlap_of (plan_in (view value.now)) }
+pub fn plan_range_overlap(value: &Value) -> Option<PlanErr>
+    requires { HasShortPlanArrays (view value.now) }
+    ensures { result ≡ plan_range_overlap (plan_in (view value.now)) }
 {
     let mut ranges: ArrayVec<Range, 49> = ArrayVec::new();
-    push_ranges(&mut ranges, objects_of(Holder::Rom, value));
-    push_ranges(&mut ranges, objects_of(Holder::Ram, value));
-    push_ranges(&mut ranges, objects_of(Holder::Devices, value));
+    push_ranges(&mut ranges, plan_objects_of(Holder::Rom, value));
+    push_ranges(&mut ranges, plan_objects_of(Holder::Ram, value));
+    push_ranges(&mut ranges, plan_objects_of(Holder::Devices, value));
     ranges.push(areas_range(value));
     first_overlap(ranges.as_slice())
 }
 
-#[tactic(auto, unfolding(crate::specs::Plans::plan_in))]
-fn areas_range(value: &Value) -> Range
-    requires { AreFew (view value.now) }
-    ensures { result ≡ areas_range (plan_in (view value.now)) }
-{
-    Range {
-        at: word_in(value, "csa", "at"),
-        len: 64 * word_in(value, "csa", "areas"),
-    }
-}
-
+/// Returns the refusal of a plan for the first pair of its ranges that share a byte, by their
+/// numbers.
 fn first_overlap(ranges: &[Range]) -> Option<PlanErr>
     requires { length ranges.now ≤ 49 }
     ensures { result ≡ overlap_from 0 ranges.now }
 {
     for i in 0..ranges.len() {
         let range = ranges[i];
-        if let Some(further) = first_sharing(range, &ranges[i + 1..]) {
+        if let Some(further) = first_overlapping_range(range, &ranges[i + 1..]) {
             return Some(PlanErr::Overlap(i as u32, (i + 1 + further) as u32));
         }
     }
     None
 }
 
-fn first_sharing(range: Range, others: &[Range]) -> Option<usize>
-    ensures value { result ≡ position (λ other. not (ranges_apart range other)) others.now }
+/// Returns the place of the first of the others that shares a byte with a range.
+fn first_overlapping_range(range: Range, others: &[Range]) -> Option<usize>
+    ensures value { result ≡ position (λ other. not (are_ranges_apart range other)) others.now }
     ensures within { IfSome result (λ k. k < length others.now) }
 {
-    others.iter().position(|other| !are_apart(&range, other))
+    others
+        .iter()
+        .position(|other| !are_ranges_apart(&range, other))
 }
 
-fn are_apart(range: &Range, other: &Range) -> bool
-    ensures { result ≡ ranges_apart range.now other.now }
+/// Returns true if two ranges of a plan share no byte.
+fn are_ranges_apart(range: &Range, other: &Range) -> bool
+    ensures { result ≡ are_ranges_apart range.now other.now }
 {
     range.end() <= u64::from(other.at) || other.end() <= u64::from(range.at)
 }

@@ -2,45 +2,46 @@
 ghost use Rattle.std.specs.Prelude.{◌≡◌, [], map, count_by, option_map};
 ghost use Rattle.std.specs.List.{list_all};
 ghost use Rattle.serde_json.specs.View.{view};
-ghost use Rattle.tcd_plan.specs.KeyRows.{row_of, may_be_absent};
-ghost use Rattle.tcd_plan.specs.Objects.{objects_at, object_at, objects_of};
-ghost use Rattle.tcd_plan.specs.KeyFaults.{lacks};
-ghost use Rattle.tcd_plan.specs.ValueForms.{are_traps, ascend_above, has_form, is_core, is_len, is_trap};
-ghost use Rattle.tcd_plan.specs.JsonValues.{is_object, is_text, number_of};
+ghost use Rattle.tcd_plan.specs.Objects.{plan_objects_at, plan_object_at, plan_objects_of};
+ghost use Rattle.tcd_plan.specs.ValueForms.{are_traps, are_irqs_above, has_value_form, is_core_text, is_range_len, is_trap};
+ghost use Rattle.tcd_plan.specs.JsonValues.{is_object, is_json_text, json_number_of};
 
-use crate::json_values::{is_text, number_at, number_of, places_at, word_at};
-use crate::key_refusals::may_be_absent;
-use crate::key_table::{Form, Holder, Row};
+use crate::json_values::{
+    is_json_text, json_elements_at, json_number_at, json_number_of, json_word_at,
+};
+use crate::key_table::{Form, Holder};
 use serde_json::Value;
 use std::slice;
 
-/// Returns the objects of a document that a holder names. An array with an element that is no
-/// object has none.
-pub fn objects_of(holder: Holder, value: &Value) -> &[Value]
-    ensures { map view result.now ≡ objects_of holder (view value.now) }
+/// Returns the objects of a document that a holder names, whose values are then tested for their
+/// forms. An array with an element that is no object has none.
+pub fn plan_objects_of(holder: Holder, value: &Value) -> &[Value]
+    ensures { map view result.now ≡ plan_objects_of holder (view value.now) }
 {
     match holder {
         Holder::Root => slice::from_ref(value),
-        Holder::Rom => objects_at(value, "rom"),
-        Holder::Ram => objects_at(value, "ram"),
-        Holder::Devices => objects_at(value, "devices"),
-        Holder::Csa => object_at(value, "csa"),
-        Holder::Start => object_at(value, "start"),
-        Holder::Globals => object_at(value, "globals"),
+        Holder::Rom => plan_objects_at(value, "rom"),
+        Holder::Ram => plan_objects_at(value, "ram"),
+        Holder::Devices => plan_objects_at(value, "devices"),
+        Holder::Csa => plan_object_at(value, "csa"),
+        Holder::Start => plan_object_at(value, "start"),
+        Holder::Globals => plan_object_at(value, "globals"),
     }
 }
 
-fn objects_at<'a>(value: &'a Value, name: &str) -> &'a [Value]
-    ensures { map view result.now ≡ objects_at name.now (view value.now) }
+/// Returns the elements of the array of objects at a key; none if one is no object.
+fn plan_objects_at<'a>(value: &'a Value, name: &str) -> &'a [Value]
+    ensures { map view result.now ≡ plan_objects_at name.now (view value.now) }
 {
-    match places_at(value, name) {
+    match json_elements_at(value, name) {
         Some(places) if are_objects(places) => places,
         _ => &[],
     }
 }
 
-fn object_at<'a>(value: &'a Value, name: &str) -> &'a [Value]
-    ensures { map view result.now ≡ object_at name.now (view value.now) }
+/// Returns the object at a key as a list of one, or an empty list if there is no object.
+fn plan_object_at<'a>(value: &'a Value, name: &str) -> &'a [Value]
+    ensures { map view result.now ≡ plan_object_at name.now (view value.now) }
 {
     match value.get(name) {
         Some(inner) if inner.is_object() => slice::from_ref(inner),
@@ -48,61 +49,63 @@ fn object_at<'a>(value: &'a Value, name: &str) -> &'a [Value]
     }
 }
 
+/// Returns true if all elements of an array are objects.
 fn are_objects(places: &[Value]) -> bool
     ensures { result ≡ list_all is_object (map view places.now) }
 {
     places.iter().all(|place| place.is_object())
 }
 
-/// Returns true if an object lacks the row's key.
-pub fn lacks(row: &Row, object: &Value) -> bool
-    ensures { result ≡ lacks (row_of row.now) (view object.now) }
-{
-    !may_be_absent(row.form) && object.get(row.name).is_none()
-}
-
 /// Returns true if the value of a key in an object has the form.
-pub fn has_form(form: Form, name: &str, object: &Value) -> bool
-    ensures { result ≡ has_form form name.now (view object.now) }
+pub fn has_value_form(form: Form, name: &str, object: &Value) -> bool
+    ensures { result ≡ has_value_form form name.now (view object.now) }
 {
     match form {
-        Form::Ranges => places_at(object, name).is_some_and(|places| !places.is_empty()
+        Form::Ranges => json_elements_at(object, name).is_some_and(|places| !places.is_empty()
             && are_objects(places)),
-        Form::Objects => places_at(object, name).is_some_and(are_objects),
+        Form::Objects => json_elements_at(object, name).is_some_and(are_objects),
         Form::Object => object.get(name).is_some_and(|inner| inner.is_object()),
-        Form::At => number_at(object, name).is_some_and(|at| at % 4 == 0),
-        Form::Len => number_at(object, name).is_some_and(|len| is_len(word_at(object, "at"), len)),
-        Form::Hi => number_at(object, name).is_some_and(|hi| word_at(object, "lo") <= hi),
-        Form::Word => number_at(object, name).is_some(),
-        Form::Byte => number_at(object, name).is_some_and(|byte| byte < 256),
-        Form::Truth => number_at(object, name).is_some_and(|truth| truth < 2),
-        Form::Irqs => places_at(object, name).is_some_and(are_irqs),
-        Form::Traps => places_at(object, name).is_some_and(are_traps),
-        Form::CoreText => is_core(object.get(name)),
+        Form::At => json_number_at(object, name).is_some_and(|at| at % 4 == 0),
+        Form::Len => json_number_at(object, name).is_some_and(|len| is_range_len(
+            json_word_at(object, "at"),
+            len,
+        )),
+        Form::Hi => json_number_at(object, name).is_some_and(|hi| json_word_at(object, "lo") <= hi),
+        Form::Word => json_number_at(object, name).is_some(),
+        Form::Byte => json_number_at(object, name).is_some_and(|byte| byte < 256),
+        Form::Truth => json_number_at(object, name).is_some_and(|truth| truth < 2),
+        Form::Irqs => json_elements_at(object, name).is_some_and(are_irqs),
+        Form::Traps => json_elements_at(object, name).is_some_and(are_traps),
+        Form::CoreText => is_core_text(object.get(name)),
     }
 }
 
-fn is_len(at: u32, len: u32) -> bool
-    ensures { result ≡ is_len at len }
+/// Returns true if a number is the length of a range at `at`: a multiple of 4, not 0, with the
+/// range's end at 2^32 or below.
+fn is_range_len(at: u32, len: u32) -> bool
+    ensures { result ≡ is_range_len at len }
 {
     len > 0 && len % 4 == 0 && u64::from(at) + u64::from(len) <= 1 << 32
 }
 
-fn is_core(value: Option<&Value>) -> bool
-    ensures { result ≡ is_core (option_map (λ v. view v.now) value.entry) }
+/// Returns true if the value of `core` is `1.3` or `1.6`, or absent.
+fn is_core_text(value: Option<&Value>) -> bool
+    ensures { result ≡ is_core_text (option_map (λ v. view v.now) value.entry) }
 {
     match value {
-        Some(value) => is_text(value, "1.3") || is_text(value, "1.6"),
+        Some(value) => is_json_text(value, "1.3") || is_json_text(value, "1.6"),
         None => true,
     }
 }
 
+/// Returns true if the value of `irqs` has its form: its elements are ascending numbers from 1 to
+/// 255.
 fn are_irqs(places: &[Value]) -> bool
-    ensures { result ≡ ascend_above 0 (map view places.now) }
+    ensures { result ≡ are_irqs_above 0 (map view places.now) }
 {
     let mut low = 0;
     for place in places {
-        match number_of(place) {
+        match json_number_of(place) {
             Some(irq) if low < irq && irq < 256 => low = irq,
             _ => return false,
         }
@@ -110,26 +113,35 @@ fn are_irqs(places: &[Value]) -> bool
     true
 }
 
+/// Returns true if the elements of `traps` are only `sys` and `aln`, each at most once.
 fn are_traps(places: &[Value]) -> bool
     ensures { result ≡ are_traps (map view places.now) }
 {
-    are_trap_texts(places) && count_of(places, "sys") <= 1 && count_of(places, "aln") <= 1
+    are_trap_texts(places)
+        && count_json_texts(places, "sys") <= 1
+        && count_json_texts(places, "aln") <= 1
 }
 
+/// Returns true if each element of `traps` is `sys` or `aln`.
 fn are_trap_texts(places: &[Value]) -> bool
     ensures { result ≡ list_all is_trap (map view places.now) }
 {
     places.iter().all(is_trap)
 }
 
+/// Returns true if an element of the value of `traps` has its form: `sys` or `aln`.
 fn is_trap(place: &Value) -> bool
     ensures { result ≡ is_trap (view place.now) }
 {
-    is_text(place, "sys") || is_text(place, "aln")
+    is_json_text(place, "sys") || is_json_text(place, "aln")
 }
 
-fn count_of(places: &[Value], text: &str) -> usize
-    ensures { result ≡ count_by (is_text text.now) (map view places.now) }
+/// Returns how many elements of the value of `traps` are this text.
+fn count_json_texts(places: &[Value], text: &str) -> usize
+    ensures { result ≡ count_by (is_json_text text.now) (map view places.now) }
 {
-    places.iter().filter(|place| is_text(place, text)).count()
+    places
+        .iter()
+        .filter(|place| is_json_text(place, text))
+        .count()
 }

@@ -1,49 +1,51 @@
 // Reads the parts of a plan from its document.
 ghost use Rattle.std.specs.Prelude.{◌≡◌, ◌<◌, ◌≤◌, ◌+◌, ◌^◌, ◌++◌, All, length, map};
 ghost use Rattle.serde_json.specs.View.{view};
-ghost use Rattle.tcd_plan.specs.Plans.{core_of, device_of, globals_of, irq_of, range_of};
-ghost use Rattle.tcd_plan.specs.JsonValues.{is_text, word_in};
+ghost use Rattle.tcd_plan.specs.Plans.{core_of, plan_device_of, plan_globals_of, irq_of, plan_range_of, HasShortPlanArrays, plan_in};
+ghost use Rattle.tcd_plan.specs.JsonValues.{is_json_text, json_word_in};
+ghost use Rattle.tcd_plan.specs.PlanData.{areas_range};
 
 use crate::Device;
-use crate::json_values::{is_text, number_of, word_at, word_in};
+use crate::json_values::{is_json_text, json_number_of, json_word_at, json_word_in};
 use arrayvec::ArrayVec;
 use serde_json::Value;
 use tcd_base::{Core, Range};
 
 /// Reads a range.
-pub fn range_of(object: &Value) -> Range
-    ensures { result ≡ range_of (view object.now) }
+pub fn plan_range_of(object: &Value) -> Range
+    ensures { result ≡ plan_range_of (view object.now) }
 {
     Range {
-        at: word_at(object, "at"),
-        len: word_at(object, "len"),
+        at: json_word_at(object, "at"),
+        len: json_word_at(object, "len"),
     }
 }
 
-fn device_of(object: &Value) -> Device
-    ensures { result ≡ device_of (view object.now) }
+/// Reads a device of the plan: its range, and the bounds of its words.
+fn plan_device_of(object: &Value) -> Device
+    ensures { result ≡ plan_device_of (view object.now) }
 {
     Device {
-        range: range_of(object),
-        lo: word_at(object, "lo"),
-        hi: word_at(object, "hi"),
+        range: plan_range_of(object),
+        lo: json_word_at(object, "lo"),
+        hi: json_word_at(object, "hi"),
     }
 }
 
 /// Appends the ranges of the objects.
 pub fn push_ranges<const N: usize>(ranges: &mut ArrayVec<Range, N>, objects: &[Value])
     requires { length ranges.old.items + length objects.now ≤ N }
-    ensures { ranges.new.items ≡ ranges.old.items ++ map range_of (map view objects.now) }
+    ensures { ranges.new.items ≡ ranges.old.items ++ map plan_range_of (map view objects.now) }
 {
     for object in objects {
-        ranges.push(range_of(object));
+        ranges.push(plan_range_of(object));
     }
 }
 
 /// Reads the ranges of the objects.
 pub fn ranges_of(objects: &[Value]) -> ArrayVec<Range, 16>
     requires { length objects.now ≤ 16 }
-    ensures { result.items ≡ map range_of (map view objects.now) }
+    ensures { result.items ≡ map plan_range_of (map view objects.now) }
 {
     let mut ranges = ArrayVec::new();
     push_ranges(&mut ranges, objects);
@@ -53,11 +55,11 @@ pub fn ranges_of(objects: &[Value]) -> ArrayVec<Range, 16>
 /// Reads the devices of the objects.
 pub fn devices_of(objects: &[Value]) -> ArrayVec<Device, 16>
     requires { length objects.now ≤ 16 }
-    ensures { result.items ≡ map device_of (map view objects.now) }
+    ensures { result.items ≡ map plan_device_of (map view objects.now) }
 {
     let mut devices = ArrayVec::new();
     for object in objects {
-        devices.push(device_of(object));
+        devices.push(plan_device_of(object));
     }
     devices
 }
@@ -70,7 +72,7 @@ pub fn irqs_of(places: &[Value]) -> ArrayVec<u8, 32>
 {
     let mut irqs = ArrayVec::new();
     for place in places {
-        irqs.push(number_of(place).unwrap_or(0) as u8);
+        irqs.push(json_number_of(place).unwrap_or(0) as u8);
     }
     irqs
 }
@@ -80,19 +82,31 @@ pub fn core_of(value: &Value) -> Core
     ensures { result ≡ core_of (view value.now) }
 {
     match value.get("core") {
-        Some(core) if is_text(core, "1.6") => Core::V16,
+        Some(core) if is_json_text(core, "1.6") => Core::V16,
         _ => Core::V13,
     }
 }
 
 /// Reads the words of A0, A1, A8 and A9.
-pub fn globals_of(value: &Value) -> [u32; 4]
-    ensures { result ≡ globals_of (view value.now) }
+pub fn plan_globals_of(value: &Value) -> [u32; 4]
+    ensures { result ≡ plan_globals_of (view value.now) }
 {
     [
-        word_in(value, "globals", "a0"),
-        word_in(value, "globals", "a1"),
-        word_in(value, "globals", "a8"),
-        word_in(value, "globals", "a9"),
+        json_word_in(value, "globals", "a0"),
+        json_word_in(value, "globals", "a1"),
+        json_word_in(value, "globals", "a8"),
+        json_word_in(value, "globals", "a9"),
     ]
+}
+
+/// Reads the range of the save areas, of 64 bytes each, from a plan's document.
+#[tactic(auto, unfolding(crate::specs::Plans::plan_in))]
+pub(crate) fn areas_range(value: &Value) -> Range
+    requires { HasShortPlanArrays (view value.now) }
+    ensures { result ≡ areas_range (plan_in (view value.now)) }
+{
+    Range {
+        at: json_word_in(value, "csa", "at"),
+        len: 64 * json_word_in(value, "csa", "areas"),
+    }
 }

@@ -2,9 +2,9 @@
 use Rattle.std.proofs.Common.{◌≡◌, ◌≢◌, ◌<◌, ◌≤◌, ◌+◌, inl, inr, ℕ, List, [], ◌∷◌, length, Option, Some, None, sym, ap, subst, ◌∙◌, arith}
 use Rattle.std.specs.Prelude.{IsSomeAnd}
 use Rattle.std.specs.FinMap.{get}
-use Rattle.tcd_base.specs.Files.{Map}
+use Rattle.tcd_base.specs.Files.{FileMap}
 use Rattle.tcd_reading.specs.Reports.{Report, IsReportStatus}
-use Rattle.tcd_reading.specs.Inputs.{FormSeen, HoldsInput, IsRefusal, long, bad, Reading, answer, input, each, Says, HoldsAsked}
+use Rattle.tcd_reading.specs.Inputs.{FormSeen, HoldsInput, IsInputRefusal, long, bad, Reading, answer, input, each, ReadingSays, HoldsAsked}
 use Rattle.tcd_reading.specs.declared.status.Status.{Status}
 use Rattle.tcd_reading.specs.declared.status.Status.TheVariants.{Done, Refused, BadInput, Fault, BadWords}
 
@@ -23,10 +23,10 @@ pub record IsLawful {A : Type 0} (form : FormSeen A) : Type 0 where
   pub one : (bytes : List ℕ) (x y : A) → form.Is bytes x → form.Is bytes y → x ≡ y
   pub apart : (bytes text : List ℕ) (x : A) → form.Is bytes x → form.IsBad bytes text → ⊥
 
-pub one_value : {A : Type 0} (form : FormSeen A) (m : Map) (name : List ℕ) (x y : A) → IsLawful form → HoldsInput form (Some m) name x → HoldsInput form (Some m) name y → x ≡ y
+pub one_value : {A : Type 0} (form : FormSeen A) (m : FileMap) (name : List ℕ) (x y : A) → IsLawful form → HoldsInput form (Some m) name x → HoldsInput form (Some m) name y → x ≡ y
 one_value form m name x y lawful h k = lawful.one k.0 x y (subst (λ (b : List ℕ). form.Is b x) (same_bytes (get m name) h.0 k.0 h.1 k.1) h.3) k.3
 
-pub never_both : {A : Type 0} (form : FormSeen A) (m : Map) (name text : List ℕ) (x : A) → IsLawful form → HoldsInput form (Some m) name x → IsRefusal form (Some m) name text → ⊥
+pub never_both : {A : Type 0} (form : FormSeen A) (m : FileMap) (name text : List ℕ) (x : A) → IsLawful form → HoldsInput form (Some m) name x → IsInputRefusal form (Some m) name text → ⊥
 never_both form m name text x lawful h (long too is) = not_long form.limit (get m name) h.0 h.1 h.2 too
 never_both form m name text x lawful h (bad bytes reads within is) = lawful.apart bytes text x (subst (λ (b : List ℕ). form.Is b x) (same_bytes (get m name) h.0 bytes h.1 reads) h.3) is
 
@@ -61,7 +61,7 @@ unfolding IsDecided
 decided_each A form place [] next lawful rest = rest []
 decided_each A form place (name ∷ names) next lawful rest = (lawful place, λ x. decided_each A form (place + 1) names (λ xs. next (x ∷ xs)) lawful (λ xs. rest (x ∷ xs)))
 
-pub said_told : (reading : Reading) (held : Option Map) (r : Report) → IsDecided reading → Says reading held r → IsReportStatus r.status
+pub said_told : (reading : Reading) (held : Option FileMap) (r : Report) → IsDecided reading → ReadingSays reading held r → IsReportStatus r.status
 unfolding IsDecided
 said_told (answer P) held r d says = d.told r says
 said_told (input A form name next) held r d (inl h) = inr (inr h.status)
@@ -78,14 +78,14 @@ never_fault s (inl e) b = let f : Done ≡ Fault = sym e ∙ b in cc
 never_fault s (inr (inl e)) b = let f : Refused ≡ Fault = sym e ∙ b in cc
 never_fault s (inr (inr e)) b = let f : BadInput ≡ Fault = sym e ∙ b in cc
 
-pub said_done : (reading : Reading) (held : Option Map) (r : Report) → IsDecided reading → Says reading held r → r.status ≢ Done → r.writes ≡ []
+pub said_done : (reading : Reading) (held : Option FileMap) (r : Report) → IsDecided reading → ReadingSays reading held r → r.status ≢ Done → r.writes ≡ []
 unfolding IsDecided
 said_done (answer P) held r d says undone = d.done r says undone
 said_done (input A form name next) held r d (inl h) undone = h.nothing
 said_done (input A form name next) held r d (inr h) undone = said_done (next h.0) held r (d.1 h.0) h.2 undone
 
 -- two reports on the same inputs have the same status
-pub said_one : (reading : Reading) (held : Option Map) (r q : Report) → IsDecided reading → HoldsAsked reading held → Says reading held r → Says reading held q → r.status ≡ q.status
+pub said_one : (reading : Reading) (held : Option FileMap) (r q : Report) → IsDecided reading → HoldsAsked reading held → ReadingSays reading held r → ReadingSays reading held q → r.status ≡ q.status
 unfolding IsDecided
 said_one (answer P) held r q d holds a b = d.one r q a b
 said_one (input A form name next) None r q d holds a b = absurd holds.0
@@ -93,5 +93,5 @@ said_one (input A form name next) (Some m) r q d holds (inl a) (inl b) = a.statu
 said_one (input A form name next) (Some m) r q d holds (inl a) (inr b) = absurd (never_both form m name r.text b.0 d.0 b.1 a.line)
 said_one (input A form name next) (Some m) r q d holds (inr a) (inl b) = absurd (never_both form m name q.text a.0 d.0 a.1 b.line)
 said_one (input A form name next) (Some m) r q d holds (inr a) (inr b) =
-    let here : Says (next a.0) (Some m) q = subst (λ (x : A). Says (next x) (Some m) q) (one_value form m name b.0 a.0 d.0 b.1 a.1) b.2 in
+    let here : ReadingSays (next a.0) (Some m) q = subst (λ (x : A). ReadingSays (next x) (Some m) q) (one_value form m name b.0 a.0 d.0 b.1 a.1) b.2 in
     said_one (next a.0) (Some m) r q (d.1 a.0) (holds.1 a.0 a.1) a.2 here

@@ -5,8 +5,8 @@ use Rattle.std.proofs.lemmas.List.{append-nil, length-append}
 use Rattle.std.proofs.lemmas.Option.{slice_get-map, slice_get-get_or}
 use Rattle.tcd_base.specs.Files.{FilesSeen, LeavesFiles}
 use Rattle.tcd_reading.specs.Reports.{Report}
-use Rattle.tcd_reading.specs.Inputs.{FormSeen, HoldsInput, IsRefusal, Reading, answer, input, each}
-use Rattle.tcd_reading.specs.Outcomes.{IsTold, Stops, HasFailed, Comes}
+use Rattle.tcd_reading.specs.Inputs.{FormSeen, HoldsInput, IsInputRefusal, Reading, answer, input, each}
+use Rattle.tcd_reading.specs.Outcomes.{IsToldOutcome, IsBadInputOutcome, HasFailedToRead, IsCommandOutcome}
 use Rattle.tcd_reading.specs.declared.outcome.Outcome.{Outcome}
 use Rattle.tcd_reading.specs.declared.outcome.Outcome.TheVariants as outcome
 use Rattle.tcd_reading.proofs.Told.{Leads, leads_here, leads_read, leads_then, comes_stopped, comes_told, comes_none}
@@ -76,19 +76,19 @@ module _ (A : Type 0) (form : ℕ → FormSeen A) (names : List (List ℕ)) (P :
 
   -- the next one isn't there
   pub next_stops : (whole : Reading) (i : ℕ) (name : List ℕ) (xs : List A) (old mid new : FilesSeen) (o : Outcome) → slice_get names i ≡ Some name → Leads whole (rest_of i xs) old mid → LeavesFiles name mid new → mid.faults ≤ new.faults →
-      Stops (IsRefusal (form i) mid.held name) (HasFailed name mid new) o → Comes whole old new o
+      IsBadInputOutcome (IsInputRefusal (form i) mid.held name) (HasFailedToRead name mid new) o → IsCommandOutcome whole old new o
   next_stops whole i name xs old mid new o at so_far leaves later stops =
-      so_far.comes new o (subst (λ (r : Reading). Comes r mid new o) (sym (rest_at i name xs at)) (comes_stopped A (form i) name _ mid new o leaves later stops))
+      so_far.comes new o (subst (λ (r : Reading). IsCommandOutcome r mid new o) (sym (rest_at i name xs at)) (comes_stopped A (form i) name _ mid new o leaves later stops))
 
   -- the next one is there, and memory runs out
   pub next_memory : (whole : Reading) (i : ℕ) (name : List ℕ) (xs : List A) (x : A) (old mid new : FilesSeen) → slice_get names i ≡ Some name → Leads whole (rest_of i xs) old mid → LeavesFiles name mid new → mid.faults ≤ new.faults →
-      HoldsInput (form i) mid.held name x → Comes whole old new outcome.NoMemory
+      HoldsInput (form i) mid.held name x → IsCommandOutcome whole old new outcome.NoMemory
   next_memory whole i name xs x old mid new at so_far leaves later holds =
       so_far.comes new outcome.NoMemory ((step i name xs (xs ++ x ∷ []) x mid new at leaves later holds refl).comes new outcome.NoMemory (comes_none (rest_of (i + 1) (xs ++ x ∷ [])) new))
 
   -- all are read
-  pub all_read : (whole : Reading) (i : ℕ) (xs : List A) (old new : FilesSeen) (o : Outcome) → i ≡ length names → Leads whole (rest_of i xs) old new → IsTold (P xs) ⊥ o → Comes whole old new o
+  pub all_read : (whole : Reading) (i : ℕ) (xs : List A) (old new : FilesSeen) (o : Outcome) → i ≡ length names → Leads whole (rest_of i xs) old new → IsToldOutcome (P xs) ⊥ o → IsCommandOutcome whole old new o
   all_read whole i xs old new o e so_far told =
       let none : rest_of i xs ≡ answer (P (xs ++ [])) = ap (λ (l : List (List ℕ)). each A form i l (λ ys. answer (P (xs ++ ys)))) (drop_all names i e) in
       let all : rest_of i xs ≡ answer (P xs) = none ∙ ap (λ (l : List A). answer (P l)) (append-nil xs) in
-      so_far.comes new o (subst (λ (r : Reading). Comes r new new o) (sym all) (comes_told (P xs) new o told))
+      so_far.comes new o (subst (λ (r : Reading). IsCommandOutcome r new new o) (sym all) (comes_told (P xs) new o told))

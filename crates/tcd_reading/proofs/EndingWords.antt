@@ -8,27 +8,27 @@ use Rattle.std.specs.Cmp.Lexicographic.{nat_list_cmp_total}
 use Rattle.std.proofs.lemmas.Bool.{cases_lt}
 use Rattle.std.proofs.lemmas.Map.Text.{is_eq-slice_cmp}
 use Rattle.std.proofs.lemmas.Slice.Eq.{bytes_eq-Decides}
-use Rattle.tcd_base.specs.Files.{Map, FilesSeen, OthersStay}
+use Rattle.tcd_base.specs.Files.{FileMap, FilesSeen, OthersStay}
 use Rattle.tcd_base.specs.Sink.{SinkSeen, HasRoomFor}
-use Rattle.tcd_reading.specs.Reports.{Written, Report, IsReportStatus, with_written, IsLineOf, Refuses}
-use Rattle.tcd_reading.specs.Endings.{Stopped, whole, cut, IsReported, printed, unwritten, no_memory, HasEnded, Ends}
-use Rattle.tcd_reading.specs.Inputs.{FormSeen, HoldsInput, IsRefusal, Reading, answer, input, Says, HoldsAsked, AreSureOf, IsHeldAs, IsHeldBad}
+use Rattle.tcd_reading.specs.Reports.{ReportFile, Report, IsReportStatus, with_report_files, ReportsBadInput, RefusesInput}
+use Rattle.tcd_reading.specs.Endings.{ReportWritingStopped, whole, cut, IsReported, printed, unwritten, no_memory, HasEnded, Ends}
+use Rattle.tcd_reading.specs.Inputs.{FormSeen, HoldsInput, IsInputRefusal, Reading, answer, input, ReadingSays, HoldsAsked, AreSureOf, IsHeldAs, IsHeldBad}
 use Rattle.tcd_reading.specs.Inputs as inputs
 use Rattle.tcd_reading.proofs.Decided.{never_fault}
 use Rattle.tcd_reading.specs.Endings as ending
-use Rattle.tcd_reading.specs.EndingLaws.{HoldsLast, BreaksOff, HasEndedSo, EndsSo, EndsSay, EndsAnyhow, EndsAnyhowSay}
+use Rattle.tcd_reading.specs.EndingLaws.{HoldsLastWritten, WritingBreaksOff, HasEndedByLaw, EndsByLaw, EndsSay, EndsAnyhowByLaw, EndsAnyhowSay}
 use Rattle.tcd_base.specs.FailingCalls.{FaultCounted}
-use Rattle.tcd_reading.specs.ReportLaws.{IsSaidOfTwo, first_bad, second_bad, both, SaysSay, AsksSay}
+use Rattle.tcd_reading.specs.ReportLaws.{IsSaidOfTwo, first_bad, second_bad, both, ReportsOfTwoSay, InputsOfTwoSay}
 use Rattle.tcd_reading.specs.EndingLaws as so
 use Rattle.tcd_reading.specs.declared.status.Status.{Status}
 use Rattle.tcd_reading.specs.declared.status.Status.TheVariants.{Fault, NoMemory}
 
 -- ---- files that are written one after another
-get_here : (m : Map) (k v q : List ℕ) → k ≡ q → get (insert m k v) q ≡ Some v
+get_here : (m : FileMap) (k v q : List ℕ) → k ≡ q → get (insert m k v) q ≡ Some v
 get_here m k v q same =
     get-insert nat_list_cmp_total m k v q ∙ ap (λ t. cond t (Some v) (get m q)) (is_eq-slice_cmp q k ∙ (bytes_eq-Decides q k).1 (sym same))
 
-get_apart : (m : Map) (k v q : List ℕ) → k ≢ q → get (insert m k v) q ≡ get m q
+get_apart : (m : FileMap) (k v q : List ℕ) → k ≢ q → get (insert m k v) q ≡ get m q
 get_apart m k v q apart =
     get-insert nat_list_cmp_total m k v q ∙ ap (λ t. cond t (Some v) (get m q)) (is_eq-slice_cmp q k ∙ differs (bytes_eq q k) refl)
   where
@@ -37,42 +37,42 @@ get_apart m k v q apart =
     differs false e = refl
 
 -- the map once these files are written
-abbrev map_after : Map → List Written → Map
+abbrev map_after : FileMap → List ReportFile → FileMap
 map_after m [] = m
 map_after m (w ∷ ws) = map_after (insert m w.name w.bytes) ws
 
-after_is : (m : Map) (ws : List Written) → with_written (Some m) ws ≡ Some (map_after m ws)
+after_is : (m : FileMap) (ws : List ReportFile) → with_report_files (Some m) ws ≡ Some (map_after m ws)
 after_is m [] = refl
 after_is m (w ∷ ws) = after_is (insert m w.name w.bytes) ws
 
-after_others : (m : Map) (ws : List Written) (q : List ℕ) → ((i : ℕ) (w : Written) → slice_get ws i ≡ Some w → w.name ≢ q) → get (map_after m ws) q ≡ get m q
+after_others : (m : FileMap) (ws : List ReportFile) (q : List ℕ) → ((i : ℕ) (w : ReportFile) → slice_get ws i ≡ Some w → w.name ≢ q) → get (map_after m ws) q ≡ get m q
 after_others m [] q none = refl
 after_others m (w ∷ ws) q none = after_others (insert m w.name w.bytes) ws q (λ i v is. none (suc i) v is) ∙ get_apart m w.name w.bytes q (none 0 w refl)
 
-after_last : (m : Map) (ws : List Written) (q : List ℕ) (i : ℕ) (bytes : List ℕ) → slice_get ws i ≡ Some (record { name = q; bytes = bytes })
-    → ((j : ℕ) (w : Written) → i < j → slice_get ws j ≡ Some w → w.name ≢ q) → get (map_after m ws) q ≡ Some bytes
-after_last m [] q i bytes is later = absurd (let none : let o : Option Written = None in o ≡ Some (record { name = q; bytes = bytes }) = is in cc)
+after_last : (m : FileMap) (ws : List ReportFile) (q : List ℕ) (i : ℕ) (bytes : List ℕ) → slice_get ws i ≡ Some (record { name = q; bytes = bytes })
+    → ((j : ℕ) (w : ReportFile) → i < j → slice_get ws j ≡ Some w → w.name ≢ q) → get (map_after m ws) q ≡ Some bytes
+after_last m [] q i bytes is later = absurd (let none : let o : Option ReportFile = None in o ≡ Some (record { name = q; bytes = bytes }) = is in cc)
 after_last m (w ∷ ws) q zero bytes is later =
     let here : w ≡ record { name = q; bytes = bytes } = cc in
     after_others (insert m w.name w.bytes) ws q (λ j v at. later (suc j) v (omega arith) at)
-    ∙ get_here m w.name w.bytes q (ap (λ (v : Written). v.name) here) ∙ ap Some (ap (λ (v : Written). v.bytes) here)
+    ∙ get_here m w.name w.bytes q (ap (λ (v : ReportFile). v.name) here) ∙ ap Some (ap (λ (v : ReportFile). v.bytes) here)
 after_last m (w ∷ ws) q (suc i) bytes is later = after_last (insert m w.name w.bytes) ws q i bytes is (λ j v lt at. later (suc j) v (omega arith) at)
 
-after_holds : (m : Map) (ws : List Written) (q : List ℕ) → HoldsLast m (map_after m ws) ws q
+after_holds : (m : FileMap) (ws : List ReportFile) (q : List ℕ) → HoldsLastWritten m (map_after m ws) ws q
 after_holds m ws q = record { last = λ i bytes is later. after_last m ws q i bytes is later; other = λ none. after_others m ws q none }
 
 -- another map that holds the same under a name
-holds_as : (m n n' : Map) (ws : List Written) (q : List ℕ) → get n' q ≡ get n q → HoldsLast m n ws q → HoldsLast m n' ws q
+holds_as : (m n n' : FileMap) (ws : List ReportFile) (q : List ℕ) → get n' q ≡ get n q → HoldsLastWritten m n ws q → HoldsLastWritten m n' ws q
 holds_as m n n' ws q same h = record { last = λ i bytes is later. same ∙ h.last i bytes is later; other = λ none. same ∙ h.other none }
 
 -- ---- a write that failed
-some_of : (o : Option Map) (P : Map → Type 0) → IsSomeAnd o P → (n : Map) × (o ≡ Some n) × P n
+some_of : (o : Option FileMap) (P : FileMap → Type 0) → IsSomeAnd o P → (n : FileMap) × (o ≡ Some n) × P n
 some_of None P h = absurd h
 some_of (Some n) P h = (n, refl, h)
 
-breaks_off : (m : Map) (held' : Option Map) (ws : List Written) → Stopped (Some m) held' ws → (n : Map) × (held' ≡ Some n) × BreaksOff m n ws
+breaks_off : (m : FileMap) (held' : Option FileMap) (ws : List ReportFile) → ReportWritingStopped (Some m) held' ws → (n : FileMap) × (held' ≡ Some n) × WritingBreaksOff m n ws
 breaks_off m held' ws h =
-    let others : OthersStay h.at.name (Some (map_after m h.front)) held' = subst (λ (o : Option Map). OthersStay h.at.name o held') (after_is m h.front) h.others in
+    let others : OthersStay h.at.name (Some (map_after m h.front)) held' = subst (λ (o : Option FileMap). OthersStay h.at.name o held') (after_is m h.front) h.others in
     let p = some_of held' (λ n. (q : List ℕ) → q ≢ h.at.name → get n q ≡ get (map_after m h.front) q) others in (
       p.0,
       p.1,
@@ -85,13 +85,13 @@ breaks_off m held' ws h =
       },
     )
 
-none_written : (ws : List Written) → with_written None ws ≡ None
+none_written : (ws : List ReportFile) → with_report_files None ws ≡ None
 none_written [] = refl
 none_written (w ∷ ws) = none_written ws
 
-none_stopped : (ws : List Written) (held held' : Option Map) → held ≡ None → Stopped held held' ws → held' ≡ None
+none_stopped : (ws : List ReportFile) (held held' : Option FileMap) → held ≡ None → ReportWritingStopped held held' ws → held' ≡ None
 none_stopped ws held held' none h =
-    subst (λ (o : Option Map). OthersStay h.at.name o held') (ap (λ (o : Option Map). with_written o h.front) none ∙ none_written h.front) h.others
+    subst (λ (o : Option FileMap). OthersStay h.at.name o held') (ap (λ (o : Option FileMap). with_report_files o h.front) none ∙ none_written h.front) h.others
 
 -- ---- the sink
 room_for : (sink : SinkSeen) (text : List ℕ) (n : ℕ) → sink.room ≡ Some n → length text ≤ n → HasRoomFor sink text
@@ -105,28 +105,28 @@ not_steady true h = absurd (h refl)
 not_steady false h = refl
 
 -- ---- how it ended
-module _ (reading : Reading) (files files' : FilesSeen) (sink sink' : SinkSeen) (result : Status) (m : Map) (text : List ℕ) (holds : files.held ≡ Some m) (prints : sink.written ≡ Some text) where
+module _ (reading : Reading) (files files' : FilesSeen) (sink sink' : SinkSeen) (result : Status) (m : FileMap) (text : List ℕ) (holds : files.held ≡ Some m) (prints : sink.written ≡ Some text) where
   -- the files and the text after a command that ended so
   record Ended : Type 0 where
-    pub after : Map
+    pub after : FileMap
     pub held : files'.held ≡ Some after
     pub printed : List ℕ
     pub written : sink'.written ≡ Some printed
-    pub ended : HasEndedSo reading files files' sink sink' m after text printed result
+    pub ended : HasEndedByLaw reading files files' sink sink' m after text printed result
 
-  said : (report : Report) → Says reading files.held report → Says reading (Some m) report
-  said report h = subst (λ (o : Option Map). Says reading o report) holds h
+  said : (report : Report) → ReadingSays reading files.held report → ReadingSays reading (Some m) report
+  said report h = subst (λ (o : Option FileMap). ReadingSays reading o report) holds h
 
   appended_is : (more : List ℕ) → option_map (λ w. w ++ more) sink.written ≡ Some (text ++ more)
   appended_is more = ap (λ (o : Option (List ℕ)). option_map (λ w. w ++ more) o) prints
 
-  wrote : (ws : List Written) → with_written files.held ws ≡ Some (map_after m ws)
-  wrote ws = ap (λ (o : Option Map). with_written o ws) holds ∙ after_is m ws
+  wrote : (ws : List ReportFile) → with_report_files files.held ws ≡ Some (map_after m ws)
+  wrote ws = ap (λ (o : Option FileMap). with_report_files o ws) holds ∙ after_is m ws
 
   same_sink : sink' ≡ sink → sink'.written ≡ Some text
   same_sink quiet = ap (λ (s : SinkSeen). s.written) quiet ∙ prints
 
-  by_report : (report : Report) → Says reading files.held report → IsReported report files files' sink sink' result → Ended
+  by_report : (report : Report) → ReadingSays reading files.held report → IsReported report files files' sink sink' result → Ended
   by_report report says (printed is (whole e p)) = record {
     after = map_after m report.writes;
     held = is ∙ wrote report.writes;
@@ -142,7 +142,7 @@ module _ (reading : Reading) (files files' : FilesSeen) (sink sink' : SinkSeen) 
     ended = so.cut report (said report says) e (after_holds m report.writes) front.0 front.1 front.2 refl counted (no_room sink report.text full);
   }
   by_report report says (unwritten e quiet stopped counted unsteady) =
-      let b = breaks_off m files'.held report.writes (subst (λ (o : Option Map). Stopped o files'.held report.writes) holds stopped) in
+      let b = breaks_off m files'.held report.writes (subst (λ (o : Option FileMap). ReportWritingStopped o files'.held report.writes) holds stopped) in
       record {
         after = b.0;
         held = b.1;
@@ -151,7 +151,7 @@ module _ (reading : Reading) (files files' : FilesSeen) (sink sink' : SinkSeen) 
         ended = so.unwritten report (said report says) e b.2 refl counted (not_steady files.steady unsteady);
       }
   by_report report says (no_memory e quiet stopped) =
-      let b = breaks_off m files'.held report.writes (subst (λ (o : Option Map). Stopped o files'.held report.writes) holds stopped) in
+      let b = breaks_off m files'.held report.writes (subst (λ (o : Option FileMap). ReportWritingStopped o files'.held report.writes) holds stopped) in
       record { after = b.0; held = b.1; printed = text; written = same_sink quiet; ended = so.unfinished report (said report says) e b.2 refl }
 
   ended_so : HasEnded reading files files' sink sink' result → Ended
@@ -161,19 +161,19 @@ module _ (reading : Reading) (files files' : FilesSeen) (sink sink' : SinkSeen) 
     held = held ∙ holds;
     printed = text;
     written = same_sink quiet;
-    ended = so.unread e (λ q. refl) refl counted (λ steady asked. unsure (record { steady = steady; hold = subst (λ (o : Option Map). HoldsAsked reading o) (sym holds) asked }));
+    ended = so.unread e (λ q. refl) refl counted (λ steady asked. unsure (record { steady = steady; hold = subst (λ (o : Option FileMap). HoldsAsked reading o) (sym holds) asked }));
   }
   ended_so (ending.no_memory e held quiet) = record { after = m; held = held ∙ holds; printed = text; written = same_sink quiet; ended = so.no_memory e (λ q. refl) refl }
 
-  same_map : (n k : Map) (o : Option Map) → o ≡ Some n → o ≡ Some k → n ≡ k
+  same_map : (n k : FileMap) (o : Option FileMap) → o ≡ Some n → o ≡ Some k → n ≡ k
   same_map n k o a b = cc
 
-  pub ends_so : Ends reading files files' sink sink' result → EndsSo reading files files' sink sink' m text result
+  pub ends_so : Ends reading files files' sink sink' result → EndsByLaw reading files files' sink sink' m text result
   ends_so h =
       let e = ended_so h.ended in
-      let here : (report : Report) → Says reading (Some m) report → Says reading files.held report = λ report s. subst (λ (o : Option Map). Says reading o report) (sym holds) s in
+      let here : (report : Report) → ReadingSays reading (Some m) report → ReadingSays reading files.held report = λ report s. subst (λ (o : Option FileMap). ReadingSays reading o report) (sym holds) s in
       let sure : files.steady ≡ true → HoldsAsked reading (Some m) → AreSureOf reading files =
-      λ steady asked. record { steady = steady; hold = subst (λ (o : Option Map). HoldsAsked reading o) (sym holds) asked }
+      λ steady asked. record { steady = steady; hold = subst (λ (o : Option FileMap). HoldsAsked reading o) (sym holds) asked }
       in
       record {
         after = e.after;
@@ -184,7 +184,7 @@ module _ (reading : Reading) (files files' : FilesSeen) (sink sink' : SinkSeen) 
         some_words = h.no_bad_words;
         statuses = λ report s. h.statuses report (here report s);
         only_done = λ report s. h.only_done report (here report s);
-        stays = λ r q. ap (λ (n : Map). get n q) (same_map e.after m files'.held e.held (h.stays r ∙ holds));
+        stays = λ r q. ap (λ (n : FileMap). get n q) (same_map e.after m files'.held e.held (h.stays r ∙ holds));
         steady = h.steady;
         files_sure = λ steady asked. h.files_sure (sure steady asked);
         sink_sure = λ n room fits. h.sink_sure (λ report s. room_for sink report.text n room (fits report (said report s)));
@@ -194,7 +194,7 @@ module _ (reading : Reading) (files files' : FilesSeen) (sink sink' : SinkSeen) 
 
 -- ---- files and sinks in general
 module _ (reading : Reading) (files files' : FilesSeen) (sink sink' : SinkSeen) (result : Status) where
-  status_of : HasEnded reading files files' sink sink' result → result ≢ Fault → result ≢ NoMemory → (report : Report) × Says reading files.held report × (result ≡ report.status)
+  status_of : HasEnded reading files files' sink sink' result → result ≢ Fault → result ≢ NoMemory → (report : Report) × ReadingSays reading files.held report × (result ≡ report.status)
   status_of (ending.reported report says (printed is (whole e p))) fault memory = (report, says, e)
   status_of (ending.reported report says (printed is (cut e front counted full))) fault memory = absurd (fault e)
   status_of (ending.reported report says (unwritten e quiet stopped counted unsteady)) fault memory = absurd (fault e)
@@ -202,7 +202,7 @@ module _ (reading : Reading) (files files' : FilesSeen) (sink sink' : SinkSeen) 
   status_of (ending.unread e held quiet counted unsure) fault memory = absurd (fault e)
   status_of (ending.no_memory e held quiet) fault memory = absurd (memory e)
 
-  fault_of : ((report : Report) → Says reading files.held report → IsReportStatus report.status) → HasEnded reading files files' sink sink' result → result ≡ Fault
+  fault_of : ((report : Report) → ReadingSays reading files.held report → IsReportStatus report.status) → HasEnded reading files files' sink sink' result → result ≡ Fault
       → FaultCounted files.faults files'.faults ⊎ FaultCounted sink.faults sink'.faults
   fault_of statuses (ending.reported report says (printed is (whole e p))) f = absurd (never_fault report.status (statuses report says) (sym e ∙ f))
   fault_of statuses (ending.reported report says (printed is (cut e front counted full))) f = inr counted
@@ -212,7 +212,7 @@ module _ (reading : Reading) (files files' : FilesSeen) (sink sink' : SinkSeen) 
   fault_of statuses (ending.no_memory e held quiet) f = absurd (let both : NoMemory ≡ Fault = sym e ∙ f in cc)
 
   untold_of : HasEnded reading files files' sink sink' result → files.held ≡ None → files'.held ≡ None
-  untold_of (ending.reported report says (printed is prints)) none = is ∙ ap (λ (o : Option Map). with_written o report.writes) none ∙ none_written report.writes
+  untold_of (ending.reported report says (printed is prints)) none = is ∙ ap (λ (o : Option FileMap). with_report_files o report.writes) none ∙ none_written report.writes
   untold_of (ending.reported report says (unwritten e quiet stopped counted unsteady)) none = none_stopped report.writes files.held files'.held none stopped
   untold_of (ending.reported report says (no_memory e quiet stopped)) none = none_stopped report.writes files.held files'.held none stopped
   untold_of (ending.unread e held quiet counted unsure) none = held ∙ none
@@ -226,7 +226,7 @@ module _ (reading : Reading) (files files' : FilesSeen) (sink sink' : SinkSeen) 
   unseen_of (ending.unread e held quiet counted unsure) none = ap (λ (s : SinkSeen). s.written) quiet ∙ none
   unseen_of (ending.no_memory e held quiet) none = ap (λ (s : SinkSeen). s.written) quiet ∙ none
 
-  pub ends_anyhow : Ends reading files files' sink sink' result → EndsAnyhow reading files files' sink sink' result
+  pub ends_anyhow : Ends reading files files' sink sink' result → EndsAnyhowByLaw reading files files' sink sink' result
   ends_anyhow h = record {
     some_words = h.no_bad_words;
     statuses = h.statuses;
@@ -249,25 +249,25 @@ pub ends_say : (reading : Reading) → EndsSay reading
 ends_say reading files files' sink sink' result m text holds prints h = ends_so reading files files' sink sink' result m text holds prints h
 
 -- ---- reports on two files
-held_as : {A : Type 0} (form : FormSeen A) (m : Map) (name : List ℕ) (x : A) → HoldsInput form (Some m) name x → IsHeldAs form m name x
+held_as : {A : Type 0} (form : FormSeen A) (m : FileMap) (name : List ℕ) (x : A) → HoldsInput form (Some m) name x → IsHeldAs form m name x
 held_as form m name x h = record { bytes = h.0; held = h.1; short = h.2; is = h.3 }
 
 long_of : (o : Option (List ℕ)) (limit : ℕ) → IsSomeAnd o (λ b. limit < length b) → (bytes : List ℕ) × (o ≡ Some bytes) × (limit < length bytes)
 long_of None limit h = absurd h
 long_of (Some bytes) limit h = (bytes, refl, h)
 
-held_bad : {A : Type 0} (form : FormSeen A) (m : Map) (name line : List ℕ) → IsRefusal form (Some m) name line → IsHeldBad form m name line
+held_bad : {A : Type 0} (form : FormSeen A) (m : FileMap) (name line : List ℕ) → IsInputRefusal form (Some m) name line → IsHeldBad form m name line
 held_bad form m name line (inputs.long too is) = let l = long_of (get m name) form.limit too in inputs.above_limit l.0 l.1 l.2 is
 held_bad form m name line (inputs.bad bytes reads short is) = inputs.without_value bytes reads short is
 
-line_of : {A : Type 0} (form : FormSeen A) (m : Map) (name : List ℕ) (report : Report) → Refuses (IsRefusal form (Some m) name) report → IsLineOf (IsHeldBad form m name) report
+line_of : {A : Type 0} (form : FormSeen A) (m : FileMap) (name : List ℕ) (report : Report) → RefusesInput (IsInputRefusal form (Some m) name) report → ReportsBadInput (IsHeldBad form m name) report
 line_of form m name report h = record { status = h.status; line = held_bad form m name report.text h.line; writes = h.nothing }
 
-pub says_say : {A B : Type 0} (first : FormSeen A) (second : FormSeen B) (IsReport : A → B → Report → Type 0) → SaysSay first second IsReport
+pub says_say : {A B : Type 0} (first : FormSeen A) (second : FormSeen B) (IsReport : A → B → Report → Type 0) → ReportsOfTwoSay first second IsReport
 says_say {A} {B} first second IsReport a b m report (inl h) = first_bad (line_of first m a report h)
 says_say {A} {B} first second IsReport a b m report (inr h) = by_second h.0 h.1 h.2
   where
-    by_second : (x : A) → HoldsInput first (Some m) a x → Says (input B second b (λ y. answer (IsReport x y))) (Some m) report → IsSaidOfTwo first second a b IsReport m report
+    by_second : (x : A) → HoldsInput first (Some m) a x → ReadingSays (input B second b (λ y. answer (IsReport x y))) (Some m) report → IsSaidOfTwo first second a b IsReport m report
     by_second x held (inl k) = second_bad x (held_as first m a x held) (line_of second m b report k)
     by_second x held (inr k) = both x k.0 (held_as first m a x held) (held_as second m b k.0 k.1) k.2
 
@@ -275,7 +275,7 @@ says_say {A} {B} first second IsReport a b m report (inr h) = by_second h.0 h.1 
 is_some_by : (o : Option (List ℕ)) (bytes : List ℕ) → o ≡ Some bytes → IsSome o
 is_some_by o bytes e = let P : Option (List ℕ) → Type 0 = λ x. IsSome x in subst P (sym e) refl
 
-pub asks_say : {A B : Type 0} (first : FormSeen A) (second : FormSeen B) (IsReport : A → B → Report → Type 0) → AsksSay first second IsReport
+pub asks_say : {A B : Type 0} (first : FormSeen A) (second : FormSeen B) (IsReport : A → B → Report → Type 0) → InputsOfTwoSay first second IsReport
 asks_say first second IsReport = record {
   asks = λ a b m bytes held more. (
     is_some_by (get m a) bytes held,

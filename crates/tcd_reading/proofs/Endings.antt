@@ -1,12 +1,12 @@
 -- How a command ends, from its outcome.
 use Rattle.std.proofs.Common.{◌≡◌, ◌≢◌, ◌⊎◌, inl, inr, List, [], Option, sym, ap, subst, ◌∙◌}
 use Rattle.std.specs.Prelude.{IsTrue}
-use Rattle.tcd_base.specs.Files.{Map, FilesSeen, LeavesFaults}
+use Rattle.tcd_base.specs.Files.{FileMap, FilesSeen, LeavesFaults}
 use Rattle.tcd_base.specs.Sink.{SinkSeen}
-use Rattle.tcd_reading.specs.Reports.{Written, Report, with_written}
-use Rattle.tcd_reading.specs.Endings.{Stopped, IsQuiet, whole, cut, IsReported, printed, unwritten, no_memory, Finishes, HasRoom, Ends}
-use Rattle.tcd_reading.specs.Inputs.{Reading, Says, AreSureOf, HasNotRead}
-use Rattle.tcd_reading.specs.Outcomes.{Comes}
+use Rattle.tcd_reading.specs.Reports.{ReportFile, Report, with_report_files}
+use Rattle.tcd_reading.specs.Endings.{ReportWritingStopped, FilesAndSinkStay, whole, cut, IsReported, printed, unwritten, no_memory, FinishesOutcome, HasRoomForReports, Ends}
+use Rattle.tcd_reading.specs.Inputs.{Reading, ReadingSays, AreSureOf, HasNotRead}
+use Rattle.tcd_reading.specs.Outcomes.{IsCommandOutcome}
 use Rattle.tcd_reading.specs.Endings as ending
 use Rattle.tcd_reading.specs.declared.status.Status.{Status}
 use Rattle.tcd_reading.specs.declared.status.Status.TheVariants.{Done, Refused, BadInput, Fault, NoMemory, BadWords}
@@ -16,14 +16,14 @@ use Rattle.tcd_reading.proofs.Told.{counted_later}
 use Rattle.tcd_reading.proofs.Decided.{IsDecided, never_words, said_told, said_done, said_one}
 
 -- the files between the reading and the writing are as before
-reported_since : (r : Report) (reading : Reading) (old mid new : FilesSeen) (sink sink' : SinkSeen) (o : Outcome) (result : Status) → Comes reading old mid o → IsReported r mid new sink sink' result → IsReported r old new sink sink' result
-reported_since r reading old mid new sink sink' o result comes (printed is prints) = printed (is ∙ ap (λ (m : Option Map). with_written m r.writes) comes.held) prints
+reported_since : (r : Report) (reading : Reading) (old mid new : FilesSeen) (sink sink' : SinkSeen) (o : Outcome) (result : Status) → IsCommandOutcome reading old mid o → IsReported r mid new sink sink' result → IsReported r old new sink sink' result
+reported_since r reading old mid new sink sink' o result comes (printed is prints) = printed (is ∙ ap (λ (m : Option FileMap). with_report_files m r.writes) comes.held) prints
 reported_since r reading old mid new sink sink' o result comes (unwritten e quiet stopped counted unsteady) =
-    unwritten e quiet (subst (λ (m : Option Map). Stopped m new.held r.writes) comes.held stopped) (counted_later old.faults mid.faults new.faults comes.later counted) (λ s. unsteady (subst IsTrue (sym comes.steady) s))
-reported_since r reading old mid new sink sink' o result comes (no_memory e quiet stopped) = no_memory e quiet (subst (λ (m : Option Map). Stopped m new.held r.writes) comes.held stopped)
+    unwritten e quiet (subst (λ (m : Option FileMap). ReportWritingStopped m new.held r.writes) comes.held stopped) (counted_later old.faults mid.faults new.faults comes.later counted) (λ s. unsteady (subst IsTrue (sym comes.steady) s))
+reported_since r reading old mid new sink sink' o result comes (no_memory e quiet stopped) = no_memory e quiet (subst (λ (m : Option FileMap). ReportWritingStopped m new.held r.writes) comes.held stopped)
 
 -- ---- a report
-module _ (reading : Reading) (decided : IsDecided reading) (r : Report) (old new : FilesSeen) (sink sink' : SinkSeen) (result : Status) (said : Says reading old.held r) where
+module _ (reading : Reading) (decided : IsDecided reading) (r : Report) (old new : FilesSeen) (sink sink' : SinkSeen) (result : Status) (said : ReadingSays reading old.held r) where
   words_here : IsReported r old new sink sink' result → result ≡ BadWords → ⊥
   words_here (printed is (whole e p)) b = never_words r.status (said_told reading old.held r decided said) (sym e ∙ b)
   words_here (printed is (cut e front counted full)) b = let f : Fault ≡ BadWords = sym e ∙ b in cc
@@ -31,7 +31,7 @@ module _ (reading : Reading) (decided : IsDecided reading) (r : Report) (old new
   words_here (no_memory e quiet stopped) b = let f : NoMemory ≡ BadWords = sym e ∙ b in cc
 
   stays_by : IsReported r old new sink sink' result → result ≢ Done → result ≢ Fault → result ≢ NoMemory → new.held ≡ old.held
-  stays_by (printed is (whole e p)) done fault memory = is ∙ ap (λ (w : List Written). with_written old.held w) (said_done reading old.held r decided said (λ d. done (e ∙ d)))
+  stays_by (printed is (whole e p)) done fault memory = is ∙ ap (λ (w : List ReportFile). with_report_files old.held w) (said_done reading old.held r decided said (λ d. done (e ∙ d)))
   stays_by (printed is (cut e front counted full)) done fault memory = absurd (fault e)
   stays_by (unwritten e quiet stopped counted unsteady) done fault memory = absurd (fault e)
   stays_by (no_memory e quiet stopped) done fault memory = absurd (memory e)
@@ -40,24 +40,24 @@ module _ (reading : Reading) (decided : IsDecided reading) (r : Report) (old new
   stays_here h (inl e) = stays_by h (λ f. cc) (λ f. cc) (λ f. cc)
   stays_here h (inr e) = stays_by h (λ f. cc) (λ f. cc) (λ f. cc)
 
-  sink_here : IsReported r old new sink sink' result → HasRoom reading old.held sink → sink'.faults ≡ sink.faults
+  sink_here : IsReported r old new sink sink' result → HasRoomForReports reading old.held sink → sink'.faults ≡ sink.faults
   sink_here (printed is (whole e p)) room = p.faults (room r said)
   sink_here (printed is (cut e front counted full)) room = absurd (full (room r said))
   sink_here (unwritten e quiet stopped counted unsteady) room = ap (λ (s : SinkSeen). s.faults) quiet
   sink_here (no_memory e quiet stopped) room = ap (λ (s : SinkSeen). s.faults) quiet
 
-  complete_here : IsReported r old new sink sink' result → AreSureOf reading old → HasRoom reading old.held sink → (q : Report) → Says reading old.held q → (result ≡ q.status) ⊎ (result ≡ NoMemory)
+  complete_here : IsReported r old new sink sink' result → AreSureOf reading old → HasRoomForReports reading old.held sink → (q : Report) → ReadingSays reading old.held q → (result ≡ q.status) ⊎ (result ≡ NoMemory)
   complete_here (printed is (whole e p)) sure room q other = inl (e ∙ said_one reading old.held r q decided sure.hold said other)
   complete_here (printed is (cut e front counted full)) sure room q other = absurd (full (room r said))
   complete_here (unwritten e quiet stopped counted unsteady) sure room q other = absurd (unsteady sure.steady)
   complete_here (no_memory e quiet stopped) sure room q other = inr e
 
 -- only a report that is done has files to write
-only_done_by : (reading : Reading) (held : Option Map) → IsDecided reading → (q : Report) → Says reading held q → q.status ≢ Done → q.writes ≡ []
+only_done_by : (reading : Reading) (held : Option FileMap) → IsDecided reading → (q : Report) → ReadingSays reading held q → q.status ≢ Done → q.writes ≡ []
 only_done_by reading held decided q says apart = said_done reading held q decided says apart
 
 -- ---- by the outcome
-reported_ends : (reading : Reading) (old mid new : FilesSeen) (sink sink' : SinkSeen) (o : Outcome) (r : Report) (result : Status) → IsDecided reading → Comes reading old mid o → Says reading old.held r →
+reported_ends : (reading : Reading) (old mid new : FilesSeen) (sink sink' : SinkSeen) (o : Outcome) (r : Report) (result : Status) → IsDecided reading → IsCommandOutcome reading old mid o → ReadingSays reading old.held r →
     IsReported r mid new sink sink' result → LeavesFaults mid new → Ends reading old new sink sink' result
 reported_ends reading old mid new sink sink' o r result decided comes said h leaves =
     let here : IsReported r old new sink sink' result = reported_since r reading old mid new sink sink' o result comes h in
@@ -73,7 +73,7 @@ reported_ends reading old mid new sink sink' o r result decided comes said h lea
       complete = complete_here reading decided r old new sink sink' result said here;
     }
 
-unread_ends : (reading : Reading) (old mid new : FilesSeen) (sink sink' : SinkSeen) (o : Outcome) (result : Status) → IsDecided reading → Comes reading old mid o → HasNotRead reading old mid → IsQuiet mid new sink sink' → result ≡ Fault → Ends reading old new sink sink' result
+unread_ends : (reading : Reading) (old mid new : FilesSeen) (sink sink' : SinkSeen) (o : Outcome) (result : Status) → IsDecided reading → IsCommandOutcome reading old mid o → HasNotRead reading old mid → FilesAndSinkStay mid new sink sink' → result ≡ Fault → Ends reading old new sink sink' result
 unread_ends reading old mid new sink sink' o result decided comes failed quiet e =
     let held : new.held ≡ old.held = ap (λ (f : FilesSeen). f.held) quiet.files_stay ∙ comes.held in
     record {
@@ -88,7 +88,7 @@ unread_ends reading old mid new sink sink' o result decided comes failed quiet e
       complete = λ s. absurd (failed.unsure s);
     }
 
-memory_ends : (reading : Reading) (old mid new : FilesSeen) (sink sink' : SinkSeen) (o : Outcome) (result : Status) → IsDecided reading → Comes reading old mid o → IsQuiet mid new sink sink' → result ≡ NoMemory → Ends reading old new sink sink' result
+memory_ends : (reading : Reading) (old mid new : FilesSeen) (sink sink' : SinkSeen) (o : Outcome) (result : Status) → IsDecided reading → IsCommandOutcome reading old mid o → FilesAndSinkStay mid new sink sink' → result ≡ NoMemory → Ends reading old new sink sink' result
 memory_ends reading old mid new sink sink' o result decided comes quiet e =
     let held : new.held ≡ old.held = ap (λ (f : FilesSeen). f.held) quiet.files_stay ∙ comes.held in
     record {
@@ -103,7 +103,7 @@ memory_ends reading old mid new sink sink' o result decided comes quiet e =
       complete = λ s room q other. inr e;
     }
 
-pub ends : (reading : Reading) (old mid new : FilesSeen) (sink sink' : SinkSeen) (o : Outcome) (result : Status) → IsDecided reading → Comes reading old mid o → Finishes o mid new sink sink' result → Ends reading old new sink sink' result
+pub ends : (reading : Reading) (old mid new : FilesSeen) (sink sink' : SinkSeen) (o : Outcome) (result : Status) → IsDecided reading → IsCommandOutcome reading old mid o → FinishesOutcome o mid new sink sink' result → Ends reading old new sink sink' result
 ends reading old mid new sink sink' (outcome.Report s text writes) result decided comes f =
     reported_ends reading old mid new sink sink' (outcome.Report s text writes) (record { status = s; text = text.items; writes = writes.items }) result decided comes comes.told f.0 f.1
 ends reading old mid new sink sink' outcome.Unread result decided comes f = unread_ends reading old mid new sink sink' outcome.Unread result decided comes comes.told f.0 f.1

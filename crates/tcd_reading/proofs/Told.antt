@@ -1,41 +1,41 @@
 -- The outcome of a command, from the results of its parts.
 use Rattle.std.proofs.Common.{◌≡◌, ◌≤◌, inl, inr, ℕ, List, length, Option, Result, Ok, Err, refl, sym, subst, ◌∙◌, arith}
 use Rattle.std.specs.Prelude.{IfErr, IsTrue}
-use Rattle.tcd_base.specs.Files.{Map, FilesSeen, LeavesFiles, IsTooLong, Reads}
+use Rattle.tcd_base.specs.Files.{FileMap, FilesSeen, LeavesFiles, IsFileTooLong, ReadsFile}
 use Rattle.tcd_base.specs.FailingCalls.{FaultCounted}
-use Rattle.tcd_reading.specs.Reports.{Report, Refuses}
-use Rattle.tcd_reading.specs.Inputs.{FormSeen, HoldsInput, IsRefusal, long, bad, Reading, answer, input, Says, HoldsAsked, AreSureOf, HasNotRead}
-use Rattle.tcd_reading.specs.Outcomes.{IsTold, Stops, HasFailed, Comes}
+use Rattle.tcd_reading.specs.Reports.{Report, RefusesInput}
+use Rattle.tcd_reading.specs.Inputs.{FormSeen, HoldsInput, IsInputRefusal, long, bad, Reading, answer, input, ReadingSays, HoldsAsked, AreSureOf, HasNotRead}
+use Rattle.tcd_reading.specs.Outcomes.{IsToldOutcome, IsBadInputOutcome, HasFailedToRead, IsCommandOutcome}
 use Rattle.tcd_reading.specs.declared.outcome.Outcome.{Outcome}
 use Rattle.tcd_reading.specs.declared.outcome.Outcome.TheVariants as outcome
 
 -- ---- outcomes
 -- an outcome for one property of reports is one for a weaker property
-pub told_as : (P Q : Report → Type 0) (F G : Type 0) (o : Outcome) → IsTold P F o → ((r : Report) → P r → Q r) → (F → G) → IsTold Q G o
+pub told_as : (P Q : Report → Type 0) (F G : Type 0) (o : Outcome) → IsToldOutcome P F o → ((r : Report) → P r → Q r) → (F → G) → IsToldOutcome Q G o
 told_as P Q F G (outcome.Report s text writes) h p f = p (record { status = s; text = text.items; writes = writes.items }) h
 told_as P Q F G outcome.Unread h p f = f h
 told_as P Q F G outcome.NoMemory h p f = tt
 
-pub told_more : (P Q : Report → Type 0) (o : Outcome) → IsTold P ⊥ o → ((r : Report) → P r → Q r) → IsTold Q ⊥ o
+pub told_more : (P Q : Report → Type 0) (o : Outcome) → IsToldOutcome P ⊥ o → ((r : Report) → P r → Q r) → IsToldOutcome Q ⊥ o
 told_more P Q o h p = told_as P Q ⊥ ⊥ o h p (λ f. f)
 
 -- a refusal by other words
-pub refuses_as : (P Q : List ℕ → Type 0) (r : Report) → Refuses P r → ((t : List ℕ) → P t → Q t) → Refuses Q r
+pub refuses_as : (P Q : List ℕ → Type 0) (r : Report) → RefusesInput P r → ((t : List ℕ) → P t → Q t) → RefusesInput Q r
 refuses_as P Q r h f = record { status = h.status; line = f r.text h.line; nothing = h.nothing }
 
-pub stops_as : (P Q : List ℕ → Type 0) (F G : Type 0) (o : Outcome) → Stops P F o → ((t : List ℕ) → P t → Q t) → (F → G) → Stops Q G o
-stops_as P Q F G o h p f = told_as (λ r. Refuses P r) (λ r. Refuses Q r) F G o h (λ r x. refuses_as P Q r x p) f
+pub stops_as : (P Q : List ℕ → Type 0) (F G : Type 0) (o : Outcome) → IsBadInputOutcome P F o → ((t : List ℕ) → P t → Q t) → (F → G) → IsBadInputOutcome Q G o
+stops_as P Q F G o h p f = told_as (λ r. RefusesInput P r) (λ r. RefusesInput Q r) F G o h (λ r x. refuses_as P Q r x p) f
 
-pub err_as : {T : Type 0} (P Q : List ℕ → Type 0) (F G : Type 0) (r : Result T Outcome) → IfErr r (Stops P F) → ((t : List ℕ) → P t → Q t) → (F → G) → IfErr r (Stops Q G)
+pub err_as : {T : Type 0} (P Q : List ℕ → Type 0) (F G : Type 0) (r : Result T Outcome) → IfErr r (IsBadInputOutcome P F) → ((t : List ℕ) → P t → Q t) → (F → G) → IfErr r (IsBadInputOutcome Q G)
 err_as P Q F G (Ok x) h p f = tt
 err_as P Q F G (Err o) h p f = stops_as P Q F G o h p f
 
 -- ---- one input
 -- a file above the limit, and bytes that are none
-pub long_line : {A : Type 0} (form : FormSeen A) (held : Option Map) (name : List ℕ) (limit : ℕ) (t : List ℕ) → limit ≡ form.limit → IsTooLong held name limit → t ≡ form.long_line → IsRefusal form held name t
-long_line form held name limit t e h is = long (subst (λ (n : ℕ). IsTooLong held name n) e h) is
+pub long_line : {A : Type 0} (form : FormSeen A) (held : Option FileMap) (name : List ℕ) (limit : ℕ) (t : List ℕ) → limit ≡ form.limit → IsFileTooLong held name limit → t ≡ form.long_line → IsInputRefusal form held name t
+long_line form held name limit t e h is = long (subst (λ (n : ℕ). IsFileTooLong held name n) e h) is
 
-pub bad_line : {A : Type 0} (form : FormSeen A) (held : Option Map) (name bytes : List ℕ) (limit : ℕ) (t : List ℕ) → limit ≡ form.limit → Reads held name bytes → length bytes ≤ limit → form.IsBad bytes t → IsRefusal form held name t
+pub bad_line : {A : Type 0} (form : FormSeen A) (held : Option FileMap) (name bytes : List ℕ) (limit : ℕ) (t : List ℕ) → limit ≡ form.limit → ReadsFile held name bytes → length bytes ≤ limit → form.IsBad bytes t → IsInputRefusal form held name t
 bad_line form held name bytes limit t l holds short is = bad bytes holds (subst (λ (n : ℕ). length bytes ≤ n) l short) is
 
 -- ---- inputs one after another
@@ -46,17 +46,17 @@ counted_later a b c le (inr h) = inr h
 -- the outcome of the rest of a reading, from the files as they are, is the outcome of the whole
 -- from the files before
 pub record Leads (whole rest : Reading) (old mid : FilesSeen) : Type 0 where
-  pub comes : (new : FilesSeen) (o : Outcome) → Comes rest mid new o → Comes whole old new o
+  pub comes : (new : FilesSeen) (o : Outcome) → IsCommandOutcome rest mid new o → IsCommandOutcome whole old new o
 
 -- an input that isn't there
 pub comes_stopped : (A : Type 0) (form : FormSeen A) (name : List ℕ) (next : A → Reading) (old new : FilesSeen) (o : Outcome) → LeavesFiles name old new → old.faults ≤ new.faults →
-    Stops (IsRefusal form old.held name) (HasFailed name old new) o → Comes (input A form name next) old new o
+    IsBadInputOutcome (IsInputRefusal form old.held name) (HasFailedToRead name old new) o → IsCommandOutcome (input A form name next) old new o
 comes_stopped A form name next old new o leaves later stops = record {
   held = leaves.held;
   steady = leaves.steady;
   later = later;
   sure = λ s. leaves.sure (record { steady = s.steady; holds = s.hold.0 });
-  told = told_as (λ r. Refuses (IsRefusal form old.held name) r) (Says (input A form name next) old.held) (HasFailed name old new) (HasNotRead (input A form name next) old new) o stops
+  told = told_as (λ r. RefusesInput (IsInputRefusal form old.held name) r) (ReadingSays (input A form name next) old.held) (HasFailedToRead name old new) (HasNotRead (input A form name next) old new) o stops
       (λ r h. inl h)
       (λ f. record { counted = f.counted; unsure = λ s. f.unsure (record { steady = s.steady; holds = s.hold.0 }) });
 }
@@ -64,7 +64,7 @@ comes_stopped A form name next old new o leaves later stops = record {
 -- an input that is read, and then the rest
 sure_next : (A : Type 0) (form : FormSeen A) (name : List ℕ) (next : A → Reading) (x : A) (old mid : FilesSeen) → LeavesFiles name old mid → HoldsInput form old.held name x → AreSureOf (input A form name next) old → AreSureOf (next x) mid
 sure_next A form name next x old mid leaves holds s =
-    record { steady = subst IsTrue (sym leaves.steady) s.steady; hold = subst (λ (h : Option Map). HoldsAsked (next x) h) (sym leaves.held) (s.hold.1 x holds) }
+    record { steady = subst IsTrue (sym leaves.steady) s.steady; hold = subst (λ (h : Option FileMap). HoldsAsked (next x) h) (sym leaves.held) (s.hold.1 x holds) }
 
 pub leads_read : (A : Type 0) (form : FormSeen A) (name : List ℕ) (next : A → Reading) (x : A) (old mid : FilesSeen) → LeavesFiles name old mid → old.faults ≤ mid.faults → HoldsInput form old.held name x → Leads (input A form name next) (next x) old mid
 leads_read A form name next x old mid leaves later holds = record {
@@ -73,8 +73,8 @@ leads_read A form name next x old mid leaves later holds = record {
     steady = rest.steady ∙ leaves.steady;
     later = let y = rest.later in omega arith;
     sure = λ s. rest.sure (sure_next A form name next x old mid leaves holds s) ∙ leaves.sure (record { steady = s.steady; holds = s.hold.0 });
-    told = told_as (Says (next x) mid.held) (Says (input A form name next) old.held) (HasNotRead (next x) mid new) (HasNotRead (input A form name next) old new) o rest.told
-        (λ r h. inr (x, holds, subst (λ (m : Option Map). Says (next x) m r) leaves.held h))
+    told = told_as (ReadingSays (next x) mid.held) (ReadingSays (input A form name next) old.held) (HasNotRead (next x) mid new) (HasNotRead (input A form name next) old new) o rest.told
+        (λ r h. inr (x, holds, subst (λ (m : Option FileMap). ReadingSays (next x) m r) leaves.held h))
         (λ f. record { counted = counted_later old.faults mid.faults new.faults later f.counted; unsure = λ s. f.unsure (sure_next A form name next x old mid leaves holds s) });
   };
 }
@@ -86,7 +86,7 @@ pub leads_here : (a : Reading) (x : FilesSeen) → Leads a a x x
 leads_here a x = record { comes = λ new o rest. rest }
 
 -- all inputs are read
-pub comes_told : (P : Report → Type 0) (files : FilesSeen) (o : Outcome) → IsTold P ⊥ o → Comes (answer P) files files o
+pub comes_told : (P : Report → Type 0) (files : FilesSeen) (o : Outcome) → IsToldOutcome P ⊥ o → IsCommandOutcome (answer P) files files o
 comes_told P files o h = record {
   held = refl;
   steady = refl;
@@ -96,5 +96,5 @@ comes_told P files o h = record {
 }
 
 -- memory ran out
-pub comes_none : (reading : Reading) (files : FilesSeen) → Comes reading files files outcome.NoMemory
+pub comes_none : (reading : Reading) (files : FilesSeen) → IsCommandOutcome reading files files outcome.NoMemory
 comes_none reading files = record { held = refl; steady = refl; later = omega arith; sure = λ s. refl; told = tt }

@@ -2,10 +2,10 @@
 -- These are the statements of the guard laws: if the definition said less, a law would fail.
 use Rattle.std.specs.Prelude.{◌≡◌, ◌≢◌, ◌-◌, ◌<◌, ◌≤◌, ◌⊎◌, ℕ, true, false, List, ◌∷◌, ◌++◌, length, slice_get, Some, None, []}
 use Rattle.std.specs.FinMap.{get}
-use Rattle.tcd_base.specs.Files.{Map, FilesSeen}
+use Rattle.tcd_base.specs.Files.{FileMap, FilesSeen}
 use Rattle.tcd_base.specs.Sink.{SinkSeen}
-use Rattle.tcd_reading.specs.Reports.{Written, Report}
-use Rattle.tcd_reading.specs.Inputs.{Reading, Says, HoldsAsked}
+use Rattle.tcd_reading.specs.Reports.{ReportFile, Report}
+use Rattle.tcd_reading.specs.Inputs.{Reading, ReadingSays, HoldsAsked}
 use Rattle.tcd_reading.specs.Endings.{Ends}
 use Rattle.tcd_reading.specs.declared.status.Status.{Status}
 use Rattle.tcd_reading.specs.declared.status.Status.TheVariants.{Done, Refused, BadInput, Fault, NoMemory, BadWords}
@@ -14,24 +14,24 @@ use Rattle.tcd_base.specs.FailingCalls.{FaultCounted}
 -- ---- files and faults
 -- A name holds the bytes of the last of these files with that name. If no file has it, it holds
 -- what it held before.
-pub record HoldsLast (old new : Map) (writes : List Written) (name : List ℕ) : Type 0 where
+pub record HoldsLastWritten (old new : FileMap) (writes : List ReportFile) (name : List ℕ) : Type 0 where
   pub last :
       (i : ℕ) (bytes : List ℕ) → slice_get writes i ≡ Some (record { name = name; bytes = bytes })
-      → ((j : ℕ) (w : Written) → i < j → slice_get writes j ≡ Some w → w.name ≢ name) → get new name ≡ Some bytes
-  pub other : ((i : ℕ) (w : Written) → slice_get writes i ≡ Some w → w.name ≢ name) → get new name ≡ get old name
+      → ((j : ℕ) (w : ReportFile) → i < j → slice_get writes j ≡ Some w → w.name ≢ name) → get new name ≡ Some bytes
+  pub other : ((i : ℕ) (w : ReportFile) → slice_get writes i ≡ Some w → w.name ≢ name) → get new name ≡ get old name
 
--- Writing failed at one of these files. Each other name holds the last of the earlier files with
--- that name, or what it held before.
-pub record BreaksOff (old new : Map) (writes : List Written) : Type 0 where
-  pub front : List Written
-  pub at : Written
-  pub behind : List Written
+-- Writing a report's files failed at one of them. Each other name holds the last of the earlier
+-- files with that name, or what it held before.
+pub record WritingBreaksOff (old new : FileMap) (writes : List ReportFile) : Type 0 where
+  pub front : List ReportFile
+  pub at : ReportFile
+  pub behind : List ReportFile
   pub are : writes ≡ front ++ at ∷ behind
-  pub others : (name : List ℕ) → name ≢ at.name → HoldsLast old new front name
+  pub others : (name : List ℕ) → name ≢ at.name → HoldsLastWritten old new front name
 
--- each name holds what it held
-abbrev pub AllStay : Map → Map → Type 0
-AllStay old new = (name : List ℕ) → get new name ≡ get old name
+-- each name holds at the end of a command what it held before
+abbrev pub AllFilesStay : FileMap → FileMap → Type 0
+AllFilesStay old new = (name : List ℕ) → get new name ≡ get old name
 
 -- ---- ends
 -- How a command ended. Before, the files held m and the sink held text; after, they hold m' and
@@ -42,85 +42,85 @@ AllStay old new = (name : List ℕ) → get new name ≡ get old name
 -- - unwritten, unfinished: a write failed or ran out of memory, and nothing was printed.
 -- - unread: a file couldn't be read, so the files may fail or lack an input that the command needs.
 -- - no_memory: memory ran out, and nothing was written.
-pub data HasEndedSo (reading : Reading) (files files' : FilesSeen) (sink sink' : SinkSeen) (m m' : Map) (text text' : List ℕ) (result : Status) : Type 0 where
+pub data HasEndedByLaw (reading : Reading) (files files' : FilesSeen) (sink sink' : SinkSeen) (m m' : FileMap) (text text' : List ℕ) (result : Status) : Type 0 where
   told :
-      (report : Report) → Says reading (Some m) report → result ≡ report.status → ((name : List ℕ) → HoldsLast m m' report.writes name)
+      (report : Report) → ReadingSays reading (Some m) report → result ≡ report.status → ((name : List ℕ) → HoldsLastWritten m m' report.writes name)
       → text' ≡ text ++ report.text
       → ((n : ℕ) → sink.room ≡ Some n → length report.text ≤ n → sink'.room ≡ Some (n - length report.text))
-      → HasEndedSo reading files files' sink sink' m m' text text' result
+      → HasEndedByLaw reading files files' sink sink' m m' text text' result
   cut :
-      (report : Report) → Says reading (Some m) report → result ≡ Fault → ((name : List ℕ) → HoldsLast m m' report.writes name)
+      (report : Report) → ReadingSays reading (Some m) report → result ≡ Fault → ((name : List ℕ) → HoldsLastWritten m m' report.writes name)
       → (front rest : List ℕ) → report.text ≡ front ++ rest → text' ≡ text ++ front → FaultCounted sink.faults sink'.faults
-      → ((n : ℕ) → sink.room ≡ Some n → n < length report.text) → HasEndedSo reading files files' sink sink' m m' text text' result
+      → ((n : ℕ) → sink.room ≡ Some n → n < length report.text) → HasEndedByLaw reading files files' sink sink' m m' text text' result
   unwritten :
-      (report : Report) → Says reading (Some m) report → result ≡ Fault → BreaksOff m m' report.writes → text' ≡ text
-      → FaultCounted files.faults files'.faults → files.steady ≡ false → HasEndedSo reading files files' sink sink' m m' text text' result
+      (report : Report) → ReadingSays reading (Some m) report → result ≡ Fault → WritingBreaksOff m m' report.writes → text' ≡ text
+      → FaultCounted files.faults files'.faults → files.steady ≡ false → HasEndedByLaw reading files files' sink sink' m m' text text' result
   unfinished :
-      (report : Report) → Says reading (Some m) report → result ≡ NoMemory → BreaksOff m m' report.writes → text' ≡ text
-      → HasEndedSo reading files files' sink sink' m m' text text' result
+      (report : Report) → ReadingSays reading (Some m) report → result ≡ NoMemory → WritingBreaksOff m m' report.writes → text' ≡ text
+      → HasEndedByLaw reading files files' sink sink' m m' text text' result
   unread :
-      result ≡ Fault → AllStay m m' → text' ≡ text → FaultCounted files.faults files'.faults → (files.steady ≡ true → HoldsAsked reading (Some m) → ⊥)
-      → HasEndedSo reading files files' sink sink' m m' text text' result
-  no_memory : result ≡ NoMemory → AllStay m m' → text' ≡ text → HasEndedSo reading files files' sink sink' m m' text text' result
+      result ≡ Fault → AllFilesStay m m' → text' ≡ text → FaultCounted files.faults files'.faults → (files.steady ≡ true → HoldsAsked reading (Some m) → ⊥)
+      → HasEndedByLaw reading files files' sink sink' m m' text text' result
+  no_memory : result ≡ NoMemory → AllFilesStay m m' → text' ≡ text → HasEndedByLaw reading files files' sink sink' m m' text text' result
 
--- How a command ends if files and sink reveal their contents: the files held m, and the sink held
--- text.
-pub record EndsSo (reading : Reading) (files files' : FilesSeen) (sink sink' : SinkSeen) (m : Map) (text : List ℕ) (result : Status) : Type 0 where
-  pub after : Map
+-- How a command ends by the laws of endings if files and sink reveal their contents: the files held
+-- m, and the sink held text.
+pub record EndsByLaw (reading : Reading) (files files' : FilesSeen) (sink sink' : SinkSeen) (m : FileMap) (text : List ℕ) (result : Status) : Type 0 where
+  pub after : FileMap
   pub held : files'.held ≡ Some after
   pub printed : List ℕ
   pub written : sink'.written ≡ Some printed
-  pub ended : HasEndedSo reading files files' sink sink' m after text printed result
+  pub ended : HasEndedByLaw reading files files' sink sink' m after text printed result
   pub some_words : result ≢ BadWords
   pub statuses :
-      (report : Report) → Says reading (Some m) report
+      (report : Report) → ReadingSays reading (Some m) report
       → (report.status ≡ Done) ⊎ ((report.status ≡ Refused) ⊎ (report.status ≡ BadInput))
-  pub only_done : (report : Report) → Says reading (Some m) report → report.status ≢ Done → report.writes ≡ []
-  pub stays : (result ≡ Refused) ⊎ (result ≡ BadInput) → AllStay m after
+  pub only_done : (report : Report) → ReadingSays reading (Some m) report → report.status ≢ Done → report.writes ≡ []
+  pub stays : (result ≡ Refused) ⊎ (result ≡ BadInput) → AllFilesStay m after
   pub steady : files'.steady ≡ files.steady
   pub files_sure : files.steady ≡ true → HoldsAsked reading (Some m) → files'.faults ≡ files.faults
   pub sink_sure :
-      (n : ℕ) → sink.room ≡ Some n → ((report : Report) → Says reading (Some m) report → length report.text ≤ n) → sink'.faults ≡ sink.faults
+      (n : ℕ) → sink.room ≡ Some n → ((report : Report) → ReadingSays reading (Some m) report → length report.text ≤ n) → sink'.faults ≡ sink.faults
   pub complete :
       (n : ℕ) → files.steady ≡ true → HoldsAsked reading (Some m) → sink.room ≡ Some n
-      → ((report : Report) → Says reading (Some m) report → length report.text ≤ n)
-      → (report : Report) → Says reading (Some m) report → (result ≡ report.status) ⊎ (result ≡ NoMemory)
+      → ((report : Report) → ReadingSays reading (Some m) report → length report.text ≤ n)
+      → (report : Report) → ReadingSays reading (Some m) report → (result ≡ report.status) ⊎ (result ≡ NoMemory)
 
 -- How a command ends in all cases. It never ends with the status for bad words. It ends with the
 -- status of its report, except after a counted fault or out of memory. Contents that aren't
 -- revealed remain so. Over steady files with all needed inputs, and a sink with room, no fault is
 -- counted. The status is then that of the report, or out of memory.
-pub record EndsAnyhow (reading : Reading) (files files' : FilesSeen) (sink sink' : SinkSeen) (result : Status) : Type 0 where
+pub record EndsAnyhowByLaw (reading : Reading) (files files' : FilesSeen) (sink sink' : SinkSeen) (result : Status) : Type 0 where
   pub some_words : result ≢ BadWords
   pub statuses :
-      (report : Report) → Says reading files.held report
+      (report : Report) → ReadingSays reading files.held report
       → (report.status ≡ Done) ⊎ ((report.status ≡ Refused) ⊎ (report.status ≡ BadInput))
-  pub status : result ≢ Fault → result ≢ NoMemory → (report : Report) × Says reading files.held report × (result ≡ report.status)
+  pub status : result ≢ Fault → result ≢ NoMemory → (report : Report) × ReadingSays reading files.held report × (result ≡ report.status)
   pub fault :
       result ≡ Fault
       → FaultCounted files.faults files'.faults ⊎ FaultCounted sink.faults sink'.faults
   pub untold : files.held ≡ None → files'.held ≡ None
   pub unseen : sink.written ≡ None → sink'.written ≡ None
-  pub only_done : (report : Report) → Says reading files.held report → report.status ≢ Done → report.writes ≡ []
+  pub only_done : (report : Report) → ReadingSays reading files.held report → report.status ≢ Done → report.writes ≡ []
   pub stays : (result ≡ Refused) ⊎ (result ≡ BadInput) → files'.held ≡ files.held
   pub steady : files'.steady ≡ files.steady
   pub files_sure : files.steady ≡ true → HoldsAsked reading files.held → files'.faults ≡ files.faults
   pub sink_sure :
-      (n : ℕ) → sink.room ≡ Some n → ((report : Report) → Says reading files.held report → length report.text ≤ n) → sink'.faults ≡ sink.faults
+      (n : ℕ) → sink.room ≡ Some n → ((report : Report) → ReadingSays reading files.held report → length report.text ≤ n) → sink'.faults ≡ sink.faults
   pub complete :
       (n : ℕ) → files.steady ≡ true → HoldsAsked reading files.held → sink.room ≡ Some n
-      → ((report : Report) → Says reading files.held report → length report.text ≤ n)
-      → (report : Report) → Says reading files.held report → (result ≡ report.status) ⊎ (result ≡ NoMemory)
+      → ((report : Report) → ReadingSays reading files.held report → length report.text ≤ n)
+      → (report : Report) → ReadingSays reading files.held report → (result ≡ report.status) ⊎ (result ≡ NoMemory)
 
 -- a command with this reading that ends, ends so, if files and sink reveal their contents
 abbrev pub EndsSay : Reading → Type 0
 EndsSay reading =
-    (files files' : FilesSeen) (sink sink' : SinkSeen) (result : Status) (m : Map) (text : List ℕ)
+    (files files' : FilesSeen) (sink sink' : SinkSeen) (result : Status) (m : FileMap) (text : List ℕ)
     → files.held ≡ Some m → sink.written ≡ Some text → Ends reading files files' sink sink' result
-    → EndsSo reading files files' sink sink' m text result
+    → EndsByLaw reading files files' sink sink' m text result
 
 -- a command with this reading that ends, ends so in all cases
 abbrev pub EndsAnyhowSay : Reading → Type 0
 EndsAnyhowSay reading =
     (files files' : FilesSeen) (sink sink' : SinkSeen) (result : Status)
-    → Ends reading files files' sink sink' result → EndsAnyhow reading files files' sink sink' result
+    → Ends reading files files' sink sink' result → EndsAnyhowByLaw reading files files' sink sink' result

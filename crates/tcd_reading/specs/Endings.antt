@@ -1,62 +1,63 @@
 -- How a command ends, in terms of the views of the files and of the sink.
 use Rattle.std.specs.Prelude.{◌≡◌, ◌≢◌, ◌⊎◌, Option, ◌≤◌, ℕ, List, IsTrue, ◌∷◌, ◌++◌, []}
-use Rattle.tcd_base.specs.Files.{Map, FilesSeen, LeavesFaults, OthersStay}
+use Rattle.tcd_base.specs.Files.{FileMap, FilesSeen, LeavesFaults, OthersStay}
 use Rattle.tcd_base.specs.FailingCalls.{FaultCounted}
 use Rattle.tcd_base.specs.Sink.{SinkSeen, HasRoomFor, AppendsFront, IsPrinted}
-use Rattle.tcd_reading.specs.Reports.{Report, IsReportStatus, with_written, Written}
-use Rattle.tcd_reading.specs.Inputs.{Reading, Says, AreSureOf}
+use Rattle.tcd_reading.specs.Reports.{Report, IsReportStatus, with_report_files, ReportFile}
+use Rattle.tcd_reading.specs.Inputs.{Reading, ReadingSays, AreSureOf}
 use Rattle.tcd_reading.specs.declared.status.Status.{Status}
 use Rattle.tcd_reading.specs.declared.status.Status.TheVariants.{Done, Refused, BadInput, Fault, NoMemory, BadWords}
 use Rattle.tcd_reading.specs.declared.outcome.Outcome.{Outcome}
 use Rattle.tcd_reading.specs.declared.status.Status.TheVariants as status
 use Rattle.tcd_reading.specs.declared.outcome.Outcome.TheVariants as outcome
 
--- the sink has room for the text of each report
-abbrev pub HasRoom : Reading → Option Map → SinkSeen → Type 0
-HasRoom reading held sink = (report : Report) → Says reading held report → HasRoomFor sink report.text
+-- the sink has room for the text of each report, so that the command doesn't end with a fault of
+-- the sink
+abbrev pub HasRoomForReports : Reading → Option FileMap → SinkSeen → Type 0
+HasRoomForReports reading held sink = (report : Report) → ReadingSays reading held report → HasRoomFor sink report.text
 
 -- the text is printed whole, and its status returned; or the sink, which lacks room for it, failed
 -- within it
-pub data Prints (s : Status) (text : List ℕ) (old new : SinkSeen) (result : Status) : Type 0 where
-  whole : result ≡ s → IsPrinted text old new → Prints s text old new result
+pub data PrintsWithStatus (s : Status) (text : List ℕ) (old new : SinkSeen) (result : Status) : Type 0 where
+  whole : result ≡ s → IsPrinted text old new → PrintsWithStatus s text old new result
   cut :
       result ≡ status.Fault → AppendsFront old.written new.written text → FaultCounted old.faults new.faults → (HasRoomFor old text → ⊥)
-      → Prints s text old new result
+      → PrintsWithStatus s text old new result
 
--- Writing a file failed. The files before it are written, its own contents are unknown, and the
--- files after it aren't touched.
-pub record Stopped (held held' : Option Map) (writes : List Written) : Type 0 where
-  pub front : List Written
-  pub at : Written
-  pub rest : List Written
+-- An ending in which writing a file failed: the files before it are written, its own contents are
+-- unknown, and the files after it aren't touched.
+pub record ReportWritingStopped (held held' : Option FileMap) (writes : List ReportFile) : Type 0 where
+  pub front : List ReportFile
+  pub at : ReportFile
+  pub rest : List ReportFile
   pub are : writes ≡ front ++ at ∷ rest
-  pub others : OthersStay at.name (with_written held front) held'
+  pub others : OthersStay at.name (with_report_files held front) held'
 
 -- How a report ends. Its files are written and its text is printed. Or a write failed, so the files
 -- aren't steady. Or memory ran out in a write. If a write failed, nothing is printed.
 pub data IsReported (report : Report) (files files' : FilesSeen) (sink sink' : SinkSeen) (result : Status) : Type 0 where
-  printed : files'.held ≡ with_written files.held report.writes → Prints report.status report.text sink sink' result → IsReported report files files' sink sink' result
+  printed : files'.held ≡ with_report_files files.held report.writes → PrintsWithStatus report.status report.text sink sink' result → IsReported report files files' sink sink' result
   unwritten :
-      result ≡ status.Fault → sink' ≡ sink → Stopped files.held files'.held report.writes → FaultCounted files.faults files'.faults
+      result ≡ status.Fault → sink' ≡ sink → ReportWritingStopped files.held files'.held report.writes → FaultCounted files.faults files'.faults
       → (IsTrue files.steady → ⊥) → IsReported report files files' sink sink' result
-  no_memory : result ≡ status.NoMemory → sink' ≡ sink → Stopped files.held files'.held report.writes → IsReported report files files' sink sink' result
+  no_memory : result ≡ status.NoMemory → sink' ≡ sink → ReportWritingStopped files.held files'.held report.writes → IsReported report files files' sink sink' result
 
 -- the views of the files and of the sink don't change
-pub record IsQuiet (files files' : FilesSeen) (sink sink' : SinkSeen) : Type 0 where
+pub record FilesAndSinkStay (files files' : FilesSeen) (sink sink' : SinkSeen) : Type 0 where
   pub files_stay : files' ≡ files
   pub sink_stays : sink' ≡ sink
 
--- the end of a command with this outcome
-abbrev pub Finishes : Outcome → FilesSeen → FilesSeen → SinkSeen → SinkSeen → Status → Type 0
-Finishes (outcome.Report s text writes) files files' sink sink' result =
+-- how a command with this outcome ends, by the views of the files and of the sink before and after
+abbrev pub FinishesOutcome : Outcome → FilesSeen → FilesSeen → SinkSeen → SinkSeen → Status → Type 0
+FinishesOutcome (outcome.Report s text writes) files files' sink sink' result =
     IsReported (record { status = s; text = text.items; writes = writes.items }) files files' sink sink' result × LeavesFaults files files' × (files.faults ≤ files'.faults)
-Finishes outcome.Unread files files' sink sink' result = IsQuiet files files' sink sink' × (result ≡ status.Fault)
-Finishes outcome.NoMemory files files' sink sink' result = IsQuiet files files' sink sink' × (result ≡ status.NoMemory)
+FinishesOutcome outcome.Unread files files' sink sink' result = FilesAndSinkStay files files' sink sink' × (result ≡ status.Fault)
+FinishesOutcome outcome.NoMemory files files' sink sink' result = FilesAndSinkStay files files' sink sink' × (result ≡ status.NoMemory)
 
 -- A report was written and printed. Or a file couldn't be read, so the files aren't sure of all
 -- needed inputs. Or memory ran out before anything was written or printed.
 pub data HasEnded (reading : Reading) (files files' : FilesSeen) (sink sink' : SinkSeen) (result : Status) : Type 0 where
-  reported : (report : Report) → Says reading files.held report → IsReported report files files' sink sink' result → HasEnded reading files files' sink sink' result
+  reported : (report : Report) → ReadingSays reading files.held report → IsReported report files files' sink sink' result → HasEnded reading files files' sink sink' result
   unread :
       result ≡ Fault → files'.held ≡ files.held → sink' ≡ sink → FaultCounted files.faults files'.faults → (AreSureOf reading files → ⊥)
       → HasEnded reading files files' sink sink' result
@@ -70,12 +71,12 @@ pub data HasEnded (reading : Reading) (files files' : FilesSeen) (sink sink' : S
 pub record Ends (reading : Reading) (files files' : FilesSeen) (sink sink' : SinkSeen) (result : Status) : Type 0 where
   pub ended : HasEnded reading files files' sink sink' result
   pub no_bad_words : result ≢ BadWords
-  pub statuses : (report : Report) → Says reading files.held report → IsReportStatus report.status
-  pub only_done : (report : Report) → Says reading files.held report → report.status ≢ Done → report.writes ≡ []
+  pub statuses : (report : Report) → ReadingSays reading files.held report → IsReportStatus report.status
+  pub only_done : (report : Report) → ReadingSays reading files.held report → report.status ≢ Done → report.writes ≡ []
   pub stays : (result ≡ Refused) ⊎ (result ≡ BadInput) → files'.held ≡ files.held
   pub steady : files'.steady ≡ files.steady
   pub files_sure : AreSureOf reading files → files'.faults ≡ files.faults
-  pub sink_sure : HasRoom reading files.held sink → sink'.faults ≡ sink.faults
+  pub sink_sure : HasRoomForReports reading files.held sink → sink'.faults ≡ sink.faults
   pub complete :
-      AreSureOf reading files → HasRoom reading files.held sink → (report : Report) → Says reading files.held report
+      AreSureOf reading files → HasRoomForReports reading files.held sink → (report : Report) → ReadingSays reading files.held report
       → (result ≡ report.status) ⊎ (result ≡ NoMemory)

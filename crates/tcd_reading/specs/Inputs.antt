@@ -1,7 +1,7 @@
 -- The inputs of a command, in the order in which they are read.
 use Rattle.std.specs.Prelude.{◌≡◌, ◌≤◌, ◌+◌, ◌⊎◌, ℕ, List, ◌∷◌, length, Option, IsTrue, ◌<◌, Some, []}
-use Rattle.tcd_base.specs.Files.{Map, FilesSeen, Reads, IsTooLong, Holds}
-use Rattle.tcd_reading.specs.Reports.{Report, Refuses}
+use Rattle.tcd_base.specs.Files.{FileMap, FilesSeen, ReadsFile, IsFileTooLong, HasFileOfName}
+use Rattle.tcd_reading.specs.Reports.{Report, RefusesInput}
 use Rattle.std.specs.FinMap.{get}
 use Rattle.tcd_base.specs.FailingCalls.{FaultCounted}
 
@@ -15,26 +15,26 @@ pub record FormSeen (A : Type 0) : Type 1 where
   pub IsBad : List ℕ → List ℕ → Type 0
 
 -- the file of this name has this value
-abbrev pub HoldsInput : {A : Type 0} → FormSeen A → Option Map → List ℕ → A → Type 0
-HoldsInput form held name x = (bytes : List ℕ) × Reads held name bytes × (length bytes ≤ form.limit) × form.Is bytes x
+abbrev pub HoldsInput : {A : Type 0} → FormSeen A → Option FileMap → List ℕ → A → Type 0
+HoldsInput form held name x = (bytes : List ℕ) × ReadsFile held name bytes × (length bytes ≤ form.limit) × form.Is bytes x
 
--- The bytes of a file are within its form's limit, and have this value.
-pub record IsHeldAs {A : Type 0} (form : FormSeen A) (m : Map) (name : List ℕ) (x : A) : Type 0 where
+-- The input of this name is held: its bytes are within its form's limit, and have this value.
+pub record IsHeldAs {A : Type 0} (form : FormSeen A) (m : FileMap) (name : List ℕ) (x : A) : Type 0 where
   pub bytes : List ℕ
   pub held : get m name ≡ Some bytes
   pub short : length bytes ≤ form.limit
   pub is : form.Is bytes x
 
--- The bytes of a file are above its form's limit, with this line; or within the limit but without a
--- value, with one of the lines for that.
-pub data IsHeldBad {A : Type 0} (form : FormSeen A) (m : Map) (name line : List ℕ) : Type 0 where
+-- The input of this name is bad: its bytes are above its form's limit, with this line; or within
+-- the limit but without a value, with one of the lines for that.
+pub data IsHeldBad {A : Type 0} (form : FormSeen A) (m : FileMap) (name line : List ℕ) : Type 0 where
   above_limit : (bytes : List ℕ) → get m name ≡ Some bytes → form.limit < length bytes → line ≡ form.long_line → IsHeldBad form m name line
   without_value : (bytes : List ℕ) → get m name ≡ Some bytes → length bytes ≤ form.limit → form.IsBad bytes line → IsHeldBad form m name line
 
 -- the line for a file that is above the limit or isn't in its form
-pub data IsRefusal {A : Type 0} (form : FormSeen A) (held : Option Map) (name text : List ℕ) : Type 0 where
-  long : IsTooLong held name form.limit → text ≡ form.long_line → IsRefusal form held name text
-  bad : (bytes : List ℕ) → Reads held name bytes → length bytes ≤ form.limit → form.IsBad bytes text → IsRefusal form held name text
+pub data IsInputRefusal {A : Type 0} (form : FormSeen A) (held : Option FileMap) (name text : List ℕ) : Type 0 where
+  long : IsFileTooLong held name form.limit → text ≡ form.long_line → IsInputRefusal form held name text
+  bad : (bytes : List ℕ) → ReadsFile held name bytes → length bytes ≤ form.limit → form.IsBad bytes text → IsInputRefusal form held name text
 
 -- ---- the inputs of a command
 -- the inputs of a command, each in its form, and its report after all of them
@@ -48,24 +48,27 @@ abbrev pub each : (A : Type 0) → (ℕ → FormSeen A) → ℕ → List (List �
 each A form place [] next = next []
 each A form place (name ∷ names) next = input A (form place) name (λ x. each A form (place + 1) names (λ xs. next (x ∷ xs)))
 
--- the report on the files: on the first input that isn't in its form, or else on all inputs
-abbrev pub Says : Reading → Option Map → Report → Type 0
-Says (answer IsReport) held report = IsReport report
-Says (input A form name next) held report =
-    Refuses (IsRefusal form held name) report ⊎ ((x : A) × HoldsInput form held name x × Says (next x) held report)
+-- what reading the inputs of a command leads to: the report on the first input that isn't in its
+-- form, or else on all inputs
+abbrev pub ReadingSays : Reading → Option FileMap → Report → Type 0
+ReadingSays (answer IsReport) held report = IsReport report
+ReadingSays (input A form name next) held report =
+    RefusesInput (IsInputRefusal form held name) report ⊎ ((x : A) × HoldsInput form held name x × ReadingSays (next x) held report)
 
 -- the files hold each input that the command needs: the first, and each next one if the earlier
 -- ones are in their forms
-abbrev pub HoldsAsked : Reading → Option Map → Type 0
+abbrev pub HoldsAsked : Reading → Option FileMap → Type 0
 HoldsAsked (answer IsReport) held = Unit {0}
-HoldsAsked (input A form name next) held = Holds held name × ((x : A) → HoldsInput form held name x → HoldsAsked (next x) held)
+HoldsAsked (input A form name next) held = HasFileOfName held name × ((x : A) → HoldsInput form held name x → HoldsAsked (next x) held)
 
--- the files are steady and hold each input that the command needs, so reading never fails
+-- the files are steady and hold each input that the command needs, so reading its inputs never
+-- fails
 pub record AreSureOf (reading : Reading) (files : FilesSeen) : Type 0 where
   pub steady : IsTrue files.steady
   pub hold : HoldsAsked reading files.held
 
--- some input couldn't be read
+-- some input of the command couldn't be read: a fault was counted, and the files weren't sure of
+-- its inputs
 pub record HasNotRead (reading : Reading) (old new : FilesSeen) : Type 0 where
   pub counted : FaultCounted old.faults new.faults
   pub unsure : AreSureOf reading old → ⊥

@@ -1,12 +1,11 @@
 -- The report of a command: a status, a text to print, and files to write before it.
 use Rattle.std.specs.Prelude.{ℕ, List, ◌∷◌, ◌≡◌, ◌⊎◌, Option, []}
-use Rattle.tcd_base.specs.Files.{Map, with_file}
+use Rattle.tcd_base.specs.Files.{FileMap, files_after_write}
 use Rattle.tcd_reading.specs.declared.status.Status.{Status}
 use Rattle.tcd_reading.specs.declared.status.Status.TheVariants.{Done, Refused, BadInput}
-use Rattle.std.specs.List.{flat_map}
 
--- a file to write: its name and its bytes
-pub record Written : Type 0 where
+-- a file that a report writes: its name and its bytes
+pub record ReportFile : Type 0 where
   pub name : List ℕ
   pub bytes : List ℕ
 
@@ -14,9 +13,10 @@ pub record Written : Type 0 where
 pub record Report : Type 0 where
   pub status : Status
   pub text : List ℕ
-  pub writes : List Written
+  pub writes : List ReportFile
 
--- a status that a report has: neither files nor memory nor the words are at fault
+-- the status of a report: done, refused or bad input, as neither files nor memory nor the words are
+-- at fault
 abbrev pub IsReportStatus : Status → Type 0
 IsReportStatus s = (s ≡ Done) ⊎ ((s ≡ Refused) ⊎ (s ≡ BadInput))
 
@@ -29,31 +29,27 @@ abbrev pub writes_file : List ℕ → List ℕ → List ℕ → Report
 writes_file name bytes text = record { status = Done; text = text; writes = record { name = name; bytes = bytes } ∷ [] }
 
 -- a report with two files to write, in this order
-abbrev pub writes_two : Written → Written → List ℕ → Report
+abbrev pub writes_two : ReportFile → ReportFile → List ℕ → Report
 writes_two first second text = record { status = Done; text = text; writes = first ∷ second ∷ [] }
 
--- the contents of the files after these were written in order
-abbrev pub with_written : Option Map → List Written → Option Map
-with_written held [] = held
-with_written held (w ∷ ws) = with_written (with_file held w.name w.bytes) ws
+-- what the files hold after the files of a report were written in order
+abbrev pub with_report_files : Option FileMap → List ReportFile → Option FileMap
+with_report_files held [] = held
+with_report_files held (w ∷ ws) = with_report_files (files_after_write held w.name w.bytes) ws
 
--- a report of this line, with nothing to write
-pub record IsLineOf (IsLine : List ℕ → Type 0) (report : Report) : Type 0 where
+-- a report with one of these lines on a bad input, and nothing to write
+pub record ReportsBadInput (IsLine : List ℕ → Type 0) (report : Report) : Type 0 where
   pub status : report.status ≡ BadInput
   pub line : IsLine report.text
   pub writes : report.writes ≡ []
 
 -- several files to write, one after another, and the text on them
-abbrev pub writes_files : List Written → List ℕ → Report
+abbrev pub writes_files : List ReportFile → List ℕ → Report
 writes_files writes text = record { status = Done; text = text; writes = writes }
-
--- all texts that they print, one behind the other
-abbrev pub all_text : List Report → List ℕ
-all_text reports = flat_map (λ q. q.text) reports
 
 -- a report on an input that isn't in its form: one of these lines with status BadInput, and nothing
 -- to write
-pub record Refuses (IsLine : List ℕ → Type 0) (report : Report) : Type 0 where
+pub record RefusesInput (IsLine : List ℕ → Type 0) (report : Report) : Type 0 where
   pub status : report.status ≡ BadInput
   pub line : IsLine report.text
   pub nothing : report.writes ≡ []

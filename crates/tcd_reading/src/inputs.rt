@@ -1,10 +1,10 @@
 // Reads the input files of commands, and turns each into a value.
 ghost use Rattle.std.specs.Prelude.{◌≡◌, ◌≤◌, length, IfOk, IfErr};
 ghost use Rattle.tcd_base.specs.Files.{LeavesFiles};
-ghost use Rattle.tcd_reading.specs.Inputs.{FormSeen, HoldsInput, IsRefusal};
-ghost use Rattle.tcd_reading.specs.Outcomes.{HasFailed, Stops};
+ghost use Rattle.tcd_reading.specs.Inputs.{FormSeen, HoldsInput, IsInputRefusal};
+ghost use Rattle.tcd_reading.specs.Outcomes.{HasFailedToRead, IsBadInputOutcome};
 
-use crate::outcome::{Outcome, bad_input};
+use crate::outcome::{Outcome, bad_input_outcome};
 use std::alloc::Global;
 use tcd_base::{FileErr, Files, NoMemory};
 
@@ -33,17 +33,17 @@ pub trait Form {
         requires { length bytes.items ≤ (form self.now).limit }
         ensures found { IfOk result ((form self.now).Is bytes.items) }
         ensures fits { IfOk result (Fits self.now) }
-        ensures stops { IfErr result (Stops ((form self.now).IsBad bytes.items) ⊥) };
+        ensures stops { IfErr result (IsBadInputOutcome ((form self.now).IsBad bytes.items) ⊥) };
 }
 
 // The outcome for a file that wasn't read: it is too large, or reading failed.
-fn outcome_of_failure<I: Form>(form: &I, alloc: Global, e: FileErr) -> Outcome
-    ensures { Stops (λ t. (e ≡ FileErr.TooLong) × (t ≡ (I.form form.now).long_line))
+fn unread_file_outcome<I: Form>(form: &I, alloc: Global, e: FileErr) -> Outcome
+    ensures { IsBadInputOutcome (λ t. (e ≡ FileErr.TooLong) × (t ≡ (I.form form.now).long_line))
         (e ≡ FileErr.Failed) result }
 {
     match e {
         FileErr::Failed => Outcome::Unread,
-        FileErr::TooLong => bad_input(alloc, form.long_line(alloc)),
+        FileErr::TooLong => bad_input_outcome(alloc, form.long_line(alloc)),
         FileErr::NoMemory => Outcome::NoMemory,
     }
 }
@@ -60,11 +60,11 @@ pub fn read_input<I: Form, F: Files>(
     ensures found { IfOk result (HoldsInput (I.form form.now) (F.seen files.old).held name.now) }
     ensures fits { IfOk result (I.Fits form.now) }
     ensures stops { IfErr result
-        (Stops (IsRefusal (I.form form.now) (F.seen files.old).held name.now)
-        (HasFailed name.now (F.seen files.old) (F.seen files.new))) }
+        (IsBadInputOutcome (IsInputRefusal (I.form form.now) (F.seen files.old).held name.now)
+        (HasFailedToRead name.now (F.seen files.old) (F.seen files.new))) }
 {
     match files.read(alloc, name, form.limit()) {
         Ok(bytes) => form.value(alloc, bytes),
-        Err(e) => Err(outcome_of_failure(form, alloc, e)),
+        Err(e) => Err(unread_file_outcome(form, alloc, e)),
     }
 }

@@ -1,6 +1,6 @@
 // Public laws of how a command ends.
 ghost use Rattle.tcd_reading.specs.EndingLaws.{EndsAnyhowSay, EndsSay};
-ghost use Rattle.tcd_reading.specs.ReportLaws.{SaysSay, AsksSay};
+ghost use Rattle.tcd_reading.specs.ReportLaws.{ReportsOfTwoSay, InputsOfTwoSay};
 ghost use Rattle.tcd_reading.specs.Inputs.{FormSeen, Reading};
 ghost use Rattle.tcd_reading.specs.Reports.{Report};
 
@@ -37,6 +37,6 @@ pub fn endings_in_words<C: AnyCommand>()
 
 /// The reports of a command that reads two files, and the files that it needs, in plain equations.
 pub fn readings_in_words<T: AnyTwo>()
-    ensures says { SaysSay T.first T.second T.Reports }
-    ensures asks { AsksSay T.first T.second T.Reports }
+    ensures says { ReportsOfTwoSay T.first T.second T.Reports }
+    ensures asks { InputsOfTwoSay T.first T.second T.Reports }
 {}

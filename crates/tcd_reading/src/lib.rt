@@ -8,5 +8,7 @@ mod status;
 
 pub use inputs::{Form, read_input};
 pub use laws::{AnyCommand, AnyTwo, endings_in_words, readings_in_words};
-pub use outcome::{Outcome, Write, bad_input, finish, report, report_file, report_two};
-pub use status::{Status, print};
+pub use outcome::{
+    Outcome, Write, bad_input_outcome, finish_outcome, report, report_file, report_two,
+};
+pub use status::{Status, print_with_status};

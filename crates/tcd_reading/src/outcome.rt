@@ -2,11 +2,11 @@
 ghost use Rattle.std.specs.Prelude.{◌≡◌, ◌≢◌, ◌≤◌, ◌∷◌, [], IsTrue, IfOk, OnOk, IfErr, IsOkAnd};
 ghost use Rattle.tcd_base.specs.Files.{LeavesFaults};
 ghost use Rattle.tcd_base.specs.FailingCalls.{FaultCounted};
-ghost use Rattle.tcd_reading.specs.Reports.{says, writes_file, writes_two, with_written};
-ghost use Rattle.tcd_reading.specs.Endings.{Stopped, Finishes};
-ghost use Rattle.tcd_reading.specs.Outcomes.{IsTold, Stops};
+ghost use Rattle.tcd_reading.specs.Reports.{says, writes_file, writes_two, with_report_files};
+ghost use Rattle.tcd_reading.specs.Endings.{ReportWritingStopped, FinishesOutcome};
+ghost use Rattle.tcd_reading.specs.Outcomes.{IsToldOutcome, IsBadInputOutcome};
 
-use crate::status::{Status, print, status_of_failure};
+use crate::status::{Status, print_with_status, status_of_failed_write};
 use std::alloc::Global;
 use std::marker::Model;
 use tcd_base::{FileErr, Files, NoMemory, Sink};
@@ -22,9 +22,9 @@ pub struct Write {
 
 impl Model for Write {
     ghost use Rattle.std.specs.Prelude.{string_bytes};
-    ghost use Rattle.tcd_reading.specs.Reports.{Written};
+    ghost use Rattle.tcd_reading.specs.Reports.{ReportFile};
 
-    ghost Value = { Written };
+    ghost Value = { ReportFile };
 
     ghost view = { λ w. record { name = string_bytes w.name; bytes = w.bytes.items } };
 }
@@ -56,7 +56,7 @@ pub enum Outcome {
 
 /// A report with nothing to write, or out of memory.
 pub fn report(alloc: Global, status: Status, line: Result<Vec<u8>, NoMemory>) -> Outcome
-    ensures { IsTold (λ r. IsOkAnd line (λ l. r ≡ says status l.items)) ⊥ result }
+    ensures { IsToldOutcome (λ r. IsOkAnd line (λ l. r ≡ says status l.items)) ⊥ result }
 {
     match line {
         Ok(text) => Outcome::Report {
@@ -68,8 +68,8 @@ pub fn report(alloc: Global, status: Status, line: Result<Vec<u8>, NoMemory>) ->
     }
 }
 
-// The list with one file to write.
-fn one_write(alloc: Global, name: &str, bytes: Vec<u8>) -> Result<Vec<Write>, NoMemory>
+/// The list of a report's files to write: this one.
+fn one_file_to_write(alloc: Global, name: &str, bytes: Vec<u8>) -> Result<Vec<Write>, NoMemory>
     ensures { IfOk result (λ w. w.items ≡ record { name = name.now; bytes = bytes.items } ∷ []) }
 {
     let mut writes = Vec::new(alloc);
@@ -77,8 +77,8 @@ fn one_write(alloc: Global, name: &str, bytes: Vec<u8>) -> Result<Vec<Write>, No
     Ok(writes)
 }
 
-// The list with two files to write, in this order.
-fn two_writes(alloc: Global, first: Write, second: Write) -> Result<Vec<Write>, NoMemory>
+/// The list of a report's files to write: these two, in this order.
+fn two_files_to_write(alloc: Global, first: Write, second: Write) -> Result<Vec<Write>, NoMemory>
     ensures { IfOk result (λ w. w.items ≡ first ∷ second ∷ []) }
 {
     let mut writes = Vec::new(alloc);
@@ -94,11 +94,11 @@ pub fn report_file(
     bytes: Vec<u8>,
     line: Result<Vec<u8>, NoMemory>,
 ) -> Outcome
-    ensures { IsTold
+    ensures { IsToldOutcome
         (λ r. IsOkAnd line (λ l. r ≡ writes_file name.now bytes.items l.items)) ⊥ result }
 {
     match line {
-        Ok(text) => match one_write(alloc, name, bytes) {
+        Ok(text) => match one_file_to_write(alloc, name, bytes) {
             Ok(writes) => Outcome::Report {
                 status: Status::Done,
                 text,
@@ -117,10 +117,11 @@ pub fn report_two(
     second: Write,
     line: Result<Vec<u8>, NoMemory>,
 ) -> Outcome
-    ensures { IsTold (λ r. IsOkAnd line (λ l. r ≡ writes_two first second l.items)) ⊥ result }
+    ensures { IsToldOutcome (λ r. IsOkAnd line (λ l. r ≡ writes_two first second l.items)) ⊥
+        result }
 {
     match line {
-        Ok(text) => match two_writes(alloc, first, second) {
+        Ok(text) => match two_files_to_write(alloc, first, second) {
             Ok(writes) => Outcome::Report {
                 status: Status::Done,
                 text,
@@ -132,12 +133,16 @@ pub fn report_two(
     }
 }
 
-// Writes the files in order, up to the first failure.
-fn write_all<F: Files>(alloc: Global, writes: &[Write], files: &mut F) -> Result<(), FileErr>
+/// Writes the files of a report in order, up to the first failure.
+fn write_report_files<F: Files>(
+    alloc: Global,
+    writes: &[Write],
+    files: &mut F,
+) -> Result<(), FileErr>
     ensures done { OnOk result
-        ((F.seen files.new).held ≡ with_written (F.seen files.old).held writes.now) }
+        ((F.seen files.new).held ≡ with_report_files (F.seen files.old).held writes.now) }
     ensures stopped { IfErr result
-        (λ e. Stopped (F.seen files.old).held (F.seen files.new).held writes.now) }
+        (λ e. ReportWritingStopped (F.seen files.old).held (F.seen files.new).held writes.now) }
     ensures counted { IfErr result (λ e. e ≢ FileErr.NoMemory →
         FaultCounted (F.seen files.old).faults (F.seen files.new).faults) }
     ensures leaves { LeavesFaults (F.seen files.old) (F.seen files.new) }
@@ -155,13 +160,13 @@ fn write_all<F: Files>(alloc: Global, writes: &[Write], files: &mut F) -> Result
 
 /// Writes the files of an outcome, and then prints its text. After the first file, memory is only
 /// allocated for writing the next files.
-pub fn finish<F: Files, S: Sink>(
+pub fn finish_outcome<F: Files, S: Sink>(
     alloc: Global,
     outcome: Outcome,
     files: &mut F,
     out: &mut S,
 ) -> Status
-    ensures { Finishes outcome (F.seen files.old) (F.seen files.new)
+    ensures { FinishesOutcome outcome (F.seen files.old) (F.seen files.new)
         (S.seen out.old) (S.seen out.new) result }
 {
     match outcome {
@@ -169,9 +174,9 @@ pub fn finish<F: Files, S: Sink>(
             status,
             text,
             writes,
-        } => match write_all(alloc, &writes, files) {
-            Ok(()) => print(out, &text, status),
-            Err(e) => status_of_failure(e),
+        } => match write_report_files(alloc, &writes, files) {
+            Ok(()) => print_with_status(out, &text, status),
+            Err(e) => status_of_failed_write(e),
         },
         Outcome::Unread => Status::Fault,
         Outcome::NoMemory => Status::NoMemory,
@@ -179,8 +184,8 @@ pub fn finish<F: Files, S: Sink>(
 }
 
 /// The outcome for an input that isn't in its form, with the line that is printed.
-pub fn bad_input(alloc: Global, line: Result<Vec<u8>, NoMemory>) -> Outcome
-    ensures { Stops (λ t. IsOkAnd line (λ l. t ≡ l.items)) ⊥ result }
+pub fn bad_input_outcome(alloc: Global, line: Result<Vec<u8>, NoMemory>) -> Outcome
+    ensures { IsBadInputOutcome (λ t. IsOkAnd line (λ l. t ≡ l.items)) ⊥ result }
 {
     match line {
         Ok(text) => Outcome::Report {

@@ -1,6 +1,6 @@
 // The statuses with which commands end.
 ghost use Rattle.std.specs.Prelude.{◌≡◌, ◌≢◌};
-ghost use Rattle.tcd_reading.specs.Endings.{Prints};
+ghost use Rattle.tcd_reading.specs.Endings.{PrintsWithStatus};
 
 use std::marker::Model;
 use tcd_base::{FileErr, NoMemory, Sink};
@@ -24,9 +24,9 @@ pub enum Status {
 
 impl From<Status> for u8 {
     ghost use Rattle.std.specs.Prelude.{◌≡◌};
-    ghost use Rattle.tcd_reading.specs.Statuses.{code_of};
+    ghost use Rattle.tcd_reading.specs.Statuses.{exit_status_of};
 
-    ghost from_gives = { λ status code. code ≡ code_of status };
+    ghost from_gives = { λ status code. code ≡ exit_status_of status };
 
     /// The exit status of the program.
     fn from(status: Status) -> u8 {
@@ -41,9 +41,10 @@ impl From<Status> for u8 {
     }
 }
 
-/// Prints a text and returns its status. It allocates no memory.
-pub fn print<S: Sink>(out: &mut S, text: &[u8], status: Status) -> Status
-    ensures { Prints status text.now (S.seen out.old) (S.seen out.new) result }
+/// Prints a text and returns this status, or the status of a fault if printing failed. It allocates
+/// no memory.
+pub fn print_with_status<S: Sink>(out: &mut S, text: &[u8], status: Status) -> Status
+    ensures { PrintsWithStatus status text.now (S.seen out.old) (S.seen out.new) result }
 {
     match out.write(text) {
         Ok(()) => status,
@@ -52,7 +53,7 @@ pub fn print<S: Sink>(out: &mut S, text: &[u8], status: Status) -> Status
 }
 
 // The status after a write that failed.
-pub(crate) fn status_of_failure(e: FileErr) -> Status
+pub(crate) fn status_of_failed_write(e: FileErr) -> Status
     ensures memory { e ≡ FileErr.NoMemory → result ≡ Status.NoMemory }
     ensures fault { e ≢ FileErr.NoMemory → result ≡ Status.Fault }
 {

@@ -2,11 +2,11 @@
 -- calls. It has the handlers of sixteen nested interrupts and of system calls. The functions call
 -- each other as the places of a binary heap.
 pub mod Planned
-use Rattle.std.specs.Prelude.{ℕ, ◌+◌, ◌-◌, ◌*◌, ◌/◌, ◌%◌, ◌^◌, List, ◌∷◌, ◌++◌, codes, nat_lt, if◌then◌else◌, []}
+use Rattle.std.specs.Prelude.{ℕ, ◌+◌, ◌-◌, ◌*◌, ◌/◌, ◌%◌, ◌^◌, List, ◌∷◌, ◌++◌, codes, nat_lt, if◌then◌else◌, length, replicate, []}
 use Rattle.std.specs.List.{find, flat_map, range_with_len}
 use Rattle.std.specs.Option.{option_map_or}
 use Rattle.std.specs.Str.{bytes_eq}
-use Rattle.tcd_base.specs.Bytes.{bytes_of_word, filled}
+use Rattle.tcd_base.specs.Bytes.{bytes_of_word}
 use Rattle.tc_isa.specs.declared.fields.Fields.{Fields}
 use Rattle.tc_isa.specs.Forms.{fields}
 use Rattle.tc_isa.specs.Rows.{listed}
@@ -15,16 +15,16 @@ use Rattle.elf_image.specs.Images.{ImageData, SegmentData}
 
 -- ---- instructions
 -- the bytes of the instruction with this name and these fields c, s1, s2, n and k
-unfoldable pub code : List ℕ → Fields → List ℕ
-code name f = option_map_or (λ r. spelling r f) (find (λ r. bytes_eq r.name name) listed) []
+unfoldable pub generated_code : List ℕ → Fields → List ℕ
+generated_code name f = option_map_or (λ r. spelling r f) (find (λ r. bytes_eq r.name name) listed) []
 
 -- the address of function i: each function has 32 bytes
-abbrev pub function_at : ℕ → ℕ
-function_at i = 0x80008000 + 32 * i
+abbrev pub generated_function_at : ℕ → ℕ
+generated_function_at i = 0x80008000 + 32 * i
 
 -- the call instruction at an address, of later code: the displacement is in halfwords
 abbrev pub call_from : ℕ → ℕ → List ℕ
-call_from at to = code (codes "call") (fields 0 0 0 0 ((to - at) / 2))
+call_from at to = generated_code (codes "call") (fields 0 0 0 0 ((to - at) / 2))
 
 -- ---- the main program, at 80000000
 -- a15 is the address of the device, F0000000. Its word d15 is the number of a word in the table,
@@ -32,64 +32,69 @@ call_from at to = code (codes "call") (fields 0 0 0 0 ((to - at) / 2))
 -- and then all again.
 unfoldable pub main_code : List ℕ
 main_code =
-    code (codes "movh.a") (fields 15 0 0 0 0xf000) ++ code (codes "ld.w.l") (fields 0 15 15 0 0)
-    ++ code (codes "movh.a") (fields 14 0 0 0 0x8000) ++ code (codes "addsc.a") (fields 14 15 14 2 0)
-    ++ code (codes "ld.a.l") (fields 0 14 14 0 256) ++ code (codes "calli") (fields 0 14 0 0 0)
-    ++ code (codes "syscall") (fields 0 0 0 0 1) ++ code (codes "j") (fields 0 0 0 0 (2 ^ 24 - 14))
+    generated_code (codes "movh.a") (fields 15 0 0 0 0xf000) ++ generated_code (codes "ld.w.l") (fields 0 15 15 0 0)
+    ++ generated_code (codes "movh.a") (fields 14 0 0 0 0x8000) ++ generated_code (codes "addsc.a") (fields 14 15 14 2 0)
+    ++ generated_code (codes "ld.a.l") (fields 0 14 14 0 256) ++ generated_code (codes "calli") (fields 0 14 0 0 0)
+    ++ generated_code (codes "syscall") (fields 0 0 0 0 1) ++ generated_code (codes "j") (fields 0 0 0 0 (2 ^ 24 - 14))
 
 -- ---- the table, at 80000100
 -- sixteen addresses of functions; after the last function comes the first
-unfoldable pub table : ℕ → List ℕ
-table n = flat_map (λ j. bytes_of_word (function_at (j % n))) (range_with_len 0 16)
+unfoldable pub generated_table : ℕ → List ℕ
+generated_table n = flat_map (λ j. bytes_of_word (generated_function_at (j % n))) (range_with_len 0 16)
 
 -- ---- the vectors
--- the address of the handler of interrupt p: BIV with the priority in bits 12:5
-abbrev pub handler_at : ℕ → ℕ
-handler_at p = 0x80002000 + 32 * p
+-- the address of the handler of interrupt p in a generated image: BIV with the priority in bits
+-- 12:5
+abbrev pub generated_handler_at : ℕ → ℕ
+generated_handler_at p = 0x80002000 + 32 * p
 
 -- the handler of interrupt p: it saves the lower context, enables interrupts of higher priority,
 -- and calls the last function
-unfoldable pub handler : ℕ → ℕ → List ℕ
-handler n p =
-    code (codes "bisr16") (fields 0 0 0 0 p)
-    ++ (call_from (handler_at p + 2) (function_at (n - 1)) ++ (code (codes "rslcx") (fields 0 0 0 0 0) ++ code (codes "rfe16") (fields 0 0 0 0 0)))
+unfoldable pub generated_handler : ℕ → ℕ → List ℕ
+generated_handler n p =
+    generated_code (codes "bisr16") (fields 0 0 0 0 p)
+    ++ (call_from (generated_handler_at p + 2) (generated_function_at (n - 1)) ++ (generated_code (codes "rslcx") (fields 0 0 0 0 0) ++ generated_code (codes "rfe16") (fields 0 0 0 0 0)))
+
+-- a list of bytes, with zeros up to a length
+abbrev pub zero_padded_bytes : ℕ → List ℕ → List ℕ
+zero_padded_bytes size bytes = bytes ++ replicate (size - length bytes) 0
 
 -- the handlers of the interrupts 10, 20 .. 160; their addresses are 320 bytes apart
-unfoldable pub vectors : ℕ → List ℕ
-vectors n = flat_map (λ j. filled 320 (handler n (10 * j + 10))) (range_with_len 0 15) ++ handler n 160
+unfoldable pub generated_vectors : ℕ → List ℕ
+generated_vectors n = flat_map (λ j. zero_padded_bytes 320 (generated_handler n (10 * j + 10))) (range_with_len 0 15) ++ generated_handler n 160
 
 -- the handler of system calls
 unfoldable pub system_code : List ℕ
-system_code = code (codes "rfe16") (fields 0 0 0 0 0)
+system_code = generated_code (codes "rfe16") (fields 0 0 0 0 0)
 
 -- ---- functions
 -- a call of function i, if i is below n
 abbrev pub call_if_below : ℕ → ℕ → ℕ → List ℕ
-call_if_below n at i = if nat_lt i n then call_from at (function_at i) else []
+call_if_below n at i = if nat_lt i n then call_from at (generated_function_at i) else []
 
 -- function i: it reserves eight bytes of stack, stores a word there, and calls the functions 2i + 1
 -- and 2i + 2, if there are any
 unfoldable pub function_code : ℕ → ℕ → List ℕ
 function_code n i =
-    code (codes "sub16.a") (fields 0 0 0 0 8)
-    ++ (code (codes "st16.w") (fields 0 15 10 0 0)
-    ++ (call_if_below n (function_at i + 4) (2 * i + 1)
-    ++ (call_if_below n (function_at i + 8) (2 * i + 2) ++ code (codes "ret16") (fields 0 0 0 0 0))))
+    generated_code (codes "sub16.a") (fields 0 0 0 0 8)
+    ++ (generated_code (codes "st16.w") (fields 0 15 10 0 0)
+    ++ (call_if_below n (generated_function_at i + 4) (2 * i + 1)
+    ++ (call_if_below n (generated_function_at i + 8) (2 * i + 2) ++ generated_code (codes "ret16") (fields 0 0 0 0 0))))
 
 -- the functions, each except the last with zeros up to 32 bytes
-unfoldable pub functions : ℕ → List ℕ
-functions n = flat_map (λ i. filled 32 (function_code n i)) (range_with_len 0 (n - 1)) ++ function_code n (n - 1)
+unfoldable pub generated_functions : ℕ → List ℕ
+generated_functions n = flat_map (λ i. zero_padded_bytes 32 (function_code n i)) (range_with_len 0 (n - 1)) ++ function_code n (n - 1)
 
 -- ---- the image
 -- these bytes at an address
-abbrev pub segment : ℕ → List ℕ → SegmentData
-segment at bytes = record { at = at; bytes = bytes }
+abbrev pub generated_segment : ℕ → List ℕ → SegmentData
+generated_segment at bytes = record { at = at; bytes = bytes }
 
 -- the main program, the table, the vectors, the handler of system calls, and the functions
 abbrev pub generated_segments : ℕ → List SegmentData
 generated_segments n =
-    segment 0x80000000 main_code ∷ segment 0x80000100 (table n) ∷ segment 0x80002140 (vectors n) ∷ segment 0x800040c0 system_code ∷
-    segment 0x80008000 (functions n) ∷ []
+    generated_segment 0x80000000 main_code ∷ generated_segment 0x80000100 (generated_table n) ∷ generated_segment 0x80002140 (generated_vectors n) ∷ generated_segment 0x800040c0 system_code ∷
+    generated_segment 0x80008000 (generated_functions n) ∷ []
 
 -- the image of n functions; its entry is the main program
 abbrev pub generated_image : ℕ → ImageData

@@ -9,15 +9,15 @@ use Rattle.elf_image.specs.Images.{ImageData}
 use Rattle.tcd_plan.specs.PlanData.{PlanData}
 use Rattle.tc_isa.specs.declared.shapes.Shape.{Shape}
 use Rattle.tc_isa.specs.declared.shapes.Shape.TheVariants as shape
-use Rattle.value_domain.specs.Sets.{distinct}
+use Rattle.value_domain.specs.Sets.{sorted_set_of}
 use Rattle.depth_cert.specs.declared.keys.Key.{Key}
 use Rattle.depth_cert.specs.declared.points.Point.{Point}
 use Rattle.depth_cert.specs.Nodes.{NodeData}
 use Rattle.depth_cert.specs.Certs.{CertData, find_node}
 use Rattle.cfg_recover.specs.Code.{IsCode}
-use Rattle.cfg_recover.specs.Duties.{Duty, jump, enter, resume, Owed, duties_of, system_call_rule, entries_of, successors_of}
+use Rattle.cfg_recover.specs.Duties.{Duty, jump, enter, resume, Owed, duties_of, entries_of, successors_of}
 use Rattle.cfg_recover.specs.RulesHoldOrFail.{limits_in}
-use Rattle.cfg_recover.specs.StepEdges.{Way, to, call, irq, sys, aln, ret, rfe}
+use Rattle.cfg_recover.specs.StepEdges.{EdgeWay, to, call, irq, sys, aln, ret, rfe}
 use Rattle.tcd_text.specs.Digits.{hex_word}
 use Rattle.tcd_report.specs.Texts.{key_text}
 use Rattle.tc_isa.specs.declared.shapes.Shape.TheVariants.{Call, Ret, Rfe, Syscall}
@@ -32,7 +32,7 @@ use Rattle.tcd_report.specs.declared.judged.Judged.{Judged}
 -- what a line says: the way of a step, or the address where a point goes on after an entered frame
 -- returns
 pub data Arrow : Type 0 where
-  goes : Way → Arrow
+  goes : EdgeWay → Arrow
   back : ℕ → Arrow
 
 -- the front of each line of a node: its key
@@ -44,23 +44,24 @@ abbrev pub line_front : Key → ℕ → List ℕ
 line_front key p = key_front key ++ (hex_word p ++ 32 ∷ [])
 
 -- the end of a line: its word, and an address
-abbrev pub end_to : List ℕ → ℕ → List ℕ
-end_to word q = word ++ (hex_word q ++ 10 ∷ [])
+abbrev pub line_end_to : List ℕ → ℕ → List ℕ
+line_end_to word q = word ++ (hex_word q ++ 10 ∷ [])
 
--- the end of a way's line; a return has no address
-abbrev pub way_end : Way → List ℕ
-way_end (to q) = end_to (codes "to ") q
-way_end (call q) = end_to (codes "call ") q
-way_end (irq q) = end_to (codes "irq ") q
-way_end (sys q) = end_to (codes "sys ") q
-way_end (aln q) = end_to (codes "aln ") q
+-- the end of a line of the graph, by the way of a step: its word and an address; a return has no
+-- address
+abbrev pub way_end : EdgeWay → List ℕ
+way_end (to q) = line_end_to (codes "to ") q
+way_end (call q) = line_end_to (codes "call ") q
+way_end (irq q) = line_end_to (codes "irq ") q
+way_end (sys q) = line_end_to (codes "sys ") q
+way_end (aln q) = line_end_to (codes "aln ") q
 way_end ret = codes "ret" ++ 10 ∷ []
 way_end rfe = codes "rfe" ++ 10 ∷ []
 
 -- the end of an arrow's line
 abbrev pub arrow_end : Arrow → List ℕ
 arrow_end (goes w) = way_end w
-arrow_end (back q) = end_to (codes "back ") q
+arrow_end (back q) = line_end_to (codes "back ") q
 
 -- a line: the key, the point's address, and the arrow
 abbrev pub line_text : Key → ℕ → Arrow → List ℕ
@@ -77,14 +78,17 @@ abbrev pub entry_by : Duty → List ℕ
 entry_by (enter k t) = k.entry ∷ []
 entry_by _ = []
 
--- the rules that ask for entries: of called functions, of the handler of misaligned accesses, of
--- the handlers of interrupts, and of the handler of system calls
+-- for the graph's lines: the number of the rule that asks for the entries of called functions
 abbrev pub call_rule : ℕ
 call_rule = 5
 
+-- for the graph's lines: the number of the rule that asks for the entry of the handler of
+-- misaligned accesses
 abbrev pub misaligned_rule : ℕ
 misaligned_rule = 10
 
+-- for the graph's lines: the number of the rule that asks for the entries of the handlers of
+-- interrupts
 abbrev pub interrupt_rule : ℕ
 interrupt_rule = 11
 
@@ -98,10 +102,10 @@ abbrev pub back_by : CertData → Duty → List ℕ
 back_by cert (resume k q) = if option_map_or (λ n. is_some n.exit) (find_node k cert.nodes) false then q ∷ [] else []
 back_by cert _ = []
 
--- the numbers in the order of their first places, each once
-abbrev pub each_once : List ℕ → List ℕ
-each_once [] = []
-each_once (x ∷ xs) = x ∷ filter (λ y. not (y == x)) (each_once xs)
+-- addresses in the order of their first places, each once, as no line of the graph is there twice
+abbrev pub each_address_once : List ℕ → List ℕ
+each_address_once [] = []
+each_address_once (x ∷ xs) = x ∷ filter (λ y. not (y == x)) (each_address_once xs)
 
 -- the arrow of a return, if the instruction is one
 abbrev pub leaves_by : Shape → List Arrow
@@ -111,28 +115,33 @@ leaves_by _ = []
 
 -- the addresses in the frame that the duties of a point lead to, ascending
 abbrev pub jumps_in : List Owed → List ℕ
-jumps_in ds = distinct (flat_map (λ d. jump_by d.duty) ds)
+jumps_in ds = sorted_set_of (flat_map (λ d. jump_by d.duty) ds)
 
 -- the entries of the called functions, ascending
 abbrev pub calls_in : List Owed → List ℕ
-calls_in ds = distinct (entries_in call_rule ds)
+calls_in ds = sorted_set_of (entries_in call_rule ds)
 
 -- the addresses where the frame goes on after an entered frame returns, each once
 abbrev pub backs_in : CertData → List Owed → List ℕ
-backs_in cert ds = each_once (flat_map (λ d. back_by cert d.duty) ds)
+backs_in cert ds = each_address_once (flat_map (λ d. back_by cert d.duty) ds)
+
+-- the rule of the duty to enter the handler of system calls
+abbrev pub system_call_rule : ℕ
+system_call_rule = 12
 
 -- the entry of the handler of system calls
 abbrev pub systems_in : List Owed → List ℕ
-systems_in ds = each_once (entries_in system_call_rule ds)
+systems_in ds = each_address_once (entries_in system_call_rule ds)
 
--- the entry of the handler of misaligned accesses
+-- for the graph's `aln` line of a point: the entry of the handler of misaligned accesses that its
+-- duties ask for, if any
 abbrev pub misaligned_in : List Owed → List ℕ
-misaligned_in ds = each_once (entries_in misaligned_rule ds)
+misaligned_in ds = each_address_once (entries_in misaligned_rule ds)
 
--- the entries of the interrupts by ascending priority; a vector that two of them share is there
--- once
+-- for the graph's `irq` lines of a point: the entries of the interrupts by ascending priority; a
+-- vector that two of them share is there once
 abbrev pub interrupts_in : List Owed → List ℕ
-interrupts_in ds = each_once (entries_in interrupt_rule ds)
+interrupts_in ds = each_address_once (entries_in interrupt_rule ds)
 
 -- the arrows of a point, by its duties and its instruction
 unfoldable pub arrows_of : CertData → List Owed → Shape → List Arrow
@@ -153,25 +162,25 @@ pub record ArePointLines (image : ImageData) (plan : PlanData) (cert : CertData)
   pub are : lines ≡ map (line_text key point.addr) (arrows_of cert (duties_of (limits_in plan cert) image plan key point.addr point.state shape size) shape)
 
 -- one part for each element, in order
-abbrev pub AreParts : {A : Type 0} → (A → List (List ℕ) → Type 0) → List A → List (List (List ℕ)) → Type 0
-AreParts Has [] [] = Unit {0}
-AreParts Has [] (p ∷ ps) = ⊥
-AreParts Has (x ∷ xs) [] = ⊥
-AreParts Has (x ∷ xs) (p ∷ ps) = Has x p × AreParts Has xs ps
+abbrev pub AreLineParts : {A : Type 0} → (A → List (List ℕ) → Type 0) → List A → List (List (List ℕ)) → Type 0
+AreLineParts Has [] [] = Unit {0}
+AreLineParts Has [] (p ∷ ps) = ⊥
+AreLineParts Has (x ∷ xs) [] = ⊥
+AreLineParts Has (x ∷ xs) (p ∷ ps) = Has x p × AreLineParts Has xs ps
 
--- the lines of the elements, one after another
-pub record AreJoined {A : Type 0} (Has : A → List (List ℕ) → Type 0) (xs : List A) (lines : List (List ℕ)) : Type 0 where
+-- the lines of the graph: those of its nodes, or of a node's points, one after another
+pub record AreJoinedLines {A : Type 0} (Has : A → List (List ℕ) → Type 0) (xs : List A) (lines : List (List ℕ)) : Type 0 where
   pub parts : List (List (List ℕ))
-  pub each : AreParts Has xs parts
+  pub each : AreLineParts Has xs parts
   pub are : lines ≡ flat_map (λ p. p) parts
 
 -- the lines of a node: those of its points
 abbrev pub AreNodeLines : ImageData → PlanData → CertData → NodeData → List (List ℕ) → Type 0
-AreNodeLines image plan cert node lines = AreJoined (ArePointLines image plan cert node.key) node.points lines
+AreNodeLines image plan cert node lines = AreJoinedLines (ArePointLines image plan cert node.key) node.points lines
 
 -- the lines of the graph: those of the nodes
 abbrev pub AreGraphLines : ImageData → PlanData → CertData → List (List ℕ) → Type 0
-AreGraphLines image plan cert lines = AreJoined (AreNodeLines image plan cert) cert.nodes lines
+AreGraphLines image plan cert lines = AreJoinedLines (AreNodeLines image plan cert) cert.nodes lines
 
 -- the text of the graph
 pub record IsGraph (image : ImageData) (plan : PlanData) (cert : CertData) (text : List ℕ) : Type 0 where
@@ -180,8 +189,8 @@ pub record IsGraph (image : ImageData) (plan : PlanData) (cert : CertData) (text
   pub text_is : text ≡ flat_map (λ l. l) lines
 
 -- a list with one number more at its end, unless the number is in the list
-abbrev pub once_more : List ℕ → ℕ → List ℕ
-once_more xs x = if list_any (λ y. y == x) xs then xs else xs ++ x ∷ []
+abbrev pub with_address_once : List ℕ → ℕ → List ℕ
+with_address_once xs x = if list_any (λ y. y == x) xs then xs else xs ++ x ∷ []
 
 -- the addresses in the frame that duties lead to, in their order
 abbrev pub jumped_in : List Owed → List ℕ
@@ -192,17 +201,19 @@ jumped_in ds = flat_map (λ d. jump_by d.duty) ds
 abbrev pub returned_in : CertData → List Owed → List ℕ
 returned_in cert ds = flat_map (λ d. back_by cert d.duty) ds
 
--- the functions that an instruction of this shape calls
+-- for the graph's `call` lines of a point: the functions that an instruction of this shape calls
 abbrev pub called_of : PlanData → State → ℕ → Shape → List ℕ
 called_of plan s p (Call target) = unwrap_or (targets_of plan s p target) []
 called_of plan s p _ = []
 
--- the entry of the handler of system calls, if the instruction is a system call
+-- for the graph's `sys` line of a point: the entry of the handler of system calls, if the
+-- instruction is a system call
 abbrev pub systems_of : PlanData → Key → Shape → List ℕ
 systems_of plan key (Syscall tin) = (sys_key plan key).entry ∷ []
 systems_of plan key _ = []
 
--- the lists are those of a point's duties
+-- for the graph: the addresses where a point goes on, by the words of its lines, are those that its
+-- duties give
 pub record AreEdges (cert : CertData) (ds : List Owed) (w : Edges) : Type 0 where
   pub to : w.to.items ≡ jumps_in ds
   pub call : w.call.items ≡ calls_in ds
@@ -213,7 +224,7 @@ pub record AreEdges (cert : CertData) (ds : List Owed) (w : Edges) : Type 0 wher
 
 -- one line with this front and word for each address
 abbrev pub lines_to : List ℕ → List ℕ → List ℕ → List ℕ
-lines_to front word targets = flat_map (λ q. front ++ end_to word q) targets
+lines_to front word targets = flat_map (λ q. front ++ line_end_to word q) targets
 
 -- the lines of a point with this front, except that of its own return
 abbrev pub ways_text : List ℕ → Edges → List ℕ

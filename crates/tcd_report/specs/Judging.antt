@@ -1,6 +1,5 @@
--- An accepted certificate, the duties of its points, and text that grows by lines.
-use Rattle.std.specs.Prelude.{◌≡◌, ℕ, List, ◌++◌}
-use Rattle.std.specs.List.{flat_map}
+-- An accepted certificate, and the duties of its points.
+use Rattle.std.specs.Prelude.{◌≡◌, List}
 use Rattle.depth_cert.specs.declared.keys.Key.{Key}
 use Rattle.depth_cert.specs.declared.points.Point.{Point}
 use Rattle.cfg_recover.specs.declared.local_rules.Located.{Located}
@@ -13,12 +12,6 @@ pub record IsJudged (j : Judged) : Type 0 where
   pub limits : j.bounds.now ≡ limits_in j.plan.now j.cert.now
   pub accepted : Accepts j.image.now j.plan.now j.cert.now
 
--- all its duties
+-- all duties of a point
 abbrev pub duties_at : Judged → Key → Point → Located → List Owed
 duties_at j key point found = duties_of j.bounds.now j.image.now j.plan.now key point.addr point.state found.shape found.size
-
--- a text grows by lines with this property
-pub record GrowsBy (Are : List (List ℕ) → Type 0) (old new : List ℕ) : Type 0 where
-  pub lines : List (List ℕ)
-  pub are : Are lines
-  pub grown : new ≡ old ++ flat_map (λ l. l) lines

@@ -17,33 +17,33 @@ use Rattle.tcd_report.specs.Reports.Longest.{prios_of, IsLongest}
 use Rattle.depth_cert.specs.declared.keys.Key.{Key}
 
 -- a number of the report
-abbrev pub count : ℕ → Data
-count n = number (unsigned n)
+abbrev pub reported_count : ℕ → Data
+reported_count n = number (unsigned n)
 
 -- a node: its key, its need, and the number of its points
-abbrev pub node_data : NodeData → Data
-node_data n = object (member (codes "key") (string (key_text n.key)) (member (codes "need") (count n.need) (member (codes "points") (count (length n.points)) no_members)))
+abbrev pub reported_node : NodeData → Data
+reported_node n = object (member (codes "key") (string (key_text n.key)) (member (codes "need") (reported_count n.need) (member (codes "points") (reported_count (length n.points)) no_members)))
 
 -- a priority, and the length of its longest call chain
 abbrev pub row_data : LongestCalls → Data
-row_data r = object (member (codes "longest") (count r.longest) (member (codes "prio") (count r.prio) no_members))
+row_data r = object (member (codes "longest") (reported_count r.longest) (member (codes "prio") (reported_count r.prio) no_members))
 
 -- the whole: the CSAs, the longest call chains, the certified need, the nodes in the order of their
 -- keys, and the reserve
 abbrev pub whole_data : ℕ → Data → ℕ → Data → ℕ → Data
 whole_data areas calls certified nodes reserve =
     object
-    (member (codes "areas") (count areas)
+    (member (codes "areas") (reported_count areas)
     (member (codes "calls") calls
-    (member (codes "certified") (count certified) (member (codes "nodes") nodes (member (codes "reserve") (count reserve) no_members)))))
+    (member (codes "certified") (reported_count certified) (member (codes "nodes") nodes (member (codes "reserve") (reported_count reserve) no_members)))))
 
--- the longest call chains
+-- in the report: the array of the longest call chains, one object for each priority
 abbrev pub rows_data : List LongestCalls → Data
 rows_data rows = array (items_of (map row_data rows))
 
 -- the nodes
 abbrev pub nodes_data : List NodeData → Data
-nodes_data nodes = array (items_of (map node_data nodes))
+nodes_data nodes = array (items_of (map reported_node nodes))
 
 -- the report of a certificate with these longest call chains
 abbrev pub report_data : ImageData → PlanData → CertData → List LongestCalls → Data

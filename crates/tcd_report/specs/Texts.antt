@@ -1,11 +1,18 @@
--- Keys as text.
-use Rattle.std.specs.Prelude.{ℕ, if◌then◌else◌, List, ◌∷◌, ◌++◌, codes, []}
+-- Keys as text, and text that grows by lines.
+use Rattle.std.specs.Prelude.{ℕ, if◌then◌else◌, List, ◌∷◌, ◌++◌, codes, ◌≡◌, []}
 use Rattle.std.specs.Fmt.{decimal}
 use Rattle.tcd_text.specs.Digits.{hex_word}
-pub use Rattle.depth_cert.specs.Keys.{kind_words}
-unfoldable pub use Rattle.depth_cert.specs.Keys.{kind_text}
+pub use Rattle.depth_cert.specs.Keys.{key_kind_words}
+unfoldable pub use Rattle.depth_cert.specs.Keys.{key_kind_text}
 use Rattle.depth_cert.specs.declared.keys.Key.{Key}
+use Rattle.std.specs.List.{flat_map}
 
 -- a key: its kind, its entry, its priority, and whether the interrupt stack is in use
 unfoldable pub key_text : Key → List ℕ
-key_text key = kind_text key.kind ++ (hex_word key.entry ++ (codes " prio " ++ (decimal key.prio ++ (codes " is " ++ ((if key.is then 49 else 48) ∷ [])))))
+key_text key = key_kind_text key.kind ++ (hex_word key.entry ++ (codes " prio " ++ (decimal key.prio ++ (codes " is " ++ ((if key.is then 49 else 48) ∷ [])))))
+
+-- a text grows at its end by lines with this property
+pub record GrowsBy (Are : List (List ℕ) → Type 0) (old new : List ℕ) : Type 0 where
+  pub lines : List (List ℕ)
+  pub are : Are lines
+  pub grown : new ≡ old ++ flat_map (λ l. l) lines

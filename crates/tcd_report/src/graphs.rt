@@ -3,7 +3,7 @@ ghost use Rattle.std.specs.Prelude.{IfOk, string_bytes};
 ghost use Rattle.cfg_recover.specs.RulesHoldOrFail.{Accepts};
 ghost use Rattle.tcd_report.specs.Graphs.{IsGraph};
 
-use crate::graphs::graph_text::{append_node, no_lines};
+use crate::graphs::graph_text::{append_node, empty_graph_text};
 use crate::judged::Judged;
 use cfg_recover::KnownCodes;
 use depth_cert::Cert;
@@ -42,7 +42,7 @@ pub fn graph_packed(
         plan,
         cert,
     };
-    let mut graph = no_lines(alloc);
+    let mut graph = empty_graph_text(alloc);
     let mut codes = KnownCodes::new();
     let mut walk = PointWalk::none();
     for i in 0..cert.len() {

@@ -7,7 +7,7 @@ use crate::judged::Judged;
 use crate::reports::heights::heights;
 use crate::reports::longest_by_priority::{longest_by_priority, priority_count, rows_below};
 use crate::reports::report_text::{need_of_start, nodes_value, rows_value, whole_value};
-use crate::texts::append;
+use crate::texts::extend_text;
 use depth_cert::Cert;
 use elf_image::Image;
 use packed_cert::PackedCert;
@@ -48,7 +48,7 @@ pub fn report_packed(
     let nodes = nodes_value(alloc, cert)?;
     let value = whole_value(alloc, plan, need, calls, nodes)?;
     let mut text = value.to_string(alloc)?;
-    append(&mut text, "\n")?;
+    extend_text(&mut text, "\n")?;
     Ok(text)
 }
 

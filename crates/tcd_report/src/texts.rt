@@ -3,12 +3,12 @@ ghost use Rattle.std.specs.Prelude.{◌≡◌, ◌++◌, ◌∷◌, [], OnOk, st
 ghost use Rattle.std.specs.Fmt.{decimal};
 ghost use Rattle.tcd_report.specs.Texts.{key_text};
 
-use depth_cert::{Key, kind_text};
+use depth_cert::{Key, key_kind_text};
 use tcd_base::NoMemory;
 use tcd_text::append_hex_word;
 
-/// Appends a text.
-pub(crate) fn append(text: &mut String, more: &str) -> Result<(), NoMemory>
+/// Appends a text to one that grows at its end, such as the text of a key or of the graph.
+pub(crate) fn extend_text(text: &mut String, more: &str) -> Result<(), NoMemory>
     ensures { OnOk result (string_bytes text.new ≡ string_bytes text.old ++ more.now) }
 {
     text.push_str(more)?;
@@ -20,15 +20,15 @@ pub(crate) fn append(text: &mut String, more: &str) -> Result<(), NoMemory>
 pub(crate) fn append_key(text: &mut String, key: &Key) -> Result<(), NoMemory>
     ensures { OnOk result (string_bytes text.new ≡ string_bytes text.old ++ key_text key.now) }
 {
-    append(text, kind_text(key.kind))?;
+    extend_text(text, key_kind_text(key.kind))?;
     append_hex_word(text, key.entry)?;
-    append(text, " prio ")?;
+    extend_text(text, " prio ")?;
     append_decimal(text, key.prio)?;
-    append(text, " is ")?;
-    append(text, stack_text(key.is))
+    extend_text(text, " is ")?;
+    extend_text(text, stack_text(key.is))
 }
 
-// Appends a number in decimal.
+/// Appends the priority of a key to the key's text, in decimal.
 fn append_decimal(text: &mut String, n: u8) -> Result<(), NoMemory>
     ensures { OnOk result (string_bytes text.new ≡ string_bytes text.old ++ decimal n) }
 {

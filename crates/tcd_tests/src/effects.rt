@@ -3,7 +3,7 @@ ghost use Rattle.std.specs.Prelude.{◌≡◌, IsTrue};
 ghost use Rattle.tc_isa.specs.Meanings.{shape_of};
 ghost use Rattle.value_domain.specs.State.{AreValues};
 ghost use Rattle.value_domain.specs.Values.{IsValue};
-ghost use Rattle.vd_transfer.specs.EffectsOnStates.{HasRoom};
+ghost use Rattle.vd_transfer.specs.EffectsOnStates.{EffectHasRoom};
 
 use crate::asserts::{is_so, same};
 use crate::boards::board;
@@ -17,7 +17,7 @@ use vd_transfer::reg;
 
 /// Whether an instruction computes or loads, and so needs no room for a lower context.
 fn needs_no_room(b: &Bounds, inst: &Inst, s: &State) -> bool
-    ensures { IsTrue result → HasRoom b.now (shape_of inst.now) s.now }
+    ensures { IsTrue result → EffectHasRoom b.now (shape_of inst.now) s.now }
 {
     match shape(inst) {
         Shape::Compute { .. } => true,

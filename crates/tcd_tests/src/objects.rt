@@ -1,7 +1,7 @@
 //! An object of one section, two symbols and a call.
 use crate::asserts::same;
 use std::test::Fail;
-use tc_object::{Object, name_of};
+use tc_object::{Object, object_name_of};
 
 const BYTES: [u8; 58] = [
     0x54, 0x43, 0x4f, 0x31, 1, 0, 2, 0, 1, 0, // one section, two symbols, one relocation
@@ -42,8 +42,8 @@ fn reads_and_writes(rt: HostRuntime) -> Result<(), Fail> {
 
 #[test]
 fn names(rt: HostRuntime) {
-    same(&rt, &name_of(b".text$1"), &Some(".text$1"));
-    same(&rt, &name_of(b""), &None);
-    same(&rt, &name_of(b"1a"), &None);
-    same(&rt, &name_of(b"a b"), &None);
+    same(&rt, &object_name_of(b".text$1"), &Some(".text$1"));
+    same(&rt, &object_name_of(b""), &None);
+    same(&rt, &object_name_of(b"1a"), &None);
+    same(&rt, &object_name_of(b"a b"), &None);
 }

@@ -2,7 +2,7 @@
 use crate::asserts::{is_so, same};
 use tc_isa::rows;
 use tc_lex::{Piece, Scratch, Shape, Token, TokenKind, Value, is_kind, operands, text_at, tokens};
-use tc_stmt::{is_name, shape_index, statement, symbol_rule, wants};
+use tc_stmt::{is_source_name, shape_index, statement, symbol_rule, wants};
 
 static TOKENS: [Token; 13] = [
     Token {
@@ -133,8 +133,8 @@ fn pieces_and_names(rt: HostRuntime) {
     let pieces = [word("d1"), comma()];
     is_so(&rt, is_kind(&pieces, 1, TokenKind::Comma));
     same(&rt, &text_at(&pieces, 0).len(), &2);
-    is_so(&rt, is_name(b".text"));
-    is_so(&rt, !is_name(b"."));
+    is_so(&rt, is_source_name(b".text"));
+    is_so(&rt, !is_source_name(b"."));
     same(&rt, &wants().len(), &rows().len());
     let lone = Value {
         shape: Shape::Word,

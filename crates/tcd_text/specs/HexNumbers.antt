@@ -1,9 +1,13 @@
 -- Numbers of eight upper-case hex digits.
-use Rattle.std.specs.Prelude.{◌==◌, ◌&&◌, ℕ, List, length, Option}
+use Rattle.std.specs.Prelude.{◌==◌, ◌&&◌, ℕ, List, length, Option, nat_lt, Bool}
 use Rattle.std.specs.Bool.{then_some}
 use Rattle.std.specs.List.{list_all}
 use Rattle.std.specs.Str.Parse.{digits_value}
-use Rattle.tcd_text.specs.Digits.{is_upper_hex}
+use Rattle.std.specs.Char.{digit_value}
+
+-- whether a byte can stand in a hex number, as an upper-case hex digit in ASCII: 0 to 9, A to F
+abbrev pub is_upper_hex : ℕ → Bool
+is_upper_hex c = nat_lt (digit_value c) 16 && nat_lt c 97
 
 -- the number that eight upper-case hex digits spell, the highest first: this is how texts of the
 -- project write addresses and words

@@ -4,13 +4,14 @@ ghost use Rattle.std.specs.Bool.{then_some};
 ghost use Rattle.std.specs.Char.{digit_value};
 ghost use Rattle.std.specs.List.{list_all};
 ghost use Rattle.std.specs.Str.Parse.{digits_value};
-ghost use Rattle.tcd_text.specs.HexNumbers.{hex_number_of};
-ghost use Rattle.tcd_text.specs.Digits.{is_upper_hex, hex_digit, hex_byte, hex_word};
+ghost use Rattle.tcd_text.specs.HexNumbers.{hex_number_of, is_upper_hex};
+ghost use Rattle.tcd_text.specs.Digits.{hex_digit, hex_byte, hex_word};
 ghost use Rattle.std.specs.Str.{IsAscii};
 
 use tcd_base::NoMemory;
 
-fn digit_of(c: u8) -> Option<u32>
+/// Returns the value of an upper-case hex digit, or `None` for any other byte.
+fn upper_hex_value(c: u8) -> Option<u32>
     ensures { result ≡ then_some (is_upper_hex c) (digit_value c) }
 {
     match char::from(c).to_digit(16) {
@@ -19,13 +20,14 @@ fn digit_of(c: u8) -> Option<u32>
     }
 }
 
-fn digits_of(digits: &[u8]) -> Option<u32>
+/// Returns the number that up to eight upper-case hex digits spell, or `None`.
+fn upper_hex_digits_value(digits: &[u8]) -> Option<u32>
     requires { length digits.now ≤ 8 }
     ensures { result ≡ then_some (list_all is_upper_hex digits.now) (digits_value 16 digits.now) }
 {
     let mut value = 0u32;
     for c in digits {
-        let Some(digit) = digit_of(*c) else {
+        let Some(digit) = upper_hex_value(*c) else {
             return None;
         };
         value = value * 16 + digit;
@@ -38,7 +40,7 @@ pub fn hex_number(digits: &[u8]) -> Option<u32>
     ensures { result ≡ hex_number_of digits.now }
 {
     if digits.len() == 8 {
-        digits_of(digits)
+        upper_hex_digits_value(digits)
     } else {
         None
     }
@@ -79,7 +81,7 @@ pub fn hex_word(word: u32) -> [u8; 8]
     ]
 }
 
-/// Appends ASCII bytes to a text.
+/// Appends ASCII bytes to a text, such as the digits of a number in hex.
 pub fn append_ascii(text: &mut String, bytes: &[u8]) -> Result<(), NoMemory>
     requires { IsAscii bytes.now }
     ensures { OnOk result (string_bytes text.new ≡ string_bytes text.old ++ bytes.now) }

@@ -6,8 +6,8 @@ mod hex_numbers;
 mod lines;
 mod words;
 
-pub use cuts::{cut_line, cut_word};
 pub use hex_numbers::{
     append_ascii, append_hex_byte, append_hex_word, hex_byte, hex_number, hex_word,
 };
-pub use words::{Words, words_in};
+pub use lines::cut_line;
+pub use words::{Words, cut_word, words_in};

@@ -1,8 +1,12 @@
 // Cuts a text into its lines.
-ghost use Rattle.std.specs.Prelude.{◌≡◌, ◌≤◌, ◌<◌, ◌==◌, length, IfSome, position};
+ghost use Rattle.std.specs.Prelude.{◌≡◌, ◌≤◌, ◌<◌, ◌==◌, length, IfSome, position, ◌+◌, drop, ◌∷◌};
 ghost use Rattle.std.specs.List.{position_or_len};
+ghost use Rattle.tcd_text.specs.Lines.{text_lines};
 
-fn find_feed(text: &[u8]) -> Option<usize>
+use crate::cuts::{cut_text_after, cut_text_before};
+
+/// Returns the place of the first line feed of a text, or `None` if there is none.
+fn find_line_feed(text: &[u8]) -> Option<usize>
     ensures value { result ≡ position (λ c. c == 10) text.now }
     ensures within { IfSome result (λ i. i < length text.now) }
 {
@@ -14,8 +18,19 @@ pub(crate) fn line_end(text: &[u8]) -> usize
     ensures end { result ≡ position_or_len (λ c. c == 10) text.now }
     ensures within { result ≤ length text.now }
 {
-    match find_feed(text) {
+    match find_line_feed(text) {
         Some(end) => end,
         None => text.len(),
     }
+}
+
+/// Returns the first line of a text that isn't empty, and the text after its line feed.
+pub fn cut_line(text: &[u8]) -> (&[u8], &[u8])
+    requires { 0 < length text.now }
+    ensures lines { text_lines text.now ≡ result.0.now ∷ text_lines result.1.now }
+    ensures rest { result.1.now ≡ drop (length result.0.now + 1) text.now }
+    ensures shorter { length result.1.now < length text.now }
+{
+    let end = line_end(text);
+    (cut_text_before(text, end), cut_text_after(text, end))
 }

@@ -1,8 +1,8 @@
 // Cuts a line into its words.
-ghost use Rattle.std.specs.Prelude.{◌≡◌, ◌<◌, length, position, IfSome};
-ghost use Rattle.tcd_text.specs.Lines.{is_blank, words_of, AreWords};
+ghost use Rattle.std.specs.Prelude.{◌≡◌, ◌<◌, length, position, IfSome, ◌∷◌, MatchOption, []};
+ghost use Rattle.tcd_text.specs.Lines.{is_word_separator, line_words, AreLineWords};
 
-use crate::cuts::cut_word;
+use crate::cuts::{cut_text_after, cut_text_before};
 
 /// The words of a line, up to four.
 #[derive(Clone, Copy)]
@@ -14,8 +14,10 @@ pub enum Words<'a> {
     More,
 }
 
+/// Returns the place of the first blank of a line, which ends its first word, or `None` if the line
+/// is one word.
 pub(crate) fn find_blank(text: &[u8]) -> Option<usize>
-    ensures value { result ≡ position is_blank text.now }
+    ensures value { result ≡ position is_word_separator text.now }
     ensures within { IfSome result (λ i. i < length text.now) }
 {
     text.iter().position(|c| *c == b' ')
@@ -23,7 +25,7 @@ pub(crate) fn find_blank(text: &[u8]) -> Option<usize>
 
 /// Returns the words of a line, separated by one blank each.
 pub fn words_in(line: &[u8]) -> Words<'_>
-    ensures { AreWords (words_of line.now) result }
+    ensures { AreLineWords (line_words line.now) result }
 {
     let Some((first, rest)) = cut_word(line) else {
         return Words::One(line);
@@ -37,5 +39,17 @@ pub fn words_in(line: &[u8]) -> Words<'_>
     match cut_word(rest) {
         Some((_fourth, _rest)) => Words::More,
         None => Words::Four(first, second, third, rest),
+    }
+}
+
+/// Returns the first word of a line, and the line after the blank that ends it. If the line is one
+/// word, the answer is `None`.
+pub fn cut_word(text: &[u8]) -> Option<(&[u8], &[u8])>
+    ensures { MatchOption result (line_words text.now ≡ text.now ∷ [])
+        (λ p. line_words text.now ≡ p.0.now ∷ line_words p.1.now) }
+{
+    match find_blank(text) {
+        None => None,
+        Some(place) => Some((cut_text_before(text, place), cut_text_after(text, place))),
     }
 }

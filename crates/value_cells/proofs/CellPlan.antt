@@ -7,34 +7,34 @@ use Rattle.std.specs.List.{list_all}
 use Rattle.std.specs.Prelude.{sum_by, AllPairs}
 use Rattle.tcd_base.specs.declared.range.Range.{Range}
 use Rattle.tcd_plan.specs.declared.plans.Device.{Device}
-use Rattle.tcd_plan.specs.PlanData.{PlanData, IsPlan, is_range, is_device, all_apart, areas_range}
-use Rattle.tcd_base.specs.Ranges.{IsWithin, IsInOne}
-use Rattle.tcd_plan.specs.Cutting.{ranges_without}
+use Rattle.tcd_plan.specs.PlanData.{PlanData, IsPlan, is_range, is_device, are_all_ranges_apart, areas_range}
+use Rattle.tcd_base.specs.Ranges.{IsWithinRange, IsInOneRange}
+use Rattle.tcd_plan.specs.Cutting.{cut_plan_ranges}
 use Rattle.tcd_plan.proofs.ApartLaws.{range_parts, is_range-from, device_ranges, HaveBytes, HaveBytes-ranges, HaveBytes-append, IsInOne-fits, each_apart, all_apart-before, all_apart-behind, all_apart-front, all_apart-append}
 use Rattle.tcd_plan.proofs.CutLaws.{IsInOne-parts, ranges_without_ranges, ranges_without_apart, ranges_without_size}
 use Rattle.tcd_base.proofs.RangeLaws.{IsInOne-front, IsInOne-behind}
 use Rattle.value_cells.specs.declared.cells.Cell.{Cell}
-use Rattle.value_cells.specs.Cells.{ram_without, cell_device, with_cells, IsCell, AreCells, is_in_cell}
+use Rattle.value_cells.specs.Cells.{ram_without_cells, cell_device, with_cells, IsCell, AreCells, is_in_cell}
 use Rattle.value_cells.proofs.CellRanges.{ram_in, ram_out, first_cell, later_cells, cell_in_ram, ram_not_rom, ram_not_device}
 
 -- ---- all words
-ram_ranges : (plan : PlanData) (cells : List Cell) (rs : List Range) → All (IsCell plan) cells → list_all is_range rs ≡ true → list_all is_range (ram_without cells rs) ≡ true
+ram_ranges : (plan : PlanData) (cells : List Cell) (rs : List Range) → All (IsCell plan) cells → list_all is_range rs ≡ true → list_all is_range (ram_without_cells cells rs) ≡ true
 ram_ranges plan [] rs all h = h
-ram_ranges plan (c ∷ cs) rs all h = ram_ranges plan cs (ranges_without c.at 4 rs) (later_cells plan c cs all) (ranges_without_ranges c.at 4 (first_cell plan c cs all).aligned refl rs h)
+ram_ranges plan (c ∷ cs) rs all h = ram_ranges plan cs (cut_plan_ranges c.at 4 rs) (later_cells plan c cs all) (ranges_without_ranges c.at 4 (first_cell plan c cs all).aligned refl rs h)
 
-ram_apart : (plan : PlanData) (cells : List Cell) (rs : List Range) → All (IsCell plan) cells → list_all is_range rs ≡ true → all_apart rs ≡ true → all_apart (ram_without cells rs) ≡ true
+ram_apart : (plan : PlanData) (cells : List Cell) (rs : List Range) → All (IsCell plan) cells → list_all is_range rs ≡ true → are_all_ranges_apart rs ≡ true → are_all_ranges_apart (ram_without_cells cells rs) ≡ true
 ram_apart plan [] rs all h g = g
 ram_apart plan (c ∷ cs) rs all h g =
     let a = (first_cell plan c cs all).aligned in
-    ram_apart plan cs (ranges_without c.at 4 rs) (later_cells plan c cs all) (ranges_without_ranges c.at 4 a refl rs h) (ranges_without_apart c.at 4 a refl rs h g)
+    ram_apart plan cs (cut_plan_ranges c.at 4 rs) (later_cells plan c cs all) (ranges_without_ranges c.at 4 a refl rs h) (ranges_without_apart c.at 4 a refl rs h g)
 
 -- the number of bytes in ranges
 abbrev size : List Range → ℕ
 size rs = sum_by (λ (r : Range). r.len) rs
 
-ram_size : (cells : List Cell) (rs : List Range) → size (ram_without cells rs) ≤ size rs
+ram_size : (cells : List Cell) (rs : List Range) → size (ram_without_cells cells rs) ≤ size rs
 ram_size [] rs = omega arith
-ram_size (c ∷ cs) rs = let a = ram_size cs (ranges_without c.at 4 rs) in let b : size (ranges_without c.at 4 rs) ≤ size rs = ranges_without_size c.at 4 rs in omega arith
+ram_size (c ∷ cs) rs = let a = ram_size cs (cut_plan_ranges c.at 4 rs) in let b : size (cut_plan_ranges c.at 4 rs) ≤ size rs = ranges_without_size c.at 4 rs in omega arith
 
 -- ---- devices
 abbrev cell_ranges : List Cell → List Range
@@ -57,12 +57,12 @@ module _ (plan : PlanData) (ok : IsPlan plan) where
       and_from _ _ (and_from _ _ (and_from _ _ (cell_range c is) (le-leb c.lo c.hi is.ordered)) (lt-ltb c.hi (2 ^ 32) is.word)) (cell_devices cs (later_cells plan c cs all))
 
   -- addresses inside the cells' ranges are bytes of cells
-  in_cells : (cells : List Cell) (x : ℕ) → IsInOne x 1 (cell_ranges cells) → is_in_cell cells x ≡ true
+  in_cells : (cells : List Cell) (x : ℕ) → IsInOneRange x 1 (cell_ranges cells) → is_in_cell cells x ≡ true
   in_cells [] x h = absurd h
   in_cells (c ∷ cs) x (inl h) = let low = h.0 in let high = h.1 in rw (le-leb c.at x low, lt-ltb x (c.at + 4) (omega arith)) refl
   in_cells (c ∷ cs) x (inr h) = or_right (nat_le c.at x && nat_lt x (c.at + 4)) (is_in_cell cs x) (in_cells cs x h)
 
-  apart_from : (c : Cell) (cs : List Cell) (x : ℕ) → c.at % 4 ≡ 0 → All (IsCell plan) cs → All (λ (d : Cell). d.at ≢ c.at) cs → IsWithin x 1 (record { at = c.at; len = 4 }) → IsInOne x 1 (cell_ranges cs) → ⊥
+  apart_from : (c : Cell) (cs : List Cell) (x : ℕ) → c.at % 4 ≡ 0 → All (IsCell plan) cs → All (λ (d : Cell). d.at ≢ c.at) cs → IsWithinRange x 1 (record { at = c.at; len = 4 }) → IsInOneRange x 1 (cell_ranges cs) → ⊥
   apart_from c [] x a all once h g = g
   apart_from c (d ∷ ds) x a all once h (inl g) =
       let b = (first_cell plan d ds all).aligned in
@@ -73,7 +73,7 @@ module _ (plan : PlanData) (ok : IsPlan plan) where
       once 0 d (omega arith) (omega arith)
   apart_from c (d ∷ ds) x a all once h (inr g) = apart_from c ds x a (later_cells plan d ds all) (λ i e lt. once (suc i) e (omega arith)) h g
 
-  cells_apart : (cells : List Cell) → All (IsCell plan) cells → AllPairs (λ (c d : Cell). d.at ≢ c.at) cells → all_apart (cell_ranges cells) ≡ true
+  cells_apart : (cells : List Cell) → All (IsCell plan) cells → AllPairs (λ (c d : Cell). d.at ≢ c.at) cells → are_all_ranges_apart (cell_ranges cells) ≡ true
   cells_apart [] all once = refl
   cells_apart (c ∷ cs) all once =
       let is = first_cell plan c cs all in
@@ -88,7 +88,7 @@ take_whole (c ∷ cs) = ap (λ l. c ∷ l) (take_whole cs)
 
 module _ {plan : PlanData} (ok : IsPlan plan) (cells : List Cell) (are : AreCells plan cells) where
   abbrev ram : List Range
-  ram = ram_without cells plan.ram
+  ram = ram_without_cells cells plan.ram
 
   abbrev old_devices : List Range
   old_devices = map (λ (d : Device). d.range) plan.devices
@@ -105,26 +105,26 @@ module _ {plan : PlanData} (ok : IsPlan plan) (cells : List Cell) (are : AreCell
   new_is : list_all is_range (cell_ranges cells) ≡ true
   new_is = device_ranges (map cell_device cells) (cell_devices plan ok cells are.each)
 
-  three : all_apart (plan.rom ++ plan.ram ++ old_devices) ≡ true
+  three : are_all_ranges_apart (plan.rom ++ plan.ram ++ old_devices) ≡ true
   three = all_apart-front (plan.rom ++ plan.ram ++ old_devices) (areas_range plan ∷ []) ok.apart
 
-  two : all_apart (plan.rom ++ plan.ram) ≡ true
+  two : are_all_ranges_apart (plan.rom ++ plan.ram) ≡ true
   two = all_apart-front (plan.rom ++ plan.ram) old_devices (three)
 
-  cell_ram : (x : ℕ) → IsInOne x 1 (cell_ranges cells) → IsInOne x 1 plan.ram
+  cell_ram : (x : ℕ) → IsInOneRange x 1 (cell_ranges cells) → IsInOneRange x 1 plan.ram
   cell_ram x h = cell_in_ram plan cells x are.each (in_cells plan ok cells x h)
 
-  first_two : all_apart (plan.rom ++ ram) ≡ true
+  first_two : are_all_ranges_apart (plan.rom ++ ram) ≡ true
   first_two =
       all_apart-append plan.rom ram (HaveBytes-ranges _ (ok.ranges).rom) (HaveBytes-ranges _ (ram_is)) (all_apart-front plan.rom plan.ram (two))
       (ram_apart plan cells plan.ram are.each (ok.ranges).ram (all_apart-behind plan.rom plan.ram (two))) (λ x a b. ram_not_rom plan ok x (ram_in cells plan.ram x 1 b) a)
 
-  both_devices : all_apart (old_devices ++ cell_ranges cells) ≡ true
+  both_devices : are_all_ranges_apart (old_devices ++ cell_ranges cells) ≡ true
   both_devices =
       all_apart-append old_devices (cell_ranges cells) (HaveBytes-ranges _ (old_is)) (HaveBytes-ranges _ (new_is)) (all_apart-behind (plan.rom ++ plan.ram) old_devices (three))
       (cells_apart plan ok cells are.each are.once) (λ x a b. ram_not_device plan ok x (cell_ram x b) a)
 
-  four_apart : all_apart (plan.rom ++ ram ++ (old_devices ++ cell_ranges cells) ++ areas_range plan ∷ []) ≡ true
+  four_apart : are_all_ranges_apart (plan.rom ++ ram ++ (old_devices ++ cell_ranges cells) ++ areas_range plan ∷ []) ≡ true
   four_apart =
       all_apart-append (plan.rom ++ ram ++ (old_devices ++ cell_ranges cells)) (areas_range plan ∷ []) (HaveBytes-append _ _ here there) ((let s = (ok.areas).some in omega arith), tt)
       (all_apart-append (plan.rom ++ ram) (old_devices ++ cell_ranges cells) here there (first_two) (both_devices)
@@ -193,13 +193,13 @@ module _ {plan : PlanData} (ok : IsPlan plan) (cells : List Cell) (are : AreCell
       globals = (ok.words).globals;
     };
     irqs = ok.irqs;
-    apart = subst (λ ds. all_apart (plan.rom ++ ram ++ ds ++ areas_range plan ∷ []) ≡ true) (sym (map-append (λ (d : Device). d.range) plan.devices (map cell_device cells))) (four_apart);
+    apart = subst (λ ds. are_all_ranges_apart (plan.rom ++ ram ++ ds ++ areas_range plan ∷ []) ≡ true) (sym (map-append (λ (d : Device). d.range) plan.devices (map cell_device cells))) (four_apart);
   }
 
 -- ---- one cell after another
-pub ram_behind : (cells more : List Cell) (rs : List Range) → ram_without (cells ++ more) rs ≡ ram_without more (ram_without cells rs)
+pub ram_behind : (cells more : List Cell) (rs : List Range) → ram_without_cells (cells ++ more) rs ≡ ram_without_cells more (ram_without_cells cells rs)
 ram_behind [] more rs = refl
-ram_behind (c ∷ cs) more rs = ram_behind cs more (ranges_without c.at 4 rs)
+ram_behind (c ∷ cs) more rs = ram_behind cs more (cut_plan_ranges c.at 4 rs)
 
 take_more : (cells : List Cell) (i : ℕ) (d : Cell) → i < length cells → take (i + 1) cells ≡ take i cells ++ get_or cells i d ∷ []
 take_more [] i d lt = absurd (omega arith)
@@ -207,8 +207,8 @@ take_more (c ∷ cs) zero d lt = refl
 take_more (c ∷ cs) (suc i) d lt = let e : suc i + 1 ≡ suc (i + 1) = omega arith in ap (λ k. take k (c ∷ cs)) e ∙ ap (λ l. c ∷ l) (take_more cs i d (omega arith))
 
 -- the ranges without one more cell
-pub ram_more : (cells : List Cell) (rs : List Range) (i : ℕ) (d : Cell) → i < length cells → ranges_without (get_or cells i d).at 4 (ram_without (take i cells) rs) ≡ ram_without (take (i + 1) cells) rs
-ram_more cells rs i d lt = sym (ap (λ cs. ram_without cs rs) (take_more cells i d lt) ∙ ram_behind (take i cells) (get_or cells i d ∷ []) rs)
+pub ram_more : (cells : List Cell) (rs : List Range) (i : ℕ) (d : Cell) → i < length cells → cut_plan_ranges (get_or cells i d).at 4 (ram_without_cells (take i cells) rs) ≡ ram_without_cells (take (i + 1) cells) rs
+ram_more cells rs i d lt = sym (ap (λ cs. ram_without_cells cs rs) (take_more cells i d lt) ∙ ram_behind (take i cells) (get_or cells i d ∷ []) rs)
 
 pub take_cells : (plan : PlanData) (cells : List Cell) (i : ℕ) → All (IsCell plan) cells → All (IsCell plan) (take i cells)
 take_cells plan [] zero each k d lt = absurd (omega arith)
@@ -223,7 +223,7 @@ fits_each (r ∷ rs) h zero d lt = (range_parts r (and_parts (is_range r) (list_
 fits_each (r ∷ rs) h (suc k) d lt = fits_each rs (and_parts (is_range r) (list_all is_range rs) h).1 k d (omega arith)
 
 -- no range that is left passes 2^32
-pub ram_fits : {plan : PlanData} → IsPlan plan → (cells : List Cell) → All (IsCell plan) cells → All (λ r. r.at + r.len ≤ 2 ^ 32) (ram_without cells plan.ram)
+pub ram_fits : {plan : PlanData} → IsPlan plan → (cells : List Cell) → All (IsCell plan) cells → All (λ r. r.at + r.len ≤ 2 ^ 32) (ram_without_cells cells plan.ram)
 ram_fits {plan = plan} ok cells each = fits_each _ (ram_ranges plan cells plan.ram each (ok.ranges).ram)
 
 -- ---- a plan made of its parts

@@ -16,11 +16,11 @@ use Rattle.tc_encode.proofs.DecodeProofs.{decode_laws}
 use Rattle.tc_machine.specs.declared.events.Cause.TheVariants.{NoCode}
 use Rattle.tc_machine.specs.declared.events.Event.{Event}
 use Rattle.tc_machine.specs.declared.state.Machine.{Machine}
-use Rattle.tc_machine.specs.Machine.{reg}
-use Rattle.tc_machine.specs.Fetching.{mapped_bytes, shaped, fetched}
-use Rattle.tc_machine.specs.Instructions.{access_address, traps_at}
+use Rattle.tc_machine.specs.Machine.{reg, IsMachine}
+use Rattle.tc_machine.specs.Fetching.{mapped_bytes, fetched_shape, fetched}
+use Rattle.tc_machine.specs.Instructions.{access_address, is_trapping_access}
 use Rattle.tc_machine.specs.Stepping.{is_taken, step, run, load_in, load_at_pc, store_in, where_running, stored}
-use Rattle.tc_machine.specs.Safe.{IsMachine, Fits, AllFit, IsAtCode, IsSafeAt}
+use Rattle.tc_machine.specs.Safe.{Fits, AllFit, IsAtCode, IsSafeAt}
 use Rattle.tc_mem.specs.PlanMemory.{IsPlanMemory}
 use Rattle.tcd_plan.specs.Regions.{IsStoreInRange}
 use Rattle.tcd_plan.proofs.ApartLaws.{rom_fits}
@@ -32,7 +32,7 @@ use Rattle.value_domain.specs.Values.{IsMember}
 use Rattle.value_domain.specs.State.{AreValues}
 use Rattle.vd_transfer.specs.Registers.{reg_of}
 use Rattle.vd_transfer.specs.EffectsOnStates.{address_of}
-use Rattle.vd_transfer.specs.Soundness.{IsSetting}
+use Rattle.vd_transfer.specs.Soundness.{IsSoundSetting}
 use Rattle.vd_transfer.proofs.HoldLaws.{address_holds}
 use Rattle.depth_cert.specs.declared.points.Point.{Point}
 use Rattle.depth_cert.specs.Keys.{number_of_key}
@@ -53,7 +53,7 @@ use Rattle.value_cells.specs.Cells.{with_cells, IsCell}
 use Rattle.value_cells.specs.Keeping.{KeepsAll, KeepsCells}
 use Rattle.value_cells.specs.Safe.{IsSafeWithCellsAt}
 use Rattle.value_cells.specs.Laws.{CellsKeepTheirBounds}
-use Rattle.value_cells.specs.BesideCells.{hidden, heard_in, heard_event, NamesAreas}
+use Rattle.value_cells.specs.BesideCells.{machine_without_cells, event_with_cell_load, event_beside_cells, NamesAreas}
 use Rattle.value_cells.proofs.WithoutCells.{get-without}
 use Rattle.value_cells.proofs.CellSteps.{address-hidden, status_of_taken, hidden-step}
 use Rattle.value_cells.proofs.CellCode.{fetched-more, chain_there, names_areas}
@@ -80,21 +80,21 @@ fetched_there image ok m even c =
     let s = c.spells in
     let short = (decode_laws.lengths (c.bytes ++ []) c.inst (length c.bytes) (decode_laws.spelled c.bytes [] c.inst s.spelled)).1 in
     let front = mapped_bytes-front 4 m.mem m.pc c.bytes short (rom_fits ok m.pc (length c.bytes) s.in_rom) c.there in
-    ap (λ t. cond t (shaped (decoded_of (mapped_bytes 4 m.mem m.pc))) (Err NoCode)) (eq-eqb _ _ even)
-    ∙ ap (λ bs. shaped (decoded_of bs)) front.1
-    ∙ ap shaped (decode_laws.spelled c.bytes front.0 c.inst s.spelled)
+    ap (λ t. cond t (fetched_shape (decoded_of (mapped_bytes 4 m.mem m.pc))) (Err NoCode)) (eq-eqb _ _ even)
+    ∙ ap (λ bs. fetched_shape (decoded_of bs)) front.1
+    ∙ ap fetched_shape (decode_laws.spelled c.bytes front.0 c.inst s.spelled)
 
 -- ---- what a step stores
-store_hidden : (cells : List Cell) (m : Machine) (e : Event) (shape : Shape) (n : ℕ) → store_in (hidden cells m) (heard_in cells m e (load_in m (Ok (shape, n)))) (Ok (shape, n)) ≡ store_in m e (Ok (shape, n))
-store_hidden cells m e (Store src base offset size after) n = ap (λ x. cond (traps_at e x size) None (Some (x, size))) (address-hidden cells m base offset after)
+store_hidden : (cells : List Cell) (m : Machine) (e : Event) (shape : Shape) (n : ℕ) → store_in (machine_without_cells cells m) (event_with_cell_load cells m e (load_in m (Ok (shape, n)))) (Ok (shape, n)) ≡ store_in m e (Ok (shape, n))
+store_hidden cells m e (Store src base offset size after) n = ap (λ x. cond (is_trapping_access e x size) None (Some (x, size))) (address-hidden cells m base offset after)
 store_hidden cells m e _ n = refl
 
-stored_same : (cells : List Cell) (m : Machine) (e : Event) (shape : Shape) (n : ℕ) → fetched m ≡ Ok (shape, n) → fetched (hidden cells m) ≡ Ok (shape, n) → stored (hidden cells m) (heard_event cells m e) ≡ stored m e
+stored_same : (cells : List Cell) (m : Machine) (e : Event) (shape : Shape) (n : ℕ) → fetched m ≡ Ok (shape, n) → fetched (machine_without_cells cells m) ≡ Ok (shape, n) → stored (machine_without_cells cells m) (event_beside_cells cells m e) ≡ stored m e
 unfolding stored
 stored_same cells m e shape n here there =
-    ap (λ t. where_running m.end (cond t None (store_in (hidden cells m) (heard_event cells m e) (fetched (hidden cells m))))) (status_of_taken cells m e (load_at_pc m))
-    ∙ ap (λ f. where_running m.end (cond (is_taken m e) None (store_in (hidden cells m) (heard_event cells m e) f))) there
-    ∙ ap (λ f. where_running m.end (cond (is_taken m e) None (store_in (hidden cells m) (heard_in cells m e (load_in m f)) (Ok (shape, n))))) here
+    ap (λ t. where_running m.end (cond t None (store_in (machine_without_cells cells m) (event_beside_cells cells m e) (fetched (machine_without_cells cells m))))) (status_of_taken cells m e (load_at_pc m))
+    ∙ ap (λ f. where_running m.end (cond (is_taken m e) None (store_in (machine_without_cells cells m) (event_beside_cells cells m e) f))) there
+    ∙ ap (λ f. where_running m.end (cond (is_taken m e) None (store_in (machine_without_cells cells m) (event_with_cell_load cells m e (load_in m f)) (Ok (shape, n))))) here
     ∙ ap (λ o. where_running m.end (cond (is_taken m e) None o)) (store_hidden cells m e shape n)
     ∙ ap (λ f. where_running m.end (cond (is_taken m e) None (store_in m e f))) (sym here)
 
@@ -114,8 +114,8 @@ module _ (image : ImageData) {plan : PlanData} (ok : IsPlan plan) (cells : List 
   pub record GoesBeside (m : Machine) (fs : List Standing) : Type 0 where
     pub words : IsMachine m
     pub kept : AreKept cells m.mem
-    pub safe : SafeFrom (hidden cells m)
-    pub held : HeldFrom (hidden cells m) fs
+    pub safe : SafeFrom (machine_without_cells cells m)
+    pub held : HeldFrom (machine_without_cells cells m) fs
 
   -- ---- the point of a state
   pub record AtPoint (m : Machine) : Type 0 where
@@ -126,7 +126,7 @@ module _ (image : ImageData) {plan : PlanData} (ok : IsPlan plan) (cells : List 
     pub addr : point.addr ≡ m.pc
     pub inside : InState other m point.state
     pub even : m.pc % 2 ≡ 0
-    pub setting : IsSetting (limits_in other cert) other point.state
+    pub setting : IsSoundSetting (limits_in other cert) other point.state
 
   at_found : (m : Machine) (f : Standing) → f.at ≡ m.pc → (o : Option NodeData) → find_node f.key cert.nodes ≡ o → IsSomeAnd o (λ n. IsSomeAnd (find_point f.at n.points) (λ p. InState other m p.state)) → AtPoint m
   at_found m f at None e h = absurd h
@@ -175,20 +175,20 @@ module _ (image : ImageData) {plan : PlanData} (ok : IsPlan plan) (cells : List 
   )
 
   module _ (m : Machine) (fs : List Standing) (e : Event) (b : GoesBeside m fs) (f : Fits plan m e) where
-    fits2 : Fits other (hidden cells m) (heard_event cells m e)
+    fits2 : Fits other (machine_without_cells cells m) (event_beside_cells cells m e)
     fits2 = hidden_fits ok cells each m e b.words (b.kept).mapped (b.kept).bounds f
 
-    safe2 : IsSafeAt image other most (hidden cells m) (heard_event cells m e)
-    safe2 = b.safe [] (heard_event cells m e) tt fits2
+    safe2 : IsSafeAt image other most (machine_without_cells cells m) (event_beside_cells cells m e)
+    safe2 = b.safe [] (event_beside_cells cells m e) tt fits2
 
     names : NamesAreas cells m
     names = let c = (safe2).chains in names_areas cells m c.used c.free c.used_chain c.free_chain
 
-    point : AtPoint (hidden cells m)
-    point = at_held (hidden cells m) fs (b.held [] tt)
+    point : AtPoint (machine_without_cells cells m)
+    point = at_held (machine_without_cells cells m) fs (b.held [] tt)
 
-    there : fetched (hidden cells m) ≡ Ok (shape_of (safe2).code_in_rom.inst, length (safe2).code_in_rom.bytes)
-    there = fetched_there image ok2 (hidden cells m) (point).even (safe2).code_in_rom
+    there : fetched (machine_without_cells cells m) ≡ Ok (shape_of (safe2).code_in_rom.inst, length (safe2).code_in_rom.bytes)
+    there = fetched_there image ok2 (machine_without_cells cells m) (point).even (safe2).code_in_rom
 
     here : fetched m ≡ Ok (shape_of (safe2).code_in_rom.inst, length (safe2).code_in_rom.bytes)
     here = fetched-more cells m (shape_of (safe2).code_in_rom.inst) (length (safe2).code_in_rom.bytes) there
@@ -198,7 +198,7 @@ module _ (image : ImageData) {plan : PlanData} (ok : IsPlan plan) (cells : List 
         (record { even = (point).even; bytes = (safe2).code_in_rom.bytes; inst = (safe2).code_in_rom.inst; spells = (safe2).code_in_rom.spells; shaped = refl; sized = refl })
 
     -- the store of an instruction keeps the cells
-    store_keeps : (shape : Shape) (n : ℕ) → is_taken m e ≡ false → fetched m ≡ Ok (shape, n) → fetched (hidden cells m) ≡ Ok (shape, n) → IsShape shape → IsCode image other (point).point.addr shape n → StoreKeeps cells m e shape
+    store_keeps : (shape : Shape) (n : ℕ) → is_taken m e ≡ false → fetched m ≡ Ok (shape, n) → fetched (machine_without_cells cells m) ≡ Ok (shape, n) → IsShape shape → IsCode image other (point).point.addr shape n → StoreKeeps cells m e shape
     store_keeps (Store src base offset size after) n none h t is c = λ quiet.
         let x = access_address m base offset after in
         let s = ((point).point).state in
@@ -212,16 +212,16 @@ module _ (image : ImageData) {plan : PlanData} (ok : IsPlan plan) (cells : List 
     store_keeps _ n none h t is c = tt
 
     -- the next states of the two machines match
-    pub beside_next : GoesBeside (step m e) (frames_after (hidden cells m) (heard_event cells m e) fs)
+    pub beside_next : GoesBeside (step m e) (frames_after (machine_without_cells cells m) (event_beside_cells cells m e) fs)
     beside_next =
         let shape = shape_of (safe2).code_in_rom.inst in
         let n = length (safe2).code_in_rom.bytes in
-        let is : step (hidden cells m) (heard_event cells m e) ≡ hidden cells (step m e) = hidden-step cells m e (b.words).bytes names shape n here there in
+        let is : step (machine_without_cells cells m) (event_beside_cells cells m e) ≡ machine_without_cells cells (step m e) = hidden-step cells m e (b.words).bytes names shape n here there in
         record {
           words = stays_step m e b.words (irq_lt ok m e f) f.input f.status;
           kept = kept_step cells m e names b.kept shape n here (λ none. store_keeps shape n none here there (shape_is (safe2).code_in_rom.inst (((safe2).code_in_rom.spells).spelled).inst) code);
-          safe = subst SafeFrom is (λ es e2 fit g. b.safe (heard_event cells m e ∷ es) e2 (fits2, fit) g);
-          held = subst (λ h. HeldFrom h (frames_after (hidden cells m) (heard_event cells m e) fs)) is (λ es fit. b.held (heard_event cells m e ∷ es) (fits2, fit));
+          safe = subst SafeFrom is (λ es e2 fit g. b.safe (event_beside_cells cells m e ∷ es) e2 (fits2, fit) g);
+          held = subst (λ h. HeldFrom h (frames_after (machine_without_cells cells m) (event_beside_cells cells m e) fs)) is (λ es fit. b.held (event_beside_cells cells m e ∷ es) (fits2, fit));
         }
 
     -- and the state is safe
@@ -258,7 +258,7 @@ module _ (image : ImageData) {plan : PlanData} (ok : IsPlan plan) (cells : List 
   -- ---- runs
   pub run_beside : (m : Machine) (fs : List Standing) (es : List Event) (e : Event) → GoesBeside m fs → AllFit plan m es → Fits plan (run m es) e → IsSafeWithCellsAt image plan cells most (run m es) e
   run_beside m fs [] e b fits f = beside_safe m fs e b f
-  run_beside m fs (d ∷ es) e b fits f = run_beside (step m d) (frames_after (hidden cells m) (heard_event cells m d) fs) es e (beside_next m fs d b fits.0) fits.1 f
+  run_beside m fs (d ∷ es) e b fits f = run_beside (step m d) (frames_after (machine_without_cells cells m) (event_beside_cells cells m d) fs) es e (beside_next m fs d b fits.0) fits.1 f
 
 -- ---- the theorem
 mapped_cells : {plan : PlanData} → (cells : List Cell) → All (IsCell plan) cells → (mem : Memory) → IsPlanMemory plan mem → AreMapped mem cells
@@ -272,6 +272,6 @@ cells_keep image plan cells cert most ok are is_cert accepted safe held keeps m 
     (record {
       words = start.machine;
       kept = record { mapped = mapped_cells cells are.each m.mem start.memory; bounds = bounds };
-      safe = λ ds d fit g. safe (hidden cells m) ds d start2 fit g;
-      held = λ ds fit. held (hidden cells m) ds start2 fit;
+      safe = λ ds d fit g. safe (machine_without_cells cells m) ds d start2 fit g;
+      held = λ ds fit. held (machine_without_cells cells m) ds start2 fit;
     }) fits f

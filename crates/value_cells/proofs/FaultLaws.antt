@@ -19,7 +19,7 @@ use Rattle.cfg_recover.proofs.FirstFault.{all_done, least_point, in_cert, least_
 use Rattle.value_cells.specs.declared.cells.Cell.{Cell}
 use Rattle.value_cells.specs.Cells.{AreCells}
 use Rattle.packed_cert.proofs.WalkedPoints.{met}
-use Rattle.value_cells.specs.Keeping.{KeepsCellsAt, KeepsCellsAtPoint, KeepsCells, BreaksCells, breaks_at, place_number, IsFirstBreak, IsNodeBreak}
+use Rattle.value_cells.specs.Keeping.{KeepsCellsAt, KeepsCellsAtPoint, KeepsCells, BreaksCells, breaks_at, cell_break_number, IsFirstBreak, IsNodeBreak}
 
 -- ---- a point
 module _ (b : Limits) (image : ImageData) (plan : PlanData) (cells : List Cell) (point : Point) where
@@ -67,7 +67,7 @@ module _ (image : ImageData) (plan : PlanData) (cells : List Cell) (cert : CertD
   KeepsIn n p = KeepsCellsAtPoint (limits_in plan cert) image plan cells p
 
   least_of_all : (i : ℕ) (node : NodeData) (p : ℕ) (j : Key) (x : ℕ) → i < length nodes → node ≡ get_or nodes i node → All KeepsAll (take i nodes) → IsNodeBreak (limits_in plan cert) image plan cells node p → p < 2 ^ 32
-      → BreaksCells image plan cells cert j x → place_number node.key p ≤ place_number j x
+      → BreaksCells image plan cells cert j x → cell_break_number node.key p ≤ cell_break_number j x
   least_of_all i node p _ _ lt at before f small (breaks_at other point member stands wrong) = least_place KeepsIn cert is_cert nodes same i node other p point lt at before f.least small member stands wrong
 
   pub first_breaks : (i : ℕ) (node : NodeData) (p : ℕ) → i < length nodes → node ≡ get_or nodes i node → All KeepsAll (take i nodes) → IsNodeBreak (limits_in plan cert) image plan cells node p → IsFirstBreak image plan cells cert node.key p

@@ -11,7 +11,7 @@ use Rattle.value_domain.specs.Limits.{Limits}
 use Rattle.value_domain.specs.State.{Covers}
 use Rattle.vd_transfer.specs.Registers.{slot}
 use Rattle.vd_transfer.specs.EffectsOnStates.{address_of}
-use Rattle.vd_transfer.specs.Soundness.{IsSetting}
+use Rattle.vd_transfer.specs.Soundness.{IsSoundSetting}
 use Rattle.depth_cert.specs.declared.keys.Key.{Key}
 use Rattle.depth_cert.specs.declared.points.Point.{Point}
 use Rattle.depth_cert.specs.Nodes.{NodeData}
@@ -29,7 +29,7 @@ use Rattle.cfg_recover.proofs.AccessGrowth.{value_grows, access_grows}
 use Rattle.cfg_recover.proofs.KnownPlaces.{Above, above, limits_same, setting}
 
 -- ---- a store from a smaller state
-module _ (b : Limits) (p : PlanData) (s t : State) (low : IsSetting b p s) (high : IsSetting b p t) (c : Covers t s) where
+module _ (b : Limits) (p : PlanData) (s t : State) (low : IsSoundSetting b p s) (high : IsSoundSetting b p t) (c : Covers t s) where
   -- a store that keeps the cells does so from the smaller state
   keeps_shrinks : (cells : List Cell) (shape : Shape) → IsShape shape → KeepsCellsAt b p cells t shape → KeepsCellsAt b p cells s shape
   unfolding address_of
@@ -46,7 +46,7 @@ module _ (image : ImageData) (plan : PlanData) (cells : List Cell) (lower upper 
   keeps_below : (node : NodeData) (q : Point) → Contains lower.nodes node → Contains node.points q → (a : Above upper node.key q) → KeepsCellsAtPoint (limits_in plan upper) image plan cells a.place
       → KeepsCellsAtPoint (limits_in plan lower) image plan cells q
   keeps_below node q has stands a keeps shape n code =
-      let high = subst (λ (b : Limits). IsSetting b plan (a.place).state) (limits_same plan lower upper same) (setting image plan upper ok up_cert up_ok a.node a.place a.member a.stands) in
+      let high = subst (λ (b : Limits). IsSoundSetting b plan (a.place).state) (limits_same plan lower upper same) (setting image plan upper ok up_cert up_ok a.node a.place a.member a.stands) in
       let there = keeps shape n (subst (λ x. IsCode image plan x shape n) (sym a.addr) code) in
       let limited = subst (λ (b : Limits). KeepsCellsAt b plan cells (a.place).state shape) (limits_same plan lower upper same) there in
       keeps_shrinks (limits_in plan lower) plan q.state (a.place).state (setting image plan lower ok low_cert low_ok node q has stands) high a.covers cells shape (IsCode-bounded image plan q.addr shape n code) limited

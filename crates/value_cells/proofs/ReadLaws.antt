@@ -7,16 +7,16 @@ use Rattle.std.proofs.lemmas.List.Elements.{All-push, filter_map-append}
 use Rattle.std.proofs.lemmas.List.Quantifiers.{all_pairs_push}
 use Rattle.std.specs.List.{list_any}
 use Rattle.tcd_base.specs.declared.range.Range.{Range}
-use Rattle.tcd_base.specs.Ranges.{is_within, IsInOne}
+use Rattle.tcd_base.specs.Ranges.{is_within_range, IsInOneRange}
 use Rattle.store_ranges.proofs.RomLaws.{any_one, one_any}
 use Rattle.tcd_plan.specs.PlanData.{PlanData, IsPlan}
-use Rattle.tcd_text.specs.Lines.{lines_of}
+use Rattle.tcd_text.specs.Lines.{text_lines}
 use Rattle.value_cells.specs.declared.cells.Cell.{Cell}
 use Rattle.value_cells.specs.declared.errors.CellsErr.{CellsErr}
 use Rattle.value_cells.specs.declared.errors.CellsErr.TheVariants.{BadLine}
-use Rattle.tcd_plan.specs.Cutting.{ranges_without}
-use Rattle.value_cells.specs.Cells.{cell_device, ram_without, with_cells, IsCell, AreCells}
-use Rattle.value_cells.specs.CellListText.{cell_of, cell_of_words, IsLine, AreRead, HasRoom, IsRefused, IsBadLine, IsFirstBad, TakesLine}
+use Rattle.tcd_plan.specs.Cutting.{cut_plan_ranges}
+use Rattle.value_cells.specs.Cells.{cell_device, ram_without_cells, with_cells, IsCell, AreCells}
+use Rattle.value_cells.specs.CellListText.{cell_of, cell_of_words, IsCellLine, AreRead, HasRoom, IsRefused, IsBadLine, IsFirstBad, TakesLine}
 use Rattle.value_cells.proofs.CellPlan.{ram_behind, take_whole}
 
 abbrev no_cell : List Cell
@@ -54,27 +54,27 @@ one_cell plan cells c are is once room = record {
 }
 
 -- ---- room for one more
-pub room_ram : (plan : PlanData) (cells : List Cell) (c : Cell) → (with_cells plan (cells ++ c ∷ [])).ram ≡ ranges_without c.at 4 (ram_without cells plan.ram)
+pub room_ram : (plan : PlanData) (cells : List Cell) (c : Cell) → (with_cells plan (cells ++ c ∷ [])).ram ≡ cut_plan_ranges c.at 4 (ram_without_cells cells plan.ram)
 room_ram plan cells c = ram_behind cells (c ∷ []) plan.ram
 
 pub room_devices : (plan : PlanData) (cells : List Cell) (c : Cell) → length (with_cells plan (cells ++ c ∷ [])).devices ≡ length plan.devices + length cells + 1
 room_devices plan cells c =
     omega (arith, length-append plan.devices (map cell_device (cells ++ c ∷ [])), length-map (cells ++ c ∷ []) cell_device, length-append cells (c ∷ []))
 
-pub has_room : (plan : PlanData) (cells : List Cell) (c : Cell) → length (ranges_without c.at 4 (ram_without cells plan.ram)) ≤ 16 → length plan.devices + length cells < 16 → HasRoom plan cells c
+pub has_room : (plan : PlanData) (cells : List Cell) (c : Cell) → length (cut_plan_ranges c.at 4 (ram_without_cells cells plan.ram)) ≤ 16 → length plan.devices + length cells < 16 → HasRoom plan cells c
 has_room plan cells c few lt = record {
   ram = subst (λ (rs : List Range). length rs ≤ 16) (sym (room_ram plan cells c)) few;
   devices = omega (arith, room_devices plan cells c);
 }
 
-pub room_few : (plan : PlanData) (cells : List Cell) (c : Cell) → HasRoom plan cells c → length (ranges_without c.at 4 (ram_without cells plan.ram)) ≤ 16
+pub room_few : (plan : PlanData) (cells : List Cell) (c : Cell) → HasRoom plan cells c → length (cut_plan_ranges c.at 4 (ram_without_cells cells plan.ram)) ≤ 16
 room_few plan cells c room = subst (λ (rs : List Range). length rs ≤ 16) (room_ram plan cells c) room.ram
 
 pub room_lt : (plan : PlanData) (cells : List Cell) (c : Cell) → HasRoom plan cells c → length plan.devices + length cells < 16
 room_lt plan cells c room = omega (arith, room_devices plan cells c, room.devices)
 
 -- if there are few enough ranges, the number of devices decides
-pub room_then : (plan fields : PlanData) (cells : List Cell) (c : Cell) (n d m : ℕ) → fields ≡ plan → d ≡ length fields.devices → m ≡ length cells → n ≡ length (ranges_without c.at 4 (ram_without cells plan.ram)) → n ≤ 16
+pub room_then : (plan fields : PlanData) (cells : List Cell) (c : Cell) (n d m : ℕ) → fields ≡ plan → d ≡ length fields.devices → m ≡ length cells → n ≡ length (cut_plan_ranges c.at 4 (ram_without_cells cells plan.ram)) → n ≤ 16
     → (IsTrue (nat_lt (d + m) 16) → HasRoom plan cells c) × (HasRoom plan cells c → IsTrue (nat_lt (d + m) 16))
 room_then plan fields cells c n d m same devices count parts few =
     let all : d ≡ length plan.devices = devices ∙ ap (λ (p : PlanData). length p.devices) same in (
@@ -82,7 +82,7 @@ room_then plan fields cells c n d m same devices count parts few =
       λ room. lt-ltb (d + m) 16 (omega (arith, room_lt plan cells c room)),
     )
 
-pub room_else : (plan : PlanData) (cells : List Cell) (c : Cell) (n : ℕ) → n ≡ length (ranges_without c.at 4 (ram_without cells plan.ram)) → 16 < n → (IsTrue (nat_le n 16) → HasRoom plan cells c) × (HasRoom plan cells c → IsTrue (nat_le n 16))
+pub room_else : (plan : PlanData) (cells : List Cell) (c : Cell) (n : ℕ) → n ≡ length (cut_plan_ranges c.at 4 (ram_without_cells cells plan.ram)) → 16 < n → (IsTrue (nat_le n 16) → HasRoom plan cells c) × (HasRoom plan cells c → IsTrue (nat_le n 16))
 room_else plan cells c n parts many = (
   λ t. absurd (let le = leb-true n 16 t in omega arith),
   λ room. absurd (let few = room_few plan cells c room in omega arith),
@@ -105,7 +105,7 @@ pub bad_cell : (plan : PlanData) (cells : List Cell) (line : List ℕ) (n : ℕ)
 bad_cell plan cells line n c (BadLine k) is bad = absurd bad
 bad_cell plan cells line n c it is bad = subst (λ o. IsSomeAnd o (λ d. IsRefused plan cells d n it)) (sym is) bad
 
-no_line : (line : List ℕ) (lt : 0 < length line) → cell_of line ≡ None → IsLine line → ⊥
+no_line : (line : List ℕ) (lt : 0 < length line) → cell_of line ≡ None → IsCellLine line → ⊥
 no_line line lt none (inl e) = absurd (let z : length line ≡ 0 = ap length e in omega arith)
 no_line line lt none (inr some) = absurd (let f : false ≡ true = subst IsSome none some in cc)
 
@@ -135,7 +135,7 @@ takes_one plan cells line c is are = record {
 -- the lines before what is left name the cells
 pub record IsReadSoFar (plan : PlanData) (bytes rest : List ℕ) (number : ℕ) (cells : List Cell) : Type 0 where
   pub before : List (List ℕ)
-  pub split : lines_of bytes ≡ before ++ lines_of rest
+  pub split : text_lines bytes ≡ before ++ text_lines rest
   pub count : number ≡ length before
   pub read : AreRead plan before cells
 
@@ -146,25 +146,25 @@ behind_one : (xs ys : List (List ℕ)) (x : List ℕ) → xs ++ x ∷ ys ≡ (xs
 behind_one [] ys x = refl
 behind_one (z ∷ zs) ys x = ap (λ l. z ∷ l) (behind_one zs ys x)
 
-pub read_more : (plan : PlanData) (bytes rest line behind : List ℕ) (number : ℕ) (cells more : List Cell) → IsReadSoFar plan bytes rest number cells → lines_of rest ≡ line ∷ lines_of behind → TakesLine plan cells line more
+pub read_more : (plan : PlanData) (bytes rest line behind : List ℕ) (number : ℕ) (cells more : List Cell) → IsReadSoFar plan bytes rest number cells → text_lines rest ≡ line ∷ text_lines behind → TakesLine plan cells line more
     → IsReadSoFar plan bytes behind (number + 1) more
 read_more plan bytes rest line behind number cells more so cut takes = record {
   before = so.before ++ line ∷ [];
-  split = so.split ∙ ap (λ l. so.before ++ l) cut ∙ behind_one so.before (lines_of behind) line;
+  split = so.split ∙ ap (λ l. so.before ++ l) cut ∙ behind_one so.before (text_lines behind) line;
   count = omega (arith, so.count, length-append so.before (line ∷ []));
   read = record {
-    forms = All-push IsLine so.before line (so.read).forms takes.form;
+    forms = All-push IsCellLine so.before line (so.read).forms takes.form;
     named = takes.named ∙ ap (λ l. l ++ filter_map cell_of (line ∷ [])) (so.read).named ∙ sym (filter_map-append cell_of so.before (line ∷ []));
     are = takes.are;
   };
 }
 
-pub read_bad : (plan : PlanData) (bytes rest line behind : List ℕ) (number : ℕ) (cells : List Cell) (e : CellsErr) → IsReadSoFar plan bytes rest number cells → lines_of rest ≡ line ∷ lines_of behind
-    → IsBadLine plan cells line (number + 1) e → IsFirstBad plan (lines_of bytes) e
+pub read_bad : (plan : PlanData) (bytes rest line behind : List ℕ) (number : ℕ) (cells : List Cell) (e : CellsErr) → IsReadSoFar plan bytes rest number cells → text_lines rest ≡ line ∷ text_lines behind
+    → IsBadLine plan cells line (number + 1) e → IsFirstBad plan (text_lines bytes) e
 read_bad plan bytes rest line behind number cells e so cut bad = record {
   before = so.before;
   line = line;
-  behind = lines_of behind;
+  behind = text_lines behind;
   split = so.split ∙ ap (λ l. so.before ++ l) cut;
   cells = cells;
   read = so.read;
@@ -175,13 +175,13 @@ append_no_lines : (xs : List (List ℕ)) → xs ++ [] ≡ xs
 append_no_lines [] = refl
 append_no_lines (x ∷ xs) = ap (λ l. x ∷ l) (append_no_lines xs)
 
-pub read_all : (plan : PlanData) (bytes rest : List ℕ) (number : ℕ) (cells : List Cell) → length rest ≡ 0 → IsReadSoFar plan bytes rest number cells → AreRead plan (lines_of bytes) cells
-unfolding lines_of
+pub read_all : (plan : PlanData) (bytes rest : List ℕ) (number : ℕ) (cells : List Cell) → length rest ≡ 0 → IsReadSoFar plan bytes rest number cells → AreRead plan (text_lines bytes) cells
+unfolding text_lines
 read_all plan bytes [] number cells none so = subst (λ ls. AreRead plan ls cells) (sym (so.split ∙ append_no_lines so.before)) so.read
 read_all plan bytes (x ∷ xs) number cells none so = absurd (omega arith)
 
 -- ---- a word in one range
-pub in_one : (b : Bool) (at : ℕ) (rs ss : List Range) → rs ≡ ss → b ≡ list_any (is_within at 4) rs → (IsTrue b → IsInOne at 4 ss) × (IsInOne at 4 ss → IsTrue b)
+pub in_one : (b : Bool) (at : ℕ) (rs ss : List Range) → rs ≡ ss → b ≡ list_any (is_within_range at 4) rs → (IsTrue b → IsInOneRange at 4 ss) × (IsInOneRange at 4 ss → IsTrue b)
 in_one b at rs ss same t =
-    let P : List Range → Type 0 = λ l. (IsTrue b → IsInOne at 4 l) × (IsInOne at 4 l → IsTrue b) in
+    let P : List Range → Type 0 = λ l. (IsTrue b → IsInOneRange at 4 l) × (IsInOneRange at 4 l → IsTrue b) in
     subst P same (λ h. any_one at 4 rs (sym t ∙ h), λ h. t ∙ one_any at 4 rs h)

@@ -5,12 +5,12 @@ use Rattle.std.specs.List.{cons_option}
 use Rattle.std.proofs.lemmas.List.{length-append, take-append-le}
 use Rattle.std.proofs.lemmas.List.Elements.{All-contains, Contains-push, Contains-append_right, filter_map-append}
 use Rattle.tcd_plan.specs.PlanData.{PlanData}
-use Rattle.tcd_text.specs.Lines.{lines_of}
+use Rattle.tcd_text.specs.Lines.{text_lines}
 use Rattle.value_cells.specs.declared.cells.Cell.{Cell}
 use Rattle.value_cells.specs.declared.errors.CellsErr.{CellsErr}
 use Rattle.value_cells.specs.declared.errors.CellsErr.TheVariants.{BadLine, NotRam, Twice, TooMany}
 use Rattle.value_cells.specs.Cells.{with_cells, IsCell, AreCells}
-use Rattle.value_cells.specs.CellListText.{cell_of, IsLine, AreRead, HasRoom, IsRefused, IsBadLine, IsFirstBad, ReadsOne}
+use Rattle.value_cells.specs.CellListText.{cell_of, IsCellLine, AreRead, HasRoom, IsRefused, IsBadLine, IsFirstBad, CellTextReadsOne}
 use Rattle.value_cells.proofs.CellPlan.{take_whole}
 
 -- ---- the first of some cells
@@ -57,7 +57,7 @@ module _ (plan : PlanData) (cells : List Cell) where
   of_option n e None are bad = absurd bad
   of_option n e (Some c) are bad = not_refused n c e (are c refl) bad
 
-  not_bad : (n : ℕ) (line : List ℕ) (e : CellsErr) → IsLine line → ((c : Cell) → cell_of line ≡ Some c → AreCells plan (cells ++ c ∷ [])) → IsBadLine plan cells line n e → ⊥
+  not_bad : (n : ℕ) (line : List ℕ) (e : CellsErr) → IsCellLine line → ((c : Cell) → cell_of line ≡ Some c → AreCells plan (cells ++ c ∷ [])) → IsBadLine plan cells line n e → ⊥
   not_bad n line (BadLine k) form are bad = bad.1 form
   not_bad n line it form are bad = of_option n it (cell_of line) are bad
 
@@ -73,7 +73,7 @@ one_more before behind line c is =
 module _ (plan : PlanData) (before behind : List (List ℕ)) (line : List ℕ) (all cells : List Cell) (e : CellsErr) where
   good_and_bad : AreRead plan (before ++ line ∷ behind) all → cells ≡ filter_map cell_of before → IsBadLine plan cells line (length before + 1) e → ⊥
   good_and_bad read named bad =
-      let form = All-contains IsLine (before ++ line ∷ behind) line read.forms (Contains-append_right before (line ∷ behind) line (0, omega arith, refl)) in
+      let form = All-contains IsCellLine (before ++ line ∷ behind) line read.forms (Contains-append_right before (line ∷ behind) line (0, omega arith, refl)) in
       not_bad plan cells (length before + 1) line e form
       (λ c is. front_cells plan (cells ++ c ∷ []) (filter_map cell_of behind)
       (subst (AreCells plan) (read.named ∙ one_more before behind line c is ∙ ap (λ l. (l ++ c ∷ []) ++ filter_map cell_of behind) (sym named)) read.are)) bad
@@ -102,7 +102,7 @@ module _ (plan : PlanData) (cells : List Cell) where
   one_of_option n e f None bad worse = absurd bad
   one_of_option n e f (Some c) bad worse = one_refusal n c e f bad worse
 
-  named_line : (n : ℕ) (line : List ℕ) (e : CellsErr) (o : Option Cell) → cell_of line ≡ o → IsSomeAnd o (λ c. IsRefused plan cells c n e) → IsLine line
+  named_line : (n : ℕ) (line : List ℕ) (e : CellsErr) (o : Option Cell) → cell_of line ≡ o → IsSomeAnd o (λ c. IsRefused plan cells c n e) → IsCellLine line
   named_line n line e None is bad = absurd bad
   named_line n line e (Some c) is bad = inr (subst IsSome (sym is) refl)
 
@@ -165,8 +165,8 @@ module _ (plan : PlanData) (lines : List (List ℕ)) where
             absurd (good_and_bad plan b.before rest b.line a.cells b.cells f (subst (λ (l : List (List ℕ)). AreRead plan l a.cells) before a.read) (b.read).named b.bad)
       ]
 
-pub reads_one : ReadsOne
+pub reads_one : CellTextReadsOne
 reads_one plan bytes (Ok a) (Ok b) h k = ap Ok (h.named ∙ sym k.named)
-reads_one plan bytes (Ok a) (Err f) h k = absurd (ok_and_bad plan (lines_of bytes) a f h k)
-reads_one plan bytes (Err e) (Ok b) h k = absurd (ok_and_bad plan (lines_of bytes) b e k h)
-reads_one plan bytes (Err e) (Err f) h k = ap Err (one_first plan (lines_of bytes) e f h k)
+reads_one plan bytes (Ok a) (Err f) h k = absurd (ok_and_bad plan (text_lines bytes) a f h k)
+reads_one plan bytes (Err e) (Ok b) h k = absurd (ok_and_bad plan (text_lines bytes) b e k h)
+reads_one plan bytes (Err e) (Err f) h k = ap Err (one_first plan (text_lines bytes) e f h k)

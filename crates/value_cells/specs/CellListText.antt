@@ -4,8 +4,8 @@ use Rattle.std.specs.Bool.{then_some}
 use Rattle.std.specs.Option.{option_and_then}
 use Rattle.std.specs.Str.{bytes_eq}
 use Rattle.tcd_plan.specs.PlanData.{PlanData}
-use Rattle.tcd_base.specs.Ranges.{IsInOne}
-use Rattle.tcd_text.specs.Lines.{lines_of, words_of}
+use Rattle.tcd_base.specs.Ranges.{IsInOneRange}
+use Rattle.tcd_text.specs.Lines.{text_lines, line_words}
 use Rattle.tcd_text.specs.HexNumbers.{hex_number_of}
 use Rattle.value_cells.specs.declared.cells.Cell.{Cell}
 use Rattle.value_cells.specs.declared.errors.CellsErr.{CellsErr}
@@ -27,14 +27,14 @@ cell_of_words words = None
 
 -- the cell that a line names
 abbrev pub cell_of : List ℕ → Option Cell
-cell_of line = cell_of_words (words_of line)
+cell_of line = cell_of_words (line_words line)
 
 -- a line is empty or names a cell
-abbrev pub IsLine : List ℕ → Type 0
-IsLine line = (line ≡ []) ⊎ IsSome (cell_of line)
+abbrev pub IsCellLine : List ℕ → Type 0
+IsCellLine line = (line ≡ []) ⊎ IsSome (cell_of line)
 
 -- what holds of the cell of each line: it is aligned, and its bounds are words and in order
-pub record IsSaid (c : Cell) : Type 0 where
+pub record IsCellOfLine (c : Cell) : Type 0 where
   pub aligned : c.at % 4 ≡ 0
   pub ordered : c.lo ≤ c.hi
   pub word : c.hi < 2 ^ 32
@@ -42,11 +42,12 @@ pub record IsSaid (c : Cell) : Type 0 where
 -- ---- texts
 -- these lines name these cells, and they are cells of the plan
 pub record AreRead (plan : PlanData) (lines : List (List ℕ)) (cells : List Cell) : Type 0 where
-  pub forms : All IsLine lines
+  pub forms : All IsCellLine lines
   pub named : cells ≡ filter_map cell_of lines
   pub are : AreCells plan cells
 
--- one more cell leaves at most 16 ranges of ram and at most 16 devices, which are a plan's limits
+-- there is room for the cell of one more line of the text: it leaves at most 16 ranges of ram and
+-- at most 16 devices, which are a plan's limits
 pub record HasRoom (plan : PlanData) (cells : List Cell) (c : Cell) : Type 0 where
   pub ram : length (with_cells plan (cells ++ c ∷ [])).ram ≤ 16
   pub devices : length (with_cells plan (cells ++ c ∷ [])).devices ≤ 16
@@ -55,13 +56,13 @@ pub record HasRoom (plan : PlanData) (cells : List Cell) (c : Cell) : Type 0 whe
 -- range of ram, an earlier line names the same word, or there is no room.
 abbrev pub IsRefused : PlanData → List Cell → Cell → ℕ → CellsErr → Type 0
 IsRefused plan cells c n (BadLine k) = ⊥
-IsRefused plan cells c n (NotRam k) = (k ≡ n) × (IsInOne c.at 4 plan.ram → ⊥)
-IsRefused plan cells c n (Twice k) = (k ≡ n) × IsInOne c.at 4 plan.ram × Any (λ d. d.at ≡ c.at) cells
-IsRefused plan cells c n (TooMany k) = (k ≡ n) × IsInOne c.at 4 plan.ram × All (λ d. d.at ≢ c.at) cells × (HasRoom plan cells c → ⊥)
+IsRefused plan cells c n (NotRam k) = (k ≡ n) × (IsInOneRange c.at 4 plan.ram → ⊥)
+IsRefused plan cells c n (Twice k) = (k ≡ n) × IsInOneRange c.at 4 plan.ram × Any (λ d. d.at ≡ c.at) cells
+IsRefused plan cells c n (TooMany k) = (k ≡ n) × IsInOneRange c.at 4 plan.ram × All (λ d. d.at ≢ c.at) cells × (HasRoom plan cells c → ⊥)
 
 -- the error of line n after lines that name these cells: that of its form, else that of its cell
 abbrev pub IsBadLine : PlanData → List Cell → List ℕ → ℕ → CellsErr → Type 0
-IsBadLine plan cells line n (BadLine k) = (k ≡ n) × (IsLine line → ⊥)
+IsBadLine plan cells line n (BadLine k) = (k ≡ n) × (IsCellLine line → ⊥)
 IsBadLine plan cells line n e = IsSomeAnd (cell_of line) (λ c. IsRefused plan cells c n e)
 
 -- some line, counted from 1, has this error, and those before it are read
@@ -76,17 +77,17 @@ pub record IsFirstBad (plan : PlanData) (lines : List (List ℕ)) (e : CellsErr)
 
 -- the answer for a text: the cells that its lines name, or the error of the first bad line
 abbrev pub Reads : PlanData → List ℕ → Result (List Cell) CellsErr → Type 0
-Reads plan bytes (Ok cells) = AreRead plan (lines_of bytes) cells
-Reads plan bytes (Err e) = IsFirstBad plan (lines_of bytes) e
+Reads plan bytes (Ok cells) = AreRead plan (text_lines bytes) cells
+Reads plan bytes (Err e) = IsFirstBad plan (text_lines bytes) e
 
 -- one more line after lines that name cells: it is empty or names a cell, and all are cells of the
 -- plan
 pub record TakesLine (plan : PlanData) (cells : List Cell) (line : List ℕ) (more : List Cell) : Type 0 where
-  pub form : IsLine line
+  pub form : IsCellLine line
   pub named : more ≡ cells ++ filter_map cell_of (line ∷ [])
   pub are : AreCells plan more
 
 -- ---- the law
--- For each plan a text has one answer.
-abbrev pub ReadsOne : Type 0
-ReadsOne = (plan : PlanData) (bytes : List ℕ) (r s : Result (List Cell) CellsErr) → Reads plan bytes r → Reads plan bytes s → r ≡ s
+-- for each plan, a text of cells has at most one answer: a list of cells, or an error
+abbrev pub CellTextReadsOne : Type 0
+CellTextReadsOne = (plan : PlanData) (bytes : List ℕ) (r s : Result (List Cell) CellsErr) → Reads plan bytes r → Reads plan bytes s → r ≡ s

@@ -4,31 +4,31 @@ use Rattle.std.specs.Prelude.{◌≡◌, ◌≢◌, ◌<◌, ◌≤◌, ◌+◌,
 use Rattle.tcd_base.specs.declared.range.Range.{Range}
 use Rattle.tcd_plan.specs.declared.plans.Device.{Device}
 use Rattle.tcd_plan.specs.PlanData.{PlanData}
-use Rattle.tcd_plan.specs.Cutting.{ranges_without}
-use Rattle.tcd_base.specs.Ranges.{IsInOne}
+use Rattle.tcd_plan.specs.Cutting.{cut_plan_ranges}
+use Rattle.tcd_base.specs.Ranges.{IsInOneRange}
 use Rattle.value_cells.specs.declared.cells.Cell.{Cell}
 
 -- ---- the plan
 -- the ranges without the words of all cells: each range is replaced by its parts that are left
-abbrev pub ram_without : List Cell → List Range → List Range
-ram_without [] rs = rs
-ram_without (c ∷ cs) rs = ram_without cs (ranges_without c.at 4 rs)
+abbrev pub ram_without_cells : List Cell → List Range → List Range
+ram_without_cells [] rs = rs
+ram_without_cells (c ∷ cs) rs = ram_without_cells cs (cut_plan_ranges c.at 4 rs)
 
--- the device of a cell: it answers inside the cell's bounds
+-- a cell as a device of the plan: it answers inside the cell's bounds
 abbrev pub cell_device : Cell → Device
 cell_device c = record { range = record { at = c.at; len = 4 }; lo = c.lo; hi = c.hi }
 
--- The plan in which the cells are devices: their words aren't ram, and they are the last devices,
--- in their order.
+-- the plan with these cells as devices: their words aren't ram, and they are the last devices, in
+-- their order
 abbrev pub with_cells : PlanData → List Cell → PlanData
-with_cells plan cells = record plan { ram = ram_without cells plan.ram; devices = plan.devices ++ map cell_device cells }
+with_cells plan cells = record plan { ram = ram_without_cells cells plan.ram; devices = plan.devices ++ map cell_device cells }
 
 -- a cell: an aligned word in one ram range of the plan, its bounds in order
 pub record IsCell (plan : PlanData) (c : Cell) : Type 0 where
   pub aligned : c.at % 4 ≡ 0
   pub ordered : c.lo ≤ c.hi
   pub word : c.hi < 2 ^ 32
-  pub in_ram : IsInOne c.at 4 plan.ram
+  pub in_ram : IsInOneRange c.at 4 plan.ram
 
 -- Cells of a plan: each is one, and no word is named twice. The first n of them, for each n, leave
 -- at most 16 ram ranges and 16 devices, which are a plan's limits.

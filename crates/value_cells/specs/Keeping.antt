@@ -54,14 +54,14 @@ pub data BreaksCells (image : ImageData) (plan : PlanData) (cells : List Cell) (
       (node : NodeData) (point : Point) → Contains cert.nodes node → Contains node.points point → (KeepsCellsAtPoint (limits_in plan cert) image plan cells point → ⊥)
       → BreaksCells image plan cells cert node.key point.addr
 
--- places of a certificate are ordered by key, then by address
-abbrev pub place_number : Key → ℕ → ℕ
-place_number k p = number_of_key k * 2 ^ 32 + p
+-- the number of a place where rule 16 can fail: places are ordered by key, then by address
+abbrev pub cell_break_number : Key → ℕ → ℕ
+cell_break_number k p = number_of_key k * 2 ^ 32 + p
 
 -- rule 16 fails there, and at no lesser key or address
 pub record IsFirstBreak (image : ImageData) (plan : PlanData) (cells : List Cell) (cert : CertData) (k : Key) (p : ℕ) : Type 0 where
   pub breaks : BreaksCells image plan cells cert k p
-  pub least : (j : Key) (x : ℕ) → BreaksCells image plan cells cert j x → place_number k p ≤ place_number j x
+  pub least : (j : Key) (x : ℕ) → BreaksCells image plan cells cert j x → cell_break_number k p ≤ cell_break_number j x
 
 -- rule 16 fails at an address of a node's points, and at no lesser one
 pub record IsNodeBreak (b : Limits) (image : ImageData) (plan : PlanData) (cells : List Cell) (node : NodeData) (p : ℕ) : Type 0 where
@@ -76,13 +76,13 @@ abbrev pub KeepsFrom : Val → ℕ → Val → Cell → Type 0
 KeepsFrom at size v c = (x : ℕ) → IsMember x at → Touches x size c → KeepsCell v size x c
 
 -- all words of a value are in lo..=hi
-abbrev pub AreWithin : Val → ℕ → ℕ → Type 0
-AreWithin v lo hi = (w : ℕ) → IsMember w v → (lo ≤ w) × (w ≤ hi)
+abbrev pub AreWithinCellBounds : Val → ℕ → ℕ → Type 0
+AreWithinCellBounds v lo hi = (w : ℕ) → IsMember w v → (lo ≤ w) × (w ≤ hi)
 
 -- a store of the cell's size, and only of words in the cell's bounds
 abbrev pub FitsCell : Val → ℕ → Cell → Type 0
-FitsCell v size c = (size ≡ 4) × AreWithin v c.lo c.hi
+FitsCell v size c = (size ≡ 4) × AreWithinCellBounds v c.lo c.hi
 
 -- if x is one of the addresses, it is the cell's, and the store fits
-abbrev pub IsKept : Val → Bool → ℕ → ℕ → Type 0
-IsKept at fits cell x = IsMember x at → IsTrue fits × (x ≡ cell)
+abbrev pub IsCellKept : Val → Bool → ℕ → ℕ → Type 0
+IsCellKept at fits cell x = IsMember x at → IsTrue fits × (x ≡ cell)

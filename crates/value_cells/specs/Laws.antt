@@ -6,7 +6,7 @@ use Rattle.tcd_plan.specs.PlanData.{PlanData, IsPlan}
 use Rattle.tc_machine.specs.declared.events.Event.{Event}
 use Rattle.tc_machine.specs.declared.state.Machine.{Machine}
 use Rattle.tc_machine.specs.Stepping.{run}
-use Rattle.tcd_base.specs.Ranges.{IsInOne}
+use Rattle.tcd_base.specs.Ranges.{IsInOneRange}
 use Rattle.tc_machine.specs.Safe.{Starts, Fits, AllFit, IsSafeAt, Safe}
 use Rattle.value_cells.specs.declared.cells.Cell.{Cell}
 use Rattle.value_cells.specs.Cells.{with_cells, is_in_cell, AreCells}
@@ -20,7 +20,7 @@ use Rattle.depth_cert.specs.declared.keys.Key.{Key}
 -- The ram of the plan in which the cells are devices is all ram except the cells' bytes.
 abbrev pub RamIsWithoutCells : Type 0
 RamIsWithoutCells =
-    (plan : PlanData) (cells : List Cell) (x : ℕ) → IsInOne x 1 (with_cells plan cells).ram ↔ (IsInOne x 1 plan.ram × (is_in_cell cells x ≡ false))
+    (plan : PlanData) (cells : List Cell) (x : ℕ) → IsInOneRange x 1 (with_cells plan cells).ram ↔ (IsInOneRange x 1 plan.ram × (is_in_cell cells x ≡ false))
 
 -- If an image is safe with cells, and each cell's word is in its bounds at the start, then in every
 -- state of every run of fitting events each cell's word is in its bounds, and the state is safe.

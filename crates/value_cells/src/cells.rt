@@ -1,7 +1,7 @@
 // Cells, and their reading from a text.
 use crate::CellsErr;
 use crate::lines::cell_in;
-use crate::plans::{count_without, is_in_ram, ram_without};
+use crate::plans::{count_ranges_without_cell, is_cell_in_ram, ram_without_cells};
 use arrayvec::ArrayVec;
 use std::marker::Model;
 use tcd_plan::Plan;
@@ -37,7 +37,7 @@ impl Model for Cells {
 impl Cells {
     ghost use Rattle.std.specs.Prelude.{◌≡◌, ◌≤◌, ◌^◌, ◌↔◌, [], ◌∷◌, ◌++◌, length, IsTrue, Any, OnOk, IfOk, IfErr, IfSome, IfNone};
     ghost use Rattle.value_cells.specs.Cells.{IsCell, AreCells};
-    ghost use Rattle.value_cells.specs.CellListText.{HasRoom, IsSaid, IsRefused, TakesLine, IsBadLine, Reads};
+    ghost use Rattle.value_cells.specs.CellListText.{HasRoom, IsCellOfLine, IsRefused, TakesLine, IsBadLine, Reads};
 
     /// Reads the cells of a plan from a text. Each line is empty or `cell AT LO HI`, where each
     /// number has eight upper-case hex digits. The error is that of the first bad line; if several
@@ -91,19 +91,19 @@ impl Cells {
         ensures { IsTrue result ↔ HasRoom plan.now self.now cell.now }
     {
         let _areas = plan.areas;
-        let ram = ram_without(plan, self.list());
-        count_without(ram.as_slice(), cell.at) <= MOST
+        let ram = ram_without_cells(plan, self.list());
+        count_ranges_without_cell(ram.as_slice(), cell.at) <= MOST
             && plan.devices.len() + self.list.len() < MOST
     }
 
     // Returns the error of one more cell, from line `number`, if there is one.
     fn fault_of(&self, plan: &Plan, number: u32, cell: &Cell) -> Option<CellsErr>
         requires cells { AreCells plan.now self.now }
-        requires said { IsSaid cell.now }
+        requires said { IsCellOfLine cell.now }
         ensures good { IfNone result (AreCells plan.now (self.now ++ cell.now ∷ [])) }
         ensures bad { IfSome result (IsRefused plan.now self.now cell.now number) }
     {
-        if !is_in_ram(plan, cell.at) {
+        if !is_cell_in_ram(plan, cell.at) {
             return Some(CellsErr::NotRam(number));
         }
         if self.has_at(cell.at) {

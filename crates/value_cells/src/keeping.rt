@@ -3,8 +3,8 @@ ghost use Rattle.std.specs.Prelude.{◌≤◌, ◌+◌, ◌^◌, ◌↔◌, ℕ,
 ghost use Rattle.tc_isa.specs.InBounds.{IsShape};
 ghost use Rattle.value_domain.specs.Values.{IsWell, IsMember};
 ghost use Rattle.value_domain.specs.State.{AreValues};
-ghost use Rattle.store_ranges.specs.Accesses.{IsSize};
-ghost use Rattle.value_cells.specs.Keeping.{KeepsAll, KeepsFrom, FitsCell, AreWithin, IsKept, KeepsCellsAt};
+ghost use Rattle.store_ranges.specs.Accesses.{IsAccessSize};
+ghost use Rattle.value_cells.specs.Keeping.{KeepsAll, KeepsFrom, FitsCell, AreWithinCellBounds, IsCellKept, KeepsCellsAt};
 
 use crate::cells::Cell;
 use tc_isa::Shape;
@@ -18,7 +18,7 @@ use vd_transfer::{address_by, reg};
 pub(crate) fn keeps_cells(at: &Val, size: u8, stored: &Val, cells: &[Cell]) -> bool
     requires at { IsWell at.now }
     requires stored { IsWell stored.now }
-    requires size { IsSize size }
+    requires size { IsAccessSize size }
     requires cells { All (λ c. c.at + 4 ≤ 2 ^ 32) cells.now }
     ensures { IsTrue result ↔ ((x : ℕ) → IsMember x at.now → KeepsAll stored.now size x cells.now) }
 {
@@ -35,19 +35,19 @@ pub(crate) fn keeps_cells(at: &Val, size: u8, stored: &Val, cells: &[Cell]) -> b
 fn keeps_cell(at: &Val, size: u8, stored: &Val, cell: &Cell) -> bool
     requires at { IsWell at.now }
     requires stored { IsWell stored.now }
-    requires size { IsSize size }
+    requires size { IsAccessSize size }
     requires cell { cell.now.at + 4 ≤ 2 ^ 32 }
     ensures { IsTrue result ↔ KeepsFrom at.now size stored.now cell.now }
 {
     let fits = fits_cell(size, stored, cell);
     let mut x = cell.at.saturating_sub(u32::from(size) - 1);
     while x < cell.at + 3 {
-        if !is_kept(x, at, fits, cell.at) {
+        if !is_cell_kept(x, at, fits, cell.at) {
             return false;
         }
         x += 1;
     }
-    is_kept(x, at, fits, cell.at)
+    is_cell_kept(x, at, fits, cell.at)
 }
 
 /// Returns whether the store is one of a whole word, and all words of the value are in the cell's
@@ -56,22 +56,22 @@ fn fits_cell(size: u8, stored: &Val, cell: &Cell) -> bool
     requires { IsWell stored.now }
     ensures { IsTrue result ↔ FitsCell stored.now size cell.now }
 {
-    size == 4 && is_within(stored, cell.lo, cell.hi)
+    size == 4 && is_within_cell_bounds(stored, cell.lo, cell.hi)
 }
 
 /// Returns whether all words of a value are in `lo..=hi`.
-fn is_within(v: &Val, lo: u32, hi: u32) -> bool
+fn is_within_cell_bounds(v: &Val, lo: u32, hi: u32) -> bool
     requires { IsWell v.now }
-    ensures { IsTrue result ↔ AreWithin v.now lo hi }
+    ensures { IsTrue result ↔ AreWithinCellBounds v.now lo hi }
 {
     let words = extent_of(v);
     lo <= words.least && words.greatest <= hi
 }
 
 /// Returns whether x is no address of the value, or is the cell's, and the store fits the cell.
-fn is_kept(x: u32, at: &Val, fits: bool, cell: u32) -> bool
+fn is_cell_kept(x: u32, at: &Val, fits: bool, cell: u32) -> bool
     requires { IsWell at.now }
-    ensures { IsTrue result ↔ IsKept at.now fits cell x }
+    ensures { IsTrue result ↔ IsCellKept at.now fits cell x }
 {
     !member(x, at) || fits && x == cell
 }

@@ -2,7 +2,7 @@
 ghost use Rattle.value_cells.specs.BesideCells.{StepsBeside};
 ghost use Rattle.value_cells.specs.Laws.{CellsMakeAPlan, RamIsWithoutCells, EachCellStays, CellsKeepTheirBounds, CellFaultsRefute};
 ghost use Rattle.value_cells.specs.Rule16Growth.{CellFaultsGrow, LesserKeepsCells};
-ghost use Rattle.value_cells.specs.CellListText.{ReadsOne};
+ghost use Rattle.value_cells.specs.CellListText.{CellTextReadsOne};
 
 /// The plan in which the cells are devices is a plan. The machine without the cells' bytes, whose
 /// inputs are the cells' words, takes the same steps as the machine with them. So if the rules
@@ -19,7 +19,7 @@ pub fn cells_keep_their_bounds()
 pub fn cells_in_words()
     ensures ram { RamIsWithoutCells }
     ensures stays { EachCellStays }
-    ensures one { ReadsOne }
+    ensures one { CellTextReadsOne }
 {}
 
 /// If a greater certificate keeps the cells, a lesser one does, since each fault of rule 16 in the

@@ -1,6 +1,6 @@
 // Lines of a text of cells.
 ghost use Rattle.std.specs.Prelude.{◌≡◌, [], ◌∷◌, IfSome};
-ghost use Rattle.value_cells.specs.CellListText.{cell_of, cell_of_words, cell_of_numbers, IsSaid};
+ghost use Rattle.value_cells.specs.CellListText.{cell_of, cell_of_words, cell_of_numbers, IsCellOfLine};
 
 use crate::Cell;
 use tcd_text::{Words, hex_number, words_in};
@@ -8,7 +8,7 @@ use tcd_text::{Words, hex_number, words_in};
 // Returns a cell, if its address is a multiple of 4 and its bounds are in order.
 fn cell_of_numbers(at: u32, lo: u32, hi: u32) -> Option<Cell>
     ensures cell { result ≡ cell_of_numbers at lo hi }
-    ensures said { IfSome result IsSaid }
+    ensures said { IfSome result IsCellOfLine }
 {
     if at % 4 == 0 && lo <= hi {
         Some(Cell { at, lo, hi })
@@ -21,7 +21,7 @@ fn cell_of_numbers(at: u32, lo: u32, hi: u32) -> Option<Cell>
 #[tactic(auto, unfolding(crate::specs::CellListText::cell_of_words))]
 fn cell_of_words(word: &[u8], at: &[u8], lo: &[u8], hi: &[u8]) -> Option<Cell>
     ensures cell { result ≡ cell_of_words (word.now ∷ at.now ∷ lo.now ∷ hi.now ∷ []) }
-    ensures said { IfSome result IsSaid }
+    ensures said { IfSome result IsCellOfLine }
 {
     if word != b"cell".as_slice() {
         return None;
@@ -36,7 +36,7 @@ fn cell_of_words(word: &[u8], at: &[u8], lo: &[u8], hi: &[u8]) -> Option<Cell>
 #[tactic(auto, using(crate::proofs::LineForms::more), unfolding(crate::specs::CellListText::cell_of_words))]
 pub(crate) fn cell_in(line: &[u8]) -> Option<Cell>
     ensures cell { result ≡ cell_of line.now }
-    ensures said { IfSome result IsSaid }
+    ensures said { IfSome result IsCellOfLine }
 {
     match words_in(line) {
         Words::One(_) => None,

@@ -8,7 +8,7 @@ ghost use Rattle.value_cells.specs.Keeping.{KeepsCells, KeepsCellsAtPoint, IsFir
 
 use crate::cells::Cells;
 use crate::plans::with_cells;
-use crate::rule_16::{Rule, keeps_point};
+use crate::rule_16::{Rule, keeps_rule_16};
 use cfg_recover::KnownCodes;
 use depth_cert::Key;
 use elf_image::Image;
@@ -17,7 +17,7 @@ use tcd_plan::Plan;
 use value_domain::Bounds;
 
 /// Returns the first address of a node's points at which rule 16 fails.
-fn node_break<'a>(
+fn node_cells_fault_packed<'a>(
     rule: &Rule,
     codes: &mut KnownCodes,
     node: &PackedNode<'a>,
@@ -34,7 +34,7 @@ fn node_break<'a>(
 {
     node.walk(walk);
     while let Some(addr) = walk.step() {
-        if !keeps_point(rule, codes, addr, walk.state()) {
+        if !keeps_rule_16(rule, codes, addr, walk.state()) {
             return Some(addr);
         }
     }
@@ -71,7 +71,7 @@ pub fn cells_fault_packed(
         let Some(node) = cert.get(i) else {
             unreachable!()
         };
-        if let Some(addr) = node_break(&rule, &mut codes, &node, &mut walk) {
+        if let Some(addr) = node_cells_fault_packed(&rule, &mut codes, &node, &mut walk) {
             return Some((node.key, addr));
         }
     }

@@ -1,50 +1,50 @@
 // The plan in which the cells are devices.
 ghost use Rattle.std.specs.Prelude.{◌≡◌, ◌≤◌, ◌+◌, ◌^◌, ◌++◌, ◌↔◌, All, IsTrue, map, length};
-ghost use Rattle.tcd_base.specs.Ranges.{IsInOne};
+ghost use Rattle.tcd_base.specs.Ranges.{IsInOneRange};
 ghost use Rattle.tcd_plan.specs.Cutting as cutting;
 ghost use Rattle.value_cells.specs.Cells as spec;
 ghost use Rattle.value_cells.specs.Cells.{AreCells, cell_device};
 
 use crate::cells::{Cell, Cells};
 use arrayvec::ArrayVec;
-use tcd_base::{Range, any_holds};
-use tcd_plan::{Device, Plan, ranges_without};
+use tcd_base::{Range, is_in_any_range};
+use tcd_plan::{Device, Plan, cut_plan_ranges};
 
-/// Returns whether the word at an address is inside one range of ram.
-pub(crate) fn is_in_ram(plan: &Plan, at: u32) -> bool
-    ensures { IsTrue result ↔ IsInOne at 4 plan.now.ram }
+/// Returns whether the word of a cell, at this address, is inside one of the plan's ranges of ram.
+pub(crate) fn is_cell_in_ram(plan: &Plan, at: u32) -> bool
+    ensures { IsTrue result ↔ IsInOneRange at 4 plan.now.ram }
 {
-    any_holds(plan.ram.as_slice(), at, 4)
+    is_in_any_range(plan.ram.as_slice(), at, 4)
 }
 
 /// Returns the number of ranges that are left without the word at an address.
-pub(crate) fn count_without(ranges: &[Range], at: u32) -> usize
+pub(crate) fn count_ranges_without_cell(ranges: &[Range], at: u32) -> usize
     requires few { length ranges.now ≤ 16 }
     requires fit { All (λ r. r.at + r.len ≤ 2 ^ 32) ranges.now }
-    ensures { result ≡ length (cutting.ranges_without at 4 ranges.now) }
+    ensures { result ≡ length (cutting.cut_plan_ranges at 4 ranges.now) }
 {
-    ranges_without(ranges, at, 4).len()
+    cut_plan_ranges(ranges, at, 4).len()
 }
 
 /// Returns the ranges without the word at an address.
-fn without_word(ranges: &[Range], at: u32) -> ArrayVec<Range, 16>
+fn ranges_without_cell(ranges: &[Range], at: u32) -> ArrayVec<Range, 16>
     requires few { length ranges.now ≤ 16 }
     requires fit { All (λ r. r.at + r.len ≤ 2 ^ 32) ranges.now }
-    requires room { length (cutting.ranges_without at 4 ranges.now) ≤ 16 }
-    ensures { result.items ≡ cutting.ranges_without at 4 ranges.now }
+    requires room { length (cutting.cut_plan_ranges at 4 ranges.now) ≤ 16 }
+    ensures { result.items ≡ cutting.cut_plan_ranges at 4 ranges.now }
 {
-    let left = ranges_without(ranges, at, 4);
+    let left = cut_plan_ranges(ranges, at, 4);
     ArrayVec::try_from(left.as_slice()).unwrap()
 }
 
 /// Returns the ranges of ram without the words of all cells.
-pub(crate) fn ram_without(plan: &Plan, cells: &[Cell]) -> ArrayVec<Range, 16>
+pub(crate) fn ram_without_cells(plan: &Plan, cells: &[Cell]) -> ArrayVec<Range, 16>
     requires { AreCells plan.now cells.now }
-    ensures { result.items ≡ spec.ram_without cells.now plan.now.ram }
+    ensures { result.items ≡ spec.ram_without_cells cells.now plan.now.ram }
 {
     let mut ram = ArrayVec::try_from(plan.ram.as_slice()).unwrap();
     for cell in cells {
-        ram = without_word(ram.as_slice(), cell.at);
+        ram = ranges_without_cell(ram.as_slice(), cell.at);
     }
     ram
 }
@@ -80,7 +80,7 @@ pub fn with_cells(plan: &Plan, cells: &Cells) -> Plan
 {
     Plan {
         rom: ArrayVec::try_from(plan.rom.as_slice()).unwrap(),
-        ram: ram_without(plan, cells.list()),
+        ram: ram_without_cells(plan, cells.list()),
         devices: devices_with(plan, cells.list()),
         csa_at: plan.csa_at,
         areas: plan.areas,

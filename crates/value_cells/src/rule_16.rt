@@ -21,7 +21,7 @@ pub(crate) struct Rule<'a> {
 }
 
 /// Returns whether the instruction at an address, with this state before it, keeps the cells.
-pub(crate) fn keeps_point(rule: &Rule, codes: &mut KnownCodes, addr: u32, s: &State) -> bool
+pub(crate) fn keeps_rule_16(rule: &Rule, codes: &mut KnownCodes, addr: u32, s: &State) -> bool
     requires values { AreValues rule.now.bounds.now s.now.regs }
     requires cells { All (λ c. c.at + 4 ≤ 2 ^ 32) rule.now.cells.now }
     ensures { let r = rule.now in

@@ -5,11 +5,11 @@ use Rattle.std.proofs.lemmas.Bool.{cases_eq, cases_lt, le-leb, lt-leb}
 use Rattle.std.proofs.lemmas.Bool.Decides.{nat_tests}
 use Rattle.value_domain.specs.declared.values.Val.{Val}
 use Rattle.value_domain.specs.declared.values.Val.TheVariants.{Set, Span}
-use Rattle.value_domain.specs.Sets.{Among, Within, Rising, distinct, alignment_log2, least, greatest, step_of, multiples, AreCoverable}
+use Rattle.value_domain.specs.Sets.{Among, Within, Rising, sorted_set_of, alignment_log2, least, greatest, step_of_set, multiples, AreCoverable}
 use Rattle.value_domain.specs.Limits.{Limits, AreLimits}
 use Rattle.value_domain.specs.Floors.{floor, above}
-use Rattle.value_domain.specs.Values.{IsMember, IsWell, IsValue, IsBelow, cover, value_of, members, range, first_in, count_in}
-use Rattle.value_domain.specs.Laws.{AreMembers, IsLeast}
+use Rattle.value_domain.specs.Values.{IsMember, IsWell, IsValue, IsBelow, cover, value_of_words, members, range, first_in_span, count_in}
+use Rattle.value_domain.specs.Laws.{AreMembers, IsLeastValue}
 use Rattle.value_domain.proofs.SetLaws.{rising_distinct, among_distinct, distinct_has, distinct_same, length-distinct, length_within, least_among, least_least, greatest_among, greatest_greatest, step_least, step_greatest, step_le}
 use Rattle.value_domain.proofs.LimitLaws.{floor_le, floor_mono, floor_same, above_lt, above_le, above_mono, above_same}
 
@@ -88,23 +88,23 @@ from_units =
     (λ k x h. from_twos_2 x (omega arith))
 
 -- the multiples of a range, in units
-in_range : (s : ℕ) → s ≤ 2 → (lo last k : ℕ) → first_in lo s ≤ k → k < first_in lo s + count_in lo last s → (lo ≤ k * 2 ^ s) × (k * 2 ^ s ≤ last)
+in_range : (s : ℕ) → s ≤ 2 → (lo last k : ℕ) → first_in_span lo s ≤ k → k < first_in_span lo s + count_in lo last s → (lo ≤ k * 2 ^ s) × (k * 2 ^ s ≤ last)
 in_range =
-    step_cases (λ s. (lo last k : ℕ) → first_in lo s ≤ k → k < first_in lo s + count_in lo last s → (lo ≤ k * 2 ^ s) × (k * 2 ^ s ≤ last))
+    step_cases (λ s. (lo last k : ℕ) → first_in_span lo s ≤ k → k < first_in_span lo s + count_in lo last s → (lo ≤ k * 2 ^ s) × (k * 2 ^ s ≤ last))
     (λ lo last k l h. (omega arith, omega arith))
     (λ lo last k l h. (omega arith, omega arith))
     (λ lo last k l h. (omega arith, omega arith))
 
-from_range : (s : ℕ) → s ≤ 2 → (lo last k : ℕ) → lo ≤ k * 2 ^ s → k * 2 ^ s ≤ last → (first_in lo s ≤ k) × (k < first_in lo s + count_in lo last s)
+from_range : (s : ℕ) → s ≤ 2 → (lo last k : ℕ) → lo ≤ k * 2 ^ s → k * 2 ^ s ≤ last → (first_in_span lo s ≤ k) × (k < first_in_span lo s + count_in lo last s)
 from_range =
-    step_cases (λ s. (lo last k : ℕ) → lo ≤ k * 2 ^ s → k * 2 ^ s ≤ last → (first_in lo s ≤ k) × (k < first_in lo s + count_in lo last s))
+    step_cases (λ s. (lo last k : ℕ) → lo ≤ k * 2 ^ s → k * 2 ^ s ≤ last → (first_in_span lo s ≤ k) × (k < first_in_span lo s + count_in lo last s))
     (λ lo last k l h. (omega arith, omega arith))
     (λ lo last k l h. (omega arith, omega arith))
     (λ lo last k l h. (omega arith, omega arith))
 
 pub range_among : (x lo last s : ℕ) → s ≤ 2 → Among x (range lo last s) → IsMember x (Span lo last s)
 range_among x lo last s small h =
-    let k = multiples_among x (count_in lo last s) (first_in lo s) (2 ^ s) h in
+    let k = multiples_among x (count_in lo last s) (first_in_span lo s) (2 ^ s) h in
     let e : x ≡ k.0 * 2 ^ s = k.3 in
     let b = in_range s small lo last k.0 k.1 k.2 in
     (rw e b.0, rw e b.1, from_units s small k.0 x e)
@@ -113,7 +113,7 @@ pub among_range : (x lo last s : ℕ) → s ≤ 2 → IsMember x (Span lo last s
 among_range x lo last s small h =
     let e : x ≡ x / 2 ^ s * 2 ^ s = in_units s small x h.2 in
     let b = from_range s small lo last (x / 2 ^ s) (rw (← e) h.0) (rw (← e) h.1) in
-    subst (λ (y : ℕ). Among y (range lo last s)) (sym e) (among_multiples (x / 2 ^ s) (count_in lo last s) (first_in lo s) (2 ^ s) b.0 b.1)
+    subst (λ (y : ℕ). Among y (range lo last s)) (sym e) (among_multiples (x / 2 ^ s) (count_in lo last s) (first_in_span lo s) (2 ^ s) b.0 b.1)
 
 -- what the members of a well-formed value need
 abbrev pub HasStep : Val → Type 0
@@ -136,20 +136,20 @@ pub member_same : AreMembers
 member_same v x well = (among_member v x (has_step v well), member_among v x (has_step v well))
 
 -- ---- the two forms of a cover
-pub cover-few : (b : Limits) (xs : List ℕ) → length (distinct xs) ≤ b.most_words → cover b xs ≡ Set (distinct xs)
+pub cover-few : (b : Limits) (xs : List ℕ) → length (sorted_set_of xs) ≤ b.most_words → cover b xs ≡ Set (sorted_set_of xs)
 unfolding cover
-cover-few b xs few = rw (le-leb (length (distinct xs)) b.most_words few) refl
+cover-few b xs few = rw (le-leb (length (sorted_set_of xs)) b.most_words few) refl
 
 -- the span of an ascending list
 abbrev pub span_of : Limits → List ℕ → Val
-span_of b ws = Span (floor b.thresholds (least ws)) (above b.thresholds (greatest ws) - 1) (step_of ws)
+span_of b ws = Span (floor b.thresholds (least ws)) (above b.thresholds (greatest ws) - 1) (step_of_set ws)
 
-pub cover-many : (b : Limits) (xs : List ℕ) → b.most_words < length (distinct xs) → cover b xs ≡ span_of b (distinct xs)
+pub cover-many : (b : Limits) (xs : List ℕ) → b.most_words < length (sorted_set_of xs) → cover b xs ≡ span_of b (sorted_set_of xs)
 unfolding cover
-cover-many b xs many = rw (lt-leb (length (distinct xs)) b.most_words many) refl
+cover-many b xs many = rw (lt-leb (length (sorted_set_of xs)) b.most_words many) refl
 
-pub some_distinct : (xs : List ℕ) → 1 ≤ length xs → 1 ≤ length (distinct xs)
-some_distinct xs some = some_length (distinct xs) (least xs) (distinct_has (least xs) xs (least_among xs some))
+pub some_distinct : (xs : List ℕ) → 1 ≤ length xs → 1 ≤ length (sorted_set_of xs)
+some_distinct xs some = some_length (sorted_set_of xs) (least xs) (distinct_has (least xs) xs (least_among xs some))
   where
     some_length : (ws : List ℕ) (x : ℕ) → Among x ws → 1 ≤ length ws
     some_length [] x i = absurd i
@@ -165,15 +165,15 @@ span_holds b ws r z i =
 
 pub cover_holds : (b : Limits) (xs : List ℕ) (z : ℕ) → Among z xs → IsMember z (cover b xs)
 cover_holds b xs z i =
-    elim (cases_lt b.most_words (length (distinct xs))) [
-      | inl many ↦ rw (cover-many b xs many) (span_holds b (distinct xs) (rising_distinct xs) z (distinct_has z xs i))
+    elim (cases_lt b.most_words (length (sorted_set_of xs))) [
+      | inl many ↦ rw (cover-many b xs many) (span_holds b (sorted_set_of xs) (rising_distinct xs) z (distinct_has z xs i))
       | inr few ↦ rw (cover-few b xs few) (distinct_has z xs i)
     ]
 
 pub cover_step : (b : Limits) (xs : List ℕ) → HasStep (cover b xs)
 cover_step b xs =
-    elim (cases_lt b.most_words (length (distinct xs))) [
-      | inl many ↦ rw (cover-many b xs many) (step_le (distinct xs))
+    elim (cases_lt b.most_words (length (sorted_set_of xs))) [
+      | inl many ↦ rw (cover-many b xs many) (step_le (sorted_set_of xs))
       | inr few ↦ rw (cover-few b xs few) tt
     ]
 
@@ -183,28 +183,28 @@ span_mono b ws vs r some there z m =
     let high : greatest ws ≤ greatest vs = greatest_greatest vs (greatest ws) (there (greatest ws) (greatest_among ws some)) in
     let f : floor b.thresholds (least vs) ≤ floor b.thresholds (least ws) = floor_mono b.thresholds (least vs) (least ws) low in
     let a : above b.thresholds (greatest ws) ≤ above b.thresholds (greatest vs) = above_mono b.thresholds (greatest ws) (greatest vs) high in
-    let s : step_of vs ≤ step_of ws = step_greatest ws (step_of vs) (step_le vs) (λ x i. step_least vs x (there x i)) in
+    let s : step_of_set vs ≤ step_of_set ws = step_greatest ws (step_of_set vs) (step_le vs) (λ x i. step_least vs x (there x i)) in
     (omega arith, omega arith, omega arith)
 
-pub within_distinct : (xs ys : List ℕ) → Within xs ys → Within (distinct xs) (distinct ys)
+pub within_distinct : (xs ys : List ℕ) → Within xs ys → Within (sorted_set_of xs) (sorted_set_of ys)
 within_distinct xs ys there z i = distinct_has z ys (there z (among_distinct z xs i))
 
 pub cover_mono : (b : Limits) (xs ys : List ℕ) → 1 ≤ length xs → Within xs ys → IsBelow (cover b xs) (cover b ys)
 cover_mono b xs ys some there z m =
-    elim (cases_lt b.most_words (length (distinct xs))) [
+    elim (cases_lt b.most_words (length (sorted_set_of xs))) [
       | inl many ↦
-          let longer : length (distinct xs) ≤ length (distinct ys) = length-distinct xs ys there in
-          let m2 : IsMember z (span_of b (distinct xs)) = rw (cover-many b xs many) at m in
+          let longer : length (sorted_set_of xs) ≤ length (sorted_set_of ys) = length-distinct xs ys there in
+          let m2 : IsMember z (span_of b (sorted_set_of xs)) = rw (cover-many b xs many) at m in
           rw (cover-many b ys (omega arith))
-          (span_mono b (distinct xs) (distinct ys) (rising_distinct ys) (some_distinct xs some) (within_distinct xs ys there) z m2)
+          (span_mono b (sorted_set_of xs) (sorted_set_of ys) (rising_distinct ys) (some_distinct xs some) (within_distinct xs ys there) z m2)
       | inr few ↦
-          let m2 : Among z (distinct xs) = rw (cover-few b xs few) at m in
+          let m2 : Among z (sorted_set_of xs) = rw (cover-few b xs few) at m in
           cover_holds b ys z (there z (among_distinct z xs m2))
     ]
 
 pub cover-same : (b : Limits) (xs ys : List ℕ) → Within xs ys → Within ys xs → cover b xs ≡ cover b ys
 unfolding cover
-cover-same b xs ys there back = ap (value_of b) (distinct_same xs ys there back)
+cover-same b xs ys there back = ap (value_of_words b) (distinct_same xs ys there back)
 
 -- a cover is the cover of its members
 span_own : (b : Limits) (ws ms : List ℕ) → Rising ws → Rising ms → 1 ≤ length ws → Within ws ms
@@ -219,19 +219,19 @@ span_own b ws ms rw_ rm some there held =
     let f : floor b.thresholds (least ms) ≡ floor b.thresholds (least ws) = floor_same b.thresholds (least ws) (least ms) at_least.0 low in
     let in_span : greatest ms ≤ above b.thresholds (greatest ws) - 1 = at_greatest.1 in
     let a : above b.thresholds (greatest ms) ≡ above b.thresholds (greatest ws) = above_same b.thresholds (greatest ws) (greatest ms) high (omega arith) in
-    let s1 : step_of ws ≤ step_of ms = step_greatest ms (step_of ws) (step_le ws) (λ x i. (held x i).2) in
-    let s2 : step_of ms ≤ step_of ws = step_greatest ws (step_of ms) (step_le ms) (λ x i. step_least ms x (there x i)) in
-    let s : step_of ms ≡ step_of ws = omega arith in
+    let s1 : step_of_set ws ≤ step_of_set ms = step_greatest ms (step_of_set ws) (step_le ws) (λ x i. (held x i).2) in
+    let s2 : step_of_set ms ≤ step_of_set ws = step_greatest ws (step_of_set ms) (step_le ms) (λ x i. step_least ms x (there x i)) in
+    let s : step_of_set ms ≡ step_of_set ws = omega arith in
     rw (f, a, s) refl
 
 pub cover_own : (b : Limits) (xs : List ℕ) → 1 ≤ length xs → cover b (members (cover b xs)) ≡ cover b xs
 cover_own b xs some =
     let there : Within xs (members (cover b xs)) = λ z i. among_member (cover b xs) z (cover_step b xs) (cover_holds b xs z i) in
-    elim (cases_lt b.most_words (length (distinct xs))) [
+    elim (cases_lt b.most_words (length (sorted_set_of xs))) [
       | inl many ↦
-          let longer : length (distinct xs) ≤ length (distinct (members (cover b xs))) = length-distinct xs (members (cover b xs)) there in
+          let longer : length (sorted_set_of xs) ≤ length (sorted_set_of (members (cover b xs))) = length-distinct xs (members (cover b xs)) there in
           cover-many b (members (cover b xs)) (omega arith)
-          ∙ span_own b (distinct xs) (distinct (members (cover b xs))) (rising_distinct xs) (rising_distinct (members (cover b xs))) (some_distinct xs some)
+          ∙ span_own b (sorted_set_of xs) (sorted_set_of (members (cover b xs))) (rising_distinct xs) (rising_distinct (members (cover b xs))) (some_distinct xs some)
           (within_distinct xs (members (cover b xs)) there)
           (λ z i. rw (cover-many b xs many) at (member_among (cover b xs) z (cover_step b xs) (among_distinct z (members (cover b xs)) i)))
           ∙ sym (cover-many b xs many)
@@ -243,21 +243,21 @@ cover_own b xs some =
 
 pub cover_well : (b : Limits) (xs : List ℕ) → AreLimits b → AreCoverable xs → IsWell (cover b xs)
 cover_well b xs limits good =
-    elim (cases_lt b.most_words (length (distinct xs))) [
+    elim (cases_lt b.most_words (length (sorted_set_of xs))) [
       | inl many ↦
-          let some : 1 ≤ length (distinct xs) = some_distinct xs good.some in
+          let some : 1 ≤ length (sorted_set_of xs) = some_distinct xs good.some in
           let ts : List ℕ = b.thresholds in
-          let ws : List ℕ = distinct xs in
-          let held : Within (distinct xs) (range (floor b.thresholds (least (distinct xs))) (above b.thresholds (greatest (distinct xs)) - 1) (step_of (distinct xs))) =
-          λ z i. among_range z (floor b.thresholds (least (distinct xs))) (above b.thresholds (greatest (distinct xs)) - 1) (step_of (distinct xs)) (step_le (distinct xs))
-          (span_holds b (distinct xs) (rising_distinct xs) z i)
+          let ws : List ℕ = sorted_set_of xs in
+          let held : Within (sorted_set_of xs) (range (floor b.thresholds (least (sorted_set_of xs))) (above b.thresholds (greatest (sorted_set_of xs)) - 1) (step_of_set (sorted_set_of xs))) =
+          λ z i. among_range z (floor b.thresholds (least (sorted_set_of xs))) (above b.thresholds (greatest (sorted_set_of xs)) - 1) (step_of_set (sorted_set_of xs)) (step_le (sorted_set_of xs))
+          (span_holds b (sorted_set_of xs) (rising_distinct xs) z i)
           in
-          let below : greatest (distinct xs) < 2 ^ 32 = good.below (greatest (distinct xs)) (among_distinct (greatest (distinct xs)) xs (greatest_among (distinct xs) some)) in
-          let high : above b.thresholds (greatest (distinct xs)) ≤ 2 ^ 32 = above_le b.thresholds (greatest (distinct xs)) below in
-          let up : greatest (distinct xs) < above b.thresholds (greatest (distinct xs)) = above_lt b.thresholds (greatest (distinct xs)) in
+          let below : greatest (sorted_set_of xs) < 2 ^ 32 = good.below (greatest (sorted_set_of xs)) (among_distinct (greatest (sorted_set_of xs)) xs (greatest_among (sorted_set_of xs) some)) in
+          let high : above b.thresholds (greatest (sorted_set_of xs)) ≤ 2 ^ 32 = above_le b.thresholds (greatest (sorted_set_of xs)) below in
+          let up : greatest (sorted_set_of xs) < above b.thresholds (greatest (sorted_set_of xs)) = above_lt b.thresholds (greatest (sorted_set_of xs)) in
           rw (cover-many b xs many) (
-            step_le (distinct xs),
-            wide_range (distinct xs) (floor b.thresholds (least (distinct xs))) (above b.thresholds (greatest (distinct xs)) - 1) (step_of (distinct xs)) (rising_distinct xs) held (omega (arith, limits.wide)),
+            step_le (sorted_set_of xs),
+            wide_range (sorted_set_of xs) (floor b.thresholds (least (sorted_set_of xs))) (above b.thresholds (greatest (sorted_set_of xs)) - 1) (step_of_set (sorted_set_of xs)) (rising_distinct xs) held (omega (arith, limits.wide)),
             omega arith,
           )
       | inr few ↦
@@ -272,10 +272,10 @@ cover_well b xs limits good =
   where
     wide_range : (ws : List ℕ) (lo last step : ℕ) → Rising ws → Within ws (range lo last step) → 64 < length ws → 64 < count_in lo last step
     wide_range ws lo last step r there many =
-        let shorter : length ws ≤ length (range lo last step) = length_within ws (range lo last step) r (rising_multiples (count_in lo last step) (first_in lo step) (2 ^ step) (unit_some step)) there in
-        omega (arith, length-multiples (count_in lo last step) (first_in lo step) (2 ^ step))
+        let shorter : length ws ≤ length (range lo last step) = length_within ws (range lo last step) r (rising_multiples (count_in lo last step) (first_in_span lo step) (2 ^ step) (unit_some step)) there in
+        omega (arith, length-multiples (count_in lo last step) (first_in_span lo step) (2 ^ step))
 
-pub cover_least : (b : Limits) (xs : List ℕ) → AreLimits b → AreCoverable xs → IsLeast b xs (cover b xs)
+pub cover_least : (b : Limits) (xs : List ℕ) → AreLimits b → AreCoverable xs → IsLeastValue b xs (cover b xs)
 cover_least b xs limits good = record {
   value = record { well = cover_well b xs limits good; own = cover_own b xs good.some };
   holds = cover_holds b xs;
@@ -293,7 +293,7 @@ same_value b v w vv vw there back =
     ∙ vw.own
 
 -- the least value is the cover
-pub least-cover : (b : Limits) (xs : List ℕ) (v : Val) → AreLimits b → AreCoverable xs → IsLeast b xs v → v ≡ cover b xs
+pub least-cover : (b : Limits) (xs : List ℕ) (v : Val) → AreLimits b → AreCoverable xs → IsLeastValue b xs v → v ≡ cover b xs
 least-cover b xs v limits good l =
-    let c : IsLeast b xs (cover b xs) = cover_least b xs limits good in
+    let c : IsLeastValue b xs (cover b xs) = cover_least b xs limits good in
     same_value b v (cover b xs) l.value c.value (l.least (cover b xs) c.value c.holds) (c.least v l.value l.holds)

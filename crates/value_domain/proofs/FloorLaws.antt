@@ -9,8 +9,8 @@ use Rattle.std.proofs.lemmas.List.{get_or_default, take-append-le, take_all}
 use Rattle.value_domain.proofs.Loops.{among_get}
 use Rattle.value_domain.proofs.WordLaws.{among_place}
 use Rattle.value_domain.specs.Sets.{Among, Within}
-use Rattle.value_domain.specs.Floors.{floor, above, InOrder}
-use Rattle.value_domain.specs.Thresholds.{ends, powers_of_two, thresholds_of, HasThresholds}
+use Rattle.value_domain.specs.Thresholds.{InOrder, threshold_ends, powers_of_two, thresholds_of, HasThresholds}
+use Rattle.value_domain.specs.Floors.{floor, above}
 use Rattle.value_domain.proofs.LimitLaws.{floor_le, above_lt, above_le}
 
 -- the greater of two is one of them
@@ -235,7 +235,7 @@ among_found ts other n has found =
 pub has_thresholds : (plan : PlanData) (x : ℕ) → x < 2 ^ 32 → HasThresholds (thresholds_of plan) x
 has_thresholds plan x small =
     let low : Among 0 (thresholds_of plan) = inl refl in
-    let high : Among (2 ^ 32) (thresholds_of plan) = inr (among_front (2 ^ 32) (powers_of_two 33) (ends (all_ranges plan)) last_power) in
+    let high : Among (2 ^ 32) (thresholds_of plan) = inr (among_front (2 ^ 32) (powers_of_two 33) (threshold_ends (all_ranges plan)) last_power) in
     record {
       floor = record {
         among = among_found (thresholds_of plan) 0 (floor (thresholds_of plan) x) low (floor_found (thresholds_of plan) x);

@@ -3,10 +3,10 @@ use Rattle.std.proofs.Common.{◌≡◌, ℕ, zero, suc, ◌<◌, inl, inr, Bool
 use Rattle.std.proofs.lemmas.Bool.{and_parts, and_from, or_left, or_right, or_cases}
 use Rattle.value_domain.specs.declared.values.Val.{Val}
 use Rattle.value_domain.specs.Limits.{Limits, AreLimits}
-use Rattle.value_domain.specs.Values.{IsValue, IsBelow, members, any_val}
-use Rattle.value_domain.specs.State.{ImpliedBy, joined_regs, joined_locals, join_of}
+use Rattle.value_domain.specs.Values.{IsValue, IsBelow, members, any_val, join_of}
+use Rattle.value_domain.specs.State.{FlagsImpliedBy, joined_regs, joined_locals}
 use Rattle.value_domain.specs.Laws.{AreJoins}
-use Rattle.value_domain.specs.StateLaws.{AreJoined}
+use Rattle.value_domain.specs.StateLaws.{AreStateJoins}
 use Rattle.value_domain.proofs.CoverLaws.{cover_holds, cover_least, among_member, member_among, has_step}
 use Rattle.value_domain.proofs.ExtentLaws.{append_left, append_right, among_append}
 use Rattle.value_domain.proofs.RangeLaws.{join_value, members_below, some_members}
@@ -50,18 +50,18 @@ join_least b v w limits vv vw = record {
 }
 
 -- ---- flags
-locals_left : (xs ys : List Bool) → length xs ≡ length ys → ImpliedBy (joined_locals xs ys) xs
+locals_left : (xs ys : List Bool) → length xs ≡ length ys → FlagsImpliedBy (joined_locals xs ys) xs
 locals_left [] ys e = tt
 locals_left (x ∷ xs) [] e = absurd (omega arith)
 locals_left (x ∷ xs) (y ∷ ys) e = ((λ t. (and_parts x y t).0), locals_left xs ys (omega arith))
 
-locals_right : (xs ys : List Bool) → length xs ≡ length ys → ImpliedBy (joined_locals xs ys) ys
+locals_right : (xs ys : List Bool) → length xs ≡ length ys → FlagsImpliedBy (joined_locals xs ys) ys
 locals_right [] [] e = tt
 locals_right [] (y ∷ ys) e = absurd (omega arith)
 locals_right (x ∷ xs) [] e = absurd (omega arith)
 locals_right (x ∷ xs) (y ∷ ys) e = ((λ t. (and_parts x y t).1), locals_right xs ys (omega arith))
 
-locals_least : (us xs ys : List Bool) → ImpliedBy us xs → ImpliedBy us ys → ImpliedBy us (joined_locals xs ys)
+locals_least : (us xs ys : List Bool) → FlagsImpliedBy us xs → FlagsImpliedBy us ys → FlagsImpliedBy us (joined_locals xs ys)
 locals_least [] [] [] h k = tt
 locals_least [] [] (y ∷ ys) h k = absurd k
 locals_least [] (x ∷ xs) ys h k = absurd h
@@ -69,7 +69,7 @@ locals_least (u ∷ us) [] ys h k = absurd h
 locals_least (u ∷ us) (x ∷ xs) [] h k = absurd k
 locals_least (u ∷ us) (x ∷ xs) (y ∷ ys) h k = ((λ t. and_from x y (h.0 t) (k.0 t)), locals_least us xs ys h.1 k.1)
 
-pub joined_least : AreJoined
+pub joined_least : AreStateJoins
 joined_least b s t limits same flags vs vt =
     let len = length-joined b s.regs t.regs same in
     record {

@@ -6,24 +6,24 @@ use Rattle.std.proofs.lemmas.Bool.{cases_lt}
 use Rattle.std.specs.List.{insert}
 use Rattle.value_domain.proofs.ExtentLaws.{some_length, extent_rising, extent_range}
 use Rattle.value_domain.proofs.CoverLaws.{step_cases}
-use Rattle.value_domain.specs.Values.{IsExtent, IsWell, range}
+use Rattle.value_domain.specs.Values.{IsWell, range}
+use Rattle.value_domain.specs.Sets.{IsExtent, Among, Rising, alignment_log2, step_of_set, least, greatest, sorted_insert, AreWords}
 use Rattle.value_domain.specs.declared.values.Val.TheVariants.{Span}
-use Rattle.value_domain.specs.Sets.{Among, Rising, alignment_log2, step_of, least, greatest, sorted_insert, AreWords}
 use Rattle.value_domain.proofs.SetLaws.{put-lt, put-gt, rising_put, among_put, length_put, put_has, greatest_greatest}
 
 pub drop_at : (xs : List ℕ) (i : ℕ) → i < length xs → drop i xs ≡ get_or xs i 0 ∷ drop (i + 1) xs
 drop_at xs i h = rw (add-one) (drop-cons xs i 0 h)
 
-pub step_more : (xs : List ℕ) (i step t : ℕ) → i < length xs → step_of xs ≡ min step (step_of (drop i xs)) → t ≡ alignment_log2 (get_or xs i 0)
-    → step_of xs ≡ min (min t step) (step_of (drop (i + 1) xs))
-unfolding step_of
+pub step_more : (xs : List ℕ) (i step t : ℕ) → i < length xs → step_of_set xs ≡ min step (step_of_set (drop i xs)) → t ≡ alignment_log2 (get_or xs i 0)
+    → step_of_set xs ≡ min (min t step) (step_of_set (drop (i + 1) xs))
+unfolding step_of_set
 step_more xs i step t h inv e =
-    let d : step_of (drop i xs) ≡ min (alignment_log2 (get_or xs i 0)) (step_of (drop (i + 1) xs)) = ap step_of (drop_at xs i h) in
+    let d : step_of_set (drop i xs) ≡ min (alignment_log2 (get_or xs i 0)) (step_of_set (drop (i + 1) xs)) = ap step_of_set (drop_at xs i h) in
     omega arith
 
-pub step_all : (xs : List ℕ) (i step : ℕ) → length xs ≤ i → step ≤ 2 → step_of xs ≡ min step (step_of (drop i xs)) → step ≡ step_of xs
-unfolding step_of
-step_all xs i step h small inv = let d : step_of (drop i xs) ≡ 2 = ap step_of (drop_all i xs h) in omega arith
+pub step_all : (xs : List ℕ) (i step : ℕ) → length xs ≤ i → step ≤ 2 → step_of_set xs ≡ min step (step_of_set (drop i xs)) → step ≡ step_of_set xs
+unfolding step_of_set
+step_all xs i step h small inv = let d : step_of_set (drop i xs) ≡ 2 = ap step_of_set (drop_all i xs h) in omega arith
 
 -- the elements of a list by their places
 pub among_get : (ws : List ℕ) (i : ℕ) → i < length ws → Among (get_or ws i 0) ws
@@ -73,7 +73,7 @@ unfolding least
 least-first [] some = refl
 least-first (w ∷ ws) some = refl
 
-pub extent_places : (ws : List ℕ) (step : ℕ) → AreWords ws → step ≡ step_of ws → IsExtent ws (get_or ws 0 0) (get_or ws (length ws - 1) 0) step
+pub extent_places : (ws : List ℕ) (step : ℕ) → AreWords ws → step ≡ step_of_set ws → IsExtent ws (get_or ws 0 0) (get_or ws (length ws - 1) 0) step
 extent_places ws step a e = rw (← least-first ws a.some, ← greatest-last ws a.rising a.some, e) (extent_rising ws a.rising a.some)
 
 -- a shift gives the unit of a step

@@ -3,18 +3,16 @@ use Rattle.std.proofs.Common.{◌≡◌, ℕ, ◌-◌, ◌<◌, ◌≤◌, inl, 
 use Rattle.std.proofs.lemmas.List.{take_more, take_all, take-append-drop}
 use Rattle.value_domain.specs.declared.values.Val.{Val}
 use Rattle.value_domain.specs.declared.values.Val.TheVariants.{Set, Span}
-use Rattle.value_domain.specs.Sets.{Among, Rising, AreWords, sorted_insert, distinct, alignment_log2}
+use Rattle.value_domain.specs.Sets.{Among, Rising, AreWords, sorted_insert, sorted_set_of, alignment_log2, IsExtent, least}
 use Rattle.value_domain.specs.Limits.{Limits, AreLimits}
 use Rattle.value_domain.specs.Floors.{floor, above}
-use Rattle.value_domain.specs.Values.{IsMember, IsWell, IsValue, IsExtent, cover, members, range, words_of}
-use Rattle.value_domain.proofs.SetLaws.{distinct-rising, length-put_new, length_put, length-distinct}
+use Rattle.value_domain.specs.Values.{IsMember, IsWell, IsValue, cover, members, range, words_of}
+use Rattle.value_domain.proofs.SetLaws.{distinct-rising, length-put_new, length_put, length-distinct, least_among}
 use Rattle.value_domain.proofs.CoverLaws.{cover-few, cover-same, among_member, has_step}
 use Rattle.value_domain.proofs.ExtentLaws.{cover_span, cover-part, extent_append, extent_one, many_span, append_left, among_append}
 use Rattle.value_domain.proofs.RangeLaws.{cover_value, members_below, some_members}
 use Rattle.value_domain.proofs.WordLaws.{among_place}
 use Rattle.value_domain.proofs.BitLaws.{alignment_log2-or}
-use Rattle.value_domain.proofs.SetLaws.{least_among}
-use Rattle.value_domain.specs.Sets.{least}
 
 pub with_member : (b : Limits) (v : Val) (x : ℕ) → IsValue b v → IsMember x v → v ≡ cover b (x ∷ members v)
 with_member b v x value m =
@@ -22,8 +20,8 @@ with_member b v x value m =
     ∙ cover-same b (members v) (x ∷ members v) (λ z i. inr i)
     (λ z i. elim i [ inl e ↦ subst (λ (y : ℕ). Among y (members v)) (sym e) (among_member v x (has_step v value.well) m) | inr j ↦ j ])
 
-distinct-more : (x : ℕ) (ws : List ℕ) → Rising ws → distinct (x ∷ ws) ≡ sorted_insert x ws
-unfolding distinct
+distinct-more : (x : ℕ) (ws : List ℕ) → Rising ws → sorted_set_of (x ∷ ws) ≡ sorted_insert x ws
+unfolding sorted_set_of
 distinct-more x ws r = ap (sorted_insert x) (distinct-rising ws r)
 
 pub with_room : (b : Limits) (ws : List ℕ) (x : ℕ) → AreWords ws → length ws < b.most_words → Set (sorted_insert x ws) ≡ cover b (x ∷ ws)

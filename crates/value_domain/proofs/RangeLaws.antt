@@ -4,24 +4,24 @@ use Rattle.std.proofs.lemmas.Bool.{cases_lt}
 use Rattle.std.proofs.lemmas.List.{take_more}
 use Rattle.value_domain.specs.declared.values.Val.{Val}
 use Rattle.value_domain.specs.declared.values.Val.TheVariants.{Set, Span}
-use Rattle.value_domain.specs.Sets.{Among, Within, Rising, AreWords, distinct, multiples}
+use Rattle.value_domain.specs.Sets.{Among, Within, Rising, AreWords, sorted_set_of, multiples, IsExtent}
 use Rattle.value_domain.specs.Limits.{Limits, AreLimits}
 use Rattle.value_domain.specs.Floors.{floor, above}
-use Rattle.value_domain.specs.Values.{IsWell, IsValue, IsBelow, IsExtent, cover, value_of, members, range, first_in, count_in, any_val}
+use Rattle.value_domain.specs.Values.{IsWell, IsValue, IsBelow, cover, value_of_words, members, range, first_in_span, count_in, any_val}
 use Rattle.value_domain.proofs.SetLaws.{distinct-rising, length-distinct}
 use Rattle.value_domain.proofs.CoverLaws.{cover-few, cover-many, span_of, cover-same, cover_least, among_member, member_among, has_step, multiples_among, among_multiples, rising_multiples, length-multiples, unit_some, step_cases}
 use Rattle.value_domain.proofs.LimitLaws.{floor_le, above_lt, above_le}
 use Rattle.value_domain.proofs.ExtentLaws.{cover_span, extent_append, many_span, some_length, cover-more, among_append, append_left, append_right, extent_range, extent_only}
 use Rattle.value_domain.proofs.Loops.{among_get}
 
-pub within_range : (lo last s : ℕ) (ws : List ℕ) → ((j : ℕ) → first_in lo s ≤ j → j < last / 2 ^ s + 1 → Among (j * 2 ^ s) ws) → Within (range lo last s) ws
+pub within_range : (lo last s : ℕ) (ws : List ℕ) → ((j : ℕ) → first_in_span lo s ≤ j → j < last / 2 ^ s + 1 → Among (j * 2 ^ s) ws) → Within (range lo last s) ws
 within_range lo last s ws each z i =
-    let k = multiples_among z (count_in lo last s) (first_in lo s) (2 ^ s) i in
+    let k = multiples_among z (count_in lo last s) (first_in_span lo s) (2 ^ s) i in
     let e : z ≡ k.0 * 2 ^ s = k.3 in
     subst (λ (y : ℕ). Among y ws) (sym e) (each k.0 k.1 (omega arith))
 
-pub range_has : (lo last s k : ℕ) → first_in lo s ≤ k → k < last / 2 ^ s + 1 → Among (k * 2 ^ s) (range lo last s)
-range_has lo last s k low high = among_multiples k (count_in lo last s) (first_in lo s) (2 ^ s) low (omega arith)
+pub range_has : (lo last s k : ℕ) → first_in_span lo s ≤ k → k < last / 2 ^ s + 1 → Among (k * 2 ^ s) (range lo last s)
+range_has lo last s k low high = among_multiples k (count_in lo last s) (first_in_span lo s) (2 ^ s) low (omega arith)
 
 pub multiples-more : (n start unit : ℕ) → multiples (n + 1) start unit ≡ multiples n start unit ++ (start + n) * unit ∷ []
 unfolding multiples
@@ -47,7 +47,7 @@ more_value b v x limits value small =
 -- a value has a member
 pub some_members : (v : Val) → IsWell v → 1 ≤ length (members v)
 some_members (Set ws) w = w.some
-some_members (Span lo last step) w = omega (arith, length-multiples (count_in lo last step) (first_in lo step) (2 ^ step), w.1)
+some_members (Span lo last step) w = omega (arith, length-multiples (count_in lo last step) (first_in_span lo step) (2 ^ step), w.1)
 
 pub join_value : (b : Limits) (v w : Val) → AreLimits b → IsValue b v → IsValue b w → IsValue b (cover b (members v ++ members w))
 join_value b v w limits vv vw =
@@ -76,10 +76,10 @@ words_more b v out words i well h e =
     ∙ ap (cover b) (append_assoc (members v) (take i words) (get_or words i 0 ∷ []) ∙ ap (λ (l : List ℕ). members v ++ l) (sym (take_more words i 0 h)))
 
 -- ---- Spans
-pub many_range : (b : Limits) (lo last s : ℕ) → b.most_words < count_in lo last s → b.most_words < length (distinct (range lo last s))
+pub many_range : (b : Limits) (lo last s : ℕ) → b.most_words < count_in lo last s → b.most_words < length (sorted_set_of (range lo last s))
 many_range b lo last s many =
-    let r = distinct-rising (range lo last s) (rising_multiples (count_in lo last s) (first_in lo s) (2 ^ s) (unit_some s)) in
-    rw r (omega (arith, length-multiples (count_in lo last s) (first_in lo s) (2 ^ s)))
+    let r = distinct-rising (range lo last s) (rising_multiples (count_in lo last s) (first_in_span lo s) (2 ^ s) (unit_some s)) in
+    rw r (omega (arith, length-multiples (count_in lo last s) (first_in_span lo s) (2 ^ s)))
 
 pub span_value : {least greatest s2 : ℕ} (b : Limits) (lo last s : ℕ) → AreLimits b → s ≤ 2 → last < 2 ^ 32 → b.most_words < count_in lo last s → IsExtent (range lo last s) least greatest s2
     → lo ≡ floor b.thresholds least → last ≡ above b.thresholds greatest - 1 → IsValue b (Span lo last s)
@@ -104,9 +104,9 @@ value_span {least} {greatest} {s2} b lo last s value e =
 
 pub span_count : (b : Limits) (lo last s : ℕ) → IsValue b (Span lo last s) → b.most_words < count_in lo last s
 span_count b lo last s value =
-    let r = distinct-rising (range lo last s) (rising_multiples (count_in lo last s) (first_in lo s) (2 ^ s) (unit_some s)) in
+    let r = distinct-rising (range lo last s) (rising_multiples (count_in lo last s) (first_in_span lo s) (2 ^ s) (unit_some s)) in
     let m : b.most_words < length (range lo last s) = rw r at (many_span b lo last s value) in
-    omega (arith, length-multiples (count_in lo last s) (first_in lo s) (2 ^ s))
+    omega (arith, length-multiples (count_in lo last s) (first_in_span lo s) (2 ^ s))
 
 pub cover_join_span : {lo1 hi1 s1 lo2 hi2 s2 : ℕ} (b : Limits) (xs : List ℕ) (lo last s : ℕ) → IsValue b (Span lo last s) → IsExtent xs lo1 hi1 s1 → IsExtent (range lo last s) lo2 hi2 s2
     → Span (floor b.thresholds (min lo1 lo2)) (above b.thresholds (max hi1 hi2) - 1) (min s1 s2) ≡ cover b (xs ++ range lo last s)
@@ -138,7 +138,7 @@ limits_same x y h e = omega arith
 pub range_value : (b : Limits) (lo last s : ℕ) → AreLimits b → s ≤ 2 → 1 ≤ count_in lo last s → last < 2 ^ 32 → IsValue b (cover b (range lo last s))
 range_value b lo last s limits small some below =
     (cover_least b (range lo last s) limits (record {
-      some = omega (arith, length-multiples (count_in lo last s) (first_in lo s) (2 ^ s));
+      some = omega (arith, length-multiples (count_in lo last s) (first_in_span lo s) (2 ^ s));
       below = λ z i. let m = member_among (Span lo last s) z small i in omega (arith, m.1);
     })).value
 
@@ -151,7 +151,7 @@ set_value b ws a =
           elim (cases_lt b.most_words (length ws)) [
             | inl many ↦
                 let e = sym (cover-many b ws (rw d many)) ∙ value.own in
-                absurd (set_span ws (distinct ws) b e)
+                absurd (set_span ws (sorted_set_of ws) b e)
             | inr few ↦ few
           ]),
     )
@@ -222,6 +222,6 @@ fill_more xs k start unit low e len =
       omega (arith, length-append xs (k * unit ∷ [])),
     )
 
-pub value-rising : (b : Limits) (ws : List ℕ) → Rising ws → value_of b ws ≡ cover b ws
+pub value-rising : (b : Limits) (ws : List ℕ) → Rising ws → value_of_words b ws ≡ cover b ws
 unfolding cover
-value-rising b ws r = ap (value_of b) (sym (distinct-rising ws r))
+value-rising b ws r = ap (value_of_words b) (sym (distinct-rising ws r))

@@ -5,10 +5,10 @@ use Rattle.std.proofs.lemmas.List.{take_more, take_more_set, get_or-set_other}
 use Rattle.std.proofs.Math.Seq.{drop-cons}
 use Rattle.value_domain.specs.declared.values.Val.{Val}
 use Rattle.value_domain.specs.Limits.{Limits}
-use Rattle.value_domain.specs.Values.{IsValue, IsBelow, members, any_val}
+use Rattle.value_domain.specs.Values.{IsValue, IsBelow, members, any_val, join_of}
 use Rattle.value_domain.proofs.CoverLaws.{cover-same}
 use Rattle.value_domain.proofs.ExtentLaws.{among_append, append_left}
-use Rattle.value_domain.specs.State.{ImpliedBy, joined_regs, joined_locals, join_of}
+use Rattle.value_domain.specs.State.{FlagsImpliedBy, joined_regs, joined_locals}
 
 -- an element that is read at a place
 pub read_at : (vs : List Val) (i : ℕ) (v d : Val) → i < length vs → v ≡ get_or vs i v → get_or vs i d ≡ v
@@ -68,15 +68,15 @@ regs_same b vs ws out i v w h same len e f eq value inv left =
     ∙ sym (take_more (joined_regs b vs ws) i any_val (omega (arith, length-joined b vs ws same)))
 
 -- flags
-pub implied_length : (xs ys : List Bool) → ImpliedBy xs ys → length xs ≡ length ys
+pub implied_length : (xs ys : List Bool) → FlagsImpliedBy xs ys → length xs ≡ length ys
 implied_length [] [] h = refl
 implied_length [] (y ∷ ys) h = absurd h
 implied_length (x ∷ xs) [] h = absurd h
 implied_length (x ∷ xs) (y ∷ ys) h = ap suc (implied_length xs ys h.1)
 
 pub implied_at : (xs ys : List Bool) (i : ℕ) → i < length xs → i < length ys
-    → (ImpliedBy (drop i xs) (drop i ys) → (IsTrue (get_or xs i false) → IsTrue (get_or ys i false)) × ImpliedBy (drop (i + 1) xs) (drop (i + 1) ys))
-    × ((IsTrue (get_or xs i false) → IsTrue (get_or ys i false)) → ImpliedBy (drop (i + 1) xs) (drop (i + 1) ys) → ImpliedBy (drop i xs) (drop i ys))
+    → (FlagsImpliedBy (drop i xs) (drop i ys) → (IsTrue (get_or xs i false) → IsTrue (get_or ys i false)) × FlagsImpliedBy (drop (i + 1) xs) (drop (i + 1) ys))
+    × ((IsTrue (get_or xs i false) → IsTrue (get_or ys i false)) → FlagsImpliedBy (drop (i + 1) xs) (drop (i + 1) ys) → FlagsImpliedBy (drop i xs) (drop i ys))
 implied_at xs ys i h k =
     rw (add-one, drop-cons xs i false h, drop-cons ys i false k) ((λ a. a), (λ a b. (a, b)))
 

@@ -6,21 +6,21 @@ use Rattle.value_domain.specs.Limits.{Limits, AreLimits}
 use Rattle.value_domain.specs.Values.{IsMember, IsWell, IsValue, IsBelow, cover, members}
 
 -- v is the least value that holds the words of xs
-pub record IsLeast (b : Limits) (xs : List ℕ) (v : Val) : Type 0 where
+pub record IsLeastValue (b : Limits) (xs : List ℕ) (v : Val) : Type 0 where
   pub value : IsValue b v
   pub holds : (x : ℕ) → Among x xs → IsMember x v
   pub least : (w : Val) → IsValue b w → ((x : ℕ) → Among x xs → IsMember x w) → IsBelow v w
 
 -- the cover of a set is the least value that holds it
 abbrev pub IsClosure : Type 0
-IsClosure = (b : Limits) (xs : List ℕ) → AreLimits b → AreCoverable xs → IsLeast b xs (cover b xs)
+IsClosure = (b : Limits) (xs : List ℕ) → AreLimits b → AreCoverable xs → IsLeastValue b xs (cover b xs)
 
 -- the listed members of a well-formed value are its members
 abbrev pub AreMembers : Type 0
 AreMembers = (v : Val) (x : ℕ) → IsWell v → IsMember x v ↔ Among x (members v)
 
 -- u is the least value above both
-pub record IsLeastAbove (b : Limits) (v w u : Val) : Type 0 where
+pub record IsLeastValueAbove (b : Limits) (v w u : Val) : Type 0 where
   pub value : IsValue b u
   pub left : IsBelow v u
   pub right : IsBelow w u
@@ -29,4 +29,4 @@ pub record IsLeastAbove (b : Limits) (v w u : Val) : Type 0 where
 -- the cover of the members of two values is the least value above both
 abbrev pub AreJoins : Type 0
 AreJoins =
-    (b : Limits) (v w : Val) → AreLimits b → IsValue b v → IsValue b w → IsLeastAbove b v w (cover b (members v ++ members w))
+    (b : Limits) (v w : Val) → AreLimits b → IsValue b v → IsValue b w → IsLeastValueAbove b v w (cover b (members v ++ members w))

@@ -1,11 +1,11 @@
 -- States, their order, and the least state that covers two.
-use Rattle.std.specs.Prelude.{◌<◌, ◌≤◌, ℕ, Bool, ◌&&◌, ◌||◌, ◌==◌, if◌then◌else◌, min, List, ◌∷◌, ◌++◌, length, Option, Some, None, IsTrue, slice_index_or, nat_lt, nat_le, false, []}
+use Rattle.std.specs.Prelude.{◌<◌, ◌≤◌, ℕ, Bool, ◌&&◌, ◌||◌, ◌==◌, if◌then◌else◌, min, List, ◌∷◌, length, Option, Some, None, IsTrue, slice_index_or, nat_lt, nat_le, false, []}
 use Rattle.value_domain.specs.declared.values.Val.{Val}
 use Rattle.value_domain.specs.declared.states.State.{State}
 use Rattle.value_domain.specs.Limits.{Limits}
-use Rattle.value_domain.specs.Values.{IsWell, IsValue, IsBelow, cover, members, any_val}
+use Rattle.value_domain.specs.Values.{IsWell, IsValue, IsBelow, any_val, join_of}
 
--- each value of a list is well-formed
+-- each value of a list, as of the registers of a state, is well-formed
 abbrev pub AreWell : List Val → Type 0
 AreWell vs = (r : ℕ) → r < length vs → IsWell (slice_index_or vs r any_val)
 
@@ -18,11 +18,11 @@ abbrev pub AreBelow : List Val → List Val → Type 0
 AreBelow vs ws = (r : ℕ) → r < length vs → IsBelow (slice_index_or vs r any_val) (slice_index_or ws r any_val)
 
 -- equally many flags, and each of the first list implies the one at its place in the second
-abbrev pub ImpliedBy : List Bool → List Bool → Type 0
-ImpliedBy [] [] = Unit {0}
-ImpliedBy [] (y ∷ ys) = ⊥
-ImpliedBy (x ∷ xs) [] = ⊥
-ImpliedBy (x ∷ xs) (y ∷ ys) = (IsTrue x → IsTrue y) × ImpliedBy xs ys
+abbrev pub FlagsImpliedBy : List Bool → List Bool → Type 0
+FlagsImpliedBy [] [] = Unit {0}
+FlagsImpliedBy [] (y ∷ ys) = ⊥
+FlagsImpliedBy (x ∷ xs) [] = ⊥
+FlagsImpliedBy (x ∷ xs) (y ∷ ys) = (IsTrue x → IsTrue y) × FlagsImpliedBy xs ys
 
 -- the context of the upper state covers that of a state
 abbrev pub CoversContext : State → State → Type 0
@@ -32,11 +32,7 @@ CoversContext upper s = (IsTrue s.ie → IsTrue upper.ie) × (upper.ccpn ≤ s.c
 pub record Covers (upper s : State) : Type 0 where
   pub regs : AreBelow s.regs upper.regs
   pub context : CoversContext upper s
-  pub locals : ImpliedBy upper.locals.items s.locals.items
-
--- the least value that holds the members of both
-abbrev pub join_of : Limits → Val → Val → Val
-join_of b v w = cover b (members v ++ members w)
+  pub locals : FlagsImpliedBy upper.locals.items s.locals.items
 
 -- the registers of two states, each with the least value that holds both
 unfoldable pub joined_regs : Limits → List Val → List Val → List Val
@@ -64,7 +60,7 @@ joined_of b s t = record {
 abbrev pub joined_states : Limits → State → State → Option State
 joined_states b s t = if length s.locals.items == length t.locals.items then Some (joined_of b s t) else None
 
--- the places of the lower registers D0..D7 and A2..A7 in a state
+-- the places of the lower registers D0..D7 and A2..A7 among the values of a state
 abbrev pub is_lower_slot : ℕ → Bool
 is_lower_slot i = nat_lt i 8 || (nat_le 16 i && nat_lt i 22)
 
@@ -72,6 +68,6 @@ is_lower_slot i = nat_lt i 8 || (nat_le 16 i && nat_lt i 22)
 abbrev pub no_state : State
 no_state = record { regs = []; ie = false; ccpn = 0; lower = false; locals = record { items = [] } }
 
--- A10 is the value at place 22
+-- the value of A10 in a state, which is at place 22
 abbrev pub a10_of : State → Val
 a10_of s = slice_index_or s.regs 22 any_val

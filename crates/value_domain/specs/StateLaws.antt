@@ -4,15 +4,15 @@ use Rattle.value_domain.specs.declared.states.State.{State}
 use Rattle.value_domain.specs.Limits.{Limits, AreLimits}
 use Rattle.value_domain.specs.State.{Covers, AreValues, joined_of}
 
--- j is the least state that covers both
-pub record IsJoin (b : Limits) (s t j : State) : Type 0 where
+-- j is the least state that covers both s and t
+pub record IsStateJoin (b : Limits) (s t j : State) : Type 0 where
   pub values : AreValues b j.regs
   pub left : Covers j s
   pub right : Covers j t
   pub least : (u : State) → length u.regs ≡ length s.regs → AreValues b u.regs → Covers u s → Covers u t → Covers u j
 
 -- two states with equally many registers and locals are joined to the least state that covers both
-abbrev pub AreJoined : Type 0
-AreJoined =
+abbrev pub AreStateJoins : Type 0
+AreStateJoins =
     (b : Limits) (s t : State) → AreLimits b → length s.regs ≡ length t.regs → length s.locals.items ≡ length t.locals.items
-    → AreValues b s.regs → AreValues b t.regs → IsJoin b s t (joined_of b s t)
+    → AreValues b s.regs → AreValues b t.regs → IsStateJoin b s t (joined_of b s t)

@@ -5,6 +5,8 @@ use Rattle.value_domain.specs.Limits.{Limits}
 use Rattle.value_domain.specs.VersionLimits.{most_words_of, most_locals_of}
 use Rattle.tcd_base.specs.declared.range.Range.{Range}
 use Rattle.value_domain.specs.Floors.{floor, above, IsFloor, IsAbove}
+use Rattle.std.specs.List.Sorted.{IsNonDecreasing}
+use Rattle.value_domain.specs.Sets.{Within}
 
 -- the first n powers of two, from 1 on
 unfoldable pub powers_of_two : ℕ → List ℕ
@@ -12,15 +14,16 @@ powers_of_two zero = []
 powers_of_two (suc n) = powers_of_two n ++ 2 ^ n ∷ []
 
 -- the first address of each range, and the one after its last
-abbrev pub ends : List Range → List ℕ
-ends [] = []
-ends (r ∷ rs) = r.at ∷ (r.at + r.len) ∷ ends rs
+abbrev pub threshold_ends : List Range → List ℕ
+threshold_ends [] = []
+threshold_ends (r ∷ rs) = r.at ∷ (r.at + r.len) ∷ threshold_ends rs
 
 -- 0, the powers of two from 1 to 2^32, and the two ends of each range of the plan
 abbrev pub thresholds_of : PlanData → List ℕ
-thresholds_of p = (0 ∷ powers_of_two 33) ++ ends (all_ranges p)
+thresholds_of p = (0 ∷ powers_of_two 33) ++ threshold_ends (all_ranges p)
 
--- the plan's thresholds, and the limits of the version
+-- the limits with the thresholds of a plan, and with the greatest numbers of words and locals of a
+-- version
 abbrev pub limits_for : PlanData → ℕ → Limits
 limits_for p version = record { thresholds = thresholds_of p; most_words = most_words_of version; most_locals = most_locals_of version }
 
@@ -32,3 +35,9 @@ pub record HasThresholds (ts : List ℕ) (x : ℕ) : Type 0 where
 -- each word is between the greatest threshold that is at most it and the least above it
 abbrev pub AreThresholds : Type 0
 AreThresholds = (plan : PlanData) (x : ℕ) → x < 2 ^ 32 → HasThresholds (thresholds_of plan) x
+
+-- a list of thresholds, as the limits hold them, has the numbers of another, in ascending order
+pub record InOrder (ascending xs : List ℕ) : Type 0 where
+  pub ordered : IsNonDecreasing ascending
+  pub within : Within ascending xs
+  pub back : Within xs ascending

@@ -1,27 +1,29 @@
 -- Values, and the least value that holds a set.
-use Rattle.std.specs.Prelude.{Option, Some, None, ◌≡◌, ◌<◌, ◌≤◌, ◌+◌, ◌-◌, ◌/◌, ◌^◌, ℕ, nat_le, if◌then◌else◌, List, length, ◌==◌, ◌&&◌, Bool, ◌∷◌, []}
+use Rattle.std.specs.Prelude.{Option, Some, None, ◌≡◌, ◌<◌, ◌≤◌, ◌+◌, ◌-◌, ◌/◌, ◌^◌, ℕ, nat_le, if◌then◌else◌, List, length, ◌==◌, ◌&&◌, Bool, ◌∷◌, ◌++◌, []}
 use Rattle.value_domain.specs.declared.values.Val.{Val}
 use Rattle.value_domain.specs.declared.values.Val.TheVariants.{Set, Span}
-use Rattle.value_domain.specs.Sets.{Among, AreWords, distinct, alignment_log2, least, greatest, step_of, multiples}
+use Rattle.value_domain.specs.Sets.{Among, AreWords, sorted_set_of, alignment_log2, least, greatest, step_of_set, multiples}
 use Rattle.value_domain.specs.Limits.{Limits}
 use Rattle.value_domain.specs.Floors.{floor, above}
+use Rattle.std.specs.List.{list_any}
 
 -- a word is one of a value's members
 abbrev pub IsMember : ℕ → Val → Type 0
 IsMember x (Set ws) = Among x ws
 IsMember x (Span lo last step) = (lo ≤ x) × (x ≤ last) × (step ≤ alignment_log2 x)
 
--- the first multiple of 2 ^ step from lo on, divided by 2 ^ step
-abbrev pub first_in : ℕ → ℕ → ℕ
-first_in lo step = (lo + (2 ^ step - 1)) / 2 ^ step
+-- the first member of a Span, which is the first multiple of 2 ^ step from lo on, divided by 2 ^
+-- step
+abbrev pub first_in_span : ℕ → ℕ → ℕ
+first_in_span lo step = (lo + (2 ^ step - 1)) / 2 ^ step
 
 -- the number of multiples of 2 ^ step in lo..=last
 abbrev pub count_in : ℕ → ℕ → ℕ → ℕ
-count_in lo last step = (last / 2 ^ step + 1) - first_in lo step
+count_in lo last step = (last / 2 ^ step + 1) - first_in_span lo step
 
 -- the multiples of 2 ^ step in lo..=last
 abbrev pub range : ℕ → ℕ → ℕ → List ℕ
-range lo last step = multiples (count_in lo last step) (first_in lo step) (2 ^ step)
+range lo last step = multiples (count_in lo last step) (first_in_span lo step) (2 ^ step)
 
 -- the members of a value; those of a Span in ascending order
 abbrev pub members : Val → List ℕ
@@ -34,15 +36,15 @@ IsWell (Set ws) = AreWords ws
 IsWell (Span lo last step) = (step ≤ 2) × (64 < count_in lo last step) × (last < 2 ^ 32)
 
 -- the least value that holds an ascending list
-abbrev pub value_of : Limits → List ℕ → Val
-value_of b ws =
+abbrev pub value_of_words : Limits → List ℕ → Val
+value_of_words b ws =
     if nat_le (length ws) b.most_words
     then Set ws
-    else Span (floor b.thresholds (least ws)) (above b.thresholds (greatest ws) - 1) (step_of ws)
+    else Span (floor b.thresholds (least ws)) (above b.thresholds (greatest ws) - 1) (step_of_set ws)
 
 -- the least value that holds all words of a list
 unfoldable pub cover : Limits → List ℕ → Val
-cover b xs = value_of b (distinct xs)
+cover b xs = value_of_words b (sorted_set_of xs)
 
 -- a value is the cover of its members
 pub record IsValue (b : Limits) (v : Val) : Type 0 where
@@ -53,18 +55,7 @@ pub record IsValue (b : Limits) (v : Val) : Type 0 where
 abbrev pub IsBelow : Val → Val → Type 0
 IsBelow v w = (x : ℕ) → IsMember x v → IsMember x w
 
--- lo and hi are the least and the greatest of a set, and s is the greatest step up to 2 that fits
--- all of it
-pub record IsExtent (xs : List ℕ) (lo hi s : ℕ) : Type 0 where
-  pub low_in : Among lo xs
-  pub high_in : Among hi xs
-  pub low : (z : ℕ) → Among z xs → lo ≤ z
-  pub high : (z : ℕ) → Among z xs → z ≤ hi
-  pub fits : (z : ℕ) → Among z xs → s ≤ alignment_log2 z
-  pub small : s ≤ 2
-  pub full : (t : ℕ) → t ≤ 2 → ((z : ℕ) → Among z xs → t ≤ alignment_log2 z) → t ≤ s
-
--- all words
+-- the value that holds all words
 abbrev pub any_val : Val
 any_val = Span 0 4294967295 0
 
@@ -74,10 +65,10 @@ words_of (Set ws) = Some ws
 words_of (Span lo last step) = None
 
 -- the Span has all words
-abbrev pub is_any : ℕ → ℕ → ℕ → Bool
-is_any lo last step = lo == 0 && last == 4294967295 && step == 0
+abbrev pub is_any_span : ℕ → ℕ → ℕ → Bool
+is_any_span lo last step = lo == 0 && last == 4294967295 && step == 0
 
--- a constant
+-- the value that holds one word
 abbrev pub word_val : ℕ → Val
 word_val w = Set (w ∷ [])
 
@@ -91,4 +82,17 @@ high v = greatest (members v)
 
 -- a value's step: the greatest up to 2 such that 2 ^ step divides each of its members
 abbrev pub step : Val → ℕ
-step v = step_of (members v)
+step v = step_of_set (members v)
+
+-- the least value that holds the members of both
+abbrev pub join_of : Limits → Val → Val → Val
+join_of b v w = cover b (members v ++ members w)
+
+-- the test of a Span's member: a word is in lo..=last, and its alignment is at least the step
+abbrev pub in_span : ℕ → ℕ → ℕ → ℕ → Bool
+in_span lo last step x = nat_le lo x && nat_le x last && nat_le step (alignment_log2 x)
+
+-- the test of a value's member
+abbrev pub is_member : ℕ → Val → Bool
+is_member x (Set ws) = list_any (λ w. x == w) ws
+is_member x (Span lo last step) = in_span lo last step x

@@ -5,6 +5,6 @@ use Rattle.std.specs.Prelude.{ℕ, ◌==◌, if◌then◌else◌}
 abbrev pub most_words_of : ℕ → ℕ
 most_words_of version = if version == 1 then 64 else 128
 
--- the greatest number of locals of a state
+-- a version's limit: the greatest number of locals of a state
 abbrev pub most_locals_of : ℕ → ℕ
 most_locals_of version = if version == 1 then 4 else 8

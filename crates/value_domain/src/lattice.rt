@@ -1,19 +1,21 @@
 // Operations of the lattice of values: order, join, and the least value that holds a set.
 ghost use Rattle.std.specs.Prelude.{◌≡◌, ◌==◌, ◌≤◌, ◌<◌, ◌+◌, ◌-◌, ◌*◌, ◌/◌, ◌^◌, IsTrue, length, min, max, ◌∷◌, ◌++◌, List, ℕ, ◌↔◌, IsSome, IsNone};
 ghost use Rattle.value_domain.specs.Values as values;
-ghost use Rattle.value_domain.specs.Sets.{AreWords, Within, Rising, least, greatest, step_of};
+ghost use Rattle.value_domain.specs.Sets.{AreWords, Within, Rising, least, greatest, step_of_set, IsExtent};
 ghost use Rattle.value_domain.specs.Sets as sets;
 ghost use Rattle.value_domain.specs.Floors.{floor, above};
 ghost use Rattle.value_domain.specs.Limits.{AreLimits};
-ghost use Rattle.value_domain.specs.Values.{IsWell, IsValue, IsBelow, IsExtent, cover, members, range, count_in, words_of};
+ghost use Rattle.value_domain.specs.Values.{IsWell, IsValue, IsBelow, cover, members, range, count_in, words_of};
 ghost use Rattle.value_domain.specs.declared.values.Val.TheVariants.{Set, Span};
 
-use crate::merging::{first_from, merge};
+use crate::merging::merge;
 use crate::values::{
-    alignment_log2, count_of, extent_of, has, is_all, is_set, member, set_span, set_word, set_words,
+    alignment_log2, count_of, has_set_word, is_all, is_set, member, set_span, set_word, set_words,
+    word_place_from,
 };
 use crate::{Bounds, Val, Words};
 use arrayvec::ArrayVec;
+use std::marker::Model;
 
 /// The least and the greatest member of a value, and its step: the greatest one up to 2 such that
 /// 2^`step` divides all members.
@@ -24,6 +26,7 @@ pub struct Extent {
     pub step: u8,
 }
 
+/// Returns the extent of the words of a Set, by which the lattice compares and joins values.
 pub(crate) fn set_extent(words: &[u32]) -> Extent
     requires { AreWords words.now }
     ensures { IsExtent words.now result.least result.greatest result.step }
@@ -31,20 +34,20 @@ pub(crate) fn set_extent(words: &[u32]) -> Extent
     Extent {
         least: words[0],
         greatest: words[words.len() - 1],
-        step: least_step(words),
+        step: extent_step(words),
     }
 }
 
 /// Returns the greatest step that fits all words.
-fn least_step(words: &[u32]) -> u8
-    ensures { result ≡ step_of words.now }
+fn extent_step(words: &[u32]) -> u8
+    ensures { result ≡ step_of_set words.now }
 {
-    alignment_log2(bits_of(words))
+    alignment_log2(extent_bits(words))
 }
 
 /// Returns the bits that are set in at least one of the words.
-fn bits_of(words: &[u32]) -> u32
-    ensures { sets.alignment_log2 result ≡ step_of words.now }
+fn extent_bits(words: &[u32]) -> u32
+    ensures { sets.alignment_log2 result ≡ step_of_set words.now }
 {
     let mut bits = 0;
     for x in words {
@@ -53,6 +56,7 @@ fn bits_of(words: &[u32]) -> u32
     bits
 }
 
+/// Returns the extent of a Span, by which the lattice compares and joins values.
 pub(crate) fn span_extent(lo: u32, last: u32, step: u8) -> Extent
     requires { IsWell (Span lo last step) }
     ensures { IsExtent (range lo last step) result.least result.greatest result.step }
@@ -86,6 +90,7 @@ pub fn add_word(b: &Bounds, v: &mut Val, x: u32)
     put_word(b, v, x);
 }
 
+/// Widens a value to the least one that holds the word too.
 fn put_word(b: &Bounds, v: &mut Val, x: u32)
     requires { IsValue b.now v.old }
     ensures { v.new ≡ cover b.now (x ∷ members v.old) }
@@ -104,6 +109,7 @@ fn put_word(b: &Bounds, v: &mut Val, x: u32)
     write_wider(b, &e, x, v);
 }
 
+/// Overwrites a value with the Span that holds a value of this extent and one more word.
 fn write_wider(b: &Bounds, e: &Extent, x: u32, out: &mut Val)
     ensures { out.new
         ≡ Span (floor b.now.thresholds (min x e.now.least))
@@ -146,7 +152,8 @@ fn widen(b: &Bounds, v: &mut Val, words: &[u32])
     write_span(b, e.least, e.greatest, e.step, v);
 }
 
-/// Returns the extent of these words and those of another extent together.
+/// Returns the extent of these words and those of another extent together. The lattice's least
+/// value that holds both has this extent.
 pub fn extent_with(e: &Extent, words: &[u32]) -> Extent
     ensures { (xs : List ℕ) → IsExtent xs e.now.least e.now.greatest e.now.step
         → IsExtent (xs ++ words.now) result.least result.greatest result.step }
@@ -188,21 +195,6 @@ pub fn write_cover_words(b: &Bounds, words: &[u32], out: &mut Val)
     add_words(b, out, words);
 }
 
-/// Returns true if a value is this Span.
-#[inline(always)]
-pub fn is_the_span(v: &Val, lo: u32, last: u32, step: u8) -> bool
-    ensures { IsTrue result ↔ (v.now ≡ Span lo last step) }
-{
-    match v {
-        Val::Set(_) => false,
-        Val::Span {
-            lo: own_lo,
-            last: own_last,
-            step: own_step,
-        } => *own_lo == lo && *own_last == last && *own_step == step,
-    }
-}
-
 /// Returns the least value that holds both.
 pub fn join(b: &Bounds, v: &Val, w: &Val) -> Val
     requires left { IsValue b.now v.now }
@@ -229,22 +221,23 @@ pub fn add_value(b: &Bounds, v: &mut Val, w: &Val)
     }
 }
 
+/// Widens a value to the least one that holds the words of a Set too.
 fn add_set(b: &Bounds, v: &mut Val, words: &Words)
     requires left { IsValue b.now v.old }
     requires right { IsValue b.now (Set words.now) }
     ensures { v.new ≡ cover b.now (members v.old ++ words.now) }
 {
     if is_set(v) {
-        merge_in(b, v, words)
+        join_set_with_set(b, v, words)
     } else {
         widen(b, v, words.as_slice())
     }
 }
 
-/// Widens a Set to the least value that holds the words of another too. It is a function of its
-/// own, so that its callers need no stack for the words.
+/// Joins two Sets: widens the first to the lattice's least value that holds the words of both. It
+/// is a function of its own, so that its callers need no stack for the words.
 #[inline(never)]
-fn merge_in(b: &Bounds, v: &mut Val, words: &Words)
+fn join_set_with_set(b: &Bounds, v: &mut Val, words: &Words)
     requires { IsSome (words_of v.old) }
     ensures { v.new ≡ cover b.now (members v.old ++ words.now) }
 {
@@ -258,15 +251,16 @@ fn merge_in(b: &Bounds, v: &mut Val, words: &Words)
 fn write_value_of(b: &Bounds, words: &[u32], out: &mut Val)
     requires some { 1 ≤ length words.now }
     requires rising { Rising words.now }
-    ensures { out.new ≡ values.value_of b.now words.now }
+    ensures { out.new ≡ values.value_of_words b.now words.now }
 {
     if words.len() <= b.most_words() {
         set_words(out, words);
         return;
     }
-    write_span(b, words[0], words[words.len() - 1], least_step(words), out);
+    write_span(b, words[0], words[words.len() - 1], extent_step(words), out);
 }
 
+/// Widens a value to the least one that holds the members of a Span too.
 fn add_span(b: &Bounds, v: &mut Val, lo: u32, last: u32, step: u8)
     requires left { IsValue b.now v.old }
     requires right { IsValue b.now (Span lo last step) }
@@ -292,8 +286,8 @@ pub fn leq(v: &Val, w: &Val) -> bool
     match w {
         Val::Span { lo, last, step } => is_below_span(v, *lo, *last, *step),
         Val::Set(words) => match v {
-            Val::Set(own) => are_among(own.as_slice(), words.as_slice()),
-            Val::Span { lo, last, step } => is_range_among(*lo, *last, *step, words.as_slice()),
+            Val::Set(own) => is_set_below_set(own.as_slice(), words.as_slice()),
+            Val::Span { lo, last, step } => is_span_below_set(*lo, *last, *step, words.as_slice()),
         },
     }
 }
@@ -308,24 +302,26 @@ fn is_below_span(v: &Val, lo: u32, last: u32, step: u8) -> bool
         return true;
     }
     let e = extent_of(v);
-    is_inside(&e, lo, last, step)
+    is_extent_inside(&e, lo, last, step)
 }
 
-fn is_inside(e: &Extent, lo: u32, last: u32, step: u8) -> bool
+/// Returns true if a value of this extent is below this Span: the Span holds its least and its
+/// greatest member, and its step is no smaller than the Span's.
+pub fn is_extent_inside(e: &Extent, lo: u32, last: u32, step: u8) -> bool
     ensures { IsTrue result ↔ ((lo ≤ e.now.least) × (e.now.greatest ≤ last) × (step ≤ e.now.step)) }
 {
     lo <= e.least && e.greatest <= last && step <= e.step
 }
 
 /// Returns true if each of the words is one of the others. Both lists ascend and are walked once.
-fn are_among(own: &[u32], words: &[u32]) -> bool
+fn is_set_below_set(own: &[u32], words: &[u32]) -> bool
     requires own { Rising own.now }
     requires words { Rising words.now }
     ensures { IsTrue result ↔ Within own.now words.now }
 {
     let mut k = 0;
     for x in own {
-        k = first_from(words, k, *x);
+        k = word_place_from(words, k, *x);
         if k == words.len() || words[k] != *x {
             return false;
         }
@@ -333,7 +329,8 @@ fn are_among(own: &[u32], words: &[u32]) -> bool
     true
 }
 
-fn is_range_among(lo: u32, last: u32, step: u8, words: &[u32]) -> bool
+/// Returns true if each multiple of `2 ^ step` in `lo..=last` is one of the ascending words.
+fn is_span_below_set(lo: u32, last: u32, step: u8, words: &[u32]) -> bool
     requires step { step ≤ 2 }
     requires words { Rising words.now }
     ensures { IsTrue result ↔ Within (range lo last step) words.now }
@@ -342,7 +339,7 @@ fn is_range_among(lo: u32, last: u32, step: u8, words: &[u32]) -> bool
     let start = (u64::from(lo) + (unit - 1)) / unit;
     let end = u64::from(last) / unit + 1;
     for k in start..end {
-        if !has(words, (k * unit) as u32) {
+        if !has_set_word(words, (k * unit) as u32) {
             return false;
         }
     }
@@ -355,11 +352,12 @@ pub fn is_value(b: &Bounds, v: &Val) -> bool
 {
     match v {
         Val::Set(words) => words.as_slice().len() <= b.most_words(),
-        Val::Span { lo, last, step } => is_span(b, *lo, *last, *step),
+        Val::Span { lo, last, step } => is_span_value(b, *lo, *last, *step),
     }
 }
 
-fn is_span(b: &Bounds, lo: u32, last: u32, step: u8) -> bool
+/// Returns true if this Span is a value of the plan's lattice at the limits of the version.
+fn is_span_value(b: &Bounds, lo: u32, last: u32, step: u8) -> bool
     ensures { IsTrue result ↔ IsValue b.now (Span lo last step) }
 {
     let most_words = b.most_words();
@@ -397,13 +395,15 @@ pub fn write_cover(b: &Bounds, first: u32, last: u32, step: u8, out: &mut Val)
 {
     let most_words = b.most_words();
     if count_of(first, last, step) > most_words as u64 {
-        write_many(b, first, last, step, out)
+        write_cover_as_span(b, first, last, step, out)
     } else {
-        write_few(b, first, last, step, out)
+        write_cover_as_set(b, first, last, step, out)
     }
 }
 
-fn write_many(b: &Bounds, first: u32, last: u32, step: u8, out: &mut Val)
+/// Overwrites a value with the cover, the lattice's least value, of more multiples than a Set can
+/// have. It is a Span.
+fn write_cover_as_span(b: &Bounds, first: u32, last: u32, step: u8, out: &mut Val)
     requires step { step ≤ 2 }
     requires many { b.now.most_words < count_in first last step }
     requires limits { AreLimits b.now }
@@ -413,8 +413,10 @@ fn write_many(b: &Bounds, first: u32, last: u32, step: u8, out: &mut Val)
     write_span(b, e.least, e.greatest, e.step, out);
 }
 
+/// Overwrites a value with the cover, the lattice's least value, of at most 128 multiples, whose
+/// words are listed first.
 #[inline(never)]
-fn write_few(b: &Bounds, first: u32, last: u32, step: u8, out: &mut Val)
+fn write_cover_as_set(b: &Bounds, first: u32, last: u32, step: u8, out: &mut Val)
     requires step { step ≤ 2 }
     requires some { 1 ≤ count_in first last step }
     requires few { count_in first last step ≤ 128 }
@@ -428,4 +430,15 @@ fn write_few(b: &Bounds, first: u32, last: u32, step: u8, out: &mut Val)
         words.push((k * unit) as u32);
     }
     write_value_of(b, words.as_slice(), out);
+}
+
+/// Returns the extent of a value, by which the lattice compares and joins values.
+pub fn extent_of(v: &Val) -> Extent
+    requires { IsWell v.now }
+    ensures { IsExtent (members v.now) result.least result.greatest result.step }
+{
+    match v {
+        Val::Set(words) => set_extent(words.as_slice()),
+        Val::Span { lo, last, step } => span_extent(*lo, *last, *step),
+    }
 }

@@ -10,16 +10,17 @@ mod states;
 mod values;
 
 pub use lattice::{
-    Extent, add_value, add_word, add_words, cover, cover_words, extent_with, is_the_span, is_value,
-    join, leq, write_cover, write_cover_words, write_span,
+    Extent, add_value, add_word, add_words, cover, cover_words, extent_of, extent_with,
+    is_extent_inside, is_value, join, leq, write_cover, write_cover_words, write_span,
 };
 pub use laws::{state_laws, value_laws};
 pub use limits::Bounds;
-pub use meets::{write_common, write_meet};
+pub use meets::{write_meet, write_meet_with_words};
 pub use states::{
-    A10_SLOT, State, are_implied, copy_locals, covers, covers_context, join_locals, join_states,
+    A10_SLOT, State, are_flags_implied, copy_locals, covers, covers_context, join_locals,
+    join_states,
 };
 pub use values::{
-    Val, Words, alignment_log2, copy_to, count_of, extent_of, is_set, member, set_span, set_word,
+    Val, Words, alignment_log2, copy_to, count_of, is_set, is_the_span, member, set_span, set_word,
     set_words, write_any,
 };

@@ -1,17 +1,17 @@
 // Meets: the members of a value that are in a range or among given words.
 ghost use Rattle.std.specs.Prelude.{◌≡◌, ◌==◌, ◌≤◌, List, ℕ, [], ◌∷◌, ◌++◌, filter, IfSome, Some};
-ghost use Rattle.value_domain.specs.Values.{IsValue, IsWell, members, range};
-ghost use Rattle.value_domain.specs.Meets.{cover_some, value_if, in_span, is_member};
+ghost use Rattle.value_domain.specs.Values.{IsValue, IsWell, members, range, in_span, is_member};
+ghost use Rattle.value_domain.specs.Meets.{cover_of_meet, meet_if};
 
 use crate::lattice::{add_word, write_cover};
-use crate::values::{count_of, is_in, is_member, set_word};
+use crate::values::{count_of, is_member, is_word_in_span, set_word};
 use crate::{Bounds, Val};
 
 /// Widens a value by a word. If nothing was found before, the value becomes that of the word alone.
-fn add(b: &Bounds, found: bool, out: &mut Val, x: u32)
-    requires { IfSome (value_if found out.old) (IsValue b.now) }
-    ensures more { (xs : List ℕ) → value_if found out.old ≡ cover_some b.now xs
-        → Some out.new ≡ cover_some b.now (xs ++ x ∷ []) }
+fn add_to_meet(b: &Bounds, found: bool, out: &mut Val, x: u32)
+    requires { IfSome (meet_if found out.old) (IsValue b.now) }
+    ensures more { (xs : List ℕ) → meet_if found out.old ≡ cover_of_meet b.now xs
+        → Some out.new ≡ cover_of_meet b.now (xs ++ x ∷ []) }
     ensures value { IsValue b.now out.new }
 {
     let _most_words = b.most_words();
@@ -27,24 +27,26 @@ fn add(b: &Bounds, found: bool, out: &mut Val, x: u32)
 pub fn write_meet(b: &Bounds, v: &Val, lo: u32, last: u32, step: u8, out: &mut Val) -> bool
     requires value { IsValue b.now v.now }
     requires step { step ≤ 2 }
-    ensures meet { value_if result out.new
-        ≡ cover_some b.now (filter (in_span lo last step) (members v.now)) }
-    ensures value { IfSome (value_if result out.new) (IsValue b.now) }
+    ensures meet { meet_if result out.new
+        ≡ cover_of_meet b.now (filter (in_span lo last step) (members v.now)) }
+    ensures value { IfSome (meet_if result out.new) (IsValue b.now) }
 {
     match v {
-        Val::Set(words) => words_in(b, words.as_slice(), lo, last, step, out),
+        Val::Set(words) => write_meet_of_set(b, words.as_slice(), lo, last, step, out),
         Val::Span {
             lo: first,
             last: end,
             step: own,
-        } => span_in(b, lo.max(*first), last.min(*end), step.max(*own), out),
+        } => write_meet_of_span(b, lo.max(*first), last.min(*end), step.max(*own), out),
     }
 }
 
-fn span_in(b: &Bounds, lo: u32, last: u32, step: u8, out: &mut Val) -> bool
+/// Overwrites `out` with the cover of the multiples of `2 ^ step` in `lo..=last`. Returns false if
+/// there are none.
+fn write_meet_of_span(b: &Bounds, lo: u32, last: u32, step: u8, out: &mut Val) -> bool
     requires { step ≤ 2 }
-    ensures meet { value_if result out.new ≡ cover_some b.now (range lo last step) }
-    ensures value { IfSome (value_if result out.new) (IsValue b.now) }
+    ensures meet { meet_if result out.new ≡ cover_of_meet b.now (range lo last step) }
+    ensures value { IfSome (meet_if result out.new) (IsValue b.now) }
 {
     if count_of(lo, last, step) == 0 {
         return false;
@@ -53,15 +55,17 @@ fn span_in(b: &Bounds, lo: u32, last: u32, step: u8, out: &mut Val) -> bool
     true
 }
 
-fn words_in(b: &Bounds, words: &[u32], lo: u32, last: u32, step: u8, out: &mut Val) -> bool
-    ensures meet { value_if result out.new
-        ≡ cover_some b.now (filter (in_span lo last step) words.now) }
-    ensures value { IfSome (value_if result out.new) (IsValue b.now) }
+/// Overwrites `out` with the cover of the words that are in this Span. Returns false if there are
+/// none; then `out` may be any value.
+fn write_meet_of_set(b: &Bounds, words: &[u32], lo: u32, last: u32, step: u8, out: &mut Val) -> bool
+    ensures meet { meet_if result out.new
+        ≡ cover_of_meet b.now (filter (in_span lo last step) words.now) }
+    ensures value { IfSome (meet_if result out.new) (IsValue b.now) }
 {
     let mut found = false;
     for x in words {
-        if is_in(lo, last, step, *x) {
-            add(b, found, out, *x);
+        if is_word_in_span(lo, last, step, *x) {
+            add_to_meet(b, found, out, *x);
             found = true;
         }
     }
@@ -70,16 +74,16 @@ fn words_in(b: &Bounds, words: &[u32], lo: u32, last: u32, step: u8, out: &mut V
 
 /// Overwrites `out` with the cover of the words that are members of `v`. Returns false if there are
 /// none; then `out` may be any value.
-pub fn write_common(b: &Bounds, words: &[u32], v: &Val, out: &mut Val) -> bool
+pub fn write_meet_with_words(b: &Bounds, words: &[u32], v: &Val, out: &mut Val) -> bool
     requires { IsWell v.now }
-    ensures kept { value_if result out.new
-        ≡ cover_some b.now (filter (λ x. is_member x v.now) words.now) }
-    ensures value { IfSome (value_if result out.new) (IsValue b.now) }
+    ensures kept { meet_if result out.new
+        ≡ cover_of_meet b.now (filter (λ x. is_member x v.now) words.now) }
+    ensures value { IfSome (meet_if result out.new) (IsValue b.now) }
 {
     let mut found = false;
     for x in words {
         if is_member(*x, v) {
-            add(b, found, out, *x);
+            add_to_meet(b, found, out, *x);
             found = true;
         }
     }

@@ -1,9 +1,9 @@
 // States of 27 registers: copies, order and join.
 ghost use Rattle.std.specs.Prelude.{◌≡◌, ◌≤◌, ◌<◌, ◌↔◌, IsTrue, length, ℕ, slice_index_or, ◌&&◌};
 ghost use Rattle.value_domain.specs.Values.{IsWell, IsValue, IsBelow, any_val};
-ghost use Rattle.value_domain.specs.State.{Covers, AreWell, AreValues, joined_states, joined_regs, joined_locals, AreBelow, ImpliedBy};
+ghost use Rattle.value_domain.specs.State.{Covers, AreWell, AreValues, joined_states, joined_regs, joined_locals, AreBelow, FlagsImpliedBy};
 
-use crate::values::{are_same, copy_of, copy_to};
+use crate::values::{are_same, copied_elements, copy_to};
 use crate::{Bounds, Val, join, leq};
 use arrayvec::ArrayVec;
 
@@ -36,11 +36,12 @@ impl State {
             ie: self.ie,
             ccpn: self.ccpn,
             lower: self.lower,
-            locals: copy_of(self.locals.as_slice()),
+            locals: copied_elements(self.locals.as_slice()),
         }
     }
 }
 
+/// Returns a copy of the values of a state's registers.
 fn copy_regs(regs: &[Val; 27]) -> [Val; 27]
     ensures { result ≡ regs.now }
 {
@@ -60,10 +61,10 @@ pub fn covers(upper: &State, s: &State) -> bool
     if !covers_context(upper, s.ie, s.ccpn, s.lower) {
         return false;
     }
-    if !are_implied(upper.locals.as_slice(), s.locals.as_slice()) {
+    if !are_flags_implied(upper.locals.as_slice(), s.locals.as_slice()) {
         return false;
     }
-    are_below(&s.regs, &upper.regs)
+    are_regs_below(&s.regs, &upper.regs)
 }
 
 /// Returns true if the context of a state covers this one.
@@ -72,16 +73,19 @@ pub fn covers_context(upper: &State, ie: bool, ccpn: u8, lower: bool) -> bool
         ↔ ((IsTrue ie → IsTrue upper.now.ie) × (upper.now.ccpn ≤ ccpn)
         × (IsTrue upper.now.lower → IsTrue lower)) }
 {
-    implies(ie, upper.ie) && upper.ccpn <= ccpn && implies(upper.lower, lower)
+    flag_implies(ie, upper.ie) && upper.ccpn <= ccpn && flag_implies(upper.lower, lower)
 }
 
-fn implies(a: bool, b: bool) -> bool
+/// Returns true if the first flag of a state implies the second.
+fn flag_implies(a: bool, b: bool) -> bool
     ensures { IsTrue result ↔ (IsTrue a → IsTrue b) }
 {
     if a { b } else { true }
 }
 
-fn are_below(low: &[Val; 27], high: &[Val; 27]) -> bool
+/// Returns true if the value of each register is below that of the same register in the other
+/// state.
+fn are_regs_below(low: &[Val; 27], high: &[Val; 27]) -> bool
     requires low { AreWell low.now }
     requires high { AreWell high.now }
     ensures { IsTrue result ↔ AreBelow low.now high.now }
@@ -96,14 +100,14 @@ fn are_below(low: &[Val; 27], high: &[Val; 27]) -> bool
 
 /// Returns true if there are equally many flags, and each of `flags` implies the other at its
 /// place.
-pub fn are_implied(flags: &[bool], others: &[bool]) -> bool
-    ensures { IsTrue result ↔ ImpliedBy flags.now others.now }
+pub fn are_flags_implied(flags: &[bool], others: &[bool]) -> bool
+    ensures { IsTrue result ↔ FlagsImpliedBy flags.now others.now }
 {
     if flags.len() != others.len() {
         return false;
     }
     for (i, flag) in flags.iter().enumerate() {
-        if !implies(*flag, others[i]) {
+        if !flag_implies(*flag, others[i]) {
             return false;
         }
     }
@@ -128,6 +132,7 @@ pub fn join_states(b: &Bounds, s: &State, t: &State) -> Option<State>
     })
 }
 
+/// Returns the least values that hold those of both states, register by register.
 fn join_regs(b: &Bounds, s: &[Val; 27], t: &[Val; 27]) -> [Val; 27]
     requires left { AreValues b.now s.now }
     requires right { AreValues b.now t.now }
@@ -162,13 +167,14 @@ pub fn join_locals(s: &[bool], t: &[bool]) -> ArrayVec<bool, 8>
 {
     let mut out = ArrayVec::new();
     for (i, flag) in s.iter().enumerate() {
-        let both = and(*flag, t[i]);
+        let both = are_both_flags_set(*flag, t[i]);
         out.push(both);
     }
     out
 }
 
-fn and(a: bool, b: bool) -> bool
+/// Returns true if a local's flag is set in both states.
+fn are_both_flags_set(a: bool, b: bool) -> bool
     ensures { result ≡ (a && b) }
 {
     a && b

@@ -1,16 +1,14 @@
 // Values: sets of words.
 // A value is a list of at most 128 words, or the multiples of a power of two in a range.
-ghost use Rattle.std.specs.Prelude.{◌≡◌, ◌≤◌, ◌<◌, ◌+◌, ◌-◌, ◌^◌, IsTrue, length, IfSome, IfNone, [], ◌∷◌, List, ℕ, option_map, ◌↔◌, slice_index, IsSome, ◌==◌, ◌*◌, ◌/◌};
+ghost use Rattle.std.specs.Prelude.{◌≡◌, ◌≤◌, ◌<◌, ◌+◌, ◌-◌, ◌^◌, IsTrue, length, IfSome, [], ◌∷◌, List, ℕ, option_map, ◌↔◌, slice_index, IsSome, ◌==◌, ◌*◌, ◌/◌};
 ghost use Rattle.std.specs.List.{list_any};
 ghost use Rattle.std.specs.List.Sorted.{IsStrictlyIncreasing};
-ghost use Rattle.value_domain.specs.Sets.{AreWords, Among, sorted_insert, Rising, least, greatest};
+ghost use Rattle.value_domain.specs.Sets.{AreWords, Among, sorted_insert, Rising, least};
 ghost use Rattle.value_domain.specs.declared.values.Val.TheVariants.{Set, Span};
 ghost use Rattle.value_domain.specs.Sets as sets;
-ghost use Rattle.value_domain.specs.Values.{IsMember, IsWell, IsExtent, members, range, count_in, any_val, words_of};
-ghost use Rattle.value_domain.specs.Meets as spec;
-ghost use Rattle.value_domain.specs.Meets.{in_span, is_member};
+ghost use Rattle.value_domain.specs.Values.{IsMember, IsWell, range, count_in, any_val, words_of, in_span, is_member};
+ghost use Rattle.value_domain.specs.Values as spec;
 
-use crate::lattice::{Extent, is_the_span, set_extent, span_extent};
 use arrayvec::ArrayVec;
 use std::marker::Model;
 
@@ -50,7 +48,7 @@ impl Words {
         if words.is_empty() || words.len() > 128 || !are_ascending(words) {
             return None;
         }
-        let copy = copy_of(words);
+        let copy = copied_elements(words);
         Some(Words { words: copy })
     }
 
@@ -60,7 +58,7 @@ impl Words {
         ensures { result ≡ words.now }
     {
         Words {
-            words: copy_of(words),
+            words: copied_elements(words),
         }
     }
 
@@ -77,7 +75,7 @@ impl Words {
         ensures { result ≡ self.now }
     {
         Words {
-            words: copy_of(self.words.as_slice()),
+            words: copied_elements(self.words.as_slice()),
         }
     }
 
@@ -110,11 +108,12 @@ impl Words {
         requires absent { ¬ Among x self.old }
         ensures { self.new ≡ sorted_insert x self.old }
     {
-        let at = place(self.words.as_slice(), x);
+        let at = word_place(self.words.as_slice(), x);
         self.words.insert(at, x);
     }
 }
 
+/// Returns true if each word is above the one before it.
 fn are_ascending(words: &[u32]) -> bool
     ensures { IsTrue result ↔ IsStrictlyIncreasing words.now }
 {
@@ -126,8 +125,8 @@ fn are_ascending(words: &[u32]) -> bool
     true
 }
 
-/// Returns true if there are words, and all of these ascending words are below `x`.
-fn is_past(words: &[u32], x: u32) -> bool
+/// Returns true if there are words, and all of these ascending words of a value are below `x`.
+fn are_words_below(words: &[u32], x: u32) -> bool
     requires { Rising words.now }
     ensures { IsTrue result → (k : ℕ) → k < length words.now → slice_index words.now k < x }
 {
@@ -138,29 +137,29 @@ fn is_past(words: &[u32], x: u32) -> bool
 }
 
 /// Returns the number of ascending words that are below `x`.
-fn place(words: &[u32], x: u32) -> usize
+fn word_place(words: &[u32], x: u32) -> usize
     requires { Rising words.now }
     ensures within { result ≤ length words.now }
     ensures before { (k : ℕ) → k < result → slice_index words.now k < x }
     ensures after { (k : ℕ) → result ≤ k → k < length words.now → x ≤ slice_index words.now k }
 {
-    if is_past(words, x) {
+    if are_words_below(words, x) {
         return words.len();
     }
     words.partition_point(|w| *w < x)
 }
 
 /// Returns true if `x` is one of the ascending words.
-pub(crate) fn has(words: &[u32], x: u32) -> bool
+pub(crate) fn has_set_word(words: &[u32], x: u32) -> bool
     requires { Rising words.now }
     ensures { IsTrue result ↔ Among x words.now }
 {
-    let at = place(words, x);
+    let at = word_place(words, x);
     at < words.len() && words[at] == x
 }
 
-/// Returns a vector of these elements.
-pub(crate) fn copy_of<T: Copy + Default, const N: usize>(items: &[T]) -> ArrayVec<T, N>
+/// Returns a vector with a copy of these elements.
+pub(crate) fn copied_elements<T: Copy + Default, const N: usize>(items: &[T]) -> ArrayVec<T, N>
     requires { length items.now ≤ N }
     ensures { result.items ≡ items.now }
 {
@@ -241,7 +240,7 @@ pub fn set_words(out: &mut Val, words: &[u32])
 {
     match out {
         Val::Set(own) => own.set(words),
-        Val::Span { .. } => set_from_span(out, words),
+        Val::Span { .. } => set_words_from_span(out, words),
     }
 }
 
@@ -252,26 +251,28 @@ pub fn set_word(out: &mut Val, x: u32)
 {
     match out {
         Val::Set(own) => own.set_one(x),
-        Val::Span { .. } => one_from_span(out, x),
+        Val::Span { .. } => set_word_from_span(out, x),
     }
 }
 
-// `one_from_span`, `set_from_span` and `set_from_set` write all bytes of a value. Each is a
-// function of its own, so that its callers need no stack for a value.
+// `set_word_from_span`, `set_words_from_span` and `set_span_from_set` write all bytes of a value.
+// Each is a function of its own, so that its callers need no stack for a value.
 
+/// Overwrites a Span with the Set of one word.
 #[inline(never)]
-fn one_from_span(out: &mut Val, x: u32)
+fn set_word_from_span(out: &mut Val, x: u32)
     ensures { out.new ≡ Set (x ∷ []) }
 {
     *out = Val::one(x);
 }
 
+/// Overwrites a Span with the Set of these words.
 #[inline(never)]
-fn set_from_span(out: &mut Val, words: &[u32])
+fn set_words_from_span(out: &mut Val, words: &[u32])
     requires { AreWords words.now }
     ensures { out.new ≡ Set words.now }
 {
-    one_from_span(out, words[0]);
+    set_word_from_span(out, words[0]);
     match out {
         Val::Set(own) => own.set(words),
         Val::Span { .. } => unreachable!(),
@@ -283,7 +284,7 @@ pub fn set_span(out: &mut Val, lo: u32, last: u32, step: u8)
     ensures { out.new ≡ Span lo last step }
 {
     match out {
-        Val::Set(_) => set_from_set(out, lo, last, step),
+        Val::Set(_) => set_span_from_set(out, lo, last, step),
         Val::Span {
             lo: own_lo,
             last: own_last,
@@ -296,14 +297,15 @@ pub fn set_span(out: &mut Val, lo: u32, last: u32, step: u8)
     }
 }
 
+/// Overwrites a Set with a Span.
 #[inline(never)]
-fn set_from_set(out: &mut Val, lo: u32, last: u32, step: u8)
+fn set_span_from_set(out: &mut Val, lo: u32, last: u32, step: u8)
     ensures { out.new ≡ Span lo last step }
 {
     *out = Val::Span { lo, last, step };
 }
 
-/// Returns how many times two divides a word, counted up to 2.
+/// Returns how many times two divides a word of a value, counted up to 2.
 #[tactic(auto, unfolding(crate::specs::Sets::alignment_log2))]
 pub fn alignment_log2(x: u32) -> u8
     ensures { result ≡ sets.alignment_log2 x }
@@ -323,19 +325,8 @@ pub fn member(x: u32, v: &Val) -> bool
     ensures { IsTrue result ↔ IsMember x v.now }
 {
     match v {
-        Val::Set(words) => has(words.as_slice(), x),
+        Val::Set(words) => has_set_word(words.as_slice(), x),
         Val::Span { lo, last, step } => *lo <= x && x <= *last && *step <= alignment_log2(x),
-    }
-}
-
-/// Returns the extent of a value.
-pub fn extent_of(v: &Val) -> Extent
-    requires { IsWell v.now }
-    ensures { IsExtent (members v.now) result.least result.greatest result.step }
-{
-    match v {
-        Val::Set(words) => set_extent(words.as_slice()),
-        Val::Span { lo, last, step } => span_extent(*lo, *last, *step),
     }
 }
 
@@ -383,23 +374,57 @@ pub fn count_of(lo: u32, last: u32, step: u8) -> u64
     (u64::from(last) / unit + 1).saturating_sub((u64::from(lo) + (unit - 1)) / unit)
 }
 
-pub(crate) fn is_in(lo: u32, last: u32, step: u8, x: u32) -> bool
+/// Returns true if the word is a member of this Span.
+pub(crate) fn is_word_in_span(lo: u32, last: u32, step: u8, x: u32) -> bool
     ensures { result ≡ in_span lo last step x }
 {
     lo <= x && x <= last && step <= alignment_log2(x)
 }
 
+/// Returns true if `x` is one of the words of a value that is a Set, in any order.
 fn is_one_of(words: &[u32], x: u32) -> bool
     ensures { result ≡ list_any (λ w. x == w) words.now }
 {
     words.iter().any(|w| x == *w)
 }
 
+/// Returns true if the word is a member of the value, which needn't be well-formed.
 pub(crate) fn is_member(x: u32, v: &Val) -> bool
     ensures { result ≡ spec.is_member x v.now }
 {
     match v {
         Val::Set(words) => is_one_of(words.as_slice(), x),
-        Val::Span { lo, last, step } => is_in(*lo, *last, *step, x),
+        Val::Span { lo, last, step } => is_word_in_span(*lo, *last, *step, x),
     }
+}
+
+/// Returns true if a value is this Span.
+#[inline(always)]
+pub fn is_the_span(v: &Val, lo: u32, last: u32, step: u8) -> bool
+    ensures { IsTrue result ↔ (v.now ≡ Span lo last step) }
+{
+    match v {
+        Val::Set(_) => false,
+        Val::Span {
+            lo: own_lo,
+            last: own_last,
+            step: own_step,
+        } => *own_lo == lo && *own_last == last && *own_step == step,
+    }
+}
+
+/// Returns the first place from `k` on in a value's ascending words whose word is at least `x`, or
+/// the number of words if there is none.
+pub(crate) fn word_place_from(words: &[u32], k: usize, x: u32) -> usize
+    requires start { k ≤ length words.now }
+    ensures start { k ≤ result }
+    ensures end { result ≤ length words.now }
+    ensures below { (j : ℕ) → k ≤ j → j < result → slice_index words.now j < x }
+    ensures reached { result < length words.now → x ≤ slice_index words.now result }
+{
+    let mut at = k;
+    while at < words.len() && words[at] < x {
+        at += 1;
+    }
+    at
 }

@@ -14,23 +14,23 @@ use Rattle.vd_transfer.specs.declared.change.Base.{Base}
 use Rattle.vd_transfer.specs.declared.change.Base.TheVariants.{Same, Forgotten, Any}
 use Rattle.vd_transfer.specs.declared.change.Put.{Put}
 use Rattle.vd_transfer.specs.declared.change.Change.{Change}
-use Rattle.vd_transfer.specs.Registers.{slot, set_at, set_reg, write_reg, is_lower, set_arg, arg_slot}
+use Rattle.vd_transfer.specs.Registers.{slot, set_at, set_reg, write_reg, is_lower_register, set_arg, arg_slot}
 use Rattle.vd_transfer.specs.EffectsOnStates.{forgotten_from}
-use Rattle.vd_transfer.specs.Changes.{base_of, value_put, put_in, state_after, reg_put, kept_in}
+use Rattle.vd_transfer.specs.Changes.{base_of, values_changed_at, put_in, state_after, reg_put, kept_in}
 use Rattle.vd_transfer.proofs.HoldLaws.{set_values_at}
 use Rattle.vd_transfer.proofs.RegisterLaws.{length-forgotten, get_or-forgotten}
 
 -- a state with a value at a place
-set_at-is : (s : State) (v : Val) (o : Option ℕ) → set_at s v o ≡ record s { regs = value_put s.regs v o }
+set_at-is : (s : State) (v : Val) (o : Option ℕ) → set_at s v o ≡ record s { regs = values_changed_at s.regs v o }
 set_at-is s v None = refl
 set_at-is s v (Some i) = refl
 
 -- ---- writes
-pub written-is : (s : State) (c : Change) (r : ℕ) (v : Val) → state_after s (record (kept_in c s) { second = reg_put r v; lower = s.lower && not (is_lower r) }) ≡ write_reg s r v
-written-is s c r v = ap (λ (t : State). record t { lower = s.lower && not (is_lower r) }) (sym (set_at-is s v (slot r)))
+pub written-is : (s : State) (c : Change) (r : ℕ) (v : Val) → state_after s (record (kept_in c s) { second = reg_put r v; lower = s.lower && not (is_lower_register r) }) ≡ write_reg s r v
+written-is s c r v = ap (λ (t : State). record t { lower = s.lower && not (is_lower_register r) }) (sym (set_at-is s v (slot r)))
 
 pub written-values : (b : Limits) (s : State) (c : Change) (r : ℕ) (v : Val) → AreValues b s.regs → IsValue b v
-    → AreValues b (state_after s (record (kept_in c s) { second = reg_put r v; lower = s.lower && not (is_lower r) })).regs
+    → AreValues b (state_after s (record (kept_in c s) { second = reg_put r v; lower = s.lower && not (is_lower_register r) })).regs
 written-values b s c r v values value = subst (λ (t : State). AreValues b t.regs) (sym (written-is s c r v)) (set_values_at b s v (slot r) values value)
 
 -- before the third value is put
@@ -38,35 +38,35 @@ abbrev two_put : State → Change → List Val
 two_put s c = put_in (put_in (base_of c.base s.regs) c.first) c.second
 
 free-regs : (s : State) (c : Change) → c.third.at ≡ None → (state_after s c).regs ≡ two_put s c
-free-regs s c free = ap (λ (o : Option ℕ). value_put (two_put s c) c.third.value o) free
+free-regs s c free = ap (λ (o : Option ℕ). values_changed_at (two_put s c) c.third.value o) free
 
 -- a third value that is put nowhere is of no account
 pub third-free : (s : State) (c : Change) (v : Val) → c.third.at ≡ None → state_after s (record c { third = record c.third { value = v } }) ≡ state_after s c
 third-free s c v free =
-    ap (λ (o : Option ℕ). record (state_after s c) { regs = value_put (two_put s c) v o }) free
-    ∙ sym (ap (λ (o : Option ℕ). record (state_after s c) { regs = value_put (two_put s c) c.third.value o }) free)
+    ap (λ (o : Option ℕ). record (state_after s c) { regs = values_changed_at (two_put s c) v o }) free
+    ∙ sym (ap (λ (o : Option ℕ). record (state_after s c) { regs = values_changed_at (two_put s c) c.third.value o }) free)
 
 -- nor is a second one
 pub second-free : (s : State) (c : Change) (v : Val) → c.second.at ≡ None → state_after s (record c { second = record c.second { value = v } }) ≡ state_after s c
 second-free s c v free =
-    ap (λ (o : Option ℕ). record (state_after s c) { regs = put_in (value_put (put_in (base_of c.base s.regs) c.first) v o) c.third }) free
-    ∙ sym (ap (λ (o : Option ℕ). record (state_after s c) { regs = put_in (value_put (put_in (base_of c.base s.regs) c.first) c.second.value o) c.third }) free)
+    ap (λ (o : Option ℕ). record (state_after s c) { regs = put_in (values_changed_at (put_in (base_of c.base s.regs) c.first) v o) c.third }) free
+    ∙ sym (ap (λ (o : Option ℕ). record (state_after s c) { regs = put_in (values_changed_at (put_in (base_of c.base s.regs) c.first) c.second.value o) c.third }) free)
 
 pub written_last-is : (s : State) (c : Change) (r : ℕ) → c.third.at ≡ None
-    → state_after s (record c { third = record c.third { at = slot r }; lower = c.lower && not (is_lower r) }) ≡ write_reg (state_after s c) r c.third.value
+    → state_after s (record c { third = record c.third { at = slot r }; lower = c.lower && not (is_lower_register r) }) ≡ write_reg (state_after s c) r c.third.value
 written_last-is s c r free =
     sym
-    (ap (λ (t : State). record t { lower = c.lower && not (is_lower r) }) (set_at-is (state_after s c) c.third.value (slot r))
-    ∙ ap (λ (vs : List Val). record (state_after s c) { regs = value_put vs c.third.value (slot r); lower = c.lower && not (is_lower r) }) (free-regs s c free))
+    (ap (λ (t : State). record t { lower = c.lower && not (is_lower_register r) }) (set_at-is (state_after s c) c.third.value (slot r))
+    ∙ ap (λ (vs : List Val). record (state_after s c) { regs = values_changed_at vs c.third.value (slot r); lower = c.lower && not (is_lower_register r) }) (free-regs s c free))
 
 pub written_last-values : (b : Limits) (s : State) (c : Change) (r : ℕ) → AreValues b (state_after s c).regs → c.third.at ≡ None → IsValue b c.third.value
-    → AreValues b (state_after s (record c { third = record c.third { at = slot r }; lower = c.lower && not (is_lower r) })).regs
+    → AreValues b (state_after s (record c { third = record c.third { at = slot r }; lower = c.lower && not (is_lower_register r) })).regs
 written_last-values b s c r values free value =
     subst (λ (t : State). AreValues b t.regs) (sym (written_last-is s c r free)) (set_values_at b (state_after s c) c.third.value (slot r) values value)
 
 -- ---- sides of branches
 bare-regs : (s : State) (c : Change) → c.second.at ≡ None → c.third.at ≡ None → (state_after s c).regs ≡ put_in (base_of c.base s.regs) c.first
-bare-regs s c none free = free-regs s c free ∙ ap (λ (o : Option ℕ). value_put (put_in (base_of c.base s.regs) c.first) c.second.value o) none
+bare-regs s c none free = free-regs s c free ∙ ap (λ (o : Option ℕ). values_changed_at (put_in (base_of c.base s.regs) c.first) c.second.value o) none
 
 pub one-is : (s : State) (c : Change) (x : ℕ) (v : Val) → state_after s (record (kept_in c s) { first = reg_put x v }) ≡ set_reg s x v
 one-is s c x v = sym (set_at-is s v (slot x))
@@ -75,10 +75,10 @@ one-is s c x v = sym (set_at-is s v (slot x))
 pub second-is : (s : State) (c : Change) (y : Arg) (w : Val) → c.second.at ≡ None → c.third.at ≡ None
     → state_after s (record c { second = record { at = arg_slot y; value = w } }) ≡ set_arg (state_after s c) y w
 second-is s c (Word z) w none free =
-    sym (ap (λ (o : Option ℕ). record (state_after s c) { regs = put_in (value_put (put_in (base_of c.base s.regs) c.first) c.second.value o) c.third }) none)
+    sym (ap (λ (o : Option ℕ). record (state_after s c) { regs = put_in (values_changed_at (put_in (base_of c.base s.regs) c.first) c.second.value o) c.third }) none)
 second-is s c (Reg r) w none free =
-    ap (λ (o : Option ℕ). record (state_after s c) { regs = value_put (value_put (put_in (base_of c.base s.regs) c.first) w (slot r)) c.third.value o }) free
-    ∙ ap (λ (vs : List Val). record (state_after s c) { regs = value_put vs w (slot r) }) (sym (bare-regs s c none free))
+    ap (λ (o : Option ℕ). record (state_after s c) { regs = values_changed_at (values_changed_at (put_in (base_of c.base s.regs) c.first) w (slot r)) c.third.value o }) free
+    ∙ ap (λ (vs : List Val). record (state_after s c) { regs = values_changed_at vs w (slot r) }) (sym (bare-regs s c none free))
     ∙ sym (set_at-is (state_after s c) w (slot r))
 
 arg_values : (b : Limits) (s : State) (y : Arg) (v : Val) → AreValues b s.regs → IsValue b v → AreValues b (set_arg s y v).regs
@@ -107,7 +107,7 @@ forgotten-other vs i h e =
     let at : 0 + i ≡ i = omega arith in
     get_or-forgotten 0 vs i any_val h ∙ ap (λ n. cond (is_lower_slot n) any_val (get_or vs i any_val)) at ∙ ap (λ b. cond b any_val (get_or vs i any_val)) e
 
-length-value_put : (vs : List Val) (v : Val) (o : Option ℕ) → length (value_put vs v o) ≡ length vs
+length-value_put : (vs : List Val) (v : Val) (o : Option ℕ) → length (values_changed_at vs v o) ≡ length vs
 length-value_put vs v None = refl
 length-value_put vs v (Some i) = length-set vs i v
 
@@ -125,9 +125,9 @@ length-changed s c e =
     length-put (put_in (put_in base c.first) c.second) c.third ∙ length-put (put_in base c.first) c.second ∙ length-put base c.first ∙ length-base c.base s.regs e
 
 put-here : (vs : List Val) (p : Put) (i : ℕ) → i < length vs → p.at ≡ Some i → get_or (put_in vs p) i any_val ≡ p.value
-put-here vs p i h e = ap (λ (o : Option ℕ). get_or (value_put vs p.value o) i any_val) e ∙ get_or-set_same vs i p.value any_val h
+put-here vs p i h e = ap (λ (o : Option ℕ). get_or (values_changed_at vs p.value o) i any_val) e ∙ get_or-set_same vs i p.value any_val h
 
-put-there : (vs : List Val) (v : Val) (o : Option ℕ) (i : ℕ) → (o ≡ Some i → ⊥) → get_or (value_put vs v o) i any_val ≡ get_or vs i any_val
+put-there : (vs : List Val) (v : Val) (o : Option ℕ) (i : ℕ) → (o ≡ Some i → ⊥) → get_or (values_changed_at vs v o) i any_val ≡ get_or vs i any_val
 put-there vs v None i n = refl
 put-there vs v (Some k) i n = get_or-set_other vs k i v any_val (λ e. n (ap (λ (m : ℕ). Some m) (sym e)))
 

@@ -22,14 +22,14 @@ use Rattle.value_domain.specs.State.{AreValues, is_lower_slot}
 use Rattle.value_domain.proofs.CoverLaws.{among_member, has_step, cover_holds}
 use Rattle.value_domain.proofs.RangeLaws.{one_value, cover_value, members_below}
 use Rattle.vd_transfer.specs.Operations.{value_of}
-use Rattle.vd_transfer.specs.Refinement.{kept_left, kept_right, kept_both, holds}
-use Rattle.value_domain.specs.Meets.{cover_some}
-use Rattle.vd_transfer.specs.Registers.{slot, reg_of, arg_of, value_at, fixed_of, set_at, set_reg, write_reg, is_lower, HasValue, set_arg}
-use Rattle.vd_transfer.specs.EffectsOnStates.{with_base, access_of, saved_lower, restored_lower, transfer_of, address_of, ie_after}
-use Rattle.vd_transfer.specs.Branches.{is_reg, with_one, with_two, state_on_side, with_lowered_counter, refine_of}
-use Rattle.vd_transfer.specs.Holding.{Holds, HasBaseValue}
-use Rattle.vd_transfer.specs.EffectsOnWords.{set_word, word_of, access_word, with_base_word, words_after, ccpn_after}
-use Rattle.vd_transfer.specs.Soundness.{IsSetting, TransferHolds, RestoreHolds, BranchHolds, AddressHolds}
+use Rattle.vd_transfer.specs.Refinement.{kept_left, kept_right, kept_both, refining_condition_holds}
+use Rattle.value_domain.specs.Meets.{cover_of_meet}
+use Rattle.vd_transfer.specs.Registers.{slot, reg_of, arg_of, register_value_at, fixed_of, set_at, set_reg, write_reg, is_lower_register, RegisterHasValue, set_arg, HasBaseValue, is_operand_register}
+use Rattle.vd_transfer.specs.EffectsOnStates.{with_base, access_of, saved_lower, restored_lower, transfer_of, address_of}
+use Rattle.vd_transfer.specs.EffectsOnWords.{ie_after, words_with_register, word_of, access_word, with_base_word, words_after, ccpn_after}
+use Rattle.vd_transfer.specs.Branches.{side_with_register, side_with_operands, state_on_side, with_lowered_counter, refine_of}
+use Rattle.vd_transfer.specs.Holding.{Holds}
+use Rattle.vd_transfer.specs.Soundness.{IsSoundSetting, TransferIsSound, RestoreIsSound, BranchIsSound, AddressIsSound}
 use Rattle.value_domain.proofs.MeetLaws.{filter_has, among_any, among_filter}
 use Rattle.vd_transfer.proofs.OpLaws.{sound}
 use Rattle.vd_transfer.proofs.RegisterLaws.{reg_is_value, get_or-forgotten}
@@ -51,20 +51,20 @@ same_length s v (Some i) = length-set s.regs i v
 same_length s v None = refl
 
 -- the value of another register is as before
-pub reg_of-other : (p : PlanData) (s : State) (r q : ℕ) (v : Val) (o o2 : Option ℕ) → o ≡ slot r → o2 ≡ slot q → (q ≡ r → ⊥) → value_at p (set_at s v o) q o2 ≡ value_at p s q o2
+pub reg_of-other : (p : PlanData) (s : State) (r q : ℕ) (v : Val) (o o2 : Option ℕ) → o ≡ slot r → o2 ≡ slot q → (q ≡ r → ⊥) → register_value_at p (set_at s v o) q o2 ≡ register_value_at p s q o2
 reg_of-other p s r q v None o2 e f apart = refl
 reg_of-other p s r q v (Some i) None e f apart = refl
 reg_of-other p s r q v (Some i) (Some j) e f apart =
     get_or-set_other s.regs i j v any_val (λ same. apart (slot_apart q r i j (sym f) (sym e) (sym same)))
 
 -- the register itself has the value that was set, if it has a place
-pub reg_of-here : (p : PlanData) (s : State) (r : ℕ) (v : Val) (o : Option ℕ) → length s.regs ≡ 27 → o ≡ slot r → IsSome o → value_at p (set_at s v o) r o ≡ v
+pub reg_of-here : (p : PlanData) (s : State) (r : ℕ) (v : Val) (o : Option ℕ) → length s.regs ≡ 27 → o ≡ slot r → IsSome o → register_value_at p (set_at s v o) r o ≡ v
 reg_of-here p s r v (Some i) len e some = get_or-set_same s.regs i v any_val (omega (arith, (slot_is r i (sym e)).within))
 reg_of-here p s r v None len e some = absurd (let f : false ≡ true = some in cc)
 
 -- a state with register r set holds the words if r's new word is held and the others are as they
 -- were
-held_set : (p : PlanData) (s : State) (word word2 : ℕ → ℕ) (ie : Bool) (ccpn r : ℕ) (v : Val) → IsMember (word2 r) (value_at p (set_at s v (slot r)) r (slot r))
+held_set : (p : PlanData) (s : State) (word word2 : ℕ → ℕ) (ie : Bool) (ccpn r : ℕ) (v : Val) → IsMember (word2 r) (register_value_at p (set_at s v (slot r)) r (slot r))
     → ((q : ℕ) → (q ≡ r → ⊥) → word2 q ≡ word q) → Holds p word ie ccpn s → Holds p word2 ie ccpn (set_reg s r v)
 held_set p s word word2 ie ccpn r v here others h = record {
   regs = λ q small.
@@ -78,21 +78,21 @@ held_set p s word word2 ie ccpn r v here others h = record {
   priority = omega (arith, same_ccpn s v (slot r), h.priority);
 }
 
-set_word-here : (word : ℕ → ℕ) (r w : ℕ) → set_word word r w r ≡ w
+set_word-here : (word : ℕ → ℕ) (r w : ℕ) → words_with_register word r w r ≡ w
 set_word-here word r w = rw (eq-eqb r r refl) refl
 
-set_word-other : (word : ℕ → ℕ) (r w q : ℕ) → (q ≡ r → ⊥) → set_word word r w q ≡ word q
+set_word-other : (word : ℕ → ℕ) (r w q : ℕ) → (q ≡ r → ⊥) → words_with_register word r w q ≡ word q
 set_word-other word r w q apart = rw (ne_eqb q r apart) refl
 
 -- register r gets the word w and a value of which it is a member
-pub holds_set : (p : PlanData) (s : State) (word : ℕ → ℕ) (ie : Bool) (ccpn r w : ℕ) (v : Val) → length s.regs ≡ 27 → HasValue r → IsMember w v → Holds p word ie ccpn s
-    → Holds p (set_word word r w) ie ccpn (set_reg s r v)
+pub holds_set : (p : PlanData) (s : State) (word : ℕ → ℕ) (ie : Bool) (ccpn r w : ℕ) (v : Val) → length s.regs ≡ 27 → RegisterHasValue r → IsMember w v → Holds p word ie ccpn s
+    → Holds p (words_with_register word r w) ie ccpn (set_reg s r v)
 holds_set p s word ie ccpn r w v len has m h =
-    held_set p s word (set_word word r w) ie ccpn r v
+    held_set p s word (words_with_register word r w) ie ccpn r v
     (rw (set_word-here word r w) (subst (λ (u : Val). IsMember w u) (sym (reg_of-here p s r v (slot r) len refl has)) m))
     (set_word-other word r w) h
 
-narrow_here : (p : PlanData) (s : State) (w r : ℕ) (v : Val) (o : Option ℕ) → length s.regs ≡ 27 → o ≡ slot r → IsMember w v → IsMember w (value_at p s r o) → IsMember w (value_at p (set_at s v o) r o)
+narrow_here : (p : PlanData) (s : State) (w r : ℕ) (v : Val) (o : Option ℕ) → length s.regs ≡ 27 → o ≡ slot r → IsMember w v → IsMember w (register_value_at p s r o) → IsMember w (register_value_at p (set_at s v o) r o)
 narrow_here p s w r v None len e m old = old
 narrow_here p s w r v (Some i) len e m old = subst (λ (u : Val). IsMember w u) (sym (reg_of-here p s r v (Some i) len e refl)) m
 
@@ -111,10 +111,10 @@ pub arg_member : (p : PlanData) (s : State) (word : ℕ → ℕ) (ie : Bool) (cc
 arg_member p s word ie ccpn (Reg r) small h = h.regs r small
 arg_member p s word ie ccpn (Word w) small h = const_member w
 
-pub reg_value : (b : Limits) (p : PlanData) (s : State) (r : ℕ) → IsSetting b p s → IsValue b (reg_of p s r)
+pub reg_value : (b : Limits) (p : PlanData) (s : State) (r : ℕ) → IsSoundSetting b p s → IsValue b (reg_of p s r)
 reg_value b p s r set = reg_is_value b p s r set.limits set.plan.words.globals set.values
 
-pub arg_value : (b : Limits) (p : PlanData) (s : State) (y : Arg) → IsSetting b p s → IsArg y → IsValue b (arg_of p s y)
+pub arg_value : (b : Limits) (p : PlanData) (s : State) (y : Arg) → IsSoundSetting b p s → IsArg y → IsValue b (arg_of p s y)
 arg_value b p s (Reg r) set small = reg_value b p s r set
 arg_value b p s (Word w) set small = const_value b w set.limits small
 
@@ -132,7 +132,7 @@ moved p s t word ie ie2 ccpn ccpn2 same enabled priority h = record {
   priority = priority;
 }
   where
-    same_at : (p : PlanData) (s t : State) (word : ℕ → ℕ) (q : ℕ) (o : Option ℕ) → t.regs ≡ s.regs → IsMember (word q) (value_at p s q o) → IsMember (word q) (value_at p t q o)
+    same_at : (p : PlanData) (s t : State) (word : ℕ → ℕ) (q : ℕ) (o : Option ℕ) → t.regs ≡ s.regs → IsMember (word q) (register_value_at p s q o) → IsMember (word q) (register_value_at p t q o)
     same_at p s t word q (Some i) same m = subst (λ (l : List Val). IsMember (word q) (get_or l i any_val)) (sym same) m
     same_at p s t word q None same m = m
 
@@ -140,11 +140,11 @@ moved p s t word ie ie2 ccpn ccpn2 same enabled priority h = record {
 written : (p : PlanData) (s : State) (word : ℕ → ℕ) (ie : Bool) (ccpn r : ℕ) (v : Val) → Holds p word ie ccpn (set_reg s r v) → Holds p word ie ccpn (write_reg s r v)
 written p s word ie ccpn r v h = moved p (set_reg s r v) (write_reg s r v) word ie ie ccpn ccpn refl h.enabled h.priority h
 
-holds_write : (p : PlanData) (s : State) (word : ℕ → ℕ) (ie : Bool) (ccpn r w : ℕ) (v : Val) → length s.regs ≡ 27 → HasValue r → IsMember w v → Holds p word ie ccpn s
-    → Holds p (set_word word r w) ie ccpn (write_reg s r v)
-holds_write p s word ie ccpn r w v len has m h = written p s (set_word word r w) ie ccpn r v (holds_set p s word ie ccpn r w v len has m h)
+holds_write : (p : PlanData) (s : State) (word : ℕ → ℕ) (ie : Bool) (ccpn r w : ℕ) (v : Val) → length s.regs ≡ 27 → RegisterHasValue r → IsMember w v → Holds p word ie ccpn s
+    → Holds p (words_with_register word r w) ie ccpn (write_reg s r v)
+holds_write p s word ie ccpn r w v len has m h = written p s (words_with_register word r w) ie ccpn r v (holds_set p s word ie ccpn r w v len has m h)
 
-base_holds : (b : Limits) (p : PlanData) (s : State) (word : ℕ → ℕ) (ie : Bool) (ccpn : ℕ) (base : Arg) (offset : ℕ) (after : Bool) → IsSetting b p s → IsArg base → offset < 2 ^ 32 → HasBaseValue base after
+base_holds : (b : Limits) (p : PlanData) (s : State) (word : ℕ → ℕ) (ie : Bool) (ccpn : ℕ) (base : Arg) (offset : ℕ) (after : Bool) → IsSoundSetting b p s → IsArg base → offset < 2 ^ 32 → HasBaseValue base after
     → Holds p word ie ccpn s → Holds p (with_base_word word base offset after) ie ccpn (with_base b p s base offset after)
 base_holds b p s word ie ccpn (Word w) offset after set small off has h = h
 base_holds b p s word ie ccpn (Reg r) offset false set small off has h = h
@@ -168,7 +168,7 @@ scaled_word a x n small =
     mod_twice : (a z : ℕ) → (a + z % 2 ^ 32) % 2 ^ 32 ≡ (a + z) % 2 ^ 32
     mod_twice a z = omega arith
 
-scaled_member : (b : Limits) (p : PlanData) (s : State) (word : ℕ → ℕ) (ie : Bool) (ccpn base index n : ℕ) → IsSetting b p s → base < 32 → index < 32 → n < 4 → Holds p word ie ccpn s
+scaled_member : (b : Limits) (p : PlanData) (s : State) (word : ℕ → ℕ) (ie : Bool) (ccpn base index n : ℕ) → IsSoundSetting b p s → base < 32 → index < 32 → n < 4 → Holds p word ie ccpn s
     → IsMember ((word base + word index * 2 ^ n) % 2 ^ 32) (value_of b Add (reg_of p s base) (value_of b Sh (reg_of p s index) (word_val n)))
 unfolding alu_of
 scaled_member b p s word ie ccpn base index n set small_b small_i few h =
@@ -183,7 +183,7 @@ scaled_member b p s word ie ccpn base index n set small_b small_i few h =
 any_member : (w : ℕ) → w < 2 ^ 32 → IsMember w any_val
 any_member w h = (omega arith, omega arith, omega arith)
 
-pub transfer_holds : TransferHolds
+pub transfer_holds : TransferIsSound
 unfolding transfer_of words_after ie_after ccpn_after
 transfer_holds b p (Compute op dst x y) s loaded word ie ccpn input set is writes stays small reads h =
     holds_write p s word ie ccpn dst (alu_of op (word_of word x) (word_of word y)) (value_of b op (arg_of p s x) (arg_of p s y)) set.regs writes
@@ -207,33 +207,33 @@ transfer_holds b p Nothing s loaded word ie ccpn input set is writes stays small
 transfer_holds b p _ s loaded word ie ccpn input set is writes stays small reads h = absurd stays
 
 -- ---- restoring
-restored_at : (p : PlanData) (s : State) (word word2 : ℕ → ℕ) (q : ℕ) (o : Option ℕ) → length s.regs ≡ 27 → o ≡ slot q → word2 q < 2 ^ 32 → (is_lower q ≡ false → word2 q ≡ word q) → (o ≡ None → word2 q ≡ word q)
-    → IsMember (word q) (value_at p s q o) → IsMember (word2 q) (value_at p (restored_lower s) q o)
+restored_at : (p : PlanData) (s : State) (word word2 : ℕ → ℕ) (q : ℕ) (o : Option ℕ) → length s.regs ≡ 27 → o ≡ slot q → word2 q < 2 ^ 32 → (is_lower_register q ≡ false → word2 q ≡ word q) → (o ≡ None → word2 q ≡ word q)
+    → IsMember (word q) (register_value_at p s q o) → IsMember (word2 q) (register_value_at p (restored_lower s) q o)
 restored_at p s word word2 q None len e small same none m = subst (λ (w : ℕ). IsMember w (fixed_of p q)) (sym (none refl)) m
 restored_at p s word word2 q (Some i) len e small same none m =
     let is = slot_is q i (sym e) in
     rw (get_or-forgotten 0 s.regs i any_val (omega (arith, is.within)))
-    (let at : is_lower_slot (0 + i) ≡ is_lower q = let z : 0 + i ≡ i = omega arith in ap is_lower_slot z ∙ is.lower in
-    rw at (elim (cases_Bool (is_lower q)) [
+    (let at : is_lower_slot (0 + i) ≡ is_lower_register q = let z : 0 + i ≡ i = omega arith in ap is_lower_slot z ∙ is.lower in
+    rw at (elim (cases_Bool (is_lower_register q)) [
       | inl low ↦ rw low (any_member (word2 q) small)
       | inr high ↦ rw (high, same high) m
     ]))
 
-pub restore_holds : RestoreHolds
+pub restore_holds : RestoreIsSound
 restore_holds p s word word2 ie ccpn len small same h = record {
   regs = λ q lt. restored_at p s word word2 q (slot q) len refl (small q lt) (same q lt) (λ none. same q lt (not_lower q none)) (h.regs q lt);
   enabled = h.enabled;
   priority = h.priority;
 }
 
-pub address_holds : AddressHolds
+pub address_holds : AddressIsSound
 unfolding address_of
 address_holds = record {
   load = λ b p dst base offset size signed after s word ie ccpn set is off h. access_member b p s word ie ccpn base offset after set is off h;
   store = λ b p src base offset size after s word ie ccpn set is off h. access_member b p s word ie ccpn base offset after set is off h;
 }
   where
-    access_member : (b : Limits) (p : PlanData) (s : State) (word : ℕ → ℕ) (ie : Bool) (ccpn : ℕ) (base : Arg) (offset : ℕ) (after : Bool) → IsSetting b p s → IsArg base → offset < 2 ^ 32 → Holds p word ie ccpn s
+    access_member : (b : Limits) (p : PlanData) (s : State) (word : ℕ → ℕ) (ie : Bool) (ccpn : ℕ) (base : Arg) (offset : ℕ) (after : Bool) → IsSoundSetting b p s → IsArg base → offset < 2 ^ 32 → Holds p word ie ccpn s
         → IsMember (access_word word base offset after) (access_of b p s base offset after)
     access_member b p s word ie ccpn base offset true set is off h = arg_member p s word ie ccpn base is h
     access_member b p s word ie ccpn base offset false set is off h = sum_member b (arg_of p s base) (word_of word base) offset set.limits (arg_value b p s base set is) off (arg_member p s word ie ccpn base is h)
@@ -245,37 +245,37 @@ pub record HasMember (b : Limits) (x : ℕ) (v : Val) : Type 0 where
   pub member : IsMember x v
 
 -- what is kept of a set has its words as members
-kept_has : (b : Limits) (xs : List ℕ) (x : ℕ) → AreLimits b → Among x xs → ((z : ℕ) → Among z xs → z < 2 ^ 32) → IsSomeAnd (cover_some b xs) (HasMember b x)
+kept_has : (b : Limits) (xs : List ℕ) (x : ℕ) → AreLimits b → Among x xs → ((z : ℕ) → Among z xs → z < 2 ^ 32) → IsSomeAnd (cover_of_meet b xs) (HasMember b x)
 kept_has b [] x limits i below = absurd i
 kept_has b (y ∷ ys) x limits i below = record { value = cover_value b (y ∷ ys) x limits i below; member = cover_holds b (y ∷ ys) x i }
 
 -- the condition goes to the side that it takes
-goes : (cond : Cond) (side : Bool) (x y : ℕ) → taken_of cond x y ≡ side → holds cond side x y ≡ true
+goes : (cond : Cond) (side : Bool) (x y : ℕ) → taken_of cond x y ≡ side → refining_condition_holds cond side x y ≡ true
 goes cond true x y e = e
 goes cond false x y e = ap not e
 
 left_has : (b : Limits) (cond : Cond) (side : Bool) (v w : Val) (x y : ℕ) → AreLimits b → IsValue b v → IsValue b w → IsMember x v → IsMember y w → taken_of cond x y ≡ side
-    → IsSomeAnd (cover_some b (kept_left cond side (members v) (members w))) (HasMember b x)
+    → IsSomeAnd (cover_of_meet b (kept_left cond side (members v) (members w))) (HasMember b x)
 unfolding kept_left
 left_has b cond side v w x y limits vv vw mx my e =
     kept_has b _ x limits
-    (filter_has (λ x. list_any (λ y. holds cond side x y) (members w)) x (members v) (among_member v x (has_step v vv.well) mx)
-    (among_any (λ y. holds cond side x y) y (members w) (among_member w y (has_step w vw.well) my) (goes cond side x y e)))
+    (filter_has (λ x. list_any (λ y. refining_condition_holds cond side x y) (members w)) x (members v) (among_member v x (has_step v vv.well) mx)
+    (among_any (λ y. refining_condition_holds cond side x y) y (members w) (among_member w y (has_step w vw.well) my) (goes cond side x y e)))
     (λ z i. members_below v vv.well z (among_filter _ z (members v) i).0)
 
 right_has : (b : Limits) (cond : Cond) (side : Bool) (v w : Val) (x y : ℕ) → AreLimits b → IsValue b v → IsValue b w → IsMember x v → IsMember y w → taken_of cond x y ≡ side
-    → IsSomeAnd (cover_some b (kept_right cond side (members v) (members w))) (HasMember b y)
+    → IsSomeAnd (cover_of_meet b (kept_right cond side (members v) (members w))) (HasMember b y)
 unfolding kept_right
 right_has b cond side v w x y limits vv vw mx my e =
     kept_has b _ y limits
-    (filter_has (λ y. list_any (λ x. holds cond side x y) (members v)) y (members w) (among_member w y (has_step w vw.well) my)
-    (among_any (λ x. holds cond side x y) x (members v) (among_member v x (has_step v vv.well) mx) (goes cond side x y e)))
+    (filter_has (λ y. list_any (λ x. refining_condition_holds cond side x y) (members v)) y (members w) (among_member w y (has_step w vw.well) my)
+    (among_any (λ x. refining_condition_holds cond side x y) x (members v) (among_member v x (has_step v vv.well) mx) (goes cond side x y e)))
     (λ z i. members_below w vw.well z (among_filter _ z (members w) i).0)
 
-both_has : (b : Limits) (cond : Cond) (side : Bool) (v : Val) (x : ℕ) → AreLimits b → IsValue b v → IsMember x v → taken_of cond x x ≡ side → IsSomeAnd (cover_some b (kept_both cond side (members v))) (HasMember b x)
+both_has : (b : Limits) (cond : Cond) (side : Bool) (v : Val) (x : ℕ) → AreLimits b → IsValue b v → IsMember x v → taken_of cond x x ≡ side → IsSomeAnd (cover_of_meet b (kept_both cond side (members v))) (HasMember b x)
 unfolding kept_both
 both_has b cond side v x limits vv mx e =
-    kept_has b _ x limits (filter_has (λ z. holds cond side z z) x (members v) (among_member v x (has_step v vv.well) mx) (goes cond side x x e)) (λ z i. members_below v vv.well z (among_filter _ z (members v) i).0)
+    kept_has b _ x limits (filter_has (λ z. refining_condition_holds cond side z z) x (members v) (among_member v x (has_step v vv.well) mx) (goes cond side x x e)) (λ z i. members_below v vv.well z (among_filter _ z (members v) i).0)
 
 pub set_values_at : (b : Limits) (s : State) (v : Val) (o : Option ℕ) → AreValues b s.regs → IsValue b v → AreValues b (set_at s v o).regs
 set_values_at b s v None values value r h = values r h
@@ -290,7 +290,7 @@ set_values_at b s v (Some i) values value r h =
 -- a state that holds the words, with values
 pub record HoldsWell (b : Limits) (p : PlanData) (word : ℕ → ℕ) (ie : Bool) (ccpn : ℕ) (s : State) : Type 0 where
   pub holds : Holds p word ie ccpn s
-  pub setting : IsSetting b p s
+  pub setting : IsSoundSetting b p s
 
 narrowed_reg : (b : Limits) (p : PlanData) (s : State) (word : ℕ → ℕ) (ie : Bool) (ccpn r : ℕ) (v : Val) → r < 32 → HasMember b (word r) v → HoldsWell b p word ie ccpn s → HoldsWell b p word ie ccpn (set_reg s r v)
 narrowed_reg b p s word ie ccpn r v small m h = record {
@@ -302,17 +302,17 @@ narrowed_arg : (b : Limits) (p : PlanData) (s : State) (word : ℕ → ℕ) (ie 
 narrowed_arg b p s word ie ccpn (Reg r) v small m h = narrowed_reg b p s word ie ccpn r v small m h
 narrowed_arg b p s word ie ccpn (Word w) v small m h = h
 
-one_holds : (b : Limits) (p : PlanData) (s : State) (word : ℕ → ℕ) (ie : Bool) (ccpn x : ℕ) (z : Option Val) → x < 32 → IsSomeAnd z (HasMember b (word x)) → HoldsWell b p word ie ccpn s → IsSomeAnd (with_one s x z) (HoldsWell b p word ie ccpn)
+one_holds : (b : Limits) (p : PlanData) (s : State) (word : ℕ → ℕ) (ie : Bool) (ccpn x : ℕ) (z : Option Val) → x < 32 → IsSomeAnd z (HasMember b (word x)) → HoldsWell b p word ie ccpn s → IsSomeAnd (side_with_register s x z) (HoldsWell b p word ie ccpn)
 one_holds b p s word ie ccpn x None small m h = m
 one_holds b p s word ie ccpn x (Some z) small m h = narrowed_reg b p s word ie ccpn x z small m h
 
 two_holds : (b : Limits) (p : PlanData) (s : State) (word : ℕ → ℕ) (ie : Bool) (ccpn x : ℕ) (y : Arg) (v w : Option Val) → x < 32 → IsArg y → IsSomeAnd v (HasMember b (word x)) → IsSomeAnd w (HasMember b (word_of word y))
-    → HoldsWell b p word ie ccpn s → IsSomeAnd (with_two s x y v w) (HoldsWell b p word ie ccpn)
+    → HoldsWell b p word ie ccpn s → IsSomeAnd (side_with_operands s x y v w) (HoldsWell b p word ie ccpn)
 two_holds b p s word ie ccpn x y None w small is m n h = m
 two_holds b p s word ie ccpn x y (Some v) None small is m n h = n
 two_holds b p s word ie ccpn x y (Some v) (Some w) small is m n h = narrowed_arg b p (set_reg s x v) word ie ccpn y w is n (narrowed_reg b p s word ie ccpn x v small m h)
 
-same_reg : (x : ℕ) (y : Arg) (word : ℕ → ℕ) → is_reg x y ≡ true → word_of word y ≡ word x
+same_reg : (x : ℕ) (y : Arg) (word : ℕ → ℕ) → is_operand_register x y ≡ true → word_of word y ≡ word x
 same_reg x (Reg r) word e = ap word (sym (eqb-true x r e))
 same_reg x (Word w) word e = absurd (let f : false ≡ true = e in cc)
 
@@ -322,7 +322,7 @@ refined_holds b p cond x y s side word ie ccpn small is h e =
     let set = h.setting in
     let vx = reg_value b p s x set in
     let mx = h.holds.regs x small in
-    elim (cases_Bool (is_reg x y)) [
+    elim (cases_Bool (is_operand_register x y)) [
       | inl one ↦
           let same : word_of word y ≡ word x = same_reg x y word one in
           rw one (one_holds b p s word ie ccpn x _ small (both_has b cond side (reg_of p s x) (word x) set.limits vx mx (ap (taken_of cond (word x)) (sym same) ∙ e)) h)
@@ -341,15 +341,15 @@ less_member b v x limits vv m =
     let same : (x + 2 ^ 32 - 1) % 2 ^ 32 ≡ (x + (2 ^ 32 - 1)) % 2 ^ 32 = omega arith in
     subst (λ (w : ℕ). IsMember w (value_of b Sub v (word_val 1))) same (sound b Sub v (word_val 1) limits vv (const_value b 1 limits (omega arith)) x 1 m (const_member 1))
 
-lowered_holds : (b : Limits) (p : PlanData) (x : ℕ) (lowers : Bool) (t : Option State) (word : ℕ → ℕ) (ie : Bool) (ccpn : ℕ) → x < 32 → (IsTrue lowers → HasValue x) → IsSomeAnd t (HoldsWell b p word ie ccpn)
-    → IsSomeAnd (with_lowered_counter b p x lowers t) (Holds p (if lowers then set_word word x ((word x + (2 ^ 32 - 1)) % 2 ^ 32) else word) ie ccpn)
+lowered_holds : (b : Limits) (p : PlanData) (x : ℕ) (lowers : Bool) (t : Option State) (word : ℕ → ℕ) (ie : Bool) (ccpn : ℕ) → x < 32 → (IsTrue lowers → RegisterHasValue x) → IsSomeAnd t (HoldsWell b p word ie ccpn)
+    → IsSomeAnd (with_lowered_counter b p x lowers t) (Holds p (if lowers then words_with_register word x ((word x + (2 ^ 32 - 1)) % 2 ^ 32) else word) ie ccpn)
 lowered_holds b p x lowers None word ie ccpn small has h = h
 lowered_holds b p x false (Some s) word ie ccpn small has h = h.holds
 lowered_holds b p x true (Some s) word ie ccpn small has h =
     holds_write p s word ie ccpn x ((word x + (2 ^ 32 - 1)) % 2 ^ 32) (value_of b Sub (reg_of p s x) (word_val 1)) h.setting.regs (has refl)
     (less_member b (reg_of p s x) (word x) h.setting.limits (reg_value b p s x h.setting) (h.holds.regs x small)) h.holds
 
-pub branch_holds : BranchHolds
+pub branch_holds : BranchIsSound
 unfolding refine_of words_after
 branch_holds b p cond x y by lowers s side word ie ccpn set is writes h e =
     lowered_holds b p x lowers (state_on_side b p cond x y s side) word ie ccpn is.0 writes

@@ -2,16 +2,16 @@
 use Rattle.std.proofs.Common.{◌≡◌, ℕ, ◌^◌, ◌<◌, ◌≤◌, ◌⊎◌, inl, inr, Bool, true, false, not, List, [], ◌∷◌, Option, Some, None, ◌++◌, append-nil, refl, sym, ap, ◌∙◌, subst, arith, leb, ltb, eqb}
 use Rattle.std.specs.List.{filter, list_any}
 use Rattle.std.proofs.lemmas.Bool.{cases_Bool, leb-true, le-leb, cases_order, eqb-true, eqb-false, eq-eqb, ne_eqb, lt-ltb, ltb-true, not-true, not_from_false}
-use Rattle.value_domain.specs.Sets.{Among}
+use Rattle.value_domain.specs.Sets.{Among, IsExtent}
 use Rattle.value_domain.specs.Limits.{Limits}
 use Rattle.value_domain.specs.declared.values.Val.{Val}
-use Rattle.value_domain.specs.Values.{IsExtent, cover, range}
-use Rattle.value_domain.specs.Meets.{cover_some, in_span}
+use Rattle.value_domain.specs.Values.{cover, range, in_span}
+use Rattle.value_domain.specs.Meets.{cover_of_meet}
 use Rattle.value_domain.proofs.CoverLaws.{range_among, among_range}
 use Rattle.value_domain.proofs.ExtentLaws.{append_left, append_right, among_append}
 use Rattle.value_domain.proofs.MeetLaws.{cover_some-same, among_filter, filter_has, in_span_parts, in_span_from, any_among, among_any}
-use Rattle.vd_transfer.specs.Relations.{is_related, Reaches, kept_by}
-use Rattle.vd_transfer.specs.Intervals.{IsIn}
+use Rattle.vd_transfer.specs.Relations.{is_related, Reaches, related_words}
+use Rattle.vd_transfer.specs.Refinement.{IsInInterval}
 use Rattle.vd_transfer.specs.declared.refinement.Relation.{Relation}
 use Rattle.vd_transfer.specs.declared.refinement.Relation.TheVariants.{Same, Other, Less, AtLeast, More, AtMost}
 use Rattle.vd_transfer.specs.declared.refinement.Interval.{Interval}
@@ -61,26 +61,26 @@ not_in lo last z lt =
       | inr f ↦ f
     ]
 
-pub past_empty : (b : Limits) (i : Interval) (xs vs : List ℕ) → i.last < i.lo → cover_some b xs ≡ cover_some b (xs ++ filter (in_span i.lo i.last 0) vs)
+pub past_empty : (b : Limits) (i : Interval) (xs vs : List ℕ) → i.last < i.lo → cover_of_meet b xs ≡ cover_of_meet b (xs ++ filter (in_span i.lo i.last 0) vs)
 past_empty b i xs vs lt =
-    ap (cover_some b)
+    ap (cover_of_meet b)
     (sym (append-nil xs) ∙ ap (λ (l : List ℕ). xs ++ l) (sym (filter_none (in_span i.lo i.last 0) vs (λ z. not_in i.lo i.last z lt))))
 
 -- parts without members
-pub none_before : (b : Limits) (xs ys : List ℕ) (o : Option Val) → None ≡ cover_some b xs → o ≡ cover_some b ys → o ≡ cover_some b (xs ++ ys)
+pub none_before : (b : Limits) (xs ys : List ℕ) (o : Option Val) → None ≡ cover_of_meet b xs → o ≡ cover_of_meet b ys → o ≡ cover_of_meet b (xs ++ ys)
 none_before b [] ys o e f = f
 none_before b (x ∷ xs) ys o e f = absurd (let g : None ≡ Some (cover b (x ∷ xs)) = e in cc)
 
-pub none_after : (b : Limits) (xs ys : List ℕ) (o : Option Val) → o ≡ cover_some b xs → None ≡ cover_some b ys → o ≡ cover_some b (xs ++ ys)
-none_after b xs [] o e f = e ∙ ap (cover_some b) (sym (append-nil xs))
+pub none_after : (b : Limits) (xs ys : List ℕ) (o : Option Val) → o ≡ cover_of_meet b xs → None ≡ cover_of_meet b ys → o ≡ cover_of_meet b (xs ++ ys)
+none_after b xs [] o e f = e ∙ ap (cover_of_meet b) (sym (append-nil xs))
 none_after b xs (y ∷ ys) o e f = absurd (let g : None ≡ Some (cover b (y ∷ ys)) = f in cc)
 
 -- the members of two intervals
 pub kept_intervals : (b : Limits) (rel : Relation) (vs ws : List ℕ) (i j : Interval) (low high s : ℕ) → (rel ≡ Same → ⊥) → IsExtent ws low high s
     → ((x : ℕ) → Among x vs → x < 2 ^ 32)
-    → ((x : ℕ) → x < 2 ^ 32 → (IsIn i x ⊎ IsIn j x → Reaches rel low high x) × (Reaches rel low high x → IsIn i x ⊎ IsIn j x))
-    → cover_some b (filter (in_span i.lo i.last 0) vs ++ filter (in_span j.lo j.last 0) vs) ≡ cover_some b (kept_by rel vs ws)
-unfolding kept_by
+    → ((x : ℕ) → x < 2 ^ 32 → (IsInInterval i x ⊎ IsInInterval j x → Reaches rel low high x) × (Reaches rel low high x → IsInInterval i x ⊎ IsInInterval j x))
+    → cover_of_meet b (filter (in_span i.lo i.last 0) vs ++ filter (in_span j.lo j.last 0) vs) ≡ cover_of_meet b (related_words rel vs ws)
+unfolding related_words
 kept_intervals b rel vs ws i j low high s order e small are =
     cover_some-same b (filter (in_span i.lo i.last 0) vs ++ filter (in_span j.lo j.last 0) vs) (filter (λ x. list_any (λ y. is_related rel x y) ws) vs)
     (λ z k. elim (among_append z (filter (in_span i.lo i.last 0) vs) (filter (in_span j.lo j.last 0) vs) k) [
@@ -102,8 +102,8 @@ kept_intervals b rel vs ws i j low high s order e small are =
 
 -- the common members, by the words of either or by a range
 pub kept_common : (b : Limits) (vs ws : List ℕ) (p : ℕ → Bool) → ((x : ℕ) → (p x ≡ true → Among x vs) × (Among x vs → p x ≡ true))
-    → cover_some b (filter p ws) ≡ cover_some b (kept_by Same vs ws)
-unfolding kept_by is_related
+    → cover_of_meet b (filter p ws) ≡ cover_of_meet b (related_words Same vs ws)
+unfolding related_words is_related
 kept_common b vs ws p are =
     cover_some-same b (filter p ws) (filter (λ x. list_any (λ y. eqb x y) ws) vs)
     (λ z k.
@@ -115,8 +115,8 @@ kept_common b vs ws p are =
     let e : z ≡ r.0 = eqb-true z r.0 r.2 in
     filter_has p z ws (subst (λ (y : ℕ). Among y ws) (sym e) r.1) ((are z).1 f.0))
 
-pub kept_range : (b : Limits) (vs : List ℕ) (lo last s : ℕ) → s ≤ 2 → cover_some b (filter (in_span lo last s) vs) ≡ cover_some b (kept_by Same vs (range lo last s))
-unfolding kept_by is_related
+pub kept_range : (b : Limits) (vs : List ℕ) (lo last s : ℕ) → s ≤ 2 → cover_of_meet b (filter (in_span lo last s) vs) ≡ cover_of_meet b (related_words Same vs (range lo last s))
+unfolding related_words is_related
 kept_range b vs lo last s small =
     cover_some-same b (filter (in_span lo last s) vs) (filter (λ x. list_any (λ y. eqb x y) (range lo last s)) vs)
     (λ z k.
@@ -136,5 +136,5 @@ no_words = record { lo = 1; last = 0 }
 no_word : (x : ℕ) → 1 ≤ x → x ≤ 0 → ⊥
 no_word x a b = omega arith
 
-pub with_none : (P : Type 0) (i : Interval) (x : ℕ) → (IsIn i x → P) × (P → IsIn i x) → (IsIn i x ⊎ IsIn no_words x → P) × (P → IsIn i x ⊎ IsIn no_words x)
+pub with_none : (P : Type 0) (i : Interval) (x : ℕ) → (IsInInterval i x → P) × (P → IsInInterval i x) → (IsInInterval i x ⊎ IsInInterval no_words x → P) × (P → IsInInterval i x ⊎ IsInInterval no_words x)
 with_none P i x both = ((λ s. elim s [ inl j ↦ both.0 j | inr n ↦ absurd (no_word x n.0 n.1) ]), (λ p. inl (both.1 p)))

@@ -10,9 +10,9 @@ use Rattle.std.specs.Int.Bits.{xor_add_and}
 use Rattle.std.proofs.lemmas.Nat.{shl_below, shr_le, or_of_32, xor_of_32, and_le_l, and_le_r, le_or_l, le_or_r}
 use Rattle.value_domain.specs.declared.values.Val.{Val}
 use Rattle.value_domain.specs.declared.values.Val.TheVariants.{Set, Span}
-use Rattle.value_domain.specs.Sets.{Among, Within, Rising}
+use Rattle.value_domain.specs.Sets.{Among, Within, Rising, IsExtent}
 use Rattle.value_domain.specs.Limits.{Limits, AreLimits}
-use Rattle.value_domain.specs.Values.{IsMember, IsWell, IsValue, IsBelow, IsExtent, cover, members, range, count_in, first_in, low, high, step}
+use Rattle.value_domain.specs.Values.{IsMember, IsWell, IsValue, IsBelow, cover, members, range, count_in, first_in_span, low, high, step}
 use Rattle.value_domain.proofs.SetLaws.{length_within}
 use Rattle.value_domain.proofs.CoverLaws.{cover-same, cover_holds, cover_mono, cover_own, cover_step, among_member, member_among, has_step, range_among, among_range, rising_multiples, unit_some, length-multiples}
 use Rattle.value_domain.specs.declared.lattice.Extent.{Extent}
@@ -23,17 +23,16 @@ use Rattle.value_domain.proofs.ExtentLaws.{cover-part, extent_only, extent_risin
 use Rattle.value_domain.proofs.RangeLaws.{words_more, members_below, some_members, span_count, set_value, cover-one}
 use Rattle.tc_isa.specs.declared.shapes.Op.{Op}
 use Rattle.tc_isa.specs.declared.shapes.Op.TheVariants.{Second, Add, Sub, And, Nand, Or, Nor, Xor, Xnor, Andn, Orn, Eq, Ne, Lt, LtU, Ge, GeU, Sh, Sha}
-use Rattle.tc_isa.specs.Arithmetic.{alu_of, shift_by, shifted_signed, complement, one_if, signed_place}
-use Rattle.vd_transfer.specs.Operations.{results, row, pairs, gives_truth, value_of, HasMet}
-use Rattle.vd_transfer.specs.Intervals.{whole, all_of, runs, bounds, by_count, Shifts, differences, sums, shifts, signed_shifts, range_of}
-use Rattle.vd_transfer.specs.OperationLaws.{AreMonotone}
-use Rattle.vd_transfer.specs.Soundness.{AreSound}
+use Rattle.tc_isa.specs.Arithmetic.{alu_of, shift_by, shifted_signed, complement, one_if, signed_order_place}
+use Rattle.vd_transfer.specs.Operations.{results, operation_row, pairs, gives_truth, value_of, HasMetResults}
+use Rattle.vd_transfer.specs.Intervals.{whole, whole_interval_words, runs, interval_bounds, by_count, Shifts, differences, sums, shifts, signed_shifts, range_of}
+use Rattle.vd_transfer.specs.OperationLaws.{OperationsAreMonotone, OperationsAreSound}
 use Rattle.vd_transfer.proofs.Rows.{Lies, sums_have, sums_grow, differences_have, differences_grow, ands_have, ands_grow, shifts_have, shifts_grow, shifts_below}
 
 -- ---- the bounds of a value
 pub rising_members : (v : Val) → IsWell v → Rising (members v)
 rising_members (Set ws) w = w.rising
-rising_members (Span lo last s) w = rising_multiples (count_in lo last s) (first_in lo s) (2 ^ s) (unit_some s)
+rising_members (Span lo last s) w = rising_multiples (count_in lo last s) (first_in_span lo s) (2 ^ s) (unit_some s)
 
 pub bounds_of : (v : Val) → IsWell v → IsExtent (members v) (low v) (high v) (step v)
 bounds_of v w = extent_rising (members v) (rising_members v w) (some_members v w)
@@ -64,7 +63,7 @@ pub low_high : (v : Val) → IsWell v → low v ≤ high v
 low_high v w = let e = bounds_of v w in e.low (high v) e.high_in
 
 -- ---- Sound
-all_have : (x : ℕ) → x < 2 ^ 32 → Among x (all_of 0)
+all_have : (x : ℕ) → x < 2 ^ 32 → Among x (whole_interval_words 0)
 all_have x h = among_range x 0 (2 ^ 32 - 1) 0 (omega arith) (omega arith, omega arith, omega arith)
 
 -- what is known of a kind of shifts: they hold the shifted words, grow with the bounds, and give
@@ -193,8 +192,8 @@ complement_below x = omega arith
 pub and_below : (x y : ℕ) → x < 2 ^ 32 → bit_and x y < 2 ^ 32
 and_below x y h = omega (arith, and_le_l x y)
 
-pub row_has : (op : Op) (v w : Val) → IsWell v → IsWell w → (x y : ℕ) → Among x (members v) → Among y (members w) → Among (alu_of op x y) (row op v w)
-unfolding row runs gives_truth alu_of
+pub row_has : (op : Op) (v w : Val) → IsWell v → IsWell w → (x y : ℕ) → Among x (members v) → Among y (members w) → Among (alu_of op x y) (operation_row op v w)
+unfolding operation_row runs gives_truth alu_of
 row_has Second v w wv ww x y i j = j
 row_has Add v w wv ww x y i j =
     let l = lies v wv x i in
@@ -227,9 +226,9 @@ row_has Andn v w wv ww x y i j = all_have (bit_and x (complement y)) (and_below 
 row_has Orn v w wv ww x y i j = all_have (bit_or x (complement y)) (or_of_32 x (complement y) (members_below v wv x i) (complement_below y))
 row_has Eq v w wv ww x y i j = truth_among (eqb x y)
 row_has Ne v w wv ww x y i j = truth_among (not (eqb x y))
-row_has Lt v w wv ww x y i j = truth_among (ltb (signed_place x) (signed_place y))
+row_has Lt v w wv ww x y i j = truth_among (ltb (signed_order_place x) (signed_order_place y))
 row_has LtU v w wv ww x y i j = truth_among (ltb x y)
-row_has Ge v w wv ww x y i j = truth_among (leb (signed_place y) (signed_place x))
+row_has Ge v w wv ww x y i j = truth_among (leb (signed_order_place y) (signed_order_place x))
 row_has GeU v w wv ww x y i j = truth_among (leb y x)
 row_has Sh v w wv ww x y i j = by_value logical v w wv ww x y i j
 row_has Sha v w wv ww x y i j = by_value arithmetic v w wv ww x y i j
@@ -266,7 +265,7 @@ results_have op (Set xs) (Set ys) wv ww x y i j = pairs_have op x y xs ys i j
 results_have op (Set xs) (Span lo last s) wv ww x y i j = row_has op (Set xs) (Span lo last s) wv ww x y i j
 results_have op (Span lo last s) w wv ww x y i j = row_has op (Span lo last s) w wv ww x y i j
 
-pub sound : AreSound
+pub sound : OperationsAreSound
 sound b op v w limits vv vw x y m n =
     cover_holds b (results op v w) (alu_of op x y)
     (results_have op v w vv.well vw.well x y (among_member v x (has_step v vv.well) m) (among_member w y (has_step w vw.well) n))
@@ -284,12 +283,12 @@ span_not_below b lo last s ws vs vw below =
     length_within (range lo last s) ws (rising_members (Span lo last s) vs.well) vw.well.rising (λ z i. below z (range_among z lo last s vs.well.0 i))
     in
     let few : length ws ≤ b.most_words = (set_value b ws vw.well).1 vw in
-    absurd (omega (arith, span_count b lo last s vs, length-multiples (count_in lo last s) (first_in lo s) (2 ^ s)))
+    absurd (omega (arith, span_count b lo last s vs, length-multiples (count_in lo last s) (first_in_span lo s) (2 ^ s)))
 
-into_all : (xs : List ℕ) → ((z : ℕ) → Among z xs → z < 2 ^ 32) → Within xs (all_of 0)
+into_all : (xs : List ℕ) → ((z : ℕ) → Among z xs → z < 2 ^ 32) → Within xs (whole_interval_words 0)
 into_all xs below z i = all_have z (below z i)
 
-all_below : (z s : ℕ) → s ≤ 2 → Among z (all_of s) → z < 2 ^ 32
+all_below : (z s : ℕ) → s ≤ 2 → Among z (whole_interval_words s) → z < 2 ^ 32
 all_below z s small i = let m = range_among z 0 (2 ^ 32 - 1) s small i in omega (arith, m.1)
 
 pub by_below : {shift : Shifts} {by : ℕ → ℕ → ℕ} (are : AreShifts shift by) (v w : Val) → IsWell v → (z : ℕ) → Among z (range_of (by_count shift (low v) (high v) (step v) w)) → z < 2 ^ 32
@@ -321,8 +320,8 @@ by_grows {shift} are b v w v2 (Set (y ∷ u ∷ ys)) vv vw vv2 vw2 there here = 
 by_grows {shift} are b v w v2 (Span lo last s) vv vw vv2 vw2 there here = into_all (range_of (by_count shift (low v) (high v) (step v) w)) (by_below are v w vv.well)
 
 pub row_grows : (b : Limits) (op : Op) (v w v2 w2 : Val) → IsValue b v → IsValue b w → IsValue b v2 → IsValue b w2 → Within (members v) (members v2) → Within (members w) (members w2)
-    → Within (row op v w) (row op v2 w2)
-unfolding row runs gives_truth
+    → Within (operation_row op v w) (operation_row op v2 w2)
+unfolding operation_row runs gives_truth
 row_grows b Second v w v2 w2 vv vw vv2 vw2 there here = here
 row_grows b Add v w v2 w2 vv vw vv2 vw2 there here =
     let n = narrower v v2 vv.well vv2.well there in
@@ -366,12 +365,12 @@ sets_below b op xs ys v2 w2 vv vw vv2 vw2 there here =
 
 -- if one is a Span, its larger value is one too
 rows_below : (b : Limits) (op : Op) (v w v2 w2 : Val) → IsValue b v → IsValue b w → IsValue b v2 → IsValue b w2 → IsBelow v v2 → IsBelow w w2
-    → results op v w ≡ row op v w → results op v2 w2 ≡ row op v2 w2 → IsBelow (value_of b op v w) (value_of b op v2 w2)
+    → results op v w ≡ operation_row op v w → results op v2 w2 ≡ operation_row op v2 w2 → IsBelow (value_of b op v w) (value_of b op v2 w2)
 rows_below b op v w v2 w2 vv vw vv2 vw2 there here e f =
     cover_mono b (results op v w) (results op v2 w2) (some_results op v w vv.well vw.well)
     (rw (e, f) (row_grows b op v w v2 w2 vv vw vv2 vw2 (within_members b v v2 vv vv2 there) (within_members b w w2 vw vw2 here)))
 
-pub monotone : AreMonotone
+pub monotone : OperationsAreMonotone
 unfolding results
 monotone b op (Set xs) (Set ys) v2 w2 limits vv vw vv2 vw2 there here = sets_below b op xs ys v2 w2 vv vw vv2 vw2 there here
 monotone b op (Set xs) (Span lo last s) v2 (Set ys) limits vv vw vv2 vw2 there here = absurd (span_not_below b lo last s ys vw vw2 here)
@@ -385,15 +384,15 @@ monotone b op (Span lo last s) w (Span lo2 last2 s2) w2 limits vv vw vv2 vw2 the
 
 -- ---- the Rust bodies
 -- the extents of values are their bounds
-pub same_bounds : (e : Extent) (v : Val) → IsWell v → IsExtent (members v) e.least e.greatest e.step → e ≡ bounds v
+pub same_bounds : (e : Extent) (v : Val) → IsWell v → IsExtent (members v) e.least e.greatest e.step → e ≡ interval_bounds v
 same_bounds e v w h =
     let only = extent_only (members v) h (bounds_of v w) in
     ap (λ n. record { least = n; greatest = e.greatest; step = e.step }) only.0
     ∙ ap (λ n. record { least = low v; greatest = n; step = e.step }) only.1
     ∙ ap (λ n. record { least = low v; greatest = high v; step = n }) only.2
 
-pub row_runs : (op : Op) (v w : Val) (e f : Extent) → (op ≡ Second → ⊥) → gives_truth op ≡ false → e ≡ bounds v → f ≡ bounds w → range_of (runs op e f w) ≡ row op v w
-unfolding row gives_truth
+pub row_runs : (op : Op) (v w : Val) (e f : Extent) → (op ≡ Second → ⊥) → gives_truth op ≡ false → e ≡ interval_bounds v → f ≡ interval_bounds w → range_of (runs op e f w) ≡ operation_row op v w
+unfolding operation_row gives_truth
 row_runs Second v w e f n t a c = absurd (n refl)
 row_runs Eq v w e f n t a c = cc
 row_runs Ne v w e f n t a c = cc
@@ -432,18 +431,18 @@ runs_step Sha e f w a b = by_count_step arithmetic e.least e.greatest e.step w
 runs_step _ e f w a b = omega arith
 
 -- a run that a row covers isn't empty
-pub run_some : (r : StridedInterval) (op : Op) (v w : Val) → IsWell v → IsWell w → range_of r ≡ row op v w → 1 ≤ count_in r.first r.last r.step
+pub run_some : (r : StridedInterval) (op : Op) (v w : Val) → IsWell v → IsWell w → range_of r ≡ operation_row op v w → 1 ≤ count_in r.first r.last r.step
 run_some r op v w wv ww e =
     let i = row_has op v w wv ww (low v) (low w) (bounds_of v wv).low_in (bounds_of w ww).low_in in
     let j : Among (alu_of op (low v) (low w)) (range_of r) = rw e i in
-    omega (arith, some_length (range_of r) (alu_of op (low v) (low w)) j, length-multiples (count_in r.first r.last r.step) (first_in r.first r.step) (2 ^ r.step))
+    omega (arith, some_length (range_of r) (alu_of op (low v) (low w)) j, length-multiples (count_in r.first r.last r.step) (first_in_span r.first r.step) (2 ^ r.step))
 
-pub row-Second : (b : Limits) (v w : Val) → IsValue b w → w ≡ cover b (row Second v w)
-unfolding row
+pub row-Second : (b : Limits) (v w : Val) → IsValue b w → w ≡ cover b (operation_row Second v w)
+unfolding operation_row
 row-Second b v w value = sym value.own
 
-pub row-truth : (b : Limits) (op : Op) (v w : Val) → gives_truth op ≡ true → cover b (0 ∷ 1 ∷ []) ≡ cover b (row op v w)
-unfolding row gives_truth
+pub row-truth : (b : Limits) (op : Op) (v w : Val) → gives_truth op ≡ true → cover b (0 ∷ 1 ∷ []) ≡ cover b (operation_row op v w)
+unfolding operation_row gives_truth
 row-truth b Eq v w t = refl
 row-truth b Ne v w t = refl
 row-truth b Lt v w t = refl
@@ -489,7 +488,7 @@ results_more b v out op x i ys well h e =
 stays : (b : Limits) (v : Val) (xs : List ℕ) (y : ℕ) → IsWell v → Within (members v) xs → IsMember y v → IsMember y (cover b xs)
 stays b v xs y well there m = cover_holds b xs y (there y (among_member v y (has_step v well) m))
 
-pub met_more : (b : Limits) (v : Val) (ms : List ℕ) (k z : ℕ) → IsWell v → k < length ms → HasMet v ms → HasMet (cover b (z ∷ members v)) (set ms k z)
+pub met_more : (b : Limits) (v : Val) (ms : List ℕ) (k z : ℕ) → IsWell v → k < length ms → HasMetResults v ms → HasMetResults (cover b (z ∷ members v)) (set ms k z)
 met_more b v ms k z well h met i lt =
     elim (cases_eq i k) [
       | inl same ↦
@@ -500,10 +499,10 @@ met_more b v ms k z well h met i lt =
           rw there (stays b v (z ∷ members v) (get_or ms i 0) well (λ y j. inr j) (met i (simp length-set at lt)))
     ]
 
-pub met_kept : (b : Limits) (v : Val) (ms : List ℕ) (x : ℕ) → IsWell v → HasMet v ms → HasMet (cover b (x ∷ members v)) ms
+pub met_kept : (b : Limits) (v : Val) (ms : List ℕ) (x : ℕ) → IsWell v → HasMetResults v ms → HasMetResults (cover b (x ∷ members v)) ms
 met_kept b v ms x well met i lt = stays b v (x ∷ members v) (get_or ms i 0) well (λ y j. inr j) (met i lt)
 
-pub met_one : (n x : ℕ) → HasMet (Set (x ∷ [])) (replicate n x)
+pub met_one : (n x : ℕ) → HasMetResults (Set (x ∷ [])) (replicate n x)
 met_one n x i lt = inl (get_or-replicate n i x 0 (omega (arith, length-replicate n x)))
 
 -- if no bit differs, two words are equal
@@ -538,7 +537,7 @@ words_next b v out words i j n well e same =
     ∙ cover-part b (members v ++ take i words) (take n (drop i words)) (omega (arith, length-append (members v) (take i words), some_members v well))
     ∙ ap (cover b) (append_assoc (members v) (take i words) (take n (drop i words)) ∙ ap (λ (l : List ℕ). members v ++ l) (sym (take-add i n words) ∙ ap (λ (k : ℕ). take k words) (sym e)))
 
-pub met_all : (b : Limits) (v : Val) (ms ws : List ℕ) → IsValue b v → HasMet v ms → Within ws ms → v ≡ cover b (members v ++ ws)
+pub met_all : (b : Limits) (v : Val) (ms ws : List ℕ) → IsValue b v → HasMetResults v ms → Within ws ms → v ≡ cover b (members v ++ ws)
 met_all b v ms ws value met within =
     sym value.own
     ∙ cover-same b (members v) (members v ++ ws)
@@ -551,7 +550,7 @@ met_all b v ms ws value met within =
     ])
 
 -- eight words that were met together add nothing
-pub met_eight : (b : Limits) (v out : Val) (ms ws : List ℕ) (k i : ℕ) → IsWell v → IsValue b out → HasMet out ms → k + 8 ≤ length ms
+pub met_eight : (b : Limits) (v out : Val) (ms ws : List ℕ) (k i : ℕ) → IsWell v → IsValue b out → HasMetResults out ms → k + 8 ≤ length ms
     → ((n : ℕ) → n < 8 → get_or ms (k + n) 0 ≡ get_or ws (i + n) 0) → out ≡ cover b (members v ++ take i ws) → out ≡ cover b (members v ++ take (i + 8) ws)
 met_eight b v out ms ws k i well value met fits same e =
     met_all b out ms (take 8 (drop i ws)) value met (same_within ms ws k i 8 fits same) ∙ words_next b v out ws i (i + 8) 8 well refl e

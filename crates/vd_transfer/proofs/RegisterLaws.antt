@@ -12,7 +12,7 @@ use Rattle.value_domain.specs.Values.{IsValue, any_val, word_val}
 use Rattle.value_domain.specs.State.{AreValues, is_lower_slot}
 use Rattle.value_domain.proofs.RangeLaws.{one_value, any_value}
 use Rattle.vd_transfer.specs.EffectsOnStates.{forgotten_from}
-use Rattle.vd_transfer.specs.Registers.{slot, reg_of, value_at, fixed_of}
+use Rattle.vd_transfer.specs.Registers.{slot, reg_of, register_value_at, fixed_of}
 
 -- the plan's words are words
 abbrev pub AreGlobals : PlanData → Type 0
@@ -40,7 +40,7 @@ at_is_value b vs i limits values =
       | inr h ↦ rw (get_or-eq_default vs any_val h) (any_value b limits)
     ]
 
-value_at_is_value : (b : Limits) (p : PlanData) (s : State) (r : ℕ) (o : Option ℕ) → AreLimits b → AreGlobals p → AreValues b s.regs → IsValue b (value_at p s r o)
+value_at_is_value : (b : Limits) (p : PlanData) (s : State) (r : ℕ) (o : Option ℕ) → AreLimits b → AreGlobals p → AreValues b s.regs → IsValue b (register_value_at p s r o)
 value_at_is_value b p s r (Some i) limits globals values = at_is_value b s.regs i limits values
 value_at_is_value b p s r None limits globals values = fixed_is_value b p r limits globals
 

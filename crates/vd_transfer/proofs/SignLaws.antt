@@ -4,15 +4,15 @@ use Rattle.std.specs.List.{filter, list_any}
 use Rattle.std.proofs.lemmas.Bool.{cases_lt, cases_order, leb-true, le-leb, ltb-true, lt-ltb, eqb-false, ne_eqb, not-true, not_from_false}
 use Rattle.std.proofs.lemmas.List.{take_more}
 use Rattle.value_domain.specs.declared.values.Val.TheVariants.{Span}
-use Rattle.value_domain.specs.Sets.{Among, alignment_log2}
+use Rattle.value_domain.specs.Sets.{Among, alignment_log2, IsExtent}
 use Rattle.value_domain.specs.Limits.{Limits}
-use Rattle.value_domain.specs.Values.{IsExtent, IsWell, range}
+use Rattle.value_domain.specs.Values.{IsWell, range, in_span}
 use Rattle.value_domain.proofs.CoverLaws.{range_among, among_range, step_cases, from_units, in_units}
 use Rattle.value_domain.proofs.ExtentLaws.{among_append, append_left, append_right}
-use Rattle.value_domain.specs.Meets.{cover_some, in_span}
-use Rattle.tc_isa.specs.Arithmetic.{signed_place}
+use Rattle.value_domain.specs.Meets.{cover_of_meet}
+use Rattle.tc_isa.specs.Arithmetic.{signed_order_place}
 use Rattle.vd_transfer.specs.Relations.{is_related, Reaches}
-use Rattle.vd_transfer.specs.Intervals.{IsIn}
+use Rattle.vd_transfer.specs.Refinement.{IsInInterval}
 use Rattle.vd_transfer.specs.Signs.{IsSignedRange, kept_signed}
 use Rattle.vd_transfer.specs.declared.refinement.Relation.{Relation}
 use Rattle.vd_transfer.specs.declared.refinement.Relation.TheVariants.{Same, Other, Less, AtLeast, More, AtMost}
@@ -22,17 +22,17 @@ use Rattle.value_domain.proofs.MeetLaws.{cover_some-same, any_among, among_any, 
 
 -- ---- the ends of a set that is written out
 pub ends_more : (ws : List ℕ) (i x low high low2 high2 : ℕ) → i < length ws → x ≡ get_or ws i 0 → Among x ws → Among low ws → Among high ws
-    → ((z : ℕ) → Among z (take i ws) → (signed_place low ≤ signed_place z) × (signed_place z ≤ signed_place high))
-    → (low2 ≡ x) ⊎ (low2 ≡ low) → signed_place low2 ≤ signed_place x → signed_place low2 ≤ signed_place low
-    → (high2 ≡ x) ⊎ (high2 ≡ high) → signed_place x ≤ signed_place high2 → signed_place high ≤ signed_place high2
-    → Among low2 ws × Among high2 ws × ((z : ℕ) → Among z (take (i + 1) ws) → (signed_place low2 ≤ signed_place z) × (signed_place z ≤ signed_place high2))
+    → ((z : ℕ) → Among z (take i ws) → (signed_order_place low ≤ signed_order_place z) × (signed_order_place z ≤ signed_order_place high))
+    → (low2 ≡ x) ⊎ (low2 ≡ low) → signed_order_place low2 ≤ signed_order_place x → signed_order_place low2 ≤ signed_order_place low
+    → (high2 ≡ x) ⊎ (high2 ≡ high) → signed_order_place x ≤ signed_order_place high2 → signed_order_place high ≤ signed_order_place high2
+    → Among low2 ws × Among high2 ws × ((z : ℕ) → Among z (take (i + 1) ws) → (signed_order_place low2 ≤ signed_order_place z) × (signed_order_place z ≤ signed_order_place high2))
 ends_more ws i x low high low2 high2 h e here in_low in_high inv either_low la lb either_high ha hb = (
   elim either_low [ inl f ↦ subst (λ (n : ℕ). Among n ws) (sym f) here | inr f ↦ subst (λ (n : ℕ). Among n ws) (sym f) in_low ],
   elim either_high [ inl f ↦ subst (λ (n : ℕ). Among n ws) (sym f) here | inr f ↦ subst (λ (n : ℕ). Among n ws) (sym f) in_high ],
   (λ z k. elim (among_append z (take i ws) (get_or ws i 0 ∷ []) (rw (take_more ws i 0 h) at k)) [
     | inl j ↦ let b = inv z j in (omega (arith, b.0), omega (arith, b.1))
     | inr j ↦ elim j [
-      | inl f ↦ let g : z ≡ x = f ∙ sym e in subst (λ (n : ℕ). (signed_place low2 ≤ signed_place n) × (signed_place n ≤ signed_place high2)) (sym g) (la, ha)
+      | inl f ↦ let g : z ≡ x = f ∙ sym e in subst (λ (n : ℕ). (signed_order_place low2 ≤ signed_order_place n) × (signed_order_place n ≤ signed_order_place high2)) (sym g) (la, ha)
       | inr n ↦ absurd n
     ]
   ]),
@@ -84,30 +84,30 @@ aside {least} {greatest} lo last s well e side = record {
   high_is = λ z i. ordered_2 z i (e.low z i) (e.high z i) (range_among greatest lo last s well.0 e.high_in).1;
 }
   where
-    ordered : (z : ℕ) → Among z (range lo last s) → least ≤ z → z ≤ greatest → z ≤ last → greatest ≤ last → signed_place least ≤ signed_place z
+    ordered : (z : ℕ) → Among z (range lo last s) → least ≤ z → z ≤ greatest → z ≤ last → greatest ≤ last → signed_order_place least ≤ signed_order_place z
     ordered z i a b c d = elim side [ inl below ↦ omega arith | inr past ↦ omega (arith, well.2) ]
 
-    ordered_2 : (z : ℕ) → Among z (range lo last s) → least ≤ z → z ≤ greatest → greatest ≤ last → signed_place z ≤ signed_place greatest
+    ordered_2 : (z : ℕ) → Among z (range lo last s) → least ≤ z → z ≤ greatest → greatest ≤ last → signed_order_place z ≤ signed_order_place greatest
     ordered_2 z i a b d = elim side [ inl below ↦ omega arith | inr past ↦ omega (arith, well.2) ]
 
 -- ---- some word of a set in a relation
 pub reaches_signed : (rel : Relation) (x low high : ℕ) (ws : List ℕ) → (rel ≡ Same → ⊥) → IsSignedRange ws low high
-    → (list_any (λ y. is_related rel (signed_place x) (signed_place y)) ws ≡ true → Reaches rel (signed_place low) (signed_place high) (signed_place x))
-    × (Reaches rel (signed_place low) (signed_place high) (signed_place x) → list_any (λ y. is_related rel (signed_place x) (signed_place y)) ws ≡ true)
+    → (list_any (λ y. is_related rel (signed_order_place x) (signed_order_place y)) ws ≡ true → Reaches rel (signed_order_place low) (signed_order_place high) (signed_order_place x))
+    × (Reaches rel (signed_order_place low) (signed_order_place high) (signed_order_place x) → list_any (λ y. is_related rel (signed_order_place x) (signed_order_place y)) ws ≡ true)
 unfolding is_related Reaches
 reaches_signed Same x low high ws order e = absurd (order refl)
 reaches_signed Other x low high ws order e = (
   (λ t.
-      let r = any_among (λ y. not (eqb (signed_place x) (signed_place y))) ws t in
-      let ne : eqb (signed_place x) (signed_place r.0) ≡ false = not-true (eqb (signed_place x) (signed_place r.0)) r.2 in
-      elim (cases_order (signed_place x) (signed_place r.0)) [
-        | inl same ↦ absurd (eqb-false (signed_place x) (signed_place r.0) ne same)
-        | inr (inl lt) ↦ let m : signed_place r.0 ≤ signed_place high = e.high_is r.0 r.1 in inl (le_lt (signed_place x) (signed_place r.0) (signed_place high) lt m)
-        | inr (inr gt) ↦ let m : signed_place low ≤ signed_place r.0 = e.low_is r.0 r.1 in inr (lt_le (signed_place low) (signed_place r.0) (signed_place x) m gt)
+      let r = any_among (λ y. not (eqb (signed_order_place x) (signed_order_place y))) ws t in
+      let ne : eqb (signed_order_place x) (signed_order_place r.0) ≡ false = not-true (eqb (signed_order_place x) (signed_order_place r.0)) r.2 in
+      elim (cases_order (signed_order_place x) (signed_order_place r.0)) [
+        | inl same ↦ absurd (eqb-false (signed_order_place x) (signed_order_place r.0) ne same)
+        | inr (inl lt) ↦ let m : signed_order_place r.0 ≤ signed_order_place high = e.high_is r.0 r.1 in inl (le_lt (signed_order_place x) (signed_order_place r.0) (signed_order_place high) lt m)
+        | inr (inr gt) ↦ let m : signed_order_place low ≤ signed_order_place r.0 = e.low_is r.0 r.1 in inr (lt_le (signed_order_place low) (signed_order_place r.0) (signed_order_place x) m gt)
       ]),
   (λ r. elim r [
-    | inl lt ↦ among_any (λ y. not (eqb (signed_place x) (signed_place y))) high ws e.high_in (not_from_false (eqb (signed_place x) (signed_place high)) (ne_eqb (signed_place x) (signed_place high) (λ f. apart (signed_place x) (signed_place high) lt f)))
-    | inr gt ↦ among_any (λ y. not (eqb (signed_place x) (signed_place y))) low ws e.low_in (not_from_false (eqb (signed_place x) (signed_place low)) (ne_eqb (signed_place x) (signed_place low) (λ f. apart (signed_place low) (signed_place x) gt (sym f))))
+    | inl lt ↦ among_any (λ y. not (eqb (signed_order_place x) (signed_order_place y))) high ws e.high_in (not_from_false (eqb (signed_order_place x) (signed_order_place high)) (ne_eqb (signed_order_place x) (signed_order_place high) (λ f. apart (signed_order_place x) (signed_order_place high) lt f)))
+    | inr gt ↦ among_any (λ y. not (eqb (signed_order_place x) (signed_order_place y))) low ws e.low_in (not_from_false (eqb (signed_order_place x) (signed_order_place low)) (ne_eqb (signed_order_place x) (signed_order_place low) (λ f. apart (signed_order_place low) (signed_order_place x) gt (sym f))))
   ]),
 )
   where
@@ -120,29 +120,29 @@ reaches_signed Other x low high ws order e = (
     apart : (a b : ℕ) → a < b → a ≡ b → ⊥
     apart a b h e = omega arith
 reaches_signed Less x low high ws order e = (
-  (λ t. let r = any_among (λ y. ltb (signed_place x) (signed_place y)) ws t in lt_then_le (signed_place x) (signed_place r.0) (signed_place high) (ltb-true (signed_place x) (signed_place r.0) r.2) (e.high_is r.0 r.1)),
-  (λ r. among_any (λ y. ltb (signed_place x) (signed_place y)) high ws e.high_in (lt-ltb (signed_place x) (signed_place high) r)),
+  (λ t. let r = any_among (λ y. ltb (signed_order_place x) (signed_order_place y)) ws t in lt_then_le (signed_order_place x) (signed_order_place r.0) (signed_order_place high) (ltb-true (signed_order_place x) (signed_order_place r.0) r.2) (e.high_is r.0 r.1)),
+  (λ r. among_any (λ y. ltb (signed_order_place x) (signed_order_place y)) high ws e.high_in (lt-ltb (signed_order_place x) (signed_order_place high) r)),
 )
   where
     lt_then_le : (a b c : ℕ) → a < b → b ≤ c → a < c
     lt_then_le a b c h k = omega arith
 reaches_signed AtLeast x low high ws order e = (
-  (λ t. let r = any_among (λ y. leb (signed_place y) (signed_place x)) ws t in le_then_le (signed_place low) (signed_place r.0) (signed_place x) (e.low_is r.0 r.1) (leb-true (signed_place r.0) (signed_place x) r.2)),
-  (λ r. among_any (λ y. leb (signed_place y) (signed_place x)) low ws e.low_in (le-leb (signed_place low) (signed_place x) r)),
+  (λ t. let r = any_among (λ y. leb (signed_order_place y) (signed_order_place x)) ws t in le_then_le (signed_order_place low) (signed_order_place r.0) (signed_order_place x) (e.low_is r.0 r.1) (leb-true (signed_order_place r.0) (signed_order_place x) r.2)),
+  (λ r. among_any (λ y. leb (signed_order_place y) (signed_order_place x)) low ws e.low_in (le-leb (signed_order_place low) (signed_order_place x) r)),
 )
   where
     le_then_le : (a b c : ℕ) → a ≤ b → b ≤ c → a ≤ c
     le_then_le a b c h k = omega arith
 reaches_signed More x low high ws order e = (
-  (λ t. let r = any_among (λ y. ltb (signed_place y) (signed_place x)) ws t in le_then_lt (signed_place low) (signed_place r.0) (signed_place x) (e.low_is r.0 r.1) (ltb-true (signed_place r.0) (signed_place x) r.2)),
-  (λ r. among_any (λ y. ltb (signed_place y) (signed_place x)) low ws e.low_in (lt-ltb (signed_place low) (signed_place x) r)),
+  (λ t. let r = any_among (λ y. ltb (signed_order_place y) (signed_order_place x)) ws t in le_then_lt (signed_order_place low) (signed_order_place r.0) (signed_order_place x) (e.low_is r.0 r.1) (ltb-true (signed_order_place r.0) (signed_order_place x) r.2)),
+  (λ r. among_any (λ y. ltb (signed_order_place y) (signed_order_place x)) low ws e.low_in (lt-ltb (signed_order_place low) (signed_order_place x) r)),
 )
   where
     le_then_lt : (a b c : ℕ) → a ≤ b → b < c → a < c
     le_then_lt a b c h k = omega arith
 reaches_signed AtMost x low high ws order e = (
-  (λ t. let r = any_among (λ y. leb (signed_place x) (signed_place y)) ws t in le_twice (signed_place x) (signed_place r.0) (signed_place high) (leb-true (signed_place x) (signed_place r.0) r.2) (e.high_is r.0 r.1)),
-  (λ r. among_any (λ y. leb (signed_place x) (signed_place y)) high ws e.high_in (le-leb (signed_place x) (signed_place high) r)),
+  (λ t. let r = any_among (λ y. leb (signed_order_place x) (signed_order_place y)) ws t in le_twice (signed_order_place x) (signed_order_place r.0) (signed_order_place high) (leb-true (signed_order_place x) (signed_order_place r.0) r.2) (e.high_is r.0 r.1)),
+  (λ r. among_any (λ y. leb (signed_order_place x) (signed_order_place y)) high ws e.high_in (le-leb (signed_order_place x) (signed_order_place high) r)),
 )
   where
     le_twice : (a b c : ℕ) → a ≤ b → b ≤ c → a ≤ c
@@ -151,7 +151,7 @@ reaches_signed AtMost x low high ws order e = (
 abbrev pub part : Interval → List ℕ → List ℕ
 part i vs = filter (in_span i.lo i.last 0) vs
 
-part_is : (i : Interval) (vs : List ℕ) (z : ℕ) → (Among z (part i vs) → Among z vs × IsIn i z) × (Among z vs → IsIn i z → Among z (part i vs))
+part_is : (i : Interval) (vs : List ℕ) (z : ℕ) → (Among z (part i vs) → Among z vs × IsInInterval i z) × (Among z vs → IsInInterval i z → Among z (part i vs))
 part_is i vs z = (
   (λ k. let f = among_filter (in_span i.lo i.last 0) z vs k in let n = in_span_parts i.lo i.last 0 z f.1 in (f.0, (n.0, n.1))),
   (λ k n. filter_has (in_span i.lo i.last 0) z vs k (in_span_from i.lo i.last 0 z n.0 n.1 (omega arith))),
@@ -160,13 +160,13 @@ part_is i vs z = (
 -- the members of four intervals
 pub kept_parts : (b : Limits) (rel : Relation) (vs ws : List ℕ) (i j i1 i2 j1 j2 : Interval) (low high : ℕ) → (rel ≡ Same → ⊥) → IsSignedRange ws low high
     → ((x : ℕ) → Among x vs → x < 2 ^ 32)
-    → ((x : ℕ) → x < 2 ^ 32 → (IsIn i x ⊎ IsIn j x → Reaches rel (signed_place low) (signed_place high) x) × (Reaches rel (signed_place low) (signed_place high) x → IsIn i x ⊎ IsIn j x))
-    → ((x : ℕ) → x < 2 ^ 32 → (IsIn i1 x ⊎ IsIn i2 x → IsIn i (signed_place x)) × (IsIn i (signed_place x) → IsIn i1 x ⊎ IsIn i2 x))
-    → ((x : ℕ) → x < 2 ^ 32 → (IsIn j1 x ⊎ IsIn j2 x → IsIn j (signed_place x)) × (IsIn j (signed_place x) → IsIn j1 x ⊎ IsIn j2 x))
-    → cover_some b ((part i1 vs ++ part i2 vs) ++ (part j1 vs ++ part j2 vs)) ≡ cover_some b (kept_signed rel vs ws)
+    → ((x : ℕ) → x < 2 ^ 32 → (IsInInterval i x ⊎ IsInInterval j x → Reaches rel (signed_order_place low) (signed_order_place high) x) × (Reaches rel (signed_order_place low) (signed_order_place high) x → IsInInterval i x ⊎ IsInInterval j x))
+    → ((x : ℕ) → x < 2 ^ 32 → (IsInInterval i1 x ⊎ IsInInterval i2 x → IsInInterval i (signed_order_place x)) × (IsInInterval i (signed_order_place x) → IsInInterval i1 x ⊎ IsInInterval i2 x))
+    → ((x : ℕ) → x < 2 ^ 32 → (IsInInterval j1 x ⊎ IsInInterval j2 x → IsInInterval j (signed_order_place x)) × (IsInInterval j (signed_order_place x) → IsInInterval j1 x ⊎ IsInInterval j2 x))
+    → cover_of_meet b ((part i1 vs ++ part i2 vs) ++ (part j1 vs ++ part j2 vs)) ≡ cover_of_meet b (kept_signed rel vs ws)
 unfolding kept_signed
 kept_parts b rel vs ws i j i1 i2 j1 j2 low high order e small are first second =
-    cover_some-same b ((part i1 vs ++ part i2 vs) ++ (part j1 vs ++ part j2 vs)) (filter (λ x. list_any (λ y. is_related rel (signed_place x) (signed_place y)) ws) vs)
+    cover_some-same b ((part i1 vs ++ part i2 vs) ++ (part j1 vs ++ part j2 vs)) (filter (λ x. list_any (λ y. is_related rel (signed_order_place x) (signed_order_place y)) ws) vs)
     (λ z k. elim (among_append z (part i1 vs ++ part i2 vs) (part j1 vs ++ part j2 vs) k) [
       | inl l ↦ elim (among_append z (part i1 vs) (part i2 vs) l) [
         | inl m ↦ let p = (part_is i1 vs z).0 m in in_kept z p.0 (inl ((first z (small z p.0)).0 (inl p.1)))
@@ -178,19 +178,19 @@ kept_parts b rel vs ws i j i1 i2 j1 j2 low high order e small are first second =
       ]
     ])
     (λ z k.
-    let f = among_filter (λ x. list_any (λ y. is_related rel (signed_place x) (signed_place y)) ws) z vs k in
-    elim ((are (signed_place z) (signed_word z)).1 ((reaches_signed rel z low high ws order e).0 f.1)) [
+    let f = among_filter (λ x. list_any (λ y. is_related rel (signed_order_place x) (signed_order_place y)) ws) z vs k in
+    elim ((are (signed_order_place z) (signed_word z)).1 ((reaches_signed rel z low high ws order e).0 f.1)) [
       | inl n ↦ append_left z (part i1 vs ++ part i2 vs) (part j1 vs ++ part j2 vs)
           (elim ((first z (small z f.0)).1 n) [ inl m ↦ append_left z (part i1 vs) (part i2 vs) ((part_is i1 vs z).1 f.0 m) | inr m ↦ append_right z (part i1 vs) (part i2 vs) ((part_is i2 vs z).1 f.0 m) ])
       | inr n ↦ append_right z (part i1 vs ++ part i2 vs) (part j1 vs ++ part j2 vs)
           (elim ((second z (small z f.0)).1 n) [ inl m ↦ append_left z (part j1 vs) (part j2 vs) ((part_is j1 vs z).1 f.0 m) | inr m ↦ append_right z (part j1 vs) (part j2 vs) ((part_is j2 vs z).1 f.0 m) ])
     ])
   where
-    signed_word : (z : ℕ) → signed_place z < 2 ^ 32
+    signed_word : (z : ℕ) → signed_order_place z < 2 ^ 32
     signed_word z = omega arith
 
-    in_kept : (z : ℕ) → Among z vs → IsIn i (signed_place z) ⊎ IsIn j (signed_place z) → Among z (filter (λ x. list_any (λ y. is_related rel (signed_place x) (signed_place y)) ws) vs)
-    in_kept z k s = filter_has (λ x. list_any (λ y. is_related rel (signed_place x) (signed_place y)) ws) z vs k ((reaches_signed rel z low high ws order e).1 ((are (signed_place z) (signed_word z)).0 s))
+    in_kept : (z : ℕ) → Among z vs → IsInInterval i (signed_order_place z) ⊎ IsInInterval j (signed_order_place z) → Among z (filter (λ x. list_any (λ y. is_related rel (signed_order_place x) (signed_order_place y)) ws) vs)
+    in_kept z k s = filter_has (λ x. list_any (λ y. is_related rel (signed_order_place x) (signed_order_place y)) ws) z vs k ((reaches_signed rel z low high ws order e).1 ((are (signed_order_place z) (signed_word z)).0 s))
 
 pub unit_shift_32 : (s : ℕ) → s ≤ 2 → 1 * 2 ^ s % 2 ^ 32 ≡ 2 ^ s
 unit_shift_32 = step_cases (λ s. 1 * 2 ^ s % 2 ^ 32 ≡ 2 ^ s) refl refl refl

@@ -1,7 +1,7 @@
 -- Where a state has the values of registers.
 use Rattle.std.proofs.Common.{◌≡◌, ℕ, ◌+◌, ◌-◌, ◌<◌, ◌≤◌, inl, inr, false, refl, sym, ap, ◌∙◌, arith, Some, None, leb, ltb, eqb, ◌&&◌, if◌then◌else◌}
 use Rattle.std.proofs.lemmas.Bool.{cases_lt, cases_Bool, lt-ltb, le-ltb, le-leb, lt-leb, eqb-true, leb-true, and_parts}
-use Rattle.vd_transfer.specs.Registers.{slot, is_lower}
+use Rattle.vd_transfer.specs.Registers.{slot, is_lower_register}
 use Rattle.value_domain.specs.State.{is_lower_slot}
 
 some_same : (i j : ℕ) → Some i ≡ Some j → i ≡ j
@@ -18,7 +18,7 @@ unslot i = if ltb i 16 then i else if ltb i 22 then i + 2 else if ltb i 23 then 
 pub record IsSlot (r i : ℕ) : Type 0 where
   pub within : i < 27
   pub back : unslot i ≡ r
-  pub lower : is_lower_slot i ≡ is_lower r
+  pub lower : is_lower_slot i ≡ is_lower_register r
 
 first_slots : (r i : ℕ) → r < 16 → r ≡ i → IsSlot r i
 first_slots r i h e =
@@ -78,7 +78,7 @@ pub slot_apart : (q r i j : ℕ) → slot q ≡ Some j → slot r ≡ Some i →
 slot_apart q r i j e f same = sym (slot_is q j e).back ∙ ap unslot (sym same) ∙ (slot_is r i f).back
 
 -- a register without a place isn't a lower one
-pub not_lower : (r : ℕ) → slot r ≡ None → is_lower r ≡ false
+pub not_lower : (r : ℕ) → slot r ≡ None → is_lower_register r ≡ false
 unfolding slot
 not_lower r e =
     elim (cases_lt r 16) [

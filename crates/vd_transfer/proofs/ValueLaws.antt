@@ -4,7 +4,7 @@ use Rattle.std.proofs.lemmas.Bool.{cases_lt, lt-ltb, le-ltb, le-leb, lt-leb}
 use Rattle.std.proofs.lemmas.Nat.{or_of_32, xor_of_32}
 use Rattle.tc_isa.specs.declared.shapes.Op.{Op}
 use Rattle.tc_isa.specs.declared.shapes.Op.TheVariants.{Second, Add, Sub, And, Nand, Or, Nor, Xor, Xnor, Andn, Orn, Eq, Ne, Lt, LtU, Ge, GeU, Sh, Sha}
-use Rattle.tc_isa.specs.Arithmetic.{alu_of, complement, one_if, signed_place}
+use Rattle.tc_isa.specs.Arithmetic.{alu_of, complement, one_if, signed_order_place}
 use Rattle.value_domain.specs.declared.values.Val.{Val}
 use Rattle.value_domain.specs.declared.values.Val.TheVariants.{Set, Span}
 use Rattle.value_domain.specs.Sets.{Among}
@@ -14,8 +14,8 @@ use Rattle.value_domain.proofs.CoverLaws.{range_among, cover_least}
 use Rattle.value_domain.proofs.ExtentLaws.{append_left, among_append}
 use Rattle.value_domain.proofs.RangeLaws.{members_below, cover_value}
 use Rattle.value_domain.proofs.WordLaws.{among_place}
-use Rattle.vd_transfer.specs.Operations.{results, pairs, row, gives_truth, value_of}
-use Rattle.vd_transfer.specs.Intervals.{runs, bounds, sums, differences, range_of, whole, run}
+use Rattle.vd_transfer.specs.Operations.{results, pairs, operation_row, gives_truth, value_of}
+use Rattle.vd_transfer.specs.Intervals.{runs, interval_bounds, sums, differences, range_of, whole, run}
 use Rattle.vd_transfer.specs.declared.strided_interval.StridedInterval.{StridedInterval}
 use Rattle.vd_transfer.proofs.OpLaws.{logical, arithmetic, complement_below, and_below, pairs_among, some_results, runs_step, bounds_of, high_below, by_below}
 
@@ -37,9 +37,9 @@ alu_below Andn x y h k = and_below x (complement y) h
 alu_below Orn x y h k = or_of_32 x (complement y) h (complement_below y)
 alu_below Eq x y h k = truth_below (eqb x y)
 alu_below Ne x y h k = truth_below (not (eqb x y))
-alu_below Lt x y h k = truth_below (ltb (signed_place x) (signed_place y))
+alu_below Lt x y h k = truth_below (ltb (signed_order_place x) (signed_order_place y))
 alu_below LtU x y h k = truth_below (ltb x y)
-alu_below Ge x y h k = truth_below (leb (signed_place y) (signed_place x))
+alu_below Ge x y h k = truth_below (leb (signed_order_place y) (signed_order_place x))
 alu_below GeU x y h k = truth_below (leb y x)
 alu_below Sh x y h k = logical.word x (y % 64) h
 alu_below Sha x y h k = arithmetic.word x (y % 64) h
@@ -78,17 +78,17 @@ bit_word : (z : ℕ) → Among z (0 ∷ 1 ∷ []) → z < 2 ^ 32
 bit_word z i = elim i [ inl e ↦ let f : z ≡ 0 = e in omega arith | inr j ↦ elim j [ inl e ↦ let f : z ≡ 1 = e in omega arith | inr n ↦ absurd n ] ]
 
 -- the words of a row are words
-row_below : (op : Op) (v w : Val) → IsWell v → IsWell w → (z : ℕ) → Among z (row op v w) → z < 2 ^ 32
-unfolding row runs gives_truth
+row_below : (op : Op) (v w : Val) → IsWell v → IsWell w → (z : ℕ) → Among z (operation_row op v w) → z < 2 ^ 32
+unfolding operation_row runs gives_truth
 row_below Second v w wv ww z i = members_below w ww z i
 row_below Add v w wv ww z i =
-    run_below (sums (low v) (high v) (low w) (high w) (min (step v) (step w))) z (runs_step Add (bounds v) (bounds w) w (bounds_of v wv).small (bounds_of w ww).small)
+    run_below (sums (low v) (high v) (low w) (high w) (min (step v) (step w))) z (runs_step Add (interval_bounds v) (interval_bounds w) w (bounds_of v wv).small (bounds_of w ww).small)
     (sums_last (low v) (high v) (low w) (high w) (min (step v) (step w)) (high_below v wv) (high_below w ww)) i
 row_below Sub v w wv ww z i =
-    run_below (differences (low v) (high v) (low w) (high w) (min (step v) (step w))) z (runs_step Sub (bounds v) (bounds w) w (bounds_of v wv).small (bounds_of w ww).small)
+    run_below (differences (low v) (high v) (low w) (high w) (min (step v) (step w))) z (runs_step Sub (interval_bounds v) (interval_bounds w) w (bounds_of v wv).small (bounds_of w ww).small)
     (differences_last (low v) (high v) (low w) (high w) (min (step v) (step w)) (high_below v wv)) i
 row_below And v w wv ww z i =
-    run_below (run 0 (min (high v) (high w)) (max (step v) (step w))) z (runs_step And (bounds v) (bounds w) w (bounds_of v wv).small (bounds_of w ww).small) (omega (arith, high_below v wv)) i
+    run_below (run 0 (min (high v) (high w)) (max (step v) (step w))) z (runs_step And (interval_bounds v) (interval_bounds w) w (bounds_of v wv).small (bounds_of w ww).small) (omega (arith, high_below v wv)) i
 row_below Eq v w wv ww z i = bit_word z i
 row_below Ne v w wv ww z i = bit_word z i
 row_below Lt v w wv ww z i = bit_word z i

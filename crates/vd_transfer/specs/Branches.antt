@@ -1,10 +1,9 @@
 -- What a branch does to a state on each of its sides.
-use Rattle.std.specs.Prelude.{ℕ, Bool, true, false, ◌==◌, if◌then◌else◌, Option, Some, None, not}
+use Rattle.std.specs.Prelude.{ℕ, Bool, true, false, if◌then◌else◌, Option, Some, None, not}
 use Rattle.tcd_plan.specs.PlanData.{PlanData}
 use Rattle.tc_isa.specs.declared.shapes.Op.TheVariants.{Sub}
 use Rattle.tc_isa.specs.declared.shapes.Cond.{Cond}
 use Rattle.tc_isa.specs.declared.shapes.Arg.{Arg}
-use Rattle.tc_isa.specs.declared.shapes.Arg.TheVariants.{Reg, Word}
 use Rattle.tc_isa.specs.declared.shapes.Shape.{Shape}
 use Rattle.tc_isa.specs.declared.shapes.Shape.TheVariants.{Branch}
 use Rattle.value_domain.specs.declared.values.Val.{Val}
@@ -13,39 +12,34 @@ use Rattle.value_domain.specs.Values.{members, word_val}
 use Rattle.value_domain.specs.Limits.{Limits}
 use Rattle.vd_transfer.specs.Operations.{value_of}
 use Rattle.vd_transfer.specs.Refinement.{kept_left, kept_right, kept_both}
-use Rattle.value_domain.specs.Meets.{cover_some}
-use Rattle.vd_transfer.specs.Registers.{reg_of, arg_of, set_reg, write_reg, set_arg}
+use Rattle.value_domain.specs.Meets.{cover_of_meet}
+use Rattle.vd_transfer.specs.Registers.{reg_of, arg_of, set_reg, write_reg, set_arg, is_operand_register}
 use Rattle.tc_isa.specs.declared.shapes.Cond.TheVariants as cond
 
--- the operand is this register
-abbrev pub is_reg : ℕ → Arg → Bool
-is_reg x (Reg y) = x == y
-is_reg x (Word w) = false
-
 -- a state, if the side is possible
-abbrev pub possible : Bool → State → Option State
-possible true s = Some s
-possible false s = None
+abbrev pub possible_side : Bool → State → Option State
+possible_side true s = Some s
+possible_side false s = None
 
 -- the register is narrowed to the members that are possible, if there are any
-abbrev pub with_one : State → ℕ → Option Val → Option State
-with_one s x None = None
-with_one s x (Some z) = Some (set_reg s x z)
+abbrev pub side_with_register : State → ℕ → Option Val → Option State
+side_with_register s x None = None
+side_with_register s x (Some z) = Some (set_reg s x z)
 
 -- both operands are narrowed to the members that are possible, if each has any
-abbrev pub with_two : State → ℕ → Arg → Option Val → Option Val → Option State
-with_two s x y None w = None
-with_two s x y (Some v) None = None
-with_two s x y (Some v) (Some w) = Some (set_arg (set_reg s x v) y w)
+abbrev pub side_with_operands : State → ℕ → Arg → Option Val → Option Val → Option State
+side_with_operands s x y None w = None
+side_with_operands s x y (Some v) None = None
+side_with_operands s x y (Some v) (Some w) = Some (set_arg (set_reg s x v) y w)
 
 -- the state on a side of the condition, if the side is possible
 abbrev pub state_on_side : Limits → PlanData → Cond → ℕ → Arg → State → Bool → Option State
 state_on_side b p cond x y s side =
-    if is_reg x y
-    then with_one s x (cover_some b (kept_both cond side (members (reg_of p s x))))
-    else with_two s x y
-    (cover_some b (kept_left cond side (members (reg_of p s x)) (members (arg_of p s y))))
-    (cover_some b (kept_right cond side (members (reg_of p s x)) (members (arg_of p s y))))
+    if is_operand_register x y
+    then side_with_register s x (cover_of_meet b (kept_both cond side (members (reg_of p s x))))
+    else side_with_operands s x y
+    (cover_of_meet b (kept_left cond side (members (reg_of p s x)) (members (arg_of p s y))))
+    (cover_of_meet b (kept_right cond side (members (reg_of p s x)) (members (arg_of p s y))))
 
 -- a loop decrements its register by 1, on both sides
 abbrev pub with_lowered_counter : Limits → PlanData → ℕ → Bool → Option State → Option State

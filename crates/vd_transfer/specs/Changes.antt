@@ -18,13 +18,13 @@ base_of Forgotten regs = forgotten_from 0 regs
 base_of Any regs = replicate 27 any_val
 
 -- the values with one at a place, if there is a place
-abbrev pub value_put : List Val → Val → Option ℕ → List Val
-value_put vs v None = vs
-value_put vs v (Some i) = slice_set vs i v
+abbrev pub values_changed_at : List Val → Val → Option ℕ → List Val
+values_changed_at vs v None = vs
+values_changed_at vs v (Some i) = slice_set vs i v
 
 -- the values with what is put at its place
 abbrev pub put_in : List Val → Put → List Val
-put_in vs put = value_put vs put.value put.at
+put_in vs put = values_changed_at vs put.value put.at
 
 -- the state after a change
 abbrev pub state_after : State → Change → State

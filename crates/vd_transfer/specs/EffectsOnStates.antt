@@ -28,7 +28,8 @@ access_of b p s base offset after = if after then arg_of p s base else value_of 
 abbrev pub saved_lower : State → State
 saved_lower s = record s { locals = record { items = s.locals.items ++ s.lower ∷ [] } }
 
--- values from place i on, those of lower registers unknown
+-- the effect of a restored lower context on a state's values: those from place i on, with those of
+-- lower registers unknown
 unfoldable pub forgotten_from : ℕ → List Val → List Val
 forgotten_from i [] = []
 forgotten_from i (v ∷ vs) = (if is_lower_slot i then any_val else v) ∷ forgotten_from (i + 1) vs
@@ -72,20 +73,13 @@ address_of b p _ s = any_val
 
 -- an instruction that saves a lower context has room for a local, and one that restores one has a
 -- local
-abbrev pub HasRoom : Limits → Shape → State → Type 0
-HasRoom b Svlcx s = length s.locals.items < b.most_locals
-HasRoom b (Bisr c) s = length s.locals.items < b.most_locals
-HasRoom b Rslcx s = 1 ≤ length s.locals.items
-HasRoom b _ s = Unit {0}
+abbrev pub EffectHasRoom : Limits → Shape → State → Type 0
+EffectHasRoom b Svlcx s = length s.locals.items < b.most_locals
+EffectHasRoom b (Bisr c) s = length s.locals.items < b.most_locals
+EffectHasRoom b Rslcx s = 1 ≤ length s.locals.items
+EffectHasRoom b _ s = Unit {0}
 
 -- what was loaded is a value of the limits, if an instruction of this shape writes it
-abbrev pub HasLoaded : Limits → Shape → Val → Type 0
-HasLoaded b (Load dst base offset size signed after) loaded = IsValue b loaded
-HasLoaded b _ loaded = Unit {0}
-
--- interrupts are enabled after the instruction
-unfoldable pub ie_after : Shape → Bool → Bool
-ie_after (Bisr c) ie = true
-ie_after Enable ie = true
-ie_after Disable ie = false
-ie_after _ ie = ie
+abbrev pub EffectLoadsValue : Limits → Shape → Val → Type 0
+EffectLoadsValue b (Load dst base offset size signed after) loaded = IsValue b loaded
+EffectLoadsValue b _ loaded = Unit {0}

@@ -1,14 +1,14 @@
 -- What an instruction does to the words of registers, to IE and to CCPN.
-use Rattle.std.specs.Prelude.{◌+◌, ◌-◌, ◌*◌, ◌%◌, ◌^◌, ℕ, Bool, ◌==◌, if◌then◌else◌}
+use Rattle.std.specs.Prelude.{◌+◌, ◌-◌, ◌*◌, ◌%◌, ◌^◌, ℕ, Bool, ◌==◌, if◌then◌else◌, true, false}
 use Rattle.tc_isa.specs.declared.shapes.Arg.{Arg}
 use Rattle.tc_isa.specs.declared.shapes.Arg.TheVariants.{Reg, Word}
 use Rattle.tc_isa.specs.declared.shapes.Shape.{Shape}
-use Rattle.tc_isa.specs.declared.shapes.Shape.TheVariants.{Compute, Scaled, Load, Store, Branch, Bisr, Mfcr}
+use Rattle.tc_isa.specs.declared.shapes.Shape.TheVariants.{Compute, Scaled, Load, Store, Branch, Bisr, Mfcr, Enable, Disable}
 use Rattle.tc_isa.specs.Arithmetic.{alu_of}
 
 -- the words with another in register r
-abbrev pub set_word : (ℕ → ℕ) → ℕ → ℕ → ℕ → ℕ
-set_word word r w q = if q == r then w else word q
+abbrev pub words_with_register : (ℕ → ℕ) → ℕ → ℕ → ℕ → ℕ
+words_with_register word r w q = if q == r then w else word q
 
 -- the word of an operand: a register's, or the constant
 abbrev pub word_of : (ℕ → ℕ) → Arg → ℕ
@@ -21,18 +21,18 @@ access_word word base offset after = if after then word_of word base else (word_
 
 -- the base register increased by the offset
 abbrev pub with_base_word : (ℕ → ℕ) → Arg → ℕ → Bool → ℕ → ℕ
-with_base_word word (Reg r) offset after = if after then set_word word r ((word r + offset) % 2 ^ 32) else word
+with_base_word word (Reg r) offset after = if after then words_with_register word r ((word r + offset) % 2 ^ 32) else word
 with_base_word word (Word w) offset after = word
 
 -- the words after an instruction that read this word from memory or a device; saving and restoring
 -- contexts is defined elsewhere
 unfoldable pub words_after : Shape → ℕ → (ℕ → ℕ) → ℕ → ℕ
-words_after (Compute op dst x y) input word = set_word word dst (alu_of op (word_of word x) (word_of word y))
-words_after (Scaled dst base index n) input word = set_word word dst ((word base + word index * 2 ^ n) % 2 ^ 32)
-words_after (Load dst base offset size signed after) input word = set_word (with_base_word word base offset after) dst input
+words_after (Compute op dst x y) input word = words_with_register word dst (alu_of op (word_of word x) (word_of word y))
+words_after (Scaled dst base index n) input word = words_with_register word dst ((word base + word index * 2 ^ n) % 2 ^ 32)
+words_after (Load dst base offset size signed after) input word = words_with_register (with_base_word word base offset after) dst input
 words_after (Store src base offset size after) input word = with_base_word word base offset after
-words_after (Branch cond x y by lowers) input word = if lowers then set_word word x ((word x + (2 ^ 32 - 1)) % 2 ^ 32) else word
-words_after (Mfcr dst number) input word = set_word word dst input
+words_after (Branch cond x y by lowers) input word = if lowers then words_with_register word x ((word x + (2 ^ 32 - 1)) % 2 ^ 32) else word
+words_after (Mfcr dst number) input word = words_with_register word dst input
 words_after _ input word = word
 
 -- CCPN after the instruction: BISR sets it, and restoring contexts is defined elsewhere (TriCore 1
@@ -40,3 +40,10 @@ words_after _ input word = word
 unfoldable pub ccpn_after : Shape → ℕ → ℕ
 ccpn_after (Bisr c) ccpn = c
 ccpn_after _ ccpn = ccpn
+
+-- the machine's IE after the instruction: whether interrupts are enabled then
+unfoldable pub ie_after : Shape → Bool → Bool
+ie_after (Bisr c) ie = true
+ie_after Enable ie = true
+ie_after Disable ie = false
+ie_after _ ie = ie

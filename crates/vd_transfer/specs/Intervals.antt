@@ -1,5 +1,5 @@
 -- Strided intervals: the bounds of values, and the words that an operation's interval covers.
-use Rattle.std.specs.Prelude.{◌+◌, ◌-◌, ◌*◌, ◌/◌, ◌%◌, ◌^◌, ℕ, ◌||◌, nat_lt, nat_le, if◌then◌else◌, min, max, List, ◌∷◌, ◌≤◌, []}
+use Rattle.std.specs.Prelude.{◌+◌, ◌-◌, ◌*◌, ◌/◌, ◌%◌, ◌^◌, ℕ, ◌||◌, nat_lt, nat_le, if◌then◌else◌, min, max, List, ◌∷◌, []}
 use Rattle.tc_isa.specs.declared.shapes.Op.{Op}
 use Rattle.tc_isa.specs.declared.shapes.Op.TheVariants.{Second, Add, Sub, And, Nand, Or, Nor, Xor, Xnor, Andn, Orn, Eq, Ne, Lt, LtU, Ge, GeU, Sh, Sha}
 use Rattle.value_domain.specs.declared.values.Val.{Val}
@@ -8,7 +8,6 @@ use Rattle.value_domain.specs.declared.lattice.Extent.{Extent}
 use Rattle.value_domain.specs.Sets.{least, greatest}
 use Rattle.value_domain.specs.Values.{range, high, low, step}
 use Rattle.vd_transfer.specs.declared.strided_interval.StridedInterval.{StridedInterval}
-use Rattle.vd_transfer.specs.declared.refinement.Interval.{Interval}
 
 -- the words of a strided interval
 abbrev pub range_of : StridedInterval → List ℕ
@@ -23,8 +22,8 @@ abbrev pub whole : ℕ → StridedInterval
 whole s = run 0 (2 ^ 32 - 1) s
 
 -- the words that are multiples of 2 ^ s
-abbrev pub all_of : ℕ → List ℕ
-all_of s = range_of (whole s)
+abbrev pub whole_interval_words : ℕ → List ℕ
+whole_interval_words s = range_of (whole s)
 
 -- sums of a..=b and c..=d of step m, modulo 2 ^ 32
 unfoldable pub sums : ℕ → ℕ → ℕ → ℕ → ℕ → StridedInterval
@@ -53,8 +52,8 @@ shifts a b p n =
 unfoldable pub signed_shifts : ℕ → ℕ → ℕ → ℕ → StridedInterval
 signed_shifts a b p n = if nat_lt n 32 || nat_lt b (2 ^ 31) then shifts a b p n else whole 0
 
--- a shift of words: the run of the results, by the words' ends and step and by the six bits of the
--- count
+-- a shift of a strided interval: the run of the results, by the words' ends and step and by the six
+-- bits of the count
 abbrev pub Shifts : Type 0
 Shifts = ℕ → ℕ → ℕ → ℕ → StridedInterval
 
@@ -88,9 +87,5 @@ runs Sh e f w = by_count shifts e.least e.greatest e.step w
 runs Sha e f w = by_count signed_shifts e.least e.greatest e.step w
 
 -- the bounds of a value
-abbrev pub bounds : Val → Extent
-bounds v = record { least = low v; greatest = high v; step = step v }
-
--- a word is in an interval
-abbrev pub IsIn : Interval → ℕ → Type 0
-IsIn i x = (i.lo ≤ x) × (x ≤ i.last)
+abbrev pub interval_bounds : Val → Extent
+interval_bounds v = record { least = low v; greatest = high v; step = step v }

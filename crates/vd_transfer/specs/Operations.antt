@@ -9,7 +9,7 @@ use Rattle.value_domain.specs.declared.values.Val.{Val}
 use Rattle.value_domain.specs.declared.values.Val.TheVariants.{Set, Span}
 use Rattle.value_domain.specs.Limits.{Limits}
 use Rattle.value_domain.specs.Values.{IsMember, cover, members}
-use Rattle.vd_transfer.specs.Intervals.{bounds, range_of, runs}
+use Rattle.vd_transfer.specs.Intervals.{interval_bounds, range_of, runs}
 
 -- an operation that gives 1 or 0
 unfoldable pub gives_truth : Op → Bool
@@ -34,14 +34,14 @@ gives_truth Sh = false
 gives_truth Sha = false
 
 -- the set that a row covers: the second operand, a truth value, or a run
-abbrev pub row_of : Bool → Op → Val → Val → List ℕ
-row_of true op v w = 0 ∷ 1 ∷ []
-row_of false op v w = range_of (runs op (bounds v) (bounds w) w)
+abbrev pub operation_row_of : Bool → Op → Val → Val → List ℕ
+operation_row_of true op v w = 0 ∷ 1 ∷ []
+operation_row_of false op v w = range_of (runs op (interval_bounds v) (interval_bounds w) w)
 
 -- the set that an operation's row gives, if an operand is a Span
-unfoldable pub row : Op → Val → Val → List ℕ
-row Second v w = members w
-row op v w = row_of (gives_truth op) op v w
+unfoldable pub operation_row : Op → Val → Val → List ℕ
+operation_row Second v w = members w
+operation_row op v w = operation_row_of (gives_truth op) op v w
 
 -- the results of all pairs
 unfoldable pub pairs : Op → List ℕ → List ℕ → List ℕ
@@ -51,13 +51,13 @@ pairs op (x ∷ xs) ys = map (alu_of op x) ys ++ pairs op xs ys
 -- the words that an operation's value covers
 unfoldable pub results : Op → Val → Val → List ℕ
 results op (Set xs) (Set ys) = pairs op xs ys
-results op (Set xs) (Span lo last s) = row op (Set xs) (Span lo last s)
-results op (Span lo last s) w = row op (Span lo last s) w
+results op (Set xs) (Span lo last s) = operation_row op (Set xs) (Span lo last s)
+results op (Span lo last s) w = operation_row op (Span lo last s) w
 
 -- the value of an operation: the least one that holds its results
 abbrev pub value_of : Limits → Op → Val → Val → Val
 value_of b op v w = cover b (results op v w)
 
--- the words of a list are members of a value
-abbrev pub HasMet : Val → List ℕ → Type 0
-HasMet v ms = (k : ℕ) → k < length ms → IsMember (slice_index ms k) v
+-- each of the results of an operation that were met is a member of the operation's value
+abbrev pub HasMetResults : Val → List ℕ → Type 0
+HasMetResults v ms = (k : ℕ) → k < length ms → IsMember (slice_index ms k) v

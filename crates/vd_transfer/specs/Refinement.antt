@@ -1,39 +1,45 @@
 -- Refinement of two values by a condition.
-use Rattle.std.specs.Prelude.{ℕ, Bool, not, if◌then◌else◌, List, filter, ◌≡◌, true}
+use Rattle.std.specs.Prelude.{ℕ, Bool, not, if◌then◌else◌, List, filter, ◌≡◌, true, ◌≤◌}
 use Rattle.std.specs.List.{list_any}
 use Rattle.tc_isa.specs.declared.shapes.Cond.{Cond}
-use Rattle.tc_isa.specs.Arithmetic.{taken_of, signed_place}
+use Rattle.tc_isa.specs.Arithmetic.{taken_of, signed_order_place}
 use Rattle.value_domain.specs.Sets.{Among, Within}
 use Rattle.vd_transfer.specs.declared.refinement.Relation.{Relation}
-use Rattle.vd_transfer.specs.Relations.{is_related, kept_by}
+use Rattle.vd_transfer.specs.Relations.{is_related, related_words}
 use Rattle.vd_transfer.specs.Signs.{kept_signed}
+use Rattle.vd_transfer.specs.declared.refinement.Interval.{Interval}
 
--- the condition goes to a side
-abbrev pub holds : Cond → Bool → ℕ → ℕ → Bool
-holds cond side x y = if side then taken_of cond x y else not (taken_of cond x y)
+-- the condition of a refinement goes to a side for two words
+abbrev pub refining_condition_holds : Cond → Bool → ℕ → ℕ → Bool
+refining_condition_holds cond side x y = if side then taken_of cond x y else not (taken_of cond x y)
 
 -- the words of vs for which some word of ws makes the condition go to the side
 unfoldable pub kept_left : Cond → Bool → List ℕ → List ℕ → List ℕ
-kept_left cond side vs ws = filter (λ x. list_any (λ y. holds cond side x y) ws) vs
+kept_left cond side vs ws = filter (λ x. list_any (λ y. refining_condition_holds cond side x y) ws) vs
 
 -- the words of ws for which some word of vs makes the condition go to the side
 unfoldable pub kept_right : Cond → Bool → List ℕ → List ℕ → List ℕ
-kept_right cond side vs ws = filter (λ y. list_any (λ x. holds cond side x y) vs) ws
+kept_right cond side vs ws = filter (λ y. list_any (λ x. refining_condition_holds cond side x y) vs) ws
 
--- the words that make the condition go to the side if compared with themselves
+-- what refinement keeps of a value compared with itself: the words that make the condition go to
+-- the side if compared with themselves
 unfoldable pub kept_both : Cond → Bool → List ℕ → List ℕ
-kept_both cond side zs = filter (λ z. holds cond side z z) zs
+kept_both cond side zs = filter (λ z. refining_condition_holds cond side z z) zs
 
 -- Refinement keeps each word for which the relation holds, and it grows with both sets: by the
 -- unsigned order of words, and by the signed one.
 pub record RefinesWell (rel : Relation) : Type 0 where
-  pub sound : (vs ws : List ℕ) (x y : ℕ) → Among x vs → Among y ws → is_related rel x y ≡ true → Among x (kept_by rel vs ws)
-  pub monotone : (vs ws vs2 ws2 : List ℕ) → Within vs vs2 → Within ws ws2 → Within (kept_by rel vs ws) (kept_by rel vs2 ws2)
+  pub sound : (vs ws : List ℕ) (x y : ℕ) → Among x vs → Among y ws → is_related rel x y ≡ true → Among x (related_words rel vs ws)
+  pub monotone : (vs ws vs2 ws2 : List ℕ) → Within vs vs2 → Within ws ws2 → Within (related_words rel vs ws) (related_words rel vs2 ws2)
   pub signed_sound :
-      (vs ws : List ℕ) (x y : ℕ) → Among x vs → Among y ws → is_related rel (signed_place x) (signed_place y) ≡ true
+      (vs ws : List ℕ) (x y : ℕ) → Among x vs → Among y ws → is_related rel (signed_order_place x) (signed_order_place y) ≡ true
       → Among x (kept_signed rel vs ws)
   pub signed_monotone : (vs ws vs2 ws2 : List ℕ) → Within vs vs2 → Within ws ws2 → Within (kept_signed rel vs ws) (kept_signed rel vs2 ws2)
 
 -- refinement by each relation keeps this law
 abbrev pub AreRefined : Type 0
 AreRefined = (rel : Relation) → RefinesWell rel
+
+-- a word is in an interval that refinement by a condition keeps
+abbrev pub IsInInterval : Interval → ℕ → Type 0
+IsInInterval i x = (i.lo ≤ x) × (x ≤ i.last)

@@ -1,13 +1,15 @@
 -- The registers of a state: D0..D15, A2..A7, A10 and A12..A15 have a value each.
 -- A0, A1, A8 and A9 are the plan's, and A11 is unknown. Registers are numbered 0 to 15 for D and
 -- 16 to 31 for A.
-use Rattle.std.specs.Prelude.{◌-◌, ℕ, Bool, not, ◌&&◌, ◌||◌, ◌==◌, nat_lt, nat_le, if◌then◌else◌, Option, Some, None, slice_index_or, slice_set, IsSome}
+use Rattle.std.specs.Prelude.{◌-◌, ℕ, Bool, not, ◌&&◌, ◌||◌, ◌==◌, nat_lt, nat_le, if◌then◌else◌, Option, Some, None, slice_index_or, slice_set, IsSome, IsTrue, false}
 use Rattle.tcd_plan.specs.PlanData.{PlanData, global_of}
 use Rattle.tc_isa.specs.declared.shapes.Arg.{Arg}
 use Rattle.tc_isa.specs.declared.shapes.Arg.TheVariants.{Reg, Word}
 use Rattle.value_domain.specs.declared.values.Val.{Val}
 use Rattle.value_domain.specs.declared.states.State.{State}
 use Rattle.value_domain.specs.Values.{any_val, word_val}
+use Rattle.tc_isa.specs.declared.shapes.Shape.{Shape}
+use Rattle.tc_isa.specs.declared.shapes.Shape.TheVariants.{Compute, Scaled, Load, Store, Branch, Mfcr, Mtcr}
 
 -- the place of a register's value in a state
 unfoldable pub slot : ℕ → Option ℕ
@@ -23,13 +25,13 @@ abbrev pub fixed_of : PlanData → ℕ → Val
 fixed_of p r = if r == 27 then any_val else word_val (global_of p r)
 
 -- the value of a register by its place in a state, or its fixed value if it has no place
-abbrev pub value_at : PlanData → State → ℕ → Option ℕ → Val
-value_at p s r (Some i) = slice_index_or s.regs i any_val
-value_at p s r None = fixed_of p r
+abbrev pub register_value_at : PlanData → State → ℕ → Option ℕ → Val
+register_value_at p s r (Some i) = slice_index_or s.regs i any_val
+register_value_at p s r None = fixed_of p r
 
 -- the value of a register
 abbrev pub reg_of : PlanData → State → ℕ → Val
-reg_of p s r = value_at p s r (slot r)
+reg_of p s r = register_value_at p s r (slot r)
 
 -- the value of an operand
 abbrev pub arg_of : PlanData → State → Arg → Val
@@ -45,17 +47,17 @@ set_at s v None = s
 abbrev pub set_reg : State → ℕ → Val → State
 set_reg s r v = set_at s v (slot r)
 
--- the lower registers, which a lower context holds: D0..D7 and A2..A7
-abbrev pub is_lower : ℕ → Bool
-is_lower r = nat_lt r 8 || (nat_le 18 r && nat_le r 23)
+-- the register of this number is a lower one, which a lower context holds: D0..D7 or A2..A7
+abbrev pub is_lower_register : ℕ → Bool
+is_lower_register r = nat_lt r 8 || (nat_le 18 r && nat_le r 23)
 
 -- the state after an instruction wrote a register
 abbrev pub write_reg : State → ℕ → Val → State
-write_reg s r v = record (set_reg s r v) { lower = s.lower && not (is_lower r) }
+write_reg s r v = record (set_reg s r v) { lower = s.lower && not (is_lower_register r) }
 
--- a state has a value for the register: it is none of A0, A1, A8, A9 and A11
-abbrev pub HasValue : ℕ → Type 0
-HasValue r = IsSome (slot r)
+-- the register is one that states have a value for: it is none of A0, A1, A8, A9 and A11
+abbrev pub RegisterHasValue : ℕ → Type 0
+RegisterHasValue r = IsSome (slot r)
 
 -- the state with an operand's value, if the operand is a register
 abbrev pub set_arg : State → Arg → Val → State
@@ -66,3 +68,24 @@ set_arg s (Word w) v = s
 abbrev pub arg_slot : Arg → Option ℕ
 arg_slot (Reg r) = slot r
 arg_slot (Word w) = None
+
+-- a base register that the access increases has a value in a state
+abbrev pub HasBaseValue : Arg → Bool → Type 0
+HasBaseValue (Reg r) after = IsTrue after → RegisterHasValue r
+HasBaseValue (Word w) after = Unit {0}
+
+-- the instruction writes only registers that a state has values for, and isn't MTCR
+abbrev pub WritesNoFixedRegister : Shape → Type 0
+WritesNoFixedRegister (Compute op dst x y) = RegisterHasValue dst
+WritesNoFixedRegister (Scaled dst base index n) = RegisterHasValue dst
+WritesNoFixedRegister (Load dst base offset size signed after) = RegisterHasValue dst × HasBaseValue base after
+WritesNoFixedRegister (Store src base offset size after) = HasBaseValue base after
+WritesNoFixedRegister (Branch cond x y by lowers) = IsTrue lowers → RegisterHasValue x
+WritesNoFixedRegister (Mfcr dst number) = RegisterHasValue dst
+WritesNoFixedRegister (Mtcr src number) = ⊥
+WritesNoFixedRegister _ = Unit {0}
+
+-- the operand is this register of a state
+abbrev pub is_operand_register : ℕ → Arg → Bool
+is_operand_register x (Reg y) = x == y
+is_operand_register x (Word w) = false

@@ -33,9 +33,9 @@ is_related AtLeast x y = nat_le y x
 is_related More x y = nat_lt y x
 is_related AtMost x y = nat_le x y
 
--- the words of vs that are in a relation to some word of ws
-unfoldable pub kept_by : Relation → List ℕ → List ℕ → List ℕ
-kept_by rel vs ws = filter (λ x. list_any (λ y. is_related rel x y) ws) vs
+-- the words of vs that are in a relation to some word of ws, in the unsigned order
+unfoldable pub related_words : Relation → List ℕ → List ℕ → List ℕ
+related_words rel vs ws = filter (λ x. list_any (λ y. is_related rel x y) ws) vs
 
 -- x is in the relation to low or to high (equality needs more)
 unfoldable pub Reaches : Relation → ℕ → ℕ → ℕ → Type 0

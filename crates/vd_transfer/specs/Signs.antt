@@ -3,21 +3,21 @@ use Rattle.std.specs.Prelude.{◌≤◌, ℕ, List, filter, Bool, true, false}
 use Rattle.std.specs.List.{list_any}
 use Rattle.value_domain.specs.Sets.{Among}
 use Rattle.vd_transfer.specs.declared.refinement.Relation.{Relation}
-use Rattle.tc_isa.specs.Arithmetic.{signed_place}
+use Rattle.tc_isa.specs.Arithmetic.{signed_order_place}
 use Rattle.vd_transfer.specs.Relations.{is_related}
 use Rattle.tc_isa.specs.declared.shapes.Cond.{Cond}
 use Rattle.tc_isa.specs.declared.shapes.Cond.TheVariants as cond
 
 -- the words of vs that are in a relation to some word of ws in the signed order
 unfoldable pub kept_signed : Relation → List ℕ → List ℕ → List ℕ
-kept_signed rel vs ws = filter (λ x. list_any (λ y. is_related rel (signed_place x) (signed_place y)) ws) vs
+kept_signed rel vs ws = filter (λ x. list_any (λ y. is_related rel (signed_order_place x) (signed_order_place y)) ws) vs
 
 -- low and high are the least and the greatest of a set in the signed order
 pub record IsSignedRange (ws : List ℕ) (low high : ℕ) : Type 0 where
   pub low_in : Among low ws
   pub high_in : Among high ws
-  pub low_is : (z : ℕ) → Among z ws → signed_place low ≤ signed_place z
-  pub high_is : (z : ℕ) → Among z ws → signed_place z ≤ signed_place high
+  pub low_is : (z : ℕ) → Among z ws → signed_order_place low ≤ signed_order_place z
+  pub high_is : (z : ℕ) → Among z ws → signed_order_place z ≤ signed_order_place high
 
 -- the condition is of the signed order
 unfoldable pub is_signed : Cond → Bool

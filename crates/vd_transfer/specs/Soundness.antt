@@ -4,30 +4,29 @@ use Rattle.tcd_plan.specs.PlanData.{PlanData, IsPlan}
 use Rattle.tc_isa.specs.declared.shapes.Arg.{Arg}
 use Rattle.tc_isa.specs.declared.shapes.Cond.{Cond}
 use Rattle.tc_isa.specs.declared.shapes.Shape.{Shape}
-use Rattle.tc_isa.specs.declared.shapes.Shape.TheVariants.{Load, Store, Branch, Jump, Call, Ret, Rfe, Rslcx, Syscall, Svlcx, Bisr, Mtcr}
-use Rattle.tc_isa.specs.Arithmetic.{taken_of, alu_of}
+use Rattle.tc_isa.specs.declared.shapes.Shape.TheVariants.{Load, Store, Branch, Jump, Call, Ret, Rfe, Rslcx, Syscall}
+use Rattle.tc_isa.specs.Arithmetic.{taken_of}
 use Rattle.tc_isa.specs.InBounds.{IsShape, IsArg}
 use Rattle.value_domain.specs.declared.values.Val.{Val}
 use Rattle.value_domain.specs.declared.states.State.{State}
 use Rattle.value_domain.specs.Limits.{Limits, AreLimits}
-use Rattle.value_domain.specs.Values.{IsMember, IsValue}
+use Rattle.value_domain.specs.Values.{IsMember}
 use Rattle.value_domain.specs.State.{AreValues}
-use Rattle.vd_transfer.specs.Registers.{is_lower}
-use Rattle.vd_transfer.specs.EffectsOnStates.{transfer_of, address_of, restored_lower, ie_after}
+use Rattle.vd_transfer.specs.Registers.{is_lower_register, WritesNoFixedRegister}
+use Rattle.vd_transfer.specs.EffectsOnStates.{transfer_of, address_of, restored_lower}
+use Rattle.vd_transfer.specs.EffectsOnWords.{ie_after, word_of, access_word, words_after, ccpn_after}
 use Rattle.vd_transfer.specs.Branches.{refine_of}
-use Rattle.vd_transfer.specs.Holding.{Holds, WritesNoFixedRegister}
-use Rattle.vd_transfer.specs.EffectsOnWords.{word_of, access_word, words_after, ccpn_after}
-use Rattle.tc_isa.specs.declared.shapes.Op.{Op}
-use Rattle.vd_transfer.specs.Operations.{value_of}
+use Rattle.vd_transfer.specs.Holding.{Holds}
 
 -- limits, a plan, and a state whose 27 registers have values
-pub record IsSetting (b : Limits) (p : PlanData) (s : State) : Type 0 where
+pub record IsSoundSetting (b : Limits) (p : PlanData) (s : State) : Type 0 where
   pub limits : AreLimits b
   pub plan : IsPlan p
   pub regs : length s.regs ≡ 27
   pub values : AreValues b s.regs
 
--- the instruction stays in its frame, is followed by the next one, and restores nothing
+-- a premise of the law that effects are sound: the instruction stays in its frame, is followed by
+-- the next one, and restores nothing
 abbrev pub StaysPlain : Shape → Type 0
 StaysPlain (Branch cond x y by lowers) = ⊥
 StaysPlain (Jump to) = ⊥
@@ -39,56 +38,38 @@ StaysPlain Rslcx = ⊥
 StaysPlain _ = Unit {0}
 
 -- a load reads a member of the value that was loaded
-abbrev pub ReadsMember : Shape → ℕ → Val → Type 0
-ReadsMember (Load dst base offset size signed after) input loaded = IsMember input loaded
-ReadsMember _ input loaded = Unit {0}
+abbrev pub ReadsSoundly : Shape → ℕ → Val → Type 0
+ReadsSoundly (Load dst base offset size signed after) input loaded = IsMember input loaded
+ReadsSoundly _ input loaded = Unit {0}
 
 -- after an instruction that restores nothing, the changed state holds the words
-abbrev pub TransferHolds : Type 0
-TransferHolds =
-    (b : Limits) (p : PlanData) (shape : Shape) (s : State) (loaded : Val) (word : ℕ → ℕ) (ie : Bool) (ccpn input : ℕ) → IsSetting b p s
-    → IsShape shape → WritesNoFixedRegister shape → StaysPlain shape → input < 2 ^ 32 → ReadsMember shape input loaded → Holds p word ie ccpn s
+abbrev pub TransferIsSound : Type 0
+TransferIsSound =
+    (b : Limits) (p : PlanData) (shape : Shape) (s : State) (loaded : Val) (word : ℕ → ℕ) (ie : Bool) (ccpn input : ℕ) → IsSoundSetting b p s
+    → IsShape shape → WritesNoFixedRegister shape → StaysPlain shape → input < 2 ^ 32 → ReadsSoundly shape input loaded → Holds p word ie ccpn s
     → Holds p (words_after shape input word) (ie_after shape ie) (ccpn_after shape ccpn) (transfer_of b p shape s loaded)
 
 -- after a lower context was restored, the changed state holds the words, whatever the context had
-abbrev pub RestoreHolds : Type 0
-RestoreHolds =
+abbrev pub RestoreIsSound : Type 0
+RestoreIsSound =
     (p : PlanData) (s : State) (word word2 : ℕ → ℕ) (ie : Bool) (ccpn : ℕ) → length s.regs ≡ 27 → ((r : ℕ) → r < 32 → word2 r < 2 ^ 32)
-    → ((r : ℕ) → r < 32 → is_lower r ≡ false → word2 r ≡ word r) → Holds p word ie ccpn s → Holds p word2 ie ccpn (restored_lower s)
+    → ((r : ℕ) → r < 32 → is_lower_register r ≡ false → word2 r ≡ word r) → Holds p word ie ccpn s → Holds p word2 ie ccpn (restored_lower s)
 
 -- the side that a branch takes is possible, and its state holds the words
-abbrev pub BranchHolds : Type 0
-BranchHolds =
+abbrev pub BranchIsSound : Type 0
+BranchIsSound =
     (b : Limits) (p : PlanData) (cond : Cond) (x : ℕ) (y : Arg) (by : ℕ) (lowers : Bool) (s : State) (side : Bool) (word : ℕ → ℕ) (ie : Bool) (ccpn : ℕ)
-    → IsSetting b p s → IsShape (Branch cond x y by lowers) → WritesNoFixedRegister (Branch cond x y by lowers) → Holds p word ie ccpn s
+    → IsSoundSetting b p s → IsShape (Branch cond x y by lowers) → WritesNoFixedRegister (Branch cond x y by lowers) → Holds p word ie ccpn s
     → taken_of cond (word x) (word_of word y) ≡ side
     → IsSomeAnd (refine_of b p (Branch cond x y by lowers) s side) (Holds p (words_after (Branch cond x y by lowers) 0 word) ie ccpn)
 
 -- the address of an access is one of its addresses
-pub record AddressHolds : Type 0 where
+pub record AddressIsSound : Type 0 where
   pub load :
       (b : Limits) (p : PlanData) (dst : ℕ) (base : Arg) (offset size : ℕ) (signed after : Bool) (s : State) (word : ℕ → ℕ) (ie : Bool) (ccpn : ℕ)
-      → IsSetting b p s → IsArg base → offset < 2 ^ 32 → Holds p word ie ccpn s
+      → IsSoundSetting b p s → IsArg base → offset < 2 ^ 32 → Holds p word ie ccpn s
       → IsMember (access_word word base offset after) (address_of b p (Load dst base offset size signed after) s)
   pub store :
       (b : Limits) (p : PlanData) (src : ℕ) (base : Arg) (offset size : ℕ) (after : Bool) (s : State) (word : ℕ → ℕ) (ie : Bool) (ccpn : ℕ)
-      → IsSetting b p s → IsArg base → offset < 2 ^ 32 → Holds p word ie ccpn s
+      → IsSoundSetting b p s → IsArg base → offset < 2 ^ 32 → Holds p word ie ccpn s
       → IsMember (access_word word base offset after) (address_of b p (Store src base offset size after) s)
-
--- the instruction leaves the frame and its contexts as they are
-abbrev pub StaysInFrame : Shape → Type 0
-StaysInFrame (Call to) = ⊥
-StaysInFrame Ret = ⊥
-StaysInFrame Rfe = ⊥
-StaysInFrame Svlcx = ⊥
-StaysInFrame Rslcx = ⊥
-StaysInFrame (Bisr c) = ⊥
-StaysInFrame (Syscall tin) = ⊥
-StaysInFrame (Mtcr src number) = ⊥
-StaysInFrame _ = Unit {0}
-
--- each result of an operation on members is a member of its value
-abbrev pub AreSound : Type 0
-AreSound =
-    (b : Limits) (op : Op) (v w : Val) → AreLimits b → IsValue b v → IsValue b w
-    → (x y : ℕ) → IsMember x v → IsMember y w → IsMember (alu_of op x y) (value_of b op v w)

@@ -48,13 +48,13 @@ pub fn write_address(b: &Bounds, plan: &Plan, shape: Shape, s: &State, out: &mut
             offset,
             after,
             ..
-        } => access(b, plan, s, Addressing::by(base, offset, after), out),
+        } => write_access_addresses(b, plan, s, Addressing::by(base, offset, after), out),
         Shape::Store {
             base,
             offset,
             after,
             ..
-        } => access(b, plan, s, Addressing::by(base, offset, after), out),
+        } => write_access_addresses(b, plan, s, Addressing::by(base, offset, after), out),
         _ => write_any(out),
     }
 }
@@ -72,7 +72,8 @@ pub fn address_by(b: &Bounds, plan: &Plan, shape: Shape, s: &State) -> Val
     out
 }
 
-fn access(b: &Bounds, plan: &Plan, s: &State, at: Addressing, out: &mut Val)
+/// Overwrites a value with the addresses of an access with this addressing.
+fn write_access_addresses(b: &Bounds, plan: &Plan, s: &State, at: Addressing, out: &mut Val)
     requires base { IsArg at.base }
     requires values { AreValues b.now s.now.regs }
     ensures access { out.new ≡ access_of b.now plan.now s.now at.base at.offset at.after }

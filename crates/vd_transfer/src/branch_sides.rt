@@ -5,20 +5,19 @@ ghost use Rattle.value_domain.specs.State.{AreValues};
 ghost use Rattle.tc_isa.specs.InBounds.{IsArg, IsShape};
 ghost use Rattle.tc_isa.specs.declared.shapes.Arg.TheVariants.{Word};
 ghost use Rattle.tc_isa.specs.declared.shapes.Op.TheVariants.{Sub};
-ghost use Rattle.vd_transfer.specs.Refinement.{holds, kept_left, kept_right};
-ghost use Rattle.value_domain.specs.Meets.{cover_some};
+ghost use Rattle.vd_transfer.specs.Refinement.{refining_condition_holds, kept_left, kept_right};
+ghost use Rattle.value_domain.specs.Meets.{cover_of_meet};
 ghost use Rattle.vd_transfer.specs.Relations.{relation_of};
-ghost use Rattle.vd_transfer.specs.Signs.{is_signed};
-ghost use Rattle.vd_transfer.specs.Branches.{self_holds, is_reg, refine_of, possible, with_one, with_two, state_on_side, with_lowered_counter};
+ghost use Rattle.vd_transfer.specs.Branches.{self_holds, refine_of, possible_side, side_with_register, side_with_operands, state_on_side, with_lowered_counter};
 ghost use Rattle.vd_transfer.specs.Registers.{reg_of, arg_of, write_reg};
 ghost use Rattle.vd_transfer.specs.Operations.{value_of};
 ghost use Rattle.vd_transfer.specs.Changes.{state_after};
 
 use crate::change::{Change, write_last};
 use crate::changed_states::changed_reg;
-use crate::operands::{arg, arg_word, constant};
-use crate::operations::{operation, write_word};
-use crate::refinement::{Relation, narrow_left, narrow_two};
+use crate::operands::{arg, arg_word, constant_operand, is_same_operand, write_constant};
+use crate::operations::operation;
+use crate::refinement::{Relation, refine_both_operands, refine_left_operand};
 use crate::registers::{reg_in, reg_value, slot_of};
 use tc_isa::{Arg, Cond, Op, Shape, taken};
 use tcd_plan::Plan;
@@ -35,7 +34,7 @@ pub(crate) struct Comparison {
 
 /// Returns the relation between the operands on a side of a condition.
 #[tactic(auto, unfolding(crate::specs::Relations::relation_of))]
-pub(crate) fn relation(cond: Cond, side: bool) -> Relation
+pub(crate) fn relation_on_side(cond: Cond, side: bool) -> Relation
     ensures { result ≡ relation_of cond side }
 {
     match cond {
@@ -70,20 +69,9 @@ pub(crate) fn relation(cond: Cond, side: bool) -> Relation
     }
 }
 
-/// Returns true if a condition is of the signed order.
-#[tactic(auto, unfolding(crate::specs::Signs::is_signed))]
-pub(crate) fn is_signed(cond: Cond) -> bool
-    ensures { result ≡ is_signed cond }
-{
-    match cond {
-        Cond::Lt | Cond::Ge => true,
-        Cond::Eq | Cond::Ne | Cond::LtU | Cond::GeU => false,
-    }
-}
-
-/// Returns true if a condition goes to the side for a word and itself.
+/// Returns true if the condition of a branch goes to the side for a word and itself.
 #[tactic(auto, unfolding(crate::specs::Branches::self_holds))]
-fn holds_itself(cond: Cond, side: bool) -> bool
+fn is_side_taken_by_same(cond: Cond, side: bool) -> bool
     ensures { result ≡ self_holds cond side }
 {
     match cond {
@@ -93,8 +81,8 @@ fn holds_itself(cond: Cond, side: bool) -> bool
 }
 
 /// Returns true if a condition goes to the side for two words.
-fn goes(cond: Cond, side: bool, x: u32, y: u32) -> bool
-    ensures { result ≡ holds cond side x y }
+fn is_side_taken(cond: Cond, side: bool, x: u32, y: u32) -> bool
+    ensures { result ≡ refining_condition_holds cond side x y }
 {
     if side {
         taken(cond, x, y)
@@ -103,19 +91,10 @@ fn goes(cond: Cond, side: bool, x: u32, y: u32) -> bool
     }
 }
 
-pub(crate) fn is_same(x: u8, y: Arg) -> bool
-    ensures { result ≡ is_reg x y }
-{
-    match y {
-        Arg::Reg(r) => x == r,
-        Arg::Word(_) => false,
-    }
-}
-
 // The functions below write the change of a side into the caller's `Change`, whatever it held.
 
 /// Narrows the register to the members that are possible. Returns false if there are none.
-pub(crate) fn narrow_one(
+pub(crate) fn narrow_side_register(
     b: &Bounds,
     test: Comparison,
     s: &State,
@@ -126,14 +105,14 @@ pub(crate) fn narrow_one(
     requires values { AreValues b.now s.now.regs }
     requires left { IsValue b.now v.now }
     requires right { IsValue b.now w.now }
-    ensures one { possible result (state_after s.now c.new)
-        ≡ with_one s.now test.x
-        (cover_some b.now (kept_left test.cond test.side (members v.now) (members w.now))) }
+    ensures one { possible_side result (state_after s.now c.new)
+        ≡ side_with_register s.now test.x
+        (cover_of_meet b.now (kept_left test.cond test.side (members v.now) (members w.now))) }
     ensures values { AreValues b.now (state_after s.now c.new).regs }
     ensures free { (c.new.second.at ≡ None) × (c.new.third.at ≡ None) }
 {
     c.keep(s);
-    if !narrow_left(b, test, v, w, &mut c.first.value) {
+    if !refine_left_operand(b, test, v, w, &mut c.first.value) {
         return false;
     }
     c.first.at = slot_of(test.x);
@@ -141,19 +120,26 @@ pub(crate) fn narrow_one(
 }
 
 /// Narrows the register of a comparison with a constant. Returns false if no member is possible.
-fn narrow_constant(b: &Bounds, test: Comparison, s: &State, v: &Val, z: u32, c: &mut Change) -> bool
+fn narrow_side_by_constant(
+    b: &Bounds,
+    test: Comparison,
+    s: &State,
+    v: &Val,
+    z: u32,
+    c: &mut Change,
+) -> bool
     requires values { AreValues b.now s.now.regs }
     requires left { IsValue b.now v.now }
-    ensures two { possible result (state_after s.now c.new)
-        ≡ with_two s.now test.x (Word z)
-        (cover_some b.now (kept_left test.cond test.side (members v.now) (z ∷ [])))
-        (cover_some b.now (kept_right test.cond test.side (members v.now) (z ∷ []))) }
+    ensures two { possible_side result (state_after s.now c.new)
+        ≡ side_with_operands s.now test.x (Word z)
+        (cover_of_meet b.now (kept_left test.cond test.side (members v.now) (z ∷ [])))
+        (cover_of_meet b.now (kept_right test.cond test.side (members v.now) (z ∷ []))) }
     ensures values { AreValues b.now (state_after s.now c.new).regs }
     ensures free { c.new.third.at ≡ None }
 {
     c.keep(s);
-    write_word(b, z, &mut c.second.value);
-    if !narrow_left(b, test, v, &c.second.value, &mut c.first.value) {
+    write_constant(b, z, &mut c.second.value);
+    if !refine_left_operand(b, test, v, &c.second.value, &mut c.first.value) {
         return false;
     }
     c.first.at = slot_of(test.x);
@@ -163,79 +149,93 @@ fn narrow_constant(b: &Bounds, test: Comparison, s: &State, v: &Val, z: u32, c: 
 /// Narrows operands whose values have to be built. Returns false if the side isn't possible. It is
 /// a function of its own, so that its callers need no stack for the values.
 #[inline(never)]
-fn narrow_made(b: &Bounds, plan: &Plan, test: Comparison, s: &State, c: &mut Change) -> bool
+fn narrow_side_of_built(
+    b: &Bounds,
+    plan: &Plan,
+    test: Comparison,
+    s: &State,
+    c: &mut Change,
+) -> bool
     requires operands { (test.x < 32) × IsArg test.y }
     requires values { AreValues b.now s.now.regs }
-    ensures two { possible result (state_after s.now c.new)
-        ≡ with_two s.now test.x test.y
-        (cover_some b.now (kept_left test.cond test.side (members (reg_of plan.now s.now test.x))
+    ensures two { possible_side result (state_after s.now c.new)
+        ≡ side_with_operands s.now test.x test.y
+        (cover_of_meet b.now (kept_left test.cond test.side (members (reg_of plan.now s.now test.x))
         (members (arg_of plan.now s.now test.y))))
-        (cover_some b.now (kept_right test.cond test.side (members (reg_of plan.now s.now test.x))
+        (cover_of_meet b.now (kept_right test.cond test.side
+        (members (reg_of plan.now s.now test.x))
         (members (arg_of plan.now s.now test.y)))) }
     ensures values { AreValues b.now (state_after s.now c.new).regs }
     ensures free { c.new.third.at ≡ None }
 {
     let v = reg_value(b, plan, s, test.x);
-    narrow_two(b, test, s, &v, &arg(b, plan, s, test.y), c)
+    refine_both_operands(b, test, s, &v, &arg(b, plan, s, test.y), c)
 }
 
 /// Narrows operands by the state's own values if it has them. Returns false if the side isn't
 /// possible.
-fn narrow_values(b: &Bounds, plan: &Plan, test: Comparison, s: &State, c: &mut Change) -> bool
+fn narrow_side_by_values(
+    b: &Bounds,
+    plan: &Plan,
+    test: Comparison,
+    s: &State,
+    c: &mut Change,
+) -> bool
     requires operands { (test.x < 32) × IsArg test.y }
     requires values { AreValues b.now s.now.regs }
-    ensures two { possible result (state_after s.now c.new)
-        ≡ with_two s.now test.x test.y
-        (cover_some b.now (kept_left test.cond test.side (members (reg_of plan.now s.now test.x))
+    ensures two { possible_side result (state_after s.now c.new)
+        ≡ side_with_operands s.now test.x test.y
+        (cover_of_meet b.now (kept_left test.cond test.side (members (reg_of plan.now s.now test.x))
         (members (arg_of plan.now s.now test.y))))
-        (cover_some b.now (kept_right test.cond test.side (members (reg_of plan.now s.now test.x))
+        (cover_of_meet b.now (kept_right test.cond test.side
+        (members (reg_of plan.now s.now test.x))
         (members (arg_of plan.now s.now test.y)))) }
     ensures values { AreValues b.now (state_after s.now c.new).regs }
     ensures free { c.new.third.at ≡ None }
 {
     match reg_in(b, plan, s, test.x) {
         Some(v) => match test.y {
-            Arg::Word(z) => narrow_constant(b, test, s, v, z, c),
+            Arg::Word(z) => narrow_side_by_constant(b, test, s, v, z, c),
             Arg::Reg(r) => match reg_in(b, plan, s, r) {
-                Some(w) => narrow_two(b, test, s, v, w, c),
-                None => narrow_made(b, plan, test, s, c),
+                Some(w) => refine_both_operands(b, test, s, v, w, c),
+                None => narrow_side_of_built(b, plan, test, s, c),
             },
         },
-        None => narrow_made(b, plan, test, s, c),
+        None => narrow_side_of_built(b, plan, test, s, c),
     }
 }
 
 /// Writes the change on a side of a condition, and returns whether the side is possible. A
 /// comparison of two constants changes nothing.
-fn narrow_by(b: &Bounds, plan: &Plan, test: Comparison, s: &State, c: &mut Change) -> bool
+fn narrow_on_side(b: &Bounds, plan: &Plan, test: Comparison, s: &State, c: &mut Change) -> bool
     requires operands { (test.x < 32) × IsArg test.y }
     requires values { AreValues b.now s.now.regs }
-    ensures refined { possible result (state_after s.now c.new)
+    ensures refined { possible_side result (state_after s.now c.new)
         ≡ state_on_side b.now plan.now test.cond test.x test.y s.now test.side }
     ensures values { AreValues b.now (state_after s.now c.new).regs }
     ensures free { c.new.third.at ≡ None }
 {
     let _most_words = b.most_words();
     let _globals = &plan.globals;
-    if is_same(test.x, test.y) {
+    if is_same_operand(test.x, test.y) {
         c.keep(s);
-        return holds_itself(test.cond, test.side);
+        return is_side_taken_by_same(test.cond, test.side);
     }
     match arg_word(b, plan, s, Arg::Reg(test.x)) {
         Some(x) => match arg_word(b, plan, s, test.y) {
             Some(y) => {
                 c.keep(s);
-                goes(test.cond, test.side, x, y)
+                is_side_taken(test.cond, test.side, x, y)
             }
-            None => narrow_values(b, plan, test, s, c),
+            None => narrow_side_by_values(b, plan, test, s, c),
         },
-        None => narrow_values(b, plan, test, s, c),
+        None => narrow_side_by_values(b, plan, test, s, c),
     }
 }
 
 /// Decrements a register by 1.
 #[inline(never)]
-fn lower(b: &Bounds, plan: &Plan, x: u8, s: &State, c: &mut Change)
+fn lower_branch_register(b: &Bounds, plan: &Plan, x: u8, s: &State, c: &mut Change)
     requires register { x < 32 }
     requires values { AreValues b.now (state_after s.now c.old).regs }
     requires free { c.old.third.at ≡ None }
@@ -245,12 +245,12 @@ fn lower(b: &Bounds, plan: &Plan, x: u8, s: &State, c: &mut Change)
     ensures values { AreValues b.now (state_after s.now c.new).regs }
 {
     let v = changed_reg(b, plan, s, c, x);
-    operation(b, Op::Sub, &v, &constant(b, 1), &mut c.third.value);
+    operation(b, Op::Sub, &v, &constant_operand(b, 1), &mut c.third.value);
     write_last(b, s, c, x);
 }
 
 /// Decrements the register of a loop by 1.
-fn lower_counter(b: &Bounds, plan: &Plan, x: u8, lowers: bool, s: &State, c: &mut Change)
+fn lower_branch_counter(b: &Bounds, plan: &Plan, x: u8, lowers: bool, s: &State, c: &mut Change)
     requires register { x < 32 }
     requires values { AreValues b.now (state_after s.now c.old).regs }
     requires free { c.old.third.at ≡ None }
@@ -259,7 +259,7 @@ fn lower_counter(b: &Bounds, plan: &Plan, x: u8, lowers: bool, s: &State, c: &mu
     ensures values { AreValues b.now (state_after s.now c.new).regs }
 {
     if lowers {
-        lower(b, plan, x, s, c);
+        lower_branch_register(b, plan, x, s, c);
     }
 }
 
@@ -274,15 +274,15 @@ fn change_by(
 ) -> bool
     requires operands { (test.x < 32) × IsArg test.y }
     requires values { AreValues b.now s.now.regs }
-    ensures refine { possible result (state_after s.now c.new)
+    ensures refine { possible_side result (state_after s.now c.new)
         ≡ with_lowered_counter b.now plan.now test.x lowers
         (state_on_side b.now plan.now test.cond test.x test.y s.now test.side) }
     ensures values { AreValues b.now (state_after s.now c.new).regs }
 {
-    if !narrow_by(b, plan, test, s, c) {
+    if !narrow_on_side(b, plan, test, s, c) {
         return false;
     }
-    lower_counter(b, plan, test.x, lowers, s, c);
+    lower_branch_counter(b, plan, test.x, lowers, s, c);
     true
 }
 
@@ -299,7 +299,7 @@ pub fn change_on(
 ) -> bool
     requires shape { IsShape shape }
     requires values { AreValues b.now s.now.regs }
-    ensures refine { possible result (state_after s.now c.new)
+    ensures refine { possible_side result (state_after s.now c.new)
         ≡ refine_of b.now plan.now shape s.now side }
     ensures values { AreValues b.now (state_after s.now c.new).regs }
 {

@@ -1,22 +1,12 @@
 // Changes: what an instruction changes of a state.
-ghost use Rattle.std.specs.Prelude.{◌≡◌, ◌&&◌, not, None, true};
+ghost use Rattle.std.specs.Prelude.{◌≡◌, ◌&&◌, not, None};
 ghost use Rattle.value_domain.specs.Values.{IsValue};
 ghost use Rattle.value_domain.specs.State.{AreValues};
-ghost use Rattle.vd_transfer.specs.Registers.{slot, is_lower, write_reg};
+ghost use Rattle.vd_transfer.specs.Registers.{slot, is_lower_register, write_reg};
 ghost use Rattle.vd_transfer.specs.Changes.{state_after, no_put, reg_put, kept_of};
-ghost use Rattle.tc_isa.specs.InBounds.{IsShape};
-ghost use Rattle.vd_transfer.specs.EffectsOnStates.{HasRoom, transfer_of, HasLoaded};
 
-use crate::access::Addressing;
-use crate::effect::{
-    ScaledAddress, begin_isr, compute, increase_base, load_into, put_any, restore_lower,
-    save_lower, scale, set_enable,
-};
-use crate::operands::Operation;
 use crate::registers::slot_of;
 use arrayvec::ArrayVec;
-use tc_isa::Shape;
-use tcd_plan::Plan;
 use value_domain::{Bounds, State, Val, copy_locals};
 
 /// The values that a change starts from.
@@ -51,9 +41,9 @@ pub struct Change {
     pub locals: ArrayVec<bool, 8>,
 }
 
-/// Returns a put that changes nothing.
+/// Returns a put of a change that changes nothing: a value for no place of a state.
 #[inline(always)]
-pub(crate) fn no_value() -> Put
+pub(crate) fn empty_put() -> Put
     ensures { result ≡ no_put }
 {
     Put {
@@ -82,9 +72,9 @@ pub fn unchanged(s: &State) -> Change
 {
     Change {
         base: Base::Same,
-        first: no_value(),
-        second: no_value(),
-        third: no_value(),
+        first: empty_put(),
+        second: empty_put(),
+        third: empty_put(),
         ie: s.ie,
         ccpn: s.ccpn,
         lower: s.lower,
@@ -117,14 +107,14 @@ impl Change {
 #[inline(always)]
 pub(crate) fn put_for(put: &mut Put, mark: &mut bool, r: u8)
     ensures put { put.new ≡ record put.old { at = slot r } }
-    ensures mark { mark.new ≡ (mark.old && not (is_lower r)) }
+    ensures mark { mark.new ≡ (mark.old && not (is_lower_register r)) }
 {
     let lower = r < 8 || 18 <= r && r <= 23;
     put.at = slot_of(r);
     *mark = *mark && !lower;
 }
 
-/// Writes a register last, with the third value.
+/// Completes a change with its last put: the third value goes to a register.
 #[inline(always)]
 pub(crate) fn write_last(b: &Bounds, s: &State, c: &mut Change, r: u8)
     requires values { AreValues b.now (state_after s.now c.old).regs }
@@ -135,58 +125,4 @@ pub(crate) fn write_last(b: &Bounds, s: &State, c: &mut Change, r: u8)
     ensures values { AreValues b.now (state_after s.now c.new).regs }
 {
     put_for(&mut c.third, &mut c.lower, r);
-}
-
-/// Writes into `c` what an instruction of this shape changes. The instruction stays in its frame
-/// and isn't a branch or a jump.
-/// A load writes the third value of `c` to its register; all else that `c` held is ignored.
-/// An instruction that saves a lower context needs room for a local, one that restores one needs a
-/// local.
-#[tactic(auto, unfolding(crate::specs::EffectsOnStates::transfer_of))]
-pub fn change_of(b: &Bounds, plan: &Plan, shape: Shape, s: &State, c: &mut Change)
-    requires shape { IsShape shape }
-    requires values { AreValues b.now s.now.regs }
-    requires loaded { HasLoaded b.now shape c.old.third.value }
-    requires room { HasRoom b.now shape s.now }
-    ensures change { state_after s.now c.new
-        ≡ transfer_of b.now plan.now shape s.now c.old.third.value }
-    ensures values { AreValues b.now (state_after s.now c.new).regs }
-{
-    let _most_locals = b.most_locals();
-    match shape {
-        Shape::Compute { op, dst, x, y } => compute(b, plan, s, dst, Operation { op, x, y }, c),
-        Shape::Scaled {
-            dst,
-            base,
-            index,
-            n,
-        } => scale(b, plan, s, dst, ScaledAddress { base, index, n }, c),
-        Shape::Load {
-            dst,
-            base,
-            offset,
-            after,
-            ..
-        } => load_into(b, plan, s, Addressing::by(base, offset, after), dst, c),
-        Shape::Store {
-            base,
-            offset,
-            after,
-            ..
-        } => increase_base(b, plan, s, Addressing::by(base, offset, after), c),
-        Shape::Svlcx => save_lower(s, c),
-        Shape::Rslcx => restore_lower(b, s, c),
-        Shape::Bisr { c: number } => begin_isr(s, number, c),
-        Shape::Enable => set_enable(s, true, c),
-        Shape::Disable => set_enable(s, false, c),
-        Shape::Mfcr { dst, .. } => put_any(b, s, dst, c),
-        Shape::Branch { .. } => c.keep(s),
-        Shape::Jump { .. } => c.keep(s),
-        Shape::Call { .. } => c.keep(s),
-        Shape::Ret => c.keep(s),
-        Shape::Rfe => c.keep(s),
-        Shape::Syscall { .. } => c.keep(s),
-        Shape::Mtcr { .. } => c.keep(s),
-        Shape::Nothing => c.keep(s),
-    }
 }

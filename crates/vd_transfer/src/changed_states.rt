@@ -7,12 +7,13 @@ ghost use Rattle.vd_transfer.specs.Registers.{reg_of};
 ghost use Rattle.vd_transfer.specs.Changes.{base_of, state_after};
 
 use crate::change::{Base, Change, Put};
-use crate::registers::{fixed, is_lower_slot, slot_of};
+use crate::registers::{fixed_register_value, is_lower_slot, slot_of};
 use tcd_plan::Plan;
-use value_domain::{Bounds, State, Val, are_implied, covers_context, leq};
+use value_domain::{Bounds, State, Val, are_flags_implied, covers_context, leq};
 
+/// Returns true if the put changes the value at this place of a state.
 #[inline(always)]
-fn is_at(put: &Put, i: usize) -> bool
+fn is_changed_at(put: &Put, i: usize) -> bool
     ensures { IsTrue result ↔ (put.now.at ≡ Some i) }
 {
     match put.at {
@@ -23,7 +24,7 @@ fn is_at(put: &Put, i: usize) -> bool
 
 /// Returns the value that a change starts from at a place.
 #[inline(always)]
-fn base_value<'a>(s: &'a State, base: Base, any: &'a Val, i: usize) -> &'a Val
+fn changed_base_value<'a>(s: &'a State, base: Base, any: &'a Val, i: usize) -> &'a Val
     requires place { i < 27 }
     requires any { any.now ≡ any_val }
     ensures { result.now ≡ slice_index_or (base_of base s.now.regs) i any_val }
@@ -45,16 +46,16 @@ pub fn changed_value<'a>(s: &'a State, c: &'a Change, any: &'a Val, i: usize) ->
     ensures { result.now ≡ slice_index_or (state_after s.now c.now).regs i any_val }
 {
     let _regs = &s.regs[..];
-    if is_at(&c.third, i) {
+    if is_changed_at(&c.third, i) {
         return &c.third.value;
     }
-    if is_at(&c.second, i) {
+    if is_changed_at(&c.second, i) {
         return &c.second.value;
     }
-    if is_at(&c.first, i) {
+    if is_changed_at(&c.first, i) {
         return &c.first.value;
     }
-    base_value(s, c.base, any, i)
+    changed_base_value(s, c.base, any, i)
 }
 
 /// Returns the value of a register in a changed state.
@@ -68,11 +69,12 @@ pub(crate) fn changed_reg(b: &Bounds, plan: &Plan, s: &State, c: &Change, r: u8)
     let _globals = &plan.globals;
     match slot_of(r) {
         Some(i) => changed_value(s, c, &Val::any(), i).copy(),
-        None => fixed(plan, r),
+        None => fixed_register_value(plan, r),
     }
 }
 
-fn are_below(s: &State, c: &Change, high: &[Val; 27]) -> bool
+/// Returns true if the values of the changed state are below these, each at its place.
+fn are_changed_below(s: &State, c: &Change, high: &[Val; 27]) -> bool
     requires low { AreWell (state_after s.now c.now).regs }
     requires high { AreWell high.now }
     ensures { IsTrue result ↔ AreBelow (state_after s.now c.now).regs high.now }
@@ -96,8 +98,8 @@ pub fn covers_changed(upper: &State, s: &State, c: &Change) -> bool
     if !covers_context(upper, c.ie, c.ccpn, c.lower) {
         return false;
     }
-    if !are_implied(upper.locals.as_slice(), c.locals.as_slice()) {
+    if !are_flags_implied(upper.locals.as_slice(), c.locals.as_slice()) {
         return false;
     }
-    are_below(s, c, &upper.regs)
+    are_changed_below(s, c, &upper.regs)
 }

@@ -2,11 +2,11 @@
 ghost use Rattle.std.specs.Prelude.{◌≡◌, ◌<◌, ◌≤◌, length, true, None};
 ghost use Rattle.value_domain.specs.Values.{IsValue, any_val, word_val};
 ghost use Rattle.value_domain.specs.State.{AreValues};
-ghost use Rattle.tc_isa.specs.InBounds.{IsArg};
+ghost use Rattle.tc_isa.specs.InBounds.{IsArg, IsShape};
 ghost use Rattle.tc_isa.specs.declared.shapes.Op.TheVariants.{Add, Sh};
 ghost use Rattle.vd_transfer.specs.Operations.{value_of};
 ghost use Rattle.vd_transfer.specs.Registers.{reg_of, arg_of, write_reg};
-ghost use Rattle.vd_transfer.specs.EffectsOnStates.{with_base, saved_lower, restored_lower};
+ghost use Rattle.vd_transfer.specs.EffectsOnStates.{with_base, saved_lower, restored_lower, EffectHasRoom, transfer_of, EffectLoadsValue};
 ghost use Rattle.vd_transfer.specs.Changes.{state_after};
 
 use crate::access::Addressing;
@@ -14,7 +14,7 @@ use crate::change::{Base, Change, put_for, write_last};
 use crate::operands::Operation;
 use crate::operations::{operate, operation};
 use crate::registers::reg_value;
-use tc_isa::{Arg, Op};
+use tc_isa::{Arg, Op, Shape};
 use tcd_plan::Plan;
 use value_domain::{Bounds, State, write_any};
 
@@ -28,7 +28,15 @@ pub(crate) struct ScaledAddress {
 
 // Each function below writes into the caller's `Change`, which isn't moved.
 
-pub(crate) fn compute(b: &Bounds, plan: &Plan, s: &State, dst: u8, of: Operation, c: &mut Change)
+/// Writes the change by an operation whose result goes to a register.
+pub(crate) fn effect_of_operation(
+    b: &Bounds,
+    plan: &Plan,
+    s: &State,
+    dst: u8,
+    of: Operation,
+    c: &mut Change,
+)
     requires operands { IsArg of.x × IsArg of.y }
     requires values { AreValues b.now s.now.regs }
     ensures write { state_after s.now c.new
@@ -42,9 +50,17 @@ pub(crate) fn compute(b: &Bounds, plan: &Plan, s: &State, dst: u8, of: Operation
     operate(b, plan, s, of, &mut c.second.value);
 }
 
-/// Writes a base plus a shifted index to a register.
+/// Writes the change by an instruction that computes a scaled address: a base plus a shifted index
+/// goes to a register.
 #[inline(never)]
-pub(crate) fn scale(b: &Bounds, plan: &Plan, s: &State, dst: u8, at: ScaledAddress, c: &mut Change)
+pub(crate) fn effect_of_scaled_address(
+    b: &Bounds,
+    plan: &Plan,
+    s: &State,
+    dst: u8,
+    at: ScaledAddress,
+    c: &mut Change,
+)
     requires registers { (at.base < 32) × (at.index < 32) }
     requires values { AreValues b.now s.now.regs }
     ensures write { state_after s.now c.new
@@ -70,8 +86,9 @@ pub(crate) fn scale(b: &Bounds, plan: &Plan, s: &State, dst: u8, at: ScaledAddre
     );
 }
 
-/// Increases the base register by the offset, if the access does that.
-pub(crate) fn increase_base(b: &Bounds, plan: &Plan, s: &State, at: Addressing, c: &mut Change)
+/// Writes the change by a store, or by a load before its result: the base register is increased by
+/// the offset, if the access does that.
+pub(crate) fn effect_on_base(b: &Bounds, plan: &Plan, s: &State, at: Addressing, c: &mut Change)
     requires base { IsArg at.base }
     requires values { AreValues b.now s.now.regs }
     ensures base { state_after s.now c.new
@@ -89,13 +106,21 @@ pub(crate) fn increase_base(b: &Bounds, plan: &Plan, s: &State, at: Addressing, 
         y: Arg::Word(at.offset),
     };
     match at.base {
-        Arg::Reg(r) => compute(b, plan, s, r, of, c),
+        Arg::Reg(r) => effect_of_operation(b, plan, s, r, of, c),
         Arg::Word(_) => c.keep(s),
     }
 }
 
-/// Writes what was loaded, the third value, to a register.
-pub(crate) fn load_into(b: &Bounds, plan: &Plan, s: &State, at: Addressing, dst: u8, c: &mut Change)
+/// Writes the change by a load: the base is increased if the access does that, and what was loaded,
+/// the third value, goes to a register.
+pub(crate) fn effect_of_load(
+    b: &Bounds,
+    plan: &Plan,
+    s: &State,
+    at: Addressing,
+    dst: u8,
+    c: &mut Change,
+)
     requires base { IsArg at.base }
     requires values { AreValues b.now s.now.regs }
     requires loaded { IsValue b.now c.old.third.value }
@@ -104,12 +129,12 @@ pub(crate) fn load_into(b: &Bounds, plan: &Plan, s: &State, at: Addressing, dst:
         c.old.third.value }
     ensures values { AreValues b.now (state_after s.now c.new).regs }
 {
-    increase_base(b, plan, s, at, c);
+    effect_on_base(b, plan, s, at, c);
     write_last(b, s, c, dst);
 }
 
 /// Writes the value that holds all words to a register.
-pub(crate) fn put_any(b: &Bounds, s: &State, dst: u8, c: &mut Change)
+pub(crate) fn effect_of_any_value(b: &Bounds, s: &State, dst: u8, c: &mut Change)
     requires { AreValues b.now s.now.regs }
     ensures write { state_after s.now c.new ≡ write_reg s.now dst any_val }
     ensures values { AreValues b.now (state_after s.now c.new).regs }
@@ -121,7 +146,7 @@ pub(crate) fn put_any(b: &Bounds, s: &State, dst: u8, c: &mut Change)
 }
 
 /// Saves a lower context: the mark that the lower registers are those of the entry becomes a local.
-pub(crate) fn save_lower(s: &State, c: &mut Change)
+pub(crate) fn effect_of_lower_save(s: &State, c: &mut Change)
     requires { length s.now.locals.items < 8 }
     ensures { state_after s.now c.new ≡ saved_lower s.now }
 {
@@ -129,17 +154,18 @@ pub(crate) fn save_lower(s: &State, c: &mut Change)
     c.locals.push(s.lower);
 }
 
-pub(crate) fn begin_isr(s: &State, number: u8, c: &mut Change)
+/// Writes the change by BISR: it saves a lower context, enables interrupts and sets CCPN.
+pub(crate) fn effect_of_bisr(s: &State, number: u8, c: &mut Change)
     requires { length s.now.locals.items < 8 }
     ensures { state_after s.now c.new ≡ record (saved_lower s.now) { ie = true; ccpn = number } }
 {
-    save_lower(s, c);
+    effect_of_lower_save(s, c);
     c.ie = true;
     c.ccpn = number;
 }
 
-/// Restores the last lower context.
-pub(crate) fn restore_lower(b: &Bounds, s: &State, c: &mut Change)
+/// Writes the change by an instruction that restores the last lower context.
+pub(crate) fn effect_of_lower_restore(b: &Bounds, s: &State, c: &mut Change)
     requires some { 1 ≤ length s.now.locals.items }
     requires values { AreValues b.now s.now.regs }
     ensures restored { state_after s.now c.new ≡ restored_lower s.now }
@@ -153,9 +179,71 @@ pub(crate) fn restore_lower(b: &Bounds, s: &State, c: &mut Change)
     c.base = Base::Forgotten;
 }
 
-pub(crate) fn set_enable(s: &State, ie: bool, c: &mut Change)
+/// Writes the change by ENABLE or DISABLE: it only sets IE.
+pub(crate) fn effect_of_enable(s: &State, ie: bool, c: &mut Change)
     ensures { state_after s.now c.new ≡ record s.now { ie = ie } }
 {
     c.keep(s);
     c.ie = ie;
+}
+
+/// Writes into `c` what an instruction of this shape changes. The instruction stays in its frame
+/// and isn't a branch or a jump.
+/// A load writes the third value of `c` to its register; all else that `c` held is ignored.
+/// An instruction that saves a lower context needs room for a local, one that restores one needs a
+/// local.
+#[tactic(auto, unfolding(crate::specs::EffectsOnStates::transfer_of))]
+pub fn change_of(b: &Bounds, plan: &Plan, shape: Shape, s: &State, c: &mut Change)
+    requires shape { IsShape shape }
+    requires values { AreValues b.now s.now.regs }
+    requires loaded { EffectLoadsValue b.now shape c.old.third.value }
+    requires room { EffectHasRoom b.now shape s.now }
+    ensures change { state_after s.now c.new
+        ≡ transfer_of b.now plan.now shape s.now c.old.third.value }
+    ensures values { AreValues b.now (state_after s.now c.new).regs }
+{
+    let _most_locals = b.most_locals();
+    match shape {
+        Shape::Compute { op, dst, x, y } => effect_of_operation(
+            b,
+            plan,
+            s,
+            dst,
+            Operation { op, x, y },
+            c,
+        ),
+        Shape::Scaled {
+            dst,
+            base,
+            index,
+            n,
+        } => effect_of_scaled_address(b, plan, s, dst, ScaledAddress { base, index, n }, c),
+        Shape::Load {
+            dst,
+            base,
+            offset,
+            after,
+            ..
+        } => effect_of_load(b, plan, s, Addressing::by(base, offset, after), dst, c),
+        Shape::Store {
+            base,
+            offset,
+            after,
+            ..
+        } => effect_on_base(b, plan, s, Addressing::by(base, offset, after), c),
+        Shape::Svlcx => effect_of_lower_save(s, c),
+        Shape::Rslcx => effect_of_lower_restore(b, s, c),
+        Shape::Bisr { c: number } => effect_of_bisr(s, number, c),
+        Shape::Enable => effect_of_enable(s, true, c),
+        Shape::Disable => effect_of_enable(s, false, c),
+        Shape::Mfcr { dst, .. } => effect_of_any_value(b, s, dst, c),
+        Shape::Branch { .. } => c.keep(s),
+        Shape::Jump { .. } => c.keep(s),
+        Shape::Call { .. } => c.keep(s),
+        Shape::Ret => c.keep(s),
+        Shape::Rfe => c.keep(s),
+        Shape::Syscall { .. } => c.keep(s),
+        Shape::Mtcr { .. } => c.keep(s),
+        Shape::Nothing => c.keep(s),
+    }
 }

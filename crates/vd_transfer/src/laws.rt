@@ -1,13 +1,13 @@
 // Laws of operations, refinement and effects.
-ghost use Rattle.vd_transfer.specs.Soundness.{AddressHolds, BranchHolds, RestoreHolds, TransferHolds, AreSound};
-ghost use Rattle.vd_transfer.specs.OperationLaws.{AreMonotone};
+ghost use Rattle.vd_transfer.specs.Soundness.{AddressIsSound, BranchIsSound, RestoreIsSound, TransferIsSound};
+ghost use Rattle.vd_transfer.specs.OperationLaws.{OperationsAreSound, OperationsAreMonotone};
 ghost use Rattle.vd_transfer.specs.Refinement.{AreRefined};
 
 /// The laws of operations: each result is a member of the operation's value, and smaller operands
 /// give a smaller value.
 pub fn operation_laws()
-    ensures sound { AreSound }
-    ensures monotone { AreMonotone }
+    ensures sound { OperationsAreSound }
+    ensures monotone { OperationsAreMonotone }
 {}
 
 /// The laws of refinement, by unsigned and by signed comparisons: it keeps each word for which the
@@ -19,8 +19,8 @@ pub fn refinement_laws()
 /// The laws of effects: if a state holds the words of registers, the changed state holds the words
 /// after the instruction. The side that a branch takes is possible.
 pub fn effect_laws()
-    ensures transfer { TransferHolds }
-    ensures restore { RestoreHolds }
-    ensures branch { BranchHolds }
-    ensures address { AddressHolds }
+    ensures transfer { TransferIsSound }
+    ensures restore { RestoreIsSound }
+    ensures branch { BranchIsSound }
+    ensures address { AddressIsSound }
 {}

@@ -16,8 +16,9 @@ mod strided_interval;
 
 pub use access::{address_by, write_address};
 pub use branch_sides::change_on;
-pub use change::{Base, Change, Put, change_of, put_register, unchanged};
+pub use change::{Base, Change, Put, put_register, unchanged};
 pub use changed_states::{changed_value, covers_changed};
+pub use effect::change_of;
 pub use laws::{effect_laws, operation_laws, refinement_laws};
 pub use operands::arg_word;
-pub use registers::{A10, is_lower_slot, only_word, reg};
+pub use registers::{A10, is_lower_slot, only_register_word, reg};

@@ -3,13 +3,14 @@ ghost use Rattle.std.specs.Prelude.{◌≡◌, ◌<◌, IfSome};
 ghost use Rattle.value_domain.specs.Values.{IsValue, word_val};
 ghost use Rattle.value_domain.specs.State.{AreValues};
 ghost use Rattle.tc_isa.specs.InBounds.{IsArg};
-ghost use Rattle.vd_transfer.specs.Registers.{arg_of, arg_slot};
+ghost use Rattle.vd_transfer.specs.Registers.{arg_of, arg_slot, is_operand_register};
+ghost use Rattle.tc_isa.specs.declared.shapes.Arg.TheVariants.{Word};
 
 use crate::operations::operation;
-use crate::registers::{only_word, reg_in, reg_value, slot_of};
+use crate::registers::{only_register_word, reg_in, reg_value, slot_of};
 use tc_isa::{Arg, Op};
 use tcd_plan::Plan;
-use value_domain::{Bounds, State, Val, copy_to};
+use value_domain::{Bounds, State, Val, copy_to, set_word};
 
 /// An operation and its operands.
 #[derive(Clone, Copy)]
@@ -54,7 +55,7 @@ pub fn arg_word(b: &Bounds, plan: &Plan, s: &State, a: Arg) -> Option<u32>
     let _most_words = b.most_words();
     match a {
         Arg::Reg(r) => match reg_in(b, plan, s, r) {
-            Some(v) => only_word(v),
+            Some(v) => only_register_word(v),
             None => None,
         },
         Arg::Word(w) => Some(w),
@@ -63,7 +64,7 @@ pub fn arg_word(b: &Bounds, plan: &Plan, s: &State, a: Arg) -> Option<u32>
 
 /// Returns the value of a constant.
 #[inline(always)]
-pub(crate) fn constant(b: &Bounds, w: u32) -> Val
+pub(crate) fn constant_operand(b: &Bounds, w: u32) -> Val
     ensures word { result ≡ word_val w }
     ensures value { IsValue b.now result }
 {
@@ -82,7 +83,7 @@ pub(crate) fn arg(b: &Bounds, plan: &Plan, s: &State, a: Arg) -> Val
 {
     match a {
         Arg::Reg(r) => reg_value(b, plan, s, r),
-        Arg::Word(w) => constant(b, w),
+        Arg::Word(w) => constant_operand(b, w),
     }
 }
 
@@ -109,4 +110,24 @@ fn write_made(b: &Bounds, plan: &Plan, s: &State, a: Arg, out: &mut Val)
     ensures value { IsValue b.now out.new }
 {
     *out = arg(b, plan, s, a);
+}
+
+/// Returns true if the operand is this register.
+pub(crate) fn is_same_operand(x: u8, y: Arg) -> bool
+    ensures { result ≡ is_operand_register x y }
+{
+    match y {
+        Arg::Reg(r) => x == r,
+        Arg::Word(_) => false,
+    }
+}
+
+/// Overwrites a value with that of one word.
+#[inline(always)]
+pub(crate) fn write_constant(b: &Bounds, x: u32, out: &mut Val)
+    ensures word { out.new ≡ word_val x }
+    ensures value { IsValue b.now out.new }
+{
+    let _most_words = b.most_words();
+    set_word(out, x);
 }

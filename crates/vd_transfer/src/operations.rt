@@ -1,30 +1,20 @@
 // The value of an operation on two values, or on two operands.
 ghost use Rattle.std.specs.Prelude.{◌≡◌, ◌≤◌, ◌<◌, ◌+◌, length, ◌++◌, ◌∷◌, map, IsNone};
-ghost use Rattle.value_domain.specs.Values.{IsValue, cover, members, words_of, word_val};
+ghost use Rattle.value_domain.specs.Values.{IsValue, cover, members, words_of};
 ghost use Rattle.tc_isa.specs.Arithmetic.{alu_of};
-ghost use Rattle.vd_transfer.specs.Operations.{results, row, pairs, HasMet, value_of, gives_truth};
+ghost use Rattle.vd_transfer.specs.Operations.{results, operation_row, pairs, HasMetResults, value_of, gives_truth};
 ghost use Rattle.vd_transfer.specs.Registers.{arg_of};
 ghost use Rattle.value_domain.specs.State.{AreValues};
 ghost use Rattle.tc_isa.specs.InBounds.{IsArg};
 
-use crate::operands::{Operation, arg, arg_in, arg_word};
+use crate::operands::{Operation, arg, arg_in, arg_word, write_constant};
 use crate::strided_interval::interval_of_row;
 use tc_isa::{Op, alu};
 use tcd_plan::Plan;
 use value_domain::{
-    Bounds, State, Val, add_word, copy_to, extent_of, extent_with, is_set, set_word, write_cover,
+    Bounds, State, Val, add_word, copy_to, extent_of, extent_with, is_set, write_cover,
     write_cover_words, write_span,
 };
-
-/// Overwrites a value with that of one word.
-#[inline(always)]
-pub(crate) fn write_word(b: &Bounds, x: u32, out: &mut Val)
-    ensures word { out.new ≡ word_val x }
-    ensures value { IsValue b.now out.new }
-{
-    let _most_words = b.most_words();
-    set_word(out, x);
-}
 
 /// Overwrites a value with that of an operation.
 pub fn operation(b: &Bounds, op: Op, v: &Val, w: &Val, out: &mut Val)
@@ -36,9 +26,9 @@ pub fn operation(b: &Bounds, op: Op, v: &Val, w: &Val, out: &mut Val)
     match v {
         Val::Set(xs) => match w {
             Val::Set(ys) => all_pairs(b, op, xs.as_slice(), ys.as_slice(), out),
-            Val::Span { .. } => from_row(b, op, v, w, out),
+            Val::Span { .. } => write_operation_row(b, op, v, w, out),
         },
-        Val::Span { .. } => from_row(b, op, v, w, out),
+        Val::Span { .. } => write_operation_row(b, op, v, w, out),
     }
 }
 
@@ -53,7 +43,7 @@ fn all_pairs(b: &Bounds, op: Op, xs: &[u32], ys: &[u32], out: &mut Val)
 {
     let _most_words = b.most_words();
     if xs.len() == 1 && ys.len() == 1 {
-        write_word(b, alu(op, xs[0], ys[0]), out);
+        write_constant(b, alu(op, xs[0], ys[0]), out);
         return;
     }
     if ys.len() <= 64 / xs.len() {
@@ -71,7 +61,7 @@ fn few_pairs(b: &Bounds, op: Op, xs: &[u32], ys: &[u32], out: &mut Val)
     ensures value { IsValue b.now out.new }
 {
     let _most_words = b.most_words();
-    write_word(b, alu(op, xs[0], ys[0]), out);
+    write_constant(b, alu(op, xs[0], ys[0]), out);
     for x in xs {
         add_few(b, out, op, *x, ys);
     }
@@ -103,21 +93,21 @@ fn many_pairs(b: &Bounds, op: Op, xs: &[u32], ys: &[u32], out: &mut Val)
     let mut met = [first; 512];
     let mut eights = [first; 2048];
     let mut room = [0u32; 128];
-    write_word(b, first, out);
+    write_constant(b, first, out);
     let mut i = 0;
     while i < xs.len() && is_set(out) {
         let row = &mut room[..ys.len()];
-        fill(op, xs[i], ys, row);
-        add_row(b, out, &mut met, &mut eights, row);
+        fill_results(op, xs[i], ys, row);
+        add_result_row(b, out, &mut met, &mut eights, row);
         i += 1;
     }
     if i < xs.len() {
-        widen(b, out, op, &xs[i..], ys, &mut room[..ys.len()]);
+        widen_by_results(b, out, op, &xs[i..], ys, &mut room[..ys.len()]);
     }
 }
 
 /// Adds the results of all pairs to a Span, by the extent of all.
-fn widen(b: &Bounds, v: &mut Val, op: Op, xs: &[u32], ys: &[u32], row: &mut [u32])
+fn widen_by_results(b: &Bounds, v: &mut Val, op: Op, xs: &[u32], ys: &[u32], row: &mut [u32])
     requires span { IsNone (words_of v.old) }
     requires value { IsValue b.now v.old }
     requires room { length row.old ≡ length ys.now }
@@ -127,7 +117,7 @@ fn widen(b: &Bounds, v: &mut Val, op: Op, xs: &[u32], ys: &[u32], row: &mut [u32
     let _most_words = b.most_words();
     let mut e = extent_of(v);
     for x in xs {
-        fill(op, *x, ys, row);
+        fill_results(op, *x, ys, row);
         e = extent_with(&e, row);
     }
     write_span(b, e.least, e.greatest, e.step, v);
@@ -136,24 +126,30 @@ fn widen(b: &Bounds, v: &mut Val, op: Op, xs: &[u32], ys: &[u32], row: &mut [u32
 /// Adds words to a value, eight at a time, except eight that were added together lately. `met` has
 /// some of the value's words, those added lately; `eights` has words that were added eight at a
 /// time.
-fn add_row(b: &Bounds, v: &mut Val, met: &mut [u32; 512], eights: &mut [u32; 2048], words: &[u32])
+fn add_result_row(
+    b: &Bounds,
+    v: &mut Val,
+    met: &mut [u32; 512],
+    eights: &mut [u32; 2048],
+    words: &[u32],
+)
     requires value { IsValue b.now v.old }
-    requires met { HasMet v.old met.old }
-    requires eights { HasMet v.old eights.old }
+    requires met { HasMetResults v.old met.old }
+    requires eights { HasMetResults v.old eights.old }
     ensures cover { v.new ≡ cover b.now (members v.old ++ words.now) }
     ensures value { IsValue b.now v.new }
-    ensures met { HasMet v.new met.new }
-    ensures eights { HasMet v.new eights.new }
+    ensures met { HasMetResults v.new met.new }
+    ensures eights { HasMetResults v.new eights.new }
 {
     for e in 0..words.len() / 8 {
         let at = 8 * e;
-        let k = slot_of(words[at].wrapping_mul(2).wrapping_add(words[at + 7])) / 2 * 8;
+        let k = met_result_slot(words[at].wrapping_mul(2).wrapping_add(words[at + 7])) / 2 * 8;
         let mut missed = 0;
         for j in 0..8 {
             missed |= eights[k + j] ^ words[at + j];
         }
         if missed != 0 {
-            add_eight(b, v, met, eights, k, &words[at..at + 8]);
+            add_eight_results(b, v, met, eights, k, &words[at..at + 8]);
         }
     }
     let mut i = words.len() / 8 * 8;
@@ -166,7 +162,7 @@ fn add_row(b: &Bounds, v: &mut Val, met: &mut [u32; 512], eights: &mut [u32; 204
 /// Adds eight words to a value, and notes that they were added together. It is a function of its
 /// own, so that its callers need no stack for it.
 #[inline(never)]
-fn add_eight(
+fn add_eight_results(
     b: &Bounds,
     v: &mut Val,
     met: &mut [u32; 512],
@@ -175,14 +171,14 @@ fn add_eight(
     words: &[u32],
 )
     requires value { IsValue b.now v.old }
-    requires met { HasMet v.old met.old }
-    requires eights { HasMet v.old eights.old }
+    requires met { HasMetResults v.old met.old }
+    requires eights { HasMetResults v.old eights.old }
     requires place { k + 8 ≤ 2048 }
     requires eight { length words.now ≡ 8 }
     ensures cover { v.new ≡ cover b.now (members v.old ++ words.now) }
     ensures value { IsValue b.now v.new }
-    ensures met { HasMet v.new met.new }
-    ensures eights { HasMet v.new eights.new }
+    ensures met { HasMetResults v.new met.new }
+    ensures eights { HasMetResults v.new eights.new }
 {
     for j in 0..8 {
         add_result(b, v, met, words[j]);
@@ -194,12 +190,12 @@ fn add_eight(
 #[inline(always)]
 fn add_result(b: &Bounds, v: &mut Val, met: &mut [u32; 512], z: u32)
     requires value { IsValue b.now v.old }
-    requires met { HasMet v.old met.old }
+    requires met { HasMetResults v.old met.old }
     ensures cover { v.new ≡ cover b.now (z ∷ members v.old) }
     ensures value { IsValue b.now v.new }
-    ensures met { HasMet v.new met.new }
+    ensures met { HasMetResults v.new met.new }
 {
-    let k = slot_of(z);
+    let k = met_result_slot(z);
     if met[k] == z {
         return;
     }
@@ -209,7 +205,7 @@ fn add_result(b: &Bounds, v: &mut Val, met: &mut [u32; 512], z: u32)
 
 /// Returns the place of a word in `met`: the highest bits of its product with a number that spreads
 /// words at even steps.
-fn slot_of(z: u32) -> usize
+fn met_result_slot(z: u32) -> usize
     ensures { result < 512 }
 {
     (z.wrapping_mul(0x9683_8B77) >> 23) as usize
@@ -217,35 +213,36 @@ fn slot_of(z: u32) -> usize
 
 /// Fills the row with the results of a word and each of the others. Each operation has a loop of
 /// its own.
-fn fill(op: Op, x: u32, ys: &[u32], row: &mut [u32])
+fn fill_results(op: Op, x: u32, ys: &[u32], row: &mut [u32])
     requires { length row.old ≡ length ys.now }
     ensures { row.new ≡ map (alu_of op x) ys.now }
 {
     match op {
-        Op::Second => fill_by(Op::Second, x, ys, row),
-        Op::Add => fill_by(Op::Add, x, ys, row),
-        Op::Sub => fill_by(Op::Sub, x, ys, row),
-        Op::And => fill_by(Op::And, x, ys, row),
-        Op::Nand => fill_by(Op::Nand, x, ys, row),
-        Op::Or => fill_by(Op::Or, x, ys, row),
-        Op::Nor => fill_by(Op::Nor, x, ys, row),
-        Op::Xor => fill_by(Op::Xor, x, ys, row),
-        Op::Xnor => fill_by(Op::Xnor, x, ys, row),
-        Op::Andn => fill_by(Op::Andn, x, ys, row),
-        Op::Orn => fill_by(Op::Orn, x, ys, row),
-        Op::Eq => fill_by(Op::Eq, x, ys, row),
-        Op::Ne => fill_by(Op::Ne, x, ys, row),
-        Op::Lt => fill_by(Op::Lt, x, ys, row),
-        Op::LtU => fill_by(Op::LtU, x, ys, row),
-        Op::Ge => fill_by(Op::Ge, x, ys, row),
-        Op::GeU => fill_by(Op::GeU, x, ys, row),
-        Op::Sh => fill_by(Op::Sh, x, ys, row),
-        Op::Sha => fill_by(Op::Sha, x, ys, row),
+        Op::Second => fill_results_by(Op::Second, x, ys, row),
+        Op::Add => fill_results_by(Op::Add, x, ys, row),
+        Op::Sub => fill_results_by(Op::Sub, x, ys, row),
+        Op::And => fill_results_by(Op::And, x, ys, row),
+        Op::Nand => fill_results_by(Op::Nand, x, ys, row),
+        Op::Or => fill_results_by(Op::Or, x, ys, row),
+        Op::Nor => fill_results_by(Op::Nor, x, ys, row),
+        Op::Xor => fill_results_by(Op::Xor, x, ys, row),
+        Op::Xnor => fill_results_by(Op::Xnor, x, ys, row),
+        Op::Andn => fill_results_by(Op::Andn, x, ys, row),
+        Op::Orn => fill_results_by(Op::Orn, x, ys, row),
+        Op::Eq => fill_results_by(Op::Eq, x, ys, row),
+        Op::Ne => fill_results_by(Op::Ne, x, ys, row),
+        Op::Lt => fill_results_by(Op::Lt, x, ys, row),
+        Op::LtU => fill_results_by(Op::LtU, x, ys, row),
+        Op::Ge => fill_results_by(Op::Ge, x, ys, row),
+        Op::GeU => fill_results_by(Op::GeU, x, ys, row),
+        Op::Sh => fill_results_by(Op::Sh, x, ys, row),
+        Op::Sha => fill_results_by(Op::Sha, x, ys, row),
     }
 }
 
+/// Fills the row with the results of this operation on a word and each of the others.
 #[inline(always)]
-fn fill_by(op: Op, x: u32, ys: &[u32], row: &mut [u32])
+fn fill_results_by(op: Op, x: u32, ys: &[u32], row: &mut [u32])
     requires { length row.old ≡ length ys.now }
     ensures { row.new ≡ map (alu_of op x) ys.now }
 {
@@ -255,10 +252,10 @@ fn fill_by(op: Op, x: u32, ys: &[u32], row: &mut [u32])
 }
 
 /// Writes the value that the operation's row in the table of operations gives.
-fn from_row(b: &Bounds, op: Op, v: &Val, w: &Val, out: &mut Val)
+fn write_operation_row(b: &Bounds, op: Op, v: &Val, w: &Val, out: &mut Val)
     requires left { IsValue b.now v.now }
     requires right { IsValue b.now w.now }
-    ensures cover { out.new ≡ cover b.now (row op v.now w.now) }
+    ensures cover { out.new ≡ cover b.now (operation_row op v.now w.now) }
     ensures value { IsValue b.now out.new }
 {
     let _most_words = b.most_words();
@@ -288,14 +285,15 @@ pub(crate) fn operate(b: &Bounds, plan: &Plan, s: &State, of: Operation, out: &m
     let _most_words = b.most_words();
     match arg_word(b, plan, s, of.x) {
         Some(x) => match arg_word(b, plan, s, of.y) {
-            Some(y) => write_word(b, alu(of.op, x, y), out),
-            None => on_values(b, plan, s, of, out),
+            Some(y) => write_constant(b, alu(of.op, x, y), out),
+            None => operate_on_own_values(b, plan, s, of, out),
         },
-        None => on_values(b, plan, s, of, out),
+        None => operate_on_own_values(b, plan, s, of, out),
     }
 }
 
-fn on_values(b: &Bounds, plan: &Plan, s: &State, of: Operation, out: &mut Val)
+/// Overwrites a value with the value of an operation, whose operands may be the state's own values.
+fn operate_on_own_values(b: &Bounds, plan: &Plan, s: &State, of: Operation, out: &mut Val)
     requires operands { IsArg of.x × IsArg of.y }
     requires values { AreValues b.now s.now.regs }
     ensures of { out.new
@@ -305,14 +303,15 @@ fn on_values(b: &Bounds, plan: &Plan, s: &State, of: Operation, out: &mut Val)
     match arg_in(b, plan, s, of.x) {
         Some(v) => match arg_in(b, plan, s, of.y) {
             Some(w) => operation(b, of.op, v, w, out),
-            None => with_made(b, plan, s, of, v, out),
+            None => operate_on_built_right(b, plan, s, of, v, out),
         },
-        None => on_made(b, plan, s, of, out),
+        None => operate_on_built_left(b, plan, s, of, out),
     }
 }
 
+/// Writes the value of an operation, as `operate` does, if the left operand has to be built.
 #[inline(never)]
-fn on_made(b: &Bounds, plan: &Plan, s: &State, of: Operation, out: &mut Val)
+fn operate_on_built_left(b: &Bounds, plan: &Plan, s: &State, of: Operation, out: &mut Val)
     requires operands { IsArg of.x × IsArg of.y }
     requires values { AreValues b.now s.now.regs }
     ensures of { out.new
@@ -320,11 +319,13 @@ fn on_made(b: &Bounds, plan: &Plan, s: &State, of: Operation, out: &mut Val)
     ensures value { IsValue b.now out.new }
 {
     let v = arg(b, plan, s, of.x);
-    with_made(b, plan, s, of, &v, out);
+    operate_on_built_right(b, plan, s, of, &v, out);
 }
 
+/// Writes the value of an operation, as `operate` does, if the right operand has to be built. `v`
+/// is the left one.
 #[inline(never)]
-fn with_made(b: &Bounds, plan: &Plan, s: &State, of: Operation, v: &Val, out: &mut Val)
+fn operate_on_built_right(b: &Bounds, plan: &Plan, s: &State, of: Operation, v: &Val, out: &mut Val)
     requires operand { IsArg of.y }
     requires values { AreValues b.now s.now.regs }
     requires left { IsValue b.now v.now }

@@ -1,22 +1,21 @@
 // Refinement: the members of two values for which a comparison holds.
 ghost use Rattle.std.specs.Prelude.{◌≡◌, ◌==◌, ◌<◌, ◌≤◌, ◌+◌, ◌-◌, ◌^◌, ◌++◌, filter, List, ℕ, IfSome, Some, ◌↔◌, ◌⊎◌, ◌≢◌, None};
-ghost use Rattle.value_domain.specs.Values.{IsValue, members};
+ghost use Rattle.value_domain.specs.Values.{IsValue, members, in_span};
 ghost use Rattle.value_domain.specs.declared.values.Val.TheVariants.{Set, Span};
-ghost use Rattle.value_domain.specs.Meets.{cover_some, value_if, in_span};
-ghost use Rattle.vd_transfer.specs.Relations.{Reaches, kept_by, converse};
-ghost use Rattle.vd_transfer.specs.Intervals.{IsIn};
+ghost use Rattle.value_domain.specs.Meets.{cover_of_meet, meet_if};
+ghost use Rattle.vd_transfer.specs.Relations.{Reaches, related_words, converse};
+ghost use Rattle.vd_transfer.specs.Refinement.{IsInInterval, kept_left, kept_right};
 ghost use Rattle.vd_transfer.specs.declared.refinement.Relation.TheVariants.{Same};
 ghost use Rattle.value_domain.specs.State.{AreValues};
-ghost use Rattle.vd_transfer.specs.Refinement.{kept_left, kept_right};
 ghost use Rattle.vd_transfer.specs.Signs.{is_signed};
-ghost use Rattle.vd_transfer.specs.Branches.{possible, with_two};
+ghost use Rattle.vd_transfer.specs.Branches.{possible_side, side_with_operands};
 ghost use Rattle.vd_transfer.specs.Changes.{state_after};
 
-use crate::branch_sides::{Comparison, is_signed, narrow_one, relation};
+use crate::branch_sides::{Comparison, narrow_side_register, relation_on_side};
 use crate::change::Change;
 use crate::operands::operand_slot;
-use crate::signed_refinement::narrow_signed;
-use value_domain::{Bounds, State, Val, add_value, extent_of, write_common, write_meet};
+use crate::signed_refinement::{is_signed, narrow_signed};
+use value_domain::{Bounds, State, Val, add_value, extent_of, write_meet, write_meet_with_words};
 
 /// A relation between two words.
 #[derive(Clone, Copy, PartialEq, Eq)]
@@ -38,8 +37,9 @@ pub struct Interval {
 
 pub(crate) const NONE: Interval = Interval { lo: 1, last: 0 };
 
+/// Returns the words that are in the relation Less to `high`, as an interval.
 fn words_below(high: u32) -> Interval
-    ensures { (x : ℕ) → IsIn result x ↔ (x < high) }
+    ensures { (x : ℕ) → IsInInterval result x ↔ (x < high) }
 {
     if high == 0 {
         NONE
@@ -51,8 +51,9 @@ fn words_below(high: u32) -> Interval
     }
 }
 
+/// Returns the words that are in the relation AtLeast to `low`, as an interval.
 fn words_from(low: u32) -> Interval
-    ensures { (x : ℕ) → x < 2 ^ 32 → IsIn result x ↔ (low ≤ x) }
+    ensures { (x : ℕ) → x < 2 ^ 32 → IsInInterval result x ↔ (low ≤ x) }
 {
     Interval {
         lo: low,
@@ -60,8 +61,9 @@ fn words_from(low: u32) -> Interval
     }
 }
 
+/// Returns the words that are in the relation More to `low`, as an interval.
 fn words_past(low: u32) -> Interval
-    ensures { (x : ℕ) → x < 2 ^ 32 → IsIn result x ↔ (low < x) }
+    ensures { (x : ℕ) → x < 2 ^ 32 → IsInInterval result x ↔ (low < x) }
 {
     if low == u32::MAX {
         NONE
@@ -76,7 +78,8 @@ fn words_past(low: u32) -> Interval
 /// Returns the words that are in a relation to some word from `low` to `high`, as two intervals.
 #[tactic(auto, unfolding(crate::specs::Relations::Reaches))]
 pub(crate) fn words_reached(rel: Relation, low: u32, high: u32) -> (Interval, Interval)
-    ensures { (x : ℕ) → x < 2 ^ 32 → (IsIn result.0 x ⊎ IsIn result.1 x) ↔ Reaches rel low high x }
+    ensures { (x : ℕ) → x < 2 ^ 32 → (IsInInterval result.0 x ⊎ IsInInterval result.1 x)
+        ↔ Reaches rel low high x }
 {
     match rel {
         Relation::Less => (words_below(high), NONE),
@@ -90,48 +93,56 @@ pub(crate) fn words_reached(rel: Relation, low: u32, high: u32) -> (Interval, In
 
 /// Overwrites `out` with the cover of the members of `v` that are in a relation to some member of
 /// `w`. Returns false if there are none; then `out` may be any value.
-pub fn narrow(b: &Bounds, rel: Relation, v: &Val, w: &Val, out: &mut Val) -> bool
+pub fn refine_by_relation(b: &Bounds, rel: Relation, v: &Val, w: &Val, out: &mut Val) -> bool
     requires left { IsValue b.now v.now }
     requires right { IsValue b.now w.now }
-    ensures kept { value_if result out.new
-        ≡ cover_some b.now (kept_by rel (members v.now) (members w.now)) }
-    ensures value { IfSome (value_if result out.new) (IsValue b.now) }
+    ensures kept { meet_if result out.new
+        ≡ cover_of_meet b.now (related_words rel (members v.now) (members w.now)) }
+    ensures value { IfSome (meet_if result out.new) (IsValue b.now) }
 {
     match rel {
-        Relation::Same => common(b, v, w, out),
-        _ => by_intervals(b, rel, v, w, out),
+        Relation::Same => refine_to_common(b, v, w, out),
+        _ => refine_by_intervals(b, rel, v, w, out),
     }
 }
 
-fn by_intervals(b: &Bounds, rel: Relation, v: &Val, w: &Val, out: &mut Val) -> bool
+/// Refines as `refine_by_relation` does, for a relation other than Same, by the intervals of words
+/// that are in the relation.
+fn refine_by_intervals(b: &Bounds, rel: Relation, v: &Val, w: &Val, out: &mut Val) -> bool
     requires left { IsValue b.now v.now }
     requires right { IsValue b.now w.now }
     requires order { rel ≢ Same }
-    ensures kept { value_if result out.new
-        ≡ cover_some b.now (kept_by rel (members v.now) (members w.now)) }
-    ensures value { IfSome (value_if result out.new) (IsValue b.now) }
+    ensures kept { meet_if result out.new
+        ≡ cover_of_meet b.now (related_words rel (members v.now) (members w.now)) }
+    ensures value { IfSome (meet_if result out.new) (IsValue b.now) }
 {
     let e = extent_of(w);
     let (first, second) = words_reached(rel, e.least, e.greatest);
     let found = write_meet(b, v, first.lo, first.last, 0, out);
-    add_meet(b, v, second, found, out)
+    add_refined_members(b, v, second, found, out)
 }
 
 /// Widens a value by the members of `v` in an interval. If nothing was found before, the value
 /// becomes the cover of these members. Returns false if nothing is found, before or now.
-pub(crate) fn add_meet(b: &Bounds, v: &Val, i: Interval, found: bool, out: &mut Val) -> bool
+pub(crate) fn add_refined_members(
+    b: &Bounds,
+    v: &Val,
+    i: Interval,
+    found: bool,
+    out: &mut Val,
+) -> bool
     requires value { IsValue b.now v.now }
-    requires before { IfSome (value_if found out.old) (IsValue b.now) }
-    ensures more { (xs : List ℕ) → value_if found out.old ≡ cover_some b.now xs
-        → value_if result out.new
-        ≡ cover_some b.now (xs ++ filter (in_span i.lo i.last 0) (members v.now)) }
-    ensures value { IfSome (value_if result out.new) (IsValue b.now) }
+    requires before { IfSome (meet_if found out.old) (IsValue b.now) }
+    ensures more { (xs : List ℕ) → meet_if found out.old ≡ cover_of_meet b.now xs
+        → meet_if result out.new
+        ≡ cover_of_meet b.now (xs ++ filter (in_span i.lo i.last 0) (members v.now)) }
+    ensures value { IfSome (meet_if result out.new) (IsValue b.now) }
 {
     if i.last < i.lo {
         return found;
     }
     if found {
-        join_meet(b, v, i, out);
+        join_refined_members(b, v, i, out);
         true
     } else {
         write_meet(b, v, i.lo, i.last, 0, out)
@@ -141,12 +152,12 @@ pub(crate) fn add_meet(b: &Bounds, v: &Val, i: Interval, found: bool, out: &mut 
 /// Widens a value by the members of `v` in an interval. It is a function of its own, so that its
 /// callers need no stack for a value.
 #[inline(never)]
-fn join_meet(b: &Bounds, v: &Val, i: Interval, out: &mut Val)
+fn join_refined_members(b: &Bounds, v: &Val, i: Interval, out: &mut Val)
     requires value { IsValue b.now v.now }
     requires before { IsValue b.now out.old }
-    ensures more { (xs : List ℕ) → Some out.old ≡ cover_some b.now xs
+    ensures more { (xs : List ℕ) → Some out.old ≡ cover_of_meet b.now xs
         → Some out.new
-        ≡ cover_some b.now (xs ++ filter (in_span i.lo i.last 0) (members v.now)) }
+        ≡ cover_of_meet b.now (xs ++ filter (in_span i.lo i.last 0) (members v.now)) }
     ensures value { IsValue b.now out.new }
 {
     let mut others = Val::any();
@@ -157,20 +168,21 @@ fn join_meet(b: &Bounds, v: &Val, i: Interval, out: &mut Val)
 }
 
 /// Overwrites `out` with the cover of the members of both. Returns false if there are none.
-fn common(b: &Bounds, v: &Val, w: &Val, out: &mut Val) -> bool
+fn refine_to_common(b: &Bounds, v: &Val, w: &Val, out: &mut Val) -> bool
     requires left { IsValue b.now v.now }
     requires right { IsValue b.now w.now }
-    ensures kept { value_if result out.new
-        ≡ cover_some b.now (kept_by Same (members v.now) (members w.now)) }
-    ensures value { IfSome (value_if result out.new) (IsValue b.now) }
+    ensures kept { meet_if result out.new
+        ≡ cover_of_meet b.now (related_words Same (members v.now) (members w.now)) }
+    ensures value { IfSome (meet_if result out.new) (IsValue b.now) }
 {
     match w {
-        Val::Set(words) => write_common(b, words.as_slice(), v, out),
+        Val::Set(words) => write_meet_with_words(b, words.as_slice(), v, out),
         Val::Span { lo, last, step } => write_meet(b, v, *lo, *last, *step, out),
     }
 }
 
-/// Returns the relation with its operands exchanged.
+/// Returns the relation with its operands exchanged. So refinement can narrow the right operand
+/// like the left one.
 #[tactic(auto, unfolding(crate::specs::Relations::converse))]
 fn converse(rel: Relation) -> Relation
     ensures { result ≡ converse rel }
@@ -187,40 +199,46 @@ fn converse(rel: Relation) -> Relation
 
 /// Overwrites `out` with the cover of the members of `v` for which some member of `w` makes the
 /// condition go to the side. Returns false if there are none; then `out` may be any value.
-pub(crate) fn narrow_left(b: &Bounds, test: Comparison, v: &Val, w: &Val, out: &mut Val) -> bool
+pub(crate) fn refine_left_operand(
+    b: &Bounds,
+    test: Comparison,
+    v: &Val,
+    w: &Val,
+    out: &mut Val,
+) -> bool
     requires left { IsValue b.now v.now }
     requires right { IsValue b.now w.now }
-    ensures kept { value_if result out.new
-        ≡ cover_some b.now (kept_left test.cond test.side (members v.now) (members w.now)) }
-    ensures value { IfSome (value_if result out.new) (IsValue b.now) }
+    ensures kept { meet_if result out.new
+        ≡ cover_of_meet b.now (kept_left test.cond test.side (members v.now) (members w.now)) }
+    ensures value { IfSome (meet_if result out.new) (IsValue b.now) }
 {
-    let rel = relation(test.cond, test.side);
+    let rel = relation_on_side(test.cond, test.side);
     if is_signed(test.cond) {
         narrow_signed(b, rel, v, w, out)
     } else {
-        narrow(b, rel, v, w, out)
+        refine_by_relation(b, rel, v, w, out)
     }
 }
 
 /// Overwrites `out` with the cover of the members of `w` for which some member of `v` makes the
 /// condition go to the side. Returns false if there are none; then `out` may be any value.
-fn narrow_right(b: &Bounds, test: Comparison, v: &Val, w: &Val, out: &mut Val) -> bool
+fn refine_right_operand(b: &Bounds, test: Comparison, v: &Val, w: &Val, out: &mut Val) -> bool
     requires left { IsValue b.now v.now }
     requires right { IsValue b.now w.now }
-    ensures kept { value_if result out.new
-        ≡ cover_some b.now (kept_right test.cond test.side (members v.now) (members w.now)) }
-    ensures value { IfSome (value_if result out.new) (IsValue b.now) }
+    ensures kept { meet_if result out.new
+        ≡ cover_of_meet b.now (kept_right test.cond test.side (members v.now) (members w.now)) }
+    ensures value { IfSome (meet_if result out.new) (IsValue b.now) }
 {
-    let rel = converse(relation(test.cond, test.side));
+    let rel = converse(relation_on_side(test.cond, test.side));
     if is_signed(test.cond) {
         narrow_signed(b, rel, w, v, out)
     } else {
-        narrow(b, rel, w, v, out)
+        refine_by_relation(b, rel, w, v, out)
     }
 }
 
 /// Narrows both operands to the members that are possible. Returns false if one has none.
-pub(crate) fn narrow_two(
+pub(crate) fn refine_both_operands(
     b: &Bounds,
     test: Comparison,
     s: &State,
@@ -231,17 +249,17 @@ pub(crate) fn narrow_two(
     requires values { AreValues b.now s.now.regs }
     requires left { IsValue b.now v.now }
     requires right { IsValue b.now w.now }
-    ensures two { possible result (state_after s.now c.new)
-        ≡ with_two s.now test.x test.y
-        (cover_some b.now (kept_left test.cond test.side (members v.now) (members w.now)))
-        (cover_some b.now (kept_right test.cond test.side (members v.now) (members w.now))) }
+    ensures two { possible_side result (state_after s.now c.new)
+        ≡ side_with_operands s.now test.x test.y
+        (cover_of_meet b.now (kept_left test.cond test.side (members v.now) (members w.now)))
+        (cover_of_meet b.now (kept_right test.cond test.side (members v.now) (members w.now))) }
     ensures values { AreValues b.now (state_after s.now c.new).regs }
     ensures free { c.new.third.at ≡ None }
 {
-    if !narrow_one(b, test, s, v, w, c) {
+    if !narrow_side_register(b, test, s, v, w, c) {
         return false;
     }
-    if !narrow_right(b, test, v, w, &mut c.second.value) {
+    if !refine_right_operand(b, test, v, w, &mut c.second.value) {
         return false;
     }
     c.second.at = operand_slot(test.y);

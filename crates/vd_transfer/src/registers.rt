@@ -30,9 +30,9 @@ pub(crate) fn slot_of(r: u8) -> Option<usize>
     }
 }
 
-/// Returns the word of a value that has only one.
+/// Returns the word of a register's value that is a Set of one word, or `None` for any other value.
 #[inline(always)]
-pub fn only_word(v: &Val) -> Option<u32>
+pub fn only_register_word(v: &Val) -> Option<u32>
     ensures { IfSome result (λ w. v.now ≡ word_val w) }
 {
     match v {
@@ -57,12 +57,13 @@ pub fn reg(plan: &Plan, s: &State, r: u8) -> Val
 {
     match slot_of(r) {
         Some(i) => s.regs[i].copy(),
-        None => fixed(plan, r),
+        None => fixed_register_value(plan, r),
     }
 }
 
+/// Returns the value of a register without a place in a state: the plan's, or any for A11.
 #[inline(always)]
-pub(crate) fn fixed(plan: &Plan, r: u8) -> Val
+pub(crate) fn fixed_register_value(plan: &Plan, r: u8) -> Val
     ensures { result ≡ fixed_of plan.now r }
 {
     if r == 27 {
@@ -110,7 +111,8 @@ pub(crate) fn reg_in<'a>(b: &Bounds, plan: &Plan, s: &'a State, r: u8) -> Option
     }
 }
 
-/// Returns true if a place of a state is that of a lower register.
+/// Returns true if the register that has its value at this place of a state is a lower one: D0..D7
+/// or A2..A7.
 pub fn is_lower_slot(i: usize) -> bool
     ensures { result ≡ is_lower_slot i }
 {

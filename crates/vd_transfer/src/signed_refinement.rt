@@ -2,20 +2,22 @@
 ghost use Rattle.std.specs.Prelude.{◌≡◌, ◌≢◌, ◌<◌, ◌≤◌, ◌+◌, ◌^◌, length, ℕ, IfSome, ◌↔◌, ◌⊎◌, ◌-◌};
 ghost use Rattle.value_domain.specs.Values.{IsValue, IsWell, members, range};
 ghost use Rattle.value_domain.specs.declared.values.Val.TheVariants.{Set, Span};
-ghost use Rattle.value_domain.specs.Meets.{cover_some, value_if};
-ghost use Rattle.tc_isa.specs.Arithmetic.{signed_place};
-ghost use Rattle.vd_transfer.specs.Intervals.{IsIn};
-ghost use Rattle.vd_transfer.specs.Signs.{IsSignedRange, kept_signed};
+ghost use Rattle.value_domain.specs.Meets.{cover_of_meet, meet_if};
+ghost use Rattle.tc_isa.specs.Arithmetic.{signed_order_place};
+ghost use Rattle.vd_transfer.specs.Refinement.{IsInInterval};
+ghost use Rattle.vd_transfer.specs.Signs.{IsSignedRange, kept_signed, is_signed};
 ghost use Rattle.vd_transfer.specs.declared.refinement.Relation.TheVariants.{Same};
 
-use crate::refinement::{Interval, NONE, Relation, add_meet, words_reached};
+use crate::refinement::{Interval, NONE, Relation, add_refined_members, words_reached};
+use tc_isa::Cond;
 use value_domain::{Bounds, Val, extent_of, write_meet};
 
 const HALF: u32 = 1 << 31;
 
 /// Returns the words whose positions in the signed order are in an interval, as two intervals.
-fn parts(i: Interval) -> (Interval, Interval)
-    ensures { (x : ℕ) → x < 2 ^ 32 → (IsIn result.0 x ⊎ IsIn result.1 x) ↔ IsIn i (signed_place x) }
+fn signed_interval_parts(i: Interval) -> (Interval, Interval)
+    ensures { (x : ℕ) → x < 2 ^ 32 → (IsInInterval result.0 x ⊎ IsInInterval result.1 x)
+        ↔ IsInInterval i (signed_order_place x) }
 {
     let first = if i.lo < HALF {
         Interval {
@@ -47,6 +49,7 @@ fn signed_range(v: &Val) -> (u32, u32)
     }
 }
 
+/// Returns the least and the greatest of these words in the signed order.
 fn signed_words(words: &[u32]) -> (u32, u32)
     requires { 1 ≤ length words.now }
     ensures { IsSignedRange words.now result.0 result.1 }
@@ -60,6 +63,7 @@ fn signed_words(words: &[u32]) -> (u32, u32)
     (low, high)
 }
 
+/// Returns the least and the greatest member of a Span in the signed order.
 fn signed_span(lo: u32, last: u32, step: u8) -> (u32, u32)
     requires { IsWell (Span lo last step) }
     ensures { IsSignedRange (range lo last step) result.0 result.1 }
@@ -79,24 +83,25 @@ pub fn narrow_signed(b: &Bounds, rel: Relation, v: &Val, w: &Val, out: &mut Val)
     requires left { IsValue b.now v.now }
     requires right { IsValue b.now w.now }
     requires order { rel ≢ Same }
-    ensures kept { value_if result out.new
-        ≡ cover_some b.now (kept_signed rel (members v.now) (members w.now)) }
-    ensures value { IfSome (value_if result out.new) (IsValue b.now) }
+    ensures kept { meet_if result out.new
+        ≡ cover_of_meet b.now (kept_signed rel (members v.now) (members w.now)) }
+    ensures value { IfSome (meet_if result out.new) (IsValue b.now) }
 {
     let (low, high) = signed_range(w);
     let (i, j) = words_reached(rel, signed_place(low), signed_place(high));
-    let (first, second) = parts(i);
-    let (third, fourth) = parts(j);
+    let (first, second) = signed_interval_parts(i);
+    let (third, fourth) = signed_interval_parts(j);
     let one = write_meet(b, v, first.lo, first.last, 0, out);
-    let two = add_meet(b, v, second, one, out);
-    let three = add_meet(b, v, third, two, out);
-    add_meet(b, v, fourth, three, out)
+    let two = add_refined_members(b, v, second, one, out);
+    let three = add_refined_members(b, v, third, two, out);
+    add_refined_members(b, v, fourth, three, out)
 }
 
+/// Returns the lesser of two words in the signed order.
 fn signed_min(x: u32, low: u32) -> u32
     ensures either { (result ≡ x) ⊎ (result ≡ low) }
-    ensures below_x { signed_place result ≤ signed_place x }
-    ensures below_low { signed_place result ≤ signed_place low }
+    ensures below_x { signed_order_place result ≤ signed_order_place x }
+    ensures below_low { signed_order_place result ≤ signed_order_place low }
 {
     if signed_place(x) < signed_place(low) {
         x
@@ -105,10 +110,11 @@ fn signed_min(x: u32, low: u32) -> u32
     }
 }
 
+/// Returns the greater of two words in the signed order.
 fn signed_max(x: u32, high: u32) -> u32
     ensures either { (result ≡ x) ⊎ (result ≡ high) }
-    ensures above_x { signed_place x ≤ signed_place result }
-    ensures above_high { signed_place high ≤ signed_place result }
+    ensures above_x { signed_order_place x ≤ signed_order_place result }
+    ensures above_high { signed_order_place high ≤ signed_order_place result }
 {
     if signed_place(high) < signed_place(x) {
         x
@@ -119,7 +125,18 @@ fn signed_max(x: u32, high: u32) -> u32
 
 /// Returns a word's position in the signed order.
 pub(crate) fn signed_place(x: u32) -> u32
-    ensures { result ≡ signed_place x }
+    ensures { result ≡ signed_order_place x }
 {
     x.wrapping_add(1 << 31)
+}
+
+/// Returns true if a condition is of the signed order.
+#[tactic(auto, unfolding(crate::specs::Signs::is_signed))]
+pub(crate) fn is_signed(cond: Cond) -> bool
+    ensures { result ≡ is_signed cond }
+{
+    match cond {
+        Cond::Lt | Cond::Ge => true,
+        Cond::Eq | Cond::Ne | Cond::LtU | Cond::GeU => false,
+    }
 }

@@ -49,6 +49,7 @@ pub(crate) fn interval_of_row(op: Op, e: &Extent, f: &Extent, w: &Val) -> Stride
     }
 }
 
+/// Returns the interval of the sums of two extents, modulo 2^32.
 #[tactic(auto, unfolding(crate::specs::Intervals::sums))]
 fn sum(e: &Extent, f: &Extent) -> StridedInterval
     requires left { e.now.least ≤ e.now.greatest }
@@ -80,6 +81,7 @@ fn sum(e: &Extent, f: &Extent) -> StridedInterval
     }
 }
 
+/// Returns the interval of the differences of two extents, modulo 2^32.
 #[tactic(auto, unfolding(crate::specs::Intervals::differences))]
 fn difference(e: &Extent, f: &Extent) -> StridedInterval
     requires left { e.now.least ≤ e.now.greatest }
@@ -112,6 +114,7 @@ fn difference(e: &Extent, f: &Extent) -> StridedInterval
     }
 }
 
+/// Returns the interval of an extent shifted by the six bits `n`, filled with zeros.
 #[tactic(auto, unfolding(crate::specs::Intervals::shifts))]
 fn shift(e: &Extent, n: u8) -> StridedInterval
     requires count { n < 64 }
@@ -145,6 +148,7 @@ fn shift(e: &Extent, n: u8) -> StridedInterval
     }
 }
 
+/// Returns the interval of an extent shifted by the six bits `n`, filled with the sign bit.
 #[tactic(auto, unfolding(crate::specs::Intervals::signed_shifts))]
 fn signed_shift(e: &Extent, n: u8) -> StridedInterval
     requires count { n < 64 }

@@ -1,6 +1,6 @@
 // The least needs.
 ghost use Rattle.std.specs.Prelude.{Ok, IfOk, IfSome, IsTrue, Some, ℕ, ◌+◌, ◌<◌, ◌≤◌, ◌^◌, Contains, length, slice_index, MatchOption, EachIndex};
-ghost use Rattle.frame_places.specs.RowNeeds.{IsWithin, IsLow, MeetsCapped, PassesRow, PassesRows, LeastNeeds};
+ghost use Rattle.frame_places.specs.RowNeeds.{AreRowsWithin, AreNeedsLow, MeetsCapped, PassesRow, PassesRows, LeastNeeds};
 ghost use Rattle.frame_places.specs.declared.needs.row.NeedRow.{NeedRow};
 
 use crate::needs::row::{NeedRow, need_of};
@@ -27,10 +27,10 @@ fn raise_row(needs: &mut [u32], row: &NeedRow, cap: u32) -> bool
 /// Makes one pass over the rows: raises needs that are too low, and returns whether there were any.
 /// The last row is first, since the rows of entered frames mostly come after those of the frames
 /// that enter them.
-fn pass(needs: &mut [u32], rows: &[NeedRow], cap: u32) -> bool
+fn raise_low_needs(needs: &mut [u32], rows: &[NeedRow], cap: u32) -> bool
     requires cap { cap < 2 ^ 16 }
     requires nodes { length needs.old < 2 ^ 16 }
-    requires within { IsWithin rows.now (length needs.old) }
+    requires within { AreRowsWithin rows.now (length needs.old) }
     requires capped { (k : ℕ) → slice_index needs.old k ≤ cap + 1 }
     ensures pass { PassesRows cap needs.old needs.new rows.now result }
 {
@@ -47,13 +47,13 @@ fn pass(needs: &mut [u32], rows: &[NeedRow], cap: u32) -> bool
 fn run_passes(needs: &mut [u32], rows: &[NeedRow], cap: u32)
     requires cap { cap < 2 ^ 16 }
     requires nodes { length needs.old < 2 ^ 16 }
-    requires within { IsWithin rows.now (length needs.old) }
+    requires within { AreRowsWithin rows.now (length needs.old) }
     requires capped { (k : ℕ) → slice_index needs.old k ≤ cap + 1 }
-    requires low { IsLow needs.old rows.now }
-    ensures low { IsLow needs.new rows.now }
+    requires low { AreNeedsLow needs.old rows.now }
+    ensures low { AreNeedsLow needs.new rows.now }
     ensures met { (row : NeedRow) → Contains rows.now row → MeetsCapped cap needs.new row }
 {
-    while pass(needs, rows, cap) {}
+    while raise_low_needs(needs, rows, cap) {}
 }
 
 /// The number of passes that is mostly enough: one or two for frames that were found before those
@@ -64,15 +64,15 @@ const FEW: u32 = 16;
 fn run_few_passes(needs: &mut [u32], rows: &[NeedRow], cap: u32) -> bool
     requires cap { cap < 2 ^ 16 }
     requires nodes { length needs.old < 2 ^ 16 }
-    requires within { IsWithin rows.now (length needs.old) }
+    requires within { AreRowsWithin rows.now (length needs.old) }
     requires capped { (k : ℕ) → slice_index needs.old k ≤ cap + 1 }
-    requires low { IsLow needs.old rows.now }
-    ensures low { IsLow needs.new rows.now }
+    requires low { AreNeedsLow needs.old rows.now }
+    ensures low { AreNeedsLow needs.new rows.now }
     ensures met { IsTrue result → (row : NeedRow) → Contains rows.now row
         → MeetsCapped cap needs.new row }
 {
     for _done in 0..FEW {
-        if !pass(needs, rows, cap) {
+        if !raise_low_needs(needs, rows, cap) {
             return true;
         }
     }
@@ -97,7 +97,7 @@ pub fn least_needs(
 ) -> Result<Option<Vec<u32>>, AllocError>
     requires cap { cap < 2 ^ 16 }
     requires nodes { nodes < 2 ^ 16 }
-    requires within { IsWithin rows.now nodes }
+    requires within { AreRowsWithin rows.now nodes }
     ensures { LeastNeeds nodes rows.now cap result }
 {
     let mut needs = vec![in alloc; 0u32; nodes]?;
@@ -118,7 +118,7 @@ pub fn soon_needs(
 ) -> Result<Option<Vec<u32>>, AllocError>
     requires cap { cap < 2 ^ 16 }
     requires nodes { nodes < 2 ^ 16 }
-    requires within { IsWithin rows.now nodes }
+    requires within { AreRowsWithin rows.now nodes }
     ensures { IfOk result (λ o. IfSome o
         (λ needs. LeastNeeds nodes rows.now cap (Ok (Some needs)))) }
 {

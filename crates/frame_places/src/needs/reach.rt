@@ -1,7 +1,6 @@
 // The graph of entries, by the numbers of its nodes: which nodes are reached from which.
 ghost use Rattle.std.specs.Prelude.{◌≡◌, ◌<◌, ◌↔◌, ℕ, IsTrue, IfOk, OnOk, length, slice_index_or, false, Contains, [], ◌∷◌, ◌+◌};
-ghost use Rattle.frame_places.specs.NodeGraph.{AddsEdges, AddsSource, AreBelow, AreBetween, AreEdges, AreReaching, AreReachingBy, AreSources, HasMarkedNext, IsFirstBefore, IsFirstRecurring, IsRecurring, MarksNodes, SettlesMarks};
-ghost use Rattle.frame_places.specs.Marks.{IsMarked};
+ghost use Rattle.frame_places.specs.NodeGraph.{AddsEdges, AddsEdgeSource, AreEdgeSourcesBelow, AreEdgesBetween, AreEdges, AreReaching, AreReachingBy, AreEdgeSources, HasMarkedNext, IsFirstRecurringBefore, IsFirstRecurring, IsRecurring, MarksNodes, SettlesMarks, IsMarked};
 
 use crate::needs::row::NeedRow;
 use indexmap::{IndexMap, IndexSet};
@@ -14,7 +13,7 @@ pub struct FrameEdge {
     pub into: usize,
 }
 
-/// Adds the edges of a node.
+/// Adds the edges of a node to those of the graph of entries, along which nodes reach others.
 fn add_edges(
     edges: &mut IndexSet<FrameEdge>,
     node: usize,
@@ -29,7 +28,7 @@ fn add_edges(
 }
 
 /// Returns the edges of the rows, each once.
-pub fn edges_of(
+pub fn frame_edges(
     alloc: Global,
     rows: &[NeedRow],
 ) -> Result<IndexSet<FrameEdge>, AllocFailed<FrameEdge>>
@@ -43,12 +42,12 @@ pub fn edges_of(
 }
 
 /// Adds the source of an edge to those of the node that it enters.
-fn add_source(
+fn add_edge_source(
     alloc: Global,
     sources: &mut IndexMap<usize, Vec<usize>>,
     edge: FrameEdge,
 ) -> Result<(), AllocError>
-    ensures { OnOk result (AddsSource sources.old sources.new edge.node edge.into) }
+    ensures { OnOk result (AddsEdgeSource sources.old sources.new edge.node edge.into) }
 {
     if let Some(list) = sources.get_mut(&edge.into) {
         list.push(edge.node)?;
@@ -60,13 +59,17 @@ fn add_source(
     Ok(())
 }
 
-/// Returns the sources of each node: the nodes that enter it.
-fn sources_of(alloc: Global, edges: &[FrameEdge]) -> Result<IndexMap<usize, Vec<usize>>, AllocError>
-    ensures { IfOk result (λ sources. AreSources edges.now sources) }
+/// Returns the sources of each node of the graph: the nodes that enter it, so that it is reached
+/// from them.
+fn edge_sources(
+    alloc: Global,
+    edges: &[FrameEdge],
+) -> Result<IndexMap<usize, Vec<usize>>, AllocError>
+    ensures { IfOk result (λ sources. AreEdgeSources edges.now sources) }
 {
     let mut sources = IndexMap::new(alloc);
     for edge in edges {
-        add_source(alloc, &mut sources, *edge)?;
+        add_edge_source(alloc, &mut sources, *edge)?;
     }
     Ok(sources)
 }
@@ -101,7 +104,7 @@ fn settle_marks(
     work: &mut Vec<usize>,
     sources: &IndexMap<usize, Vec<usize>>,
 ) -> Result<(), AllocError>
-    requires { AreBelow sources.now (length marks.old) }
+    requires { AreEdgeSourcesBelow sources.now (length marks.old) }
     ensures { OnOk result (SettlesMarks sources.now marks.old marks.new work.old.items) }
 {
     while let Some(node) = work.pop() {
@@ -120,7 +123,7 @@ fn nodes_reaching_by(
     node: usize,
 ) -> Result<Vec<bool>, AllocError>
     requires node { node < nodes }
-    requires sources { AreBelow sources.now nodes }
+    requires sources { AreEdgeSourcesBelow sources.now nodes }
     ensures { IfOk result (λ marks. AreReachingBy sources.now nodes node marks.items) }
 {
     let mut marks = vec![in alloc; false; nodes]?;
@@ -139,15 +142,15 @@ pub fn nodes_reaching(
     node: usize,
 ) -> Result<Vec<bool>, AllocError>
     requires node { node < nodes }
-    requires edges { AreBetween edges.now nodes }
+    requires edges { AreEdgesBetween edges.now nodes }
     ensures { IfOk result (λ marks. AreReaching edges.now nodes node marks.items) }
 {
-    let sources = sources_of(alloc, edges)?;
+    let sources = edge_sources(alloc, edges)?;
     nodes_reaching_by(alloc, nodes, &sources, node)
 }
 
 /// Returns whether the node is marked. A number without a node isn't.
-fn is_marked(marks: &[bool], node: usize) -> bool
+fn is_reaching_node(marks: &[bool], node: usize) -> bool
     ensures { result ≡ slice_index_or marks.now node false }
 {
     match marks.get(node) {
@@ -157,20 +160,21 @@ fn is_marked(marks: &[bool], node: usize) -> bool
 }
 
 /// Returns whether one of these nodes is marked.
-pub fn has_marked(marks: &[bool], nodes: &[usize]) -> bool
+pub fn has_reaching_node(marks: &[bool], nodes: &[usize]) -> bool
     ensures { IsTrue result ↔ ((t : ℕ) × Contains nodes.now t × IsMarked marks.now t) }
 {
     for node in nodes {
-        if is_marked(marks, *node) {
+        if is_reaching_node(marks, *node) {
             return true;
         }
     }
     false
 }
 
-/// Returns whether the node enters a marked one.
-fn enters_marked(marks: &[bool], edges: &[FrameEdge], node: usize) -> bool
-    requires { AreBetween edges.now (length marks.now) }
+/// Returns whether the node of the graph enters a marked one, from which the node that is looked
+/// for is reached.
+fn has_marked_next(marks: &[bool], edges: &[FrameEdge], node: usize) -> bool
+    requires { AreEdgesBetween edges.now (length marks.now) }
     ensures { IsTrue result ↔ HasMarkedNext marks.now edges.now node }
 {
     for edge in edges {
@@ -190,16 +194,17 @@ fn is_recurring(
     node: usize,
 ) -> Result<bool, AllocError>
     requires node { node < nodes }
-    requires edges { AreBetween edges.now nodes }
-    requires sources { AreSources edges.now sources.now }
+    requires edges { AreEdgesBetween edges.now nodes }
+    requires sources { AreEdgeSources edges.now sources.now }
     ensures { IfOk result (λ recurs. IsTrue recurs ↔ IsRecurring edges.now node) }
 {
     let marks = nodes_reaching_by(alloc, nodes, sources, node)?;
-    Ok(enters_marked(marks.as_slice(), edges, node))
+    Ok(has_marked_next(marks.as_slice(), edges, node))
 }
 
-/// Returns the first recursive node up to this one, from the first one before it.
-fn first_with(
+/// Returns the recursive node that is first in order, up to this node by number. `first` is that of
+/// the nodes before it. A node is recursive if it is reached from one that it enters.
+fn first_recurring_up_to(
     alloc: Global,
     orders: &[u64],
     edges: &[FrameEdge],
@@ -207,11 +212,11 @@ fn first_with(
     node: usize,
     first: Option<usize>,
 ) -> Result<Option<usize>, AllocError>
-    requires edges { AreBetween edges.now (length orders.now) }
-    requires sources { AreSources edges.now sources.now }
+    requires edges { AreEdgesBetween edges.now (length orders.now) }
+    requires sources { AreEdgeSources edges.now sources.now }
     requires node { node < length orders.now }
-    requires first { IsFirstBefore orders.now edges.now node first }
-    ensures { IfOk result (IsFirstBefore orders.now edges.now (node + 1)) }
+    requires first { IsFirstRecurringBefore orders.now edges.now node first }
+    ensures { IfOk result (IsFirstRecurringBefore orders.now edges.now (node + 1)) }
 {
     if let Some(other) = first {
         if orders[other] <= orders[node] {
@@ -225,19 +230,20 @@ fn first_with(
     }
 }
 
-/// Returns the recursive node that is first in this order.
+/// Returns the recursive node of the graph that is first in this order. A node is recursive if it
+/// is reached from one that it enters.
 pub fn first_recurring(
     alloc: Global,
     orders: &[u64],
     edges: &[FrameEdge],
 ) -> Result<Option<usize>, AllocError>
-    requires { AreBetween edges.now (length orders.now) }
+    requires { AreEdgesBetween edges.now (length orders.now) }
     ensures { IfOk result (IsFirstRecurring orders.now edges.now) }
 {
-    let sources = sources_of(alloc, edges)?;
+    let sources = edge_sources(alloc, edges)?;
     let mut first = None;
     for node in 0..orders.len() {
-        first = first_with(alloc, orders, edges, &sources, node, first)?;
+        first = first_recurring_up_to(alloc, orders, edges, &sources, node, first)?;
     }
     Ok(first)
 }

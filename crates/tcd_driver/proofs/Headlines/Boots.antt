@@ -10,7 +10,7 @@ use Rattle.depth_cert.specs.Certs.{CertData}
 use Rattle.cfg_recover.specs.RulesHoldOrFail.{certified_need}
 use Rattle.tc_disasm.specs.Listing.{listing_of}
 use Rattle.tc_boot.specs.Sequence.{boot_events, boot_image_of}
-use Rattle.tcd_base.specs.Files.{Map}
+use Rattle.tcd_base.specs.Files.{FileMap}
 use Rattle.tcd_reading.specs.Reports.{Report}
 use Rattle.tcd_reading.specs.Inputs.{HoldsInput}
 use Rattle.tcd_reading.specs.declared.status.Status.TheVariants.{Done, Refused, BadInput}
@@ -27,7 +27,7 @@ boot_is : (p : PlanData) (need : ℕ) → boots_line (boot_events p) need (p.are
 unfolding boots_line
 boot_is p need = refl
 
-module _ (names : BootNames) (word : List ℕ) (at_is : hex_number_of word ≡ Some names.at) (m : Map) (i : ImageData) (p : PlanData) (c : CertData)
+module _ (names : BootNames) (word : List ℕ) (at_is : hex_number_of word ≡ Some names.at) (m : FileMap) (i : ImageData) (p : PlanData) (c : CertData)
     (elf : HoldsInput elf_form (Some m) names.elf i) (plan : HoldsInput plan_form (Some m) names.plan p) (cert : HoldsInput cert_form (Some m) names.cert c) (r : Report) (done : r.status ≡ Done) where
   boot_done : IsBootVerdict i p c names.at r → Leaves m r (HeadlineOfBoot names.elf names.plan names.cert word)
   boot_done (boots.refused rule key addr first e) = absurd (refused_undone r (status_is r _ e) done)
@@ -59,7 +59,7 @@ boot_is_done names word at_is m r said done =
     let c = read p.2 (λ b. good b.status) in
     boot_done names word at_is m i.0 p.0 c.0 i.1 p.1 c.1 r done c.2
 
-module _ (names : BootNames) (word : List ℕ) (at_is : hex_number_of word ≡ Some names.at) (m : Map) (i : ImageData) (p : PlanData) (c : CertData)
+module _ (names : BootNames) (word : List ℕ) (at_is : hex_number_of word ≡ Some names.at) (m : FileMap) (i : ImageData) (p : PlanData) (c : CertData)
     (elf : HoldsInput elf_form (Some m) names.elf i) (plan : HoldsInput plan_form (Some m) names.plan p) (cert : HoldsInput cert_form (Some m) names.cert c) (r : Report) (refused : r.status ≡ Refused) where
   boot_refused : IsBootVerdict i p c names.at r → Leaves m r (RefusalByBoot names.elf names.plan names.cert word)
   boot_refused (boots.refused rule key addr first e) =

@@ -5,14 +5,14 @@ use Rattle.elf_image.specs.Images.{ImageData}
 use Rattle.tcd_plan.specs.PlanData.{PlanData}
 use Rattle.depth_cert.specs.declared.keys.Key.{Key}
 use Rattle.depth_cert.specs.Certs.{CertData}
-use Rattle.depth_cert.specs.Spelling.{bytes_of}
+use Rattle.depth_cert.specs.Spelling.{bytes_of_cert}
 use Rattle.depth_cert.proofs.BackLaws.{written_is_read}
 use Rattle.cfg_recover.specs.RulesHoldOrFail.{Accepts, IsFirstFault, certified_need}
 use Rattle.cfg_recover.specs.CertRefusals.{IsRefusal}
 use Rattle.value_cells.specs.declared.cells.Cell.{Cell}
 use Rattle.value_cells.specs.Cells.{with_cells}
 use Rattle.value_cells.specs.Keeping.{IsFirstBreak}
-use Rattle.tcd_base.specs.Files.{Map}
+use Rattle.tcd_base.specs.Files.{FileMap}
 use Rattle.tcd_reading.specs.Reports.{Report, says}
 use Rattle.tcd_reading.specs.Inputs.{HoldsInput}
 use Rattle.tcd_reading.specs.declared.status.Status.TheVariants.{Done, Refused, BadInput}
@@ -25,14 +25,14 @@ use Rattle.tcd_driver.specs.Cells.{CellsNames, IsCellsVerdict, cells_reading}
 use Rattle.tcd_driver.specs.Cellcert as making
 use Rattle.tcd_driver.specs.Cellcert.{CellcertNames, IsCertifyingCells, cellcert_reading}
 use Rattle.tcd_driver.specs.BestCert.{EachIsRefused}
-use Rattle.tcd_driver.specs.Headlines.Cells.{AreCellFiles, cells_words, HeadlineOfCells, RefusalByCells, HeadlineOfCellcert, NoneKeeps, RefusalByCellcert}
+use Rattle.tcd_driver.specs.Headlines.Cells.{AreCellFiles, cells_words, HeadlineOfCells, RefusalByCells, HeadlineOfCellcert, NoneKeepsCellBounds, RefusalByCellcert}
 use Rattle.tcd_driver.proofs.Headlines.{Leaves, Reports, bad_undone, bad_unrefused, refused_undone, says_refused, read, is_written, cert_held, firmware_files, accepted_of, least_of, text_of, held_of}
 
 cells_is : (need areas n : ℕ) → certified_cells_line need areas n ≡ cells_words need areas n
 unfolding certified_cells_line
 cells_is need areas n = refl
 
-cell_files : (elf plan cells : List ℕ) (m : Map) (i : ImageData) (p : PlanData) (cs : List Cell) → HoldsInput elf_form (Some m) elf i → HoldsInput plan_form (Some m) plan p → HoldsInput (cells_form p) (Some m) cells cs
+cell_files : (elf plan cells : List ℕ) (m : FileMap) (i : ImageData) (p : PlanData) (cs : List Cell) → HoldsInput elf_form (Some m) elf i → HoldsInput plan_form (Some m) plan p → HoldsInput (cells_form p) (Some m) cells cs
     → AreCellFiles m elf plan cells i p cs
 cell_files elf plan cells m i p cs elf_is plan_is cells_is = record {
   firmware = firmware_files m elf plan i p elf_is plan_is;
@@ -40,7 +40,7 @@ cell_files elf plan cells m i p cs elf_is plan_is cells_is = record {
 }
 
 -- ---- cells
-module _ (names : CellsNames) (m : Map) (i : ImageData) (p : PlanData) (cs : List Cell) (c : CertData) (files : AreCellFiles m names.elf names.plan names.cells i p cs)
+module _ (names : CellsNames) (m : FileMap) (i : ImageData) (p : PlanData) (cs : List Cell) (c : CertData) (files : AreCellFiles m names.elf names.plan names.cells i p cs)
     (cert : HoldsInput cert_form (Some m) names.cert c) (r : Report) (done : r.status ≡ Done) where
   cells_done : IsCellsVerdict i p cs c r → Leaves m r (HeadlineOfCells names.elf names.plan names.cells names.cert)
   cells_done (keeping.refused rule key addr first e) = absurd (refused_undone r (status_is r _ e) done)
@@ -71,7 +71,7 @@ cells_are_done names m r said done =
     let c = read cs.2 (λ b. good b.status) in
     cells_done names m i.0 p.0 cs.0 c.0 (cell_files names.elf names.plan names.cells m i.0 p.0 cs.0 i.1 p.1 cs.1) c.1 r done c.2
 
-module _ (names : CellsNames) (m : Map) (i : ImageData) (p : PlanData) (cs : List Cell) (c : CertData) (files : AreCellFiles m names.elf names.plan names.cells i p cs)
+module _ (names : CellsNames) (m : FileMap) (i : ImageData) (p : PlanData) (cs : List Cell) (c : CertData) (files : AreCellFiles m names.elf names.plan names.cells i p cs)
     (cert : HoldsInput cert_form (Some m) names.cert c) (r : Report) (refused : r.status ≡ Refused) where
   -- one of the two
   refusal_by_cells : (rule : ℕ) (key : Key) (addr : ℕ) →
@@ -111,12 +111,12 @@ cells_refuse names m r said refused =
     cells_refused names m i.0 p.0 cs.0 c.0 (cell_files names.elf names.plan names.cells m i.0 p.0 cs.0 i.1 p.1 cs.1) c.1 r refused c.2
 
 -- ---- cellcert
-module _ (names : CellcertNames) (m : Map) (i : ImageData) (p : PlanData) (cs : List Cell) (files : AreCellFiles m names.elf names.plan names.cells i p cs) (r : Report) (done : r.status ≡ Done) where
+module _ (names : CellcertNames) (m : FileMap) (i : ImageData) (p : PlanData) (cs : List Cell) (files : AreCellFiles m names.elf names.plan names.cells i p cs) (r : Report) (done : r.status ≡ Done) where
   cellcert_done : IsCertifyingCells names.cert i p cs r → Leaves m r (HeadlineOfCellcert names.elf names.plan names.cells names.cert)
   cellcert_done (making.refused rule key addr none why e) = absurd (refused_undone r (status_is r _ e) done)
   cellcert_done (making.broken cert key addr none is made first e) = absurd (refused_undone r (status_is r _ e) done)
   cellcert_done (making.certified c is made keeps safe e) = record {
-    after = insert m names.cert (bytes_of c);
+    after = insert m names.cert (bytes_of_cert c);
     held = held_of m r _ e;
     holds = record {
       image = i;
@@ -129,7 +129,7 @@ module _ (names : CellcertNames) (m : Map) (i : ImageData) (p : PlanData) (cs : 
       version = made.of_version;
       least = least_of i (with_cells p cs) 2 c is made;
       reads = written_is_read c is;
-      writes = is_written m names.cert (bytes_of c);
+      writes = is_written m names.cert (bytes_of_cert c);
       prints = text_of r _ _ e (cells_is (certified_need i (with_cells p cs) c) (p.areas - p.reserve) (length cs));
     };
   }
@@ -142,10 +142,10 @@ cellcert_is_done names m r said done =
     let cs = read p.2 (λ b. good b.status) in
     cellcert_done names m i.0 p.0 cs.0 (cell_files names.elf names.plan names.cells m i.0 p.0 cs.0 i.1 p.1 cs.1) r done cs.2
 
-module _ (names : CellcertNames) (m : Map) (i : ImageData) (p : PlanData) (cs : List Cell) (files : AreCellFiles m names.elf names.plan names.cells i p cs) (r : Report) (refused : r.status ≡ Refused) where
+module _ (names : CellcertNames) (m : FileMap) (i : ImageData) (p : PlanData) (cs : List Cell) (files : AreCellFiles m names.elf names.plan names.cells i p cs) (r : Report) (refused : r.status ≡ Refused) where
   -- one of the two
   refusal_by_cellcert : (rule : ℕ) (key : Key) (addr : ℕ) →
-      (EachIsRefused i (with_cells p cs) 2 × IsRefusal i (with_cells p cs) 2 rule key addr) ⊎ ((rule ≡ 16) × NoneKeeps i p cs key addr)
+      (EachIsRefused i (with_cells p cs) 2 × IsRefusal i (with_cells p cs) 2 rule key addr) ⊎ ((rule ≡ 16) × NoneKeepsCellBounds i p cs key addr)
       → r ≡ says Refused (refused_line rule key addr) → Leaves m r (RefusalByCellcert names.elf names.plan names.cells)
   refusal_by_cellcert rule key addr fails e = record {
     after = m;

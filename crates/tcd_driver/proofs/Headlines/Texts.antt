@@ -8,7 +8,7 @@ use Rattle.depth_cert.specs.Nodes.{count_points}
 use Rattle.cfg_recover.specs.RulesHoldOrFail.{certified_need}
 use Rattle.tcd_report.specs.Generated.{generated_image}
 use Rattle.tcd_report.specs.Generated.Planned.{generated_plan}
-use Rattle.tcd_base.specs.Files.{Map}
+use Rattle.tcd_base.specs.Files.{FileMap}
 use Rattle.tcd_reading.specs.Reports.{Report}
 use Rattle.tcd_reading.specs.Inputs.{HoldsInput}
 use Rattle.tcd_reading.specs.declared.status.Status.TheVariants.{Done, Refused, BadInput}
@@ -16,20 +16,19 @@ use Rattle.tcd_reading.proofs.Decided.{status_is}
 use Rattle.tcd_forms.specs.Forms.{elf_form, plan_form, cert_form}
 use Rattle.tcd_forms.specs.Lines.{long_elf_line, generated_line}
 use Rattle.tcd_driver.specs.Cfg as drawing
-use Rattle.tcd_driver.specs.Cfg.{CfgNames, IsDrawing, cfg_reading}
+use Rattle.tcd_driver.specs.Cfg.{CfgNames, IsCfgReport, cfg_reading}
 use Rattle.tcd_driver.specs.Reporting as reporting
 use Rattle.tcd_driver.specs.Reporting.{ReportNames, IsReporting, report_reading}
 use Rattle.tcd_driver.specs.Dis.{dis_reading}
 use Rattle.tcd_driver.specs.Gen as generating
-use Rattle.tcd_driver.specs.Gen.{IsSummary, gen_reading, IsCount}
+use Rattle.tcd_driver.specs.Gen.{IsGenReport, gen_reading, IsGenFunctionCount}
 use Rattle.tcd_driver.specs.Headlines.{RefusalByCheck, RefusalByCert}
-use Rattle.tcd_driver.specs.Headlines.Reports.{HeadlineOfCfg, HeadlineOfReport, HeadlineOfDis, RefusalByDis, gen_words, HeadlineOfGen}
-use Rattle.tcd_driver.specs.Headlines.Builds.{RefusalByGen}
+use Rattle.tcd_driver.specs.Headlines.Reports.{HeadlineOfCfg, HeadlineOfReport, HeadlineOfDis, RefusalByDis, gen_words, HeadlineOfGen, RefusalByGen}
 use Rattle.tcd_driver.proofs.Headlines.{Leaves, Reports, bad_undone, bad_unrefused, refused_undone, read, image_held, firmware_files, check_files, accepted_of, least_of, best_of, text_of, held_of, held_nothing, bad_file, says_refused, refusal_by_check, refusal_by_cert}
 
 -- ---- cfg
-module _ (names : CfgNames) (m : Map) (i : ImageData) (p : PlanData) (elf : HoldsInput elf_form (Some m) names.elf i) (plan : HoldsInput plan_form (Some m) names.plan p) (r : Report) where
-  cfg_done : IsDrawing i p r → r.status ≡ Done → Leaves m r (HeadlineOfCfg names.elf names.plan)
+module _ (names : CfgNames) (m : FileMap) (i : ImageData) (p : PlanData) (elf : HoldsInput elf_form (Some m) names.elf i) (plan : HoldsInput plan_form (Some m) names.plan p) (r : Report) where
+  cfg_done : IsCfgReport i p r → r.status ≡ Done → Leaves m r (HeadlineOfCfg names.elf names.plan)
   cfg_done (drawing.refused rule key addr none e) done = absurd (refused_undone r (status_is r _ e) done)
   cfg_done (drawing.drawn text is e) done = record {
     after = m;
@@ -49,7 +48,7 @@ module _ (names : CfgNames) (m : Map) (i : ImageData) (p : PlanData) (elf : Hold
     };
   }
 
-  cfg_refused : IsDrawing i p r → r.status ≡ Refused → Leaves m r (RefusalByCert names.elf names.plan)
+  cfg_refused : IsCfgReport i p r → r.status ≡ Refused → Leaves m r (RefusalByCert names.elf names.plan)
   cfg_refused (drawing.refused rule key addr none e) refused = refusal_by_cert names.elf names.plan m i p elf plan r rule key addr none e
   cfg_refused (drawing.drawn text is e) refused = absurd (refused_undone r refused (status_is r _ e))
 
@@ -68,7 +67,7 @@ cfg_refuses names m r said refused =
     cfg_refused names m i.0 p.0 i.1 p.1 r p.2 refused
 
 -- ---- report
-module _ (names : ReportNames) (m : Map) (i : ImageData) (p : PlanData) (c : CertData)
+module _ (names : ReportNames) (m : FileMap) (i : ImageData) (p : PlanData) (c : CertData)
     (elf : HoldsInput elf_form (Some m) names.elf i) (plan : HoldsInput plan_form (Some m) names.plan p) (cert : HoldsInput cert_form (Some m) names.cert c) (r : Report) where
   report_done : IsReporting i p c r → r.status ≡ Done → Leaves m r (HeadlineOfReport names.elf names.plan names.cert)
   report_done (reporting.refused rule key addr first e) done = absurd (refused_undone r (status_is r _ e) done)
@@ -134,8 +133,8 @@ gen_is : (functions nodes points need areas : ℕ) → generated_line functions 
 unfolding generated_line
 gen_is functions nodes points need areas = refl
 
-module _ (word : List ℕ) (n : ℕ) (counted : IsCount word n) (m : Map) (r : Report) where
-  gen_done : IsSummary n (generated_image n) generated_plan r → r.status ≡ Done → Leaves m r (HeadlineOfGen word)
+module _ (word : List ℕ) (n : ℕ) (counted : IsGenFunctionCount word n) (m : FileMap) (r : Report) where
+  gen_done : IsGenReport n (generated_image n) generated_plan r → r.status ≡ Done → Leaves m r (HeadlineOfGen word)
   gen_done (generating.refused rule key addr none why e) done = absurd (refused_undone r (status_is r _ e) done)
   gen_done (generating.certified c is made safe e) done = record {
     after = m;
@@ -154,7 +153,7 @@ module _ (word : List ℕ) (n : ℕ) (counted : IsCount word n) (m : Map) (r : R
     };
   }
 
-  gen_refused : IsSummary n (generated_image n) generated_plan r → r.status ≡ Refused → Leaves m r (RefusalByGen word)
+  gen_refused : IsGenReport n (generated_image n) generated_plan r → r.status ≡ Refused → Leaves m r (RefusalByGen word)
   gen_refused (generating.certified c is made safe e) refused = absurd (refused_undone r refused (status_is r _ e))
   gen_refused (generating.refused rule key addr none why e) refused = record {
     after = m;
@@ -172,8 +171,8 @@ module _ (word : List ℕ) (n : ℕ) (counted : IsCount word n) (m : Map) (r : R
     };
   }
 
-pub gen_is_done : (word : List ℕ) (n : ℕ) → IsCount word n → Reports (gen_reading n) Done (HeadlineOfGen word)
+pub gen_is_done : (word : List ℕ) (n : ℕ) → IsGenFunctionCount word n → Reports (gen_reading n) Done (HeadlineOfGen word)
 gen_is_done word n counted m r said done = gen_done word n counted m r said done
 
-pub gen_refuses : (word : List ℕ) (n : ℕ) → IsCount word n → Reports (gen_reading n) Refused (RefusalByGen word)
+pub gen_refuses : (word : List ℕ) (n : ℕ) → IsGenFunctionCount word n → Reports (gen_reading n) Refused (RefusalByGen word)
 gen_refuses word n counted m r said refused = gen_refused word n counted m r said refused

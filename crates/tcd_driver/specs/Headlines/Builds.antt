@@ -1,4 +1,4 @@
--- What it means that `asm` and `link` are done, or refuse.
+-- What it means that `asm`, `link` and `ship` are done, or refuse.
 use Rattle.std.specs.Prelude.{◌≡◌, ◌^◌, ℕ, List, ◌∷◌, ◌++◌, codes, length, Ok, Err, ◌≢◌, ◌-◌, map, Some, []}
 use Rattle.std.specs.Fmt.{decimal}
 use Rattle.elf_image.specs.Images.{ImageData}
@@ -6,50 +6,34 @@ use Rattle.elf_image.specs.WrittenElf.{file_of}
 use Rattle.tc_object.specs.Objects.{ObjectData}
 use Rattle.tc_object.specs.Grammar.{object_of}
 use Rattle.tc_object.specs.Spelling.{bytes_of}
-use Rattle.tc_stmt.specs.Lines.{lines_in}
-use Rattle.tc_asm.specs.DraftedSources.{IsLeast}
 use Rattle.tc_link.specs.Layouts.{LayoutData}
 use Rattle.tc_link.specs.Linked.{image_of_objects}
 use Rattle.tc_link.specs.Refusals.{Refusal}
-use Rattle.tcd_base.specs.Files.{Map}
+use Rattle.tcd_base.specs.Files.{FileMap}
 use Rattle.tcd_forms.specs.Forms.{IsSource, SourceData}
-use Rattle.tcd_forms.specs.Lines.{link_line, certified_words}
-use Rattle.tcd_driver.specs.Headlines.{HoldsFile, IsBadFile, HoldsLayout, HoldEach, IsWritten, HoldsPlan, IsBestWith, IsSourceText, refused_words}
+use Rattle.tcd_forms.specs.Lines.{bad_link_line, certified_words}
+use Rattle.tcd_driver.specs.Headlines.{HoldsFile, IsBadFile, HoldsLayout, HoldEachFile, IsOnlyFileWritten, HoldsPlan, IsBestWithNeed, refused_words}
 use Rattle.std.specs.FinMap.{get}
-use Rattle.elf_image.specs.ReadElf.{image_of}
+use Rattle.elf_image.specs.ReadElf.{image_of_file}
 use Rattle.tcd_plan.specs.PlanData.{PlanData}
 use Rattle.depth_cert.specs.declared.keys.Key.{Key}
 use Rattle.depth_cert.specs.Certs.{CertData}
 use Rattle.depth_cert.specs.Spelling as certs
 use Rattle.tc_program.specs.Placed.{Placed}
-use Rattle.tcd_driver.specs.BestCert.{NoneIsAccepted, EachIsRefused}
-use Rattle.tcd_driver.specs.BadInputLines.{IsNoLayout, IsNoObject}
-use Rattle.cfg_recover.specs.CertRefusals.{IsRefusal}
-use Rattle.tcd_report.specs.Generated.{generated_image}
-use Rattle.tcd_report.specs.Generated.Planned.{generated_plan}
-use Rattle.tcd_driver.specs.Gen.{IsCount}
+use Rattle.tcd_driver.specs.BestCert.{NoneIsAccepted}
+use Rattle.tcd_driver.specs.BadInputLines.{IsNoLayout, IsNoObject, SourceBreaksRule}
 
 -- ---- asm
 -- `asm` is done: the source breaks no rule, and OBJ now holds the bytes of its object.
-pub record HeadlineOfAsm (source_name object_name : List ℕ) (before after : Map) (printed : List ℕ) : Type 0 where
+pub record HeadlineOfAsm (source_name object_name : List ℕ) (before after : FileMap) (printed : List ℕ) : Type 0 where
   pub object : ObjectData
   pub source_file : HoldsFile before source_name (2 ^ 24) (λ bytes. IsSource bytes object)
-  pub writes : IsWritten before after object_name (bytes_of object)
+  pub writes : IsOnlyFileWritten before after object_name (bytes_of object)
   pub prints : printed ≡ codes "object " ++ (decimal (length (bytes_of object)) ++ (codes " bytes" ++ 10 ∷ []))
 
--- the line of a source that breaks a rule: the rule, the place of the source among the words, and
--- the line in it
-abbrev pub source_words : ℕ → ℕ → ℕ → List ℕ
-source_words rule place line = codes "bad source " ++ (decimal rule ++ (codes " at " ++ (decimal place ++ (codes " " ++ (decimal line ++ 10 ∷ [])))))
-
--- a line of the source breaks a rule; the first such line is printed, with the least rule that it
--- breaks
-abbrev pub BreaksRule : List ℕ → List ℕ → Type 0
-BreaksRule bytes printed = (line : ℕ) × (rule : ℕ) × IsLeast (lines_in bytes) line rule × (printed ≡ source_words rule 0 line)
-
 -- `asm` finds its source bad: it is too long, or it breaks a rule.
-pub record RefusalByAsm (source_name : List ℕ) (before after : Map) (printed : List ℕ) : Type 0 where
-  pub bad : IsBadFile before source_name (2 ^ 24) (codes "bad source 0 at " ++ (decimal 0 ++ 10 ∷ [])) BreaksRule printed
+pub record RefusalByAsm (source_name : List ℕ) (before after : FileMap) (printed : List ℕ) : Type 0 where
+  pub bad : IsBadFile before source_name (2 ^ 24) (codes "bad source 0 at " ++ (decimal 0 ++ 10 ∷ [])) SourceBreaksRule printed
   pub stays : after ≡ before
 
 -- ---- link
@@ -58,75 +42,82 @@ abbrev pub IsObjectText : List ℕ → ObjectData → Type 0
 IsObjectText bytes object = object_of bytes ≡ Ok object
 
 -- a layout, and objects
-pub record AreLinkFiles (before : Map) (layout_name : List ℕ) (object_names : List (List ℕ)) (layout : LayoutData) (objects : List ObjectData) : Type 0 where
+pub record AreLinkFiles (before : FileMap) (layout_name : List ℕ) (object_names : List (List ℕ)) (layout : LayoutData) (objects : List ObjectData) : Type 0 where
   pub layout_file : HoldsLayout before layout_name layout
-  pub object_files : HoldEach before (2 ^ 24) IsObjectText object_names objects
+  pub object_files : HoldEachFile before (2 ^ 24) IsObjectText object_names objects
 
 -- `link` is done: ELF now holds the bytes of the image that the objects are linked to by the
 -- layout.
-pub record HeadlineOfLink (layout_name elf_name : List ℕ) (object_names : List (List ℕ)) (before after : Map) (printed : List ℕ) : Type 0 where
+pub record HeadlineOfLink (layout_name elf_name : List ℕ) (object_names : List (List ℕ)) (before after : FileMap) (printed : List ℕ) : Type 0 where
   pub layout : LayoutData
   pub objects : List ObjectData
   pub image : ImageData
   pub files : AreLinkFiles before layout_name object_names layout objects
   pub linked : image_of_objects objects layout ≡ Ok image
-  pub writes : IsWritten before after elf_name (file_of image)
+  pub writes : IsOnlyFileWritten before after elf_name (file_of image)
   pub prints : printed ≡ codes "image " ++ (decimal (length (file_of image)) ++ (codes " bytes" ++ 10 ∷ []))
 
 -- the first file among the objects that is bad
-pub record IsFirstBadObject (before : Map) (object_names : List (List ℕ)) (line : List ℕ) : Type 0 where
+pub record IsFirstBadObject (before : FileMap) (object_names : List (List ℕ)) (line : List ℕ) : Type 0 where
   pub good_names : List (List ℕ)
   pub name : List ℕ
   pub other_names : List (List ℕ)
   pub are : object_names ≡ good_names ++ name ∷ other_names
   pub good : List ObjectData
-  pub good_files : HoldEach before (2 ^ 24) IsObjectText good_names good
+  pub good_files : HoldEachFile before (2 ^ 24) IsObjectText good_names good
   pub bad : IsBadFile before name (2 ^ 24) (codes "bad object 0 at " ++ (decimal (length good_names) ++ 10 ∷ [])) (IsNoObject (length good_names)) line
 
 -- the layout is bad; or it is good, and an object is bad; or all are good, but they can't be linked
-pub data IsLinkFault (before : Map) (layout_name : List ℕ) (object_names : List (List ℕ)) (line : List ℕ) : Type 0 where
+pub data IsLinkFault (before : FileMap) (layout_name : List ℕ) (object_names : List (List ℕ)) (line : List ℕ) : Type 0 where
   bad_layout : IsBadFile before layout_name (2 ^ 24) (codes "bad layout 0" ++ 10 ∷ []) IsNoLayout line → IsLinkFault before layout_name object_names line
   bad_object :
       (layout : LayoutData) → HoldsLayout before layout_name layout → IsFirstBadObject before object_names line → IsLinkFault before layout_name object_names line
   unlinked :
       (layout : LayoutData) (objects : List ObjectData) (why : Refusal) → AreLinkFiles before layout_name object_names layout objects
-      → image_of_objects objects layout ≡ Err why → line ≡ link_line why → IsLinkFault before layout_name object_names line
+      → image_of_objects objects layout ≡ Err why → line ≡ bad_link_line why → IsLinkFault before layout_name object_names line
 
 -- `link` finds its input bad.
-pub record RefusalByLink (layout_name : List ℕ) (object_names : List (List ℕ)) (before after : Map) (printed : List ℕ) : Type 0 where
+pub record RefusalByLink (layout_name : List ℕ) (object_names : List (List ℕ)) (before after : FileMap) (printed : List ℕ) : Type 0 where
   pub fault : IsLinkFault before layout_name object_names printed
   pub stays : after ≡ before
 
+-- ---- ship
+
+-- in the headline of `ship`: the text of a source, and the object that it is assembled to
+pub record IsSourceText (bytes : List ℕ) (source : SourceData) : Type 0 where
+  pub text : source.text ≡ bytes
+  pub object : IsSource bytes source.object
+
 -- a plan, a layout and sources: the objects of the sources are linked to the image by the layout,
 -- and each of their statements has its bytes in the image
-pub record IsImageOfFiles (before : Map) (plan_name layout_name : List ℕ) (source_names : List (List ℕ)) (plan : PlanData) (image : ImageData) : Type 0 where
+pub record IsImageOfFiles (before : FileMap) (plan_name layout_name : List ℕ) (source_names : List (List ℕ)) (plan : PlanData) (image : ImageData) : Type 0 where
   pub layout : LayoutData
   pub sources : List SourceData
   pub plan_file : HoldsPlan before plan_name plan
   pub layout_file : HoldsLayout before layout_name layout
-  pub source_files : HoldEach before (2 ^ 24) IsSourceText source_names sources
+  pub source_files : HoldEachFile before (2 ^ 24) IsSourceText source_names sources
   pub linked : image_of_objects (map (λ source. source.object) sources) layout ≡ Ok image
   pub placed : Placed (map (λ source. source.text) sources) layout image
 
 -- `ship` is done: ELF and CERT are different names. ELF now holds the image of the sources, and its
 -- bytes read back as it. CERT now holds the best certificate for this image. Each other name holds
 -- what it held.
-pub record HeadlineOfShip (plan_name layout_name elf_name cert_name : List ℕ) (source_names : List (List ℕ)) (before after : Map) (printed : List ℕ) : Type 0 where
+pub record HeadlineOfShip (plan_name layout_name elf_name cert_name : List ℕ) (source_names : List (List ℕ)) (before after : FileMap) (printed : List ℕ) : Type 0 where
   pub plan : PlanData
   pub image : ImageData
   pub cert : CertData
   pub need : ℕ
   pub apart : elf_name ≢ cert_name
   pub image_is : IsImageOfFiles before plan_name layout_name source_names plan image
-  pub image_reads : image_of (file_of image) ≡ Ok image
-  pub best : IsBestWith image plan cert need
+  pub image_reads : image_of_file (file_of image) ≡ Ok image
+  pub best : IsBestWithNeed image plan cert need
   pub elf_written : get after elf_name ≡ Some (file_of image)
-  pub cert_written : get after cert_name ≡ Some (certs.bytes_of cert)
+  pub cert_written : get after cert_name ≡ Some (certs.bytes_of_cert cert)
   pub others : (other : List ℕ) → other ≢ elf_name → other ≢ cert_name → get after other ≡ get before other
   pub prints : printed ≡ certified_words need (plan.areas - plan.reserve)
 
 -- `ship` refuses: no certificate is accepted for the image of the sources.
-pub record RefusalByShip (plan_name layout_name : List ℕ) (source_names : List (List ℕ)) (before after : Map) (printed : List ℕ) : Type 0 where
+pub record RefusalByShip (plan_name layout_name : List ℕ) (source_names : List (List ℕ)) (before after : FileMap) (printed : List ℕ) : Type 0 where
   pub plan : PlanData
   pub image : ImageData
   pub rule : ℕ
@@ -134,17 +125,5 @@ pub record RefusalByShip (plan_name layout_name : List ℕ) (source_names : List
   pub address : ℕ
   pub image_is : IsImageOfFiles before plan_name layout_name source_names plan image
   pub none : NoneIsAccepted image plan rule frame address
-  pub prints : printed ≡ refused_words rule frame address
-  pub stays : after ≡ before
-
--- `gen` refuses: no certificate of version 1 is accepted, and this is why.
-pub record RefusalByGen (word : List ℕ) (before after : Map) (printed : List ℕ) : Type 0 where
-  pub functions : ℕ
-  pub rule : ℕ
-  pub frame : Key
-  pub address : ℕ
-  pub counted : IsCount word functions
-  pub none : EachIsRefused (generated_image functions) generated_plan 1
-  pub why : IsRefusal (generated_image functions) generated_plan 1 rule frame address
   pub prints : printed ≡ refused_words rule frame address
   pub stays : after ≡ before

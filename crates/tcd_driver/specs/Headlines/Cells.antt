@@ -1,4 +1,4 @@
--- What it means that `cells` and `cellcert` are done.
+-- What it means that `cells` and `cellcert` are done, or refuse.
 use Rattle.std.specs.Prelude.{◌≡◌, ◌-◌, ◌^◌, ◌⊎◌, ℕ, List, [], ◌∷◌, ◌++◌, codes, length, Ok}
 use Rattle.std.specs.Fmt.{decimal}
 use Rattle.elf_image.specs.Images.{ImageData}
@@ -6,7 +6,7 @@ use Rattle.tcd_plan.specs.PlanData.{PlanData}
 use Rattle.depth_cert.specs.declared.keys.Key.{Key}
 use Rattle.depth_cert.specs.Certs.{CertData, IsCert}
 use Rattle.depth_cert.specs.Grammar.{certificate_of}
-use Rattle.depth_cert.specs.Spelling.{bytes_of}
+use Rattle.depth_cert.specs.Spelling.{bytes_of_cert}
 use Rattle.cfg_recover.specs.RulesHoldOrFail.{Accepts, IsFirstFault}
 use Rattle.cfg_recover.specs.CertRefusals.{IsRefusal}
 use Rattle.value_cells.specs.declared.cells.Cell.{Cell}
@@ -14,12 +14,12 @@ use Rattle.value_cells.specs.Cells.{with_cells}
 use Rattle.value_cells.specs.Keeping.{KeepsCells, IsFirstBreak}
 use Rattle.value_cells.specs.CellListText.{Reads}
 use Rattle.value_cells.specs.Safe.{SafeWithCells}
-use Rattle.tcd_base.specs.Files.{Map}
-use Rattle.tcd_driver.specs.Headlines.{HoldsFile, AreFirmwareFiles, HoldsCert, IsWritten, IsAcceptedWith, refused_words}
+use Rattle.tcd_base.specs.Files.{FileMap}
+use Rattle.tcd_driver.specs.Headlines.{HoldsFile, AreFirmwareFiles, HoldsCert, IsOnlyFileWritten, IsAcceptedWithNeed, refused_words}
 use Rattle.tcd_driver.specs.BestCert.{EachIsRefused, IsLeastOfItsVersion}
 
 -- an executable, a plan, and its cells
-pub record AreCellFiles (before : Map) (elf_name plan_name cells_name : List ℕ) (image : ImageData) (plan : PlanData) (list : List Cell) : Type 0 where
+pub record AreCellFiles (before : FileMap) (elf_name plan_name cells_name : List ℕ) (image : ImageData) (plan : PlanData) (list : List Cell) : Type 0 where
   pub firmware : AreFirmwareFiles before elf_name plan_name image plan
   pub cells_file : HoldsFile before cells_name (2 ^ 24) (λ bytes. Reads plan bytes (Ok list))
 
@@ -27,7 +27,7 @@ pub record AreCellFiles (before : Map) (elf_name plan_name cells_name : List ℕ
 -- the cells' bounds. So each run under the plan itself is safe with the certificate's need if each
 -- cell starts in its bounds, and each cell stays in them.
 pub record AreKeptWith (image : ImageData) (plan : PlanData) (list : List Cell) (cert : CertData) (need : ℕ) : Type 0 where
-  pub accepted : IsAcceptedWith image (with_cells plan list) cert need
+  pub accepted : IsAcceptedWithNeed image (with_cells plan list) cert need
   pub keeps : KeepsCells image (with_cells plan list) list cert
   pub safe : SafeWithCells image plan list need
 
@@ -37,7 +37,7 @@ cells_words need areas n =
     codes "certified " ++ (decimal need ++ (codes " of " ++ (decimal areas ++ (codes " areas with " ++ (decimal n ++ (codes " cells" ++ 10 ∷ []))))))
 
 -- `cells` is done: by the certificate every run is safe and keeps the cells in their bounds.
-pub record HeadlineOfCells (elf_name plan_name cells_name cert_name : List ℕ) (before after : Map) (printed : List ℕ) : Type 0 where
+pub record HeadlineOfCells (elf_name plan_name cells_name cert_name : List ℕ) (before after : FileMap) (printed : List ℕ) : Type 0 where
   pub image : ImageData
   pub plan : PlanData
   pub list : List Cell
@@ -51,7 +51,7 @@ pub record HeadlineOfCells (elf_name plan_name cells_name cert_name : List ℕ) 
 
 -- `cells` refuses: the certificate isn't accepted, and this rule fails first. Or it is accepted,
 -- and this is the first store that may leave a cell's bounds (rule 16).
-pub record RefusalByCells (elf_name plan_name cells_name cert_name : List ℕ) (before after : Map) (printed : List ℕ) : Type 0 where
+pub record RefusalByCells (elf_name plan_name cells_name cert_name : List ℕ) (before after : FileMap) (printed : List ℕ) : Type 0 where
   pub image : ImageData
   pub plan : PlanData
   pub list : List Cell
@@ -69,7 +69,7 @@ pub record RefusalByCells (elf_name plan_name cells_name cert_name : List ℕ) (
 
 -- `cellcert` is done: CERT now holds such a certificate, the least of version 2 under the plan in
 -- which the cells are devices.
-pub record HeadlineOfCellcert (elf_name plan_name cells_name cert_name : List ℕ) (before after : Map) (printed : List ℕ) : Type 0 where
+pub record HeadlineOfCellcert (elf_name plan_name cells_name cert_name : List ℕ) (before after : FileMap) (printed : List ℕ) : Type 0 where
   pub image : ImageData
   pub plan : PlanData
   pub list : List Cell
@@ -79,13 +79,13 @@ pub record HeadlineOfCellcert (elf_name plan_name cells_name cert_name : List �
   pub kept : AreKeptWith image plan list cert need
   pub version : cert.version ≡ 2
   pub least : IsLeastOfItsVersion image (with_cells plan list) cert
-  pub reads : certificate_of (bytes_of cert) ≡ Ok cert
-  pub writes : IsWritten before after cert_name (bytes_of cert)
+  pub reads : certificate_of (bytes_of_cert cert) ≡ Ok cert
+  pub writes : IsOnlyFileWritten before after cert_name (bytes_of_cert cert)
   pub prints : printed ≡ cells_words need (plan.areas - plan.reserve) (length list)
 
 -- by each certificate of version 2 that is accepted under the plan in which the cells are devices,
 -- a store may leave a cell's bounds; this is the first such store by the least one
-pub record NoneKeeps (image : ImageData) (plan : PlanData) (list : List Cell) (frame : Key) (address : ℕ) : Type 0 where
+pub record NoneKeepsCellBounds (image : ImageData) (plan : PlanData) (list : List Cell) (frame : Key) (address : ℕ) : Type 0 where
   pub each : (other : CertData) → IsCert other → other.version ≡ 2 → Accepts image (with_cells plan list) other → KeepsCells image (with_cells plan list) list other → ⊥
   pub cert : CertData
   pub version : cert.version ≡ 2
@@ -95,7 +95,7 @@ pub record NoneKeeps (image : ImageData) (plan : PlanData) (list : List Cell) (f
 
 -- `cellcert` refuses: no certificate of version 2 is accepted, and this is why. Or none that is
 -- accepted keeps the cells' bounds (rule 16).
-pub record RefusalByCellcert (elf_name plan_name cells_name : List ℕ) (before after : Map) (printed : List ℕ) : Type 0 where
+pub record RefusalByCellcert (elf_name plan_name cells_name : List ℕ) (before after : FileMap) (printed : List ℕ) : Type 0 where
   pub image : ImageData
   pub plan : PlanData
   pub list : List Cell
@@ -105,6 +105,6 @@ pub record RefusalByCellcert (elf_name plan_name cells_name : List ℕ) (before 
   pub files : AreCellFiles before elf_name plan_name cells_name image plan list
   pub fails :
       (EachIsRefused image (with_cells plan list) 2 × IsRefusal image (with_cells plan list) 2 rule frame address)
-      ⊎ ((rule ≡ 16) × NoneKeeps image plan list frame address)
+      ⊎ ((rule ≡ 16) × NoneKeepsCellBounds image plan list frame address)
   pub prints : printed ≡ refused_words rule frame address
   pub stays : after ≡ before

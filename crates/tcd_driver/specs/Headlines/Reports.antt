@@ -1,9 +1,9 @@
--- What it means that `cfg`, `report`, `dis` and `gen` are done.
+-- What it means that `cfg`, `report`, `dis` and `gen` are done, and that `dis` and `gen` refuse.
 use Rattle.std.specs.Prelude.{◌≡◌, ◌-◌, ◌^◌, ℕ, List, ◌∷◌, ◌++◌, codes, length, Err, []}
 use Rattle.std.specs.Fmt.{decimal}
 use Rattle.std.specs.List.{flat_map}
 use Rattle.elf_image.specs.Images.{ImageData}
-use Rattle.elf_image.specs.ReadElf.{image_of}
+use Rattle.elf_image.specs.ReadElf.{image_of_file}
 use Rattle.elf_image.specs.declared.errors.ImageErr.{ImageErr}
 use Rattle.tcd_plan.specs.PlanData.{PlanData}
 use Rattle.tc_machine.specs.Safe.{Safe}
@@ -16,23 +16,25 @@ use Rattle.tcd_report.specs.Graphs.EdgeLaws.{EdgesStand}
 use Rattle.tcd_report.specs.Reports.{IsReport}
 use Rattle.tcd_report.specs.Generated.{generated_image}
 use Rattle.tcd_report.specs.Generated.Planned.{generated_plan}
-use Rattle.tcd_base.specs.Files.{Map}
-use Rattle.tcd_forms.specs.Lines.{elf_line}
-use Rattle.tcd_driver.specs.Headlines.{IsBadFile, HoldsImage, AreFirmwareFiles, AreCheckFiles, IsAcceptedWith, IsBestWith}
-use Rattle.tcd_driver.specs.BestCert.{IsLeastOfItsVersion}
-use Rattle.tcd_driver.specs.Gen.{IsCount}
+use Rattle.tcd_base.specs.Files.{FileMap}
+use Rattle.tcd_forms.specs.Lines.{bad_elf_line}
+use Rattle.tcd_driver.specs.Headlines.{IsBadFile, HoldsImage, AreFirmwareFiles, AreCheckFiles, IsAcceptedWithNeed, IsBestWithNeed, refused_words}
+use Rattle.tcd_driver.specs.BestCert.{IsLeastOfItsVersion, EachIsRefused}
+use Rattle.tcd_driver.specs.Gen.{IsGenFunctionCount}
+use Rattle.depth_cert.specs.declared.keys.Key.{Key}
+use Rattle.cfg_recover.specs.CertRefusals.{IsRefusal}
 
 -- ---- cfg
 -- `cfg` is done: the text is the graph of the best certificate. The edge of each step of each run
 -- is on one of its lines, with its address and the key of its frame.
-pub record HeadlineOfCfg (elf_name plan_name : List ℕ) (before after : Map) (printed : List ℕ) : Type 0 where
+pub record HeadlineOfCfg (elf_name plan_name : List ℕ) (before after : FileMap) (printed : List ℕ) : Type 0 where
   pub image : ImageData
   pub plan : PlanData
   pub cert : CertData
   pub need : ℕ
   pub lines : List (List ℕ)
   pub files : AreFirmwareFiles before elf_name plan_name image plan
-  pub best : IsBestWith image plan cert need
+  pub best : IsBestWithNeed image plan cert need
   pub graph : AreGraphLines image plan cert lines
   pub edges : EdgesStand image plan cert lines
   pub prints : printed ≡ flat_map (λ line. line) lines
@@ -41,35 +43,36 @@ pub record HeadlineOfCfg (elf_name plan_name : List ℕ) (before after : Map) (p
 -- ---- report
 -- `report` is done: the certificate is accepted, as for `check`, and the text is its report, with
 -- this need.
-pub record HeadlineOfReport (elf_name plan_name cert_name : List ℕ) (before after : Map) (printed : List ℕ) : Type 0 where
+pub record HeadlineOfReport (elf_name plan_name cert_name : List ℕ) (before after : FileMap) (printed : List ℕ) : Type 0 where
   pub image : ImageData
   pub plan : PlanData
   pub cert : CertData
   pub need : ℕ
   pub files : AreCheckFiles before elf_name plan_name cert_name image plan cert
-  pub accepted : IsAcceptedWith image plan cert need
+  pub accepted : IsAcceptedWithNeed image plan cert need
   pub safe : Safe image plan need
   pub told : certified_need image plan cert ≡ need
   pub prints : IsReport image plan cert printed
   pub stays : after ≡ before
 
 -- ---- dis
--- `dis` is done: the text is the listing of the executable.
-pub record HeadlineOfDis (elf_name : List ℕ) (before after : Map) (printed : List ℕ) : Type 0 where
+-- `dis` has reported on an executable: the text is its listing.
+pub record HeadlineOfDis (elf_name : List ℕ) (before after : FileMap) (printed : List ℕ) : Type 0 where
   pub image : ImageData
   pub elf_file : HoldsImage before elf_name image
   pub prints : printed ≡ listing_of image
   pub stays : after ≡ before
 
--- `dis` finds its file bad: it is too long, or it is no executable.
-pub record RefusalByDis (elf_name : List ℕ) (before after : Map) (printed : List ℕ) : Type 0 where
+-- `dis` has no listing to report, as its file is bad: it is too long, or it is no executable.
+pub record RefusalByDis (elf_name : List ℕ) (before after : FileMap) (printed : List ℕ) : Type 0 where
   pub bad :
-      IsBadFile before elf_name (2 ^ 24) (codes "bad elf 0" ++ 10 ∷ []) (λ bytes line. (e : ImageErr) × (image_of bytes ≡ Err e) × (line ≡ elf_line e)) printed
+      IsBadFile before elf_name (2 ^ 24) (codes "bad elf 0" ++ 10 ∷ []) (λ bytes line. (e : ImageErr) × (image_of_file bytes ≡ Err e) × (line ≡ bad_elf_line e)) printed
   pub stays : after ≡ before
 
 -- ---- gen
 
--- the line of `gen`: functions, nodes, points, the need, and the areas without the reserve
+-- the line that `gen` reports in its headline: functions, nodes, points, the need, and the areas
+-- without the reserve
 abbrev pub gen_words : ℕ → ℕ → ℕ → ℕ → ℕ → List ℕ
 gen_words functions nodes points need areas =
     codes "functions "
@@ -79,16 +82,29 @@ gen_words functions nodes points need areas =
     ++ (codes " points "
     ++ (decimal points ++ (codes " certified " ++ (decimal need ++ (codes " of " ++ (decimal areas ++ (codes " areas" ++ 10 ∷ []))))))))))
 
--- `gen` is done: the line counts the least certificate of version 1 for the generated image and its
--- plan, and every run of the image is safe with its need.
-pub record HeadlineOfGen (word : List ℕ) (before after : Map) (printed : List ℕ) : Type 0 where
+-- `gen` has reported on a generated image and its plan: the line counts the least certificate of
+-- version 1, and every run of the image is safe with its need.
+pub record HeadlineOfGen (word : List ℕ) (before after : FileMap) (printed : List ℕ) : Type 0 where
   pub functions : ℕ
   pub cert : CertData
   pub need : ℕ
-  pub counted : IsCount word functions
-  pub accepted : IsAcceptedWith (generated_image functions) generated_plan cert need
+  pub counted : IsGenFunctionCount word functions
+  pub accepted : IsAcceptedWithNeed (generated_image functions) generated_plan cert need
   pub safe : Safe (generated_image functions) generated_plan need
   pub version : cert.version ≡ 1
   pub least : IsLeastOfItsVersion (generated_image functions) generated_plan cert
   pub prints : printed ≡ gen_words functions (length cert.nodes) (count_points cert.nodes) need (generated_plan.areas - generated_plan.reserve)
+  pub stays : after ≡ before
+
+-- `gen` reports a refusal: no certificate of version 1 is accepted for the generated image, and
+-- this is why.
+pub record RefusalByGen (word : List ℕ) (before after : FileMap) (printed : List ℕ) : Type 0 where
+  pub functions : ℕ
+  pub rule : ℕ
+  pub frame : Key
+  pub address : ℕ
+  pub counted : IsGenFunctionCount word functions
+  pub none : EachIsRefused (generated_image functions) generated_plan 1
+  pub why : IsRefusal (generated_image functions) generated_plan 1 rule frame address
+  pub prints : printed ≡ refused_words rule frame address
   pub stays : after ≡ before

@@ -1,38 +1,37 @@
--- What it means that `tasks` and `taskcert` are done.
+-- What it means that `tasks` and `taskcert` are done, or refuse.
 use Rattle.std.specs.Prelude.{◌≡◌, ◌≢◌, ◌≤◌, ◌<◌, ◌-◌, ◌^◌, ◌⊎◌, ℕ, List, ◌∷◌, ◌++◌, codes, length, take, All, Ok, Some, []}
 use Rattle.std.specs.Fmt.{decimal}
 use Rattle.std.specs.FinMap.{get}
-use Rattle.csa_chain.specs.SeveralChains.{sum_below}
+use Rattle.csa_chain.specs.SeveralChains.{sum_over_chains}
 use Rattle.elf_image.specs.Images.{ImageData}
 use Rattle.tcd_plan.specs.PlanData.{PlanData}
 use Rattle.tcd_text.specs.Digits.{hex_word}
-use Rattle.tcd_text.specs.Lines.{lines_of}
+use Rattle.tcd_text.specs.Lines.{text_lines}
 use Rattle.depth_cert.specs.declared.keys.Key.{Key}
 use Rattle.depth_cert.specs.Certs.{CertData, IsCert}
 use Rattle.depth_cert.specs.Grammar.{certificate_of}
-use Rattle.depth_cert.specs.Spelling.{bytes_of}
-use Rattle.cfg_recover.specs.RulesHoldOrFail.{Accepts, IsFirstFault, certified_need}
+use Rattle.depth_cert.specs.Spelling.{bytes_of_cert}
+use Rattle.cfg_recover.specs.RulesHoldOrFail.{Accepts, IsFirstFault}
 use Rattle.cfg_recover.specs.CertRefusals.{IsRefusal}
 use Rattle.task_chains.specs.Tasks.{TasksData, count}
 use Rattle.task_chains.specs.TaskListText.{Reads}
 use Rattle.task_chains.specs.SwitchRoutine.{HasRoutine, IsRoutineFault}
 use Rattle.task_chains.specs.Views.{view_image_of, view_plan_of}
 use Rattle.task_chains.specs.Rule17.{KeepsApart, IsTaskFault}
-use Rattle.task_chains.specs.SafeTasks.{SafeTasks, need_of_task, IsJudged}
-use Rattle.tcd_base.specs.Files.{Map}
-use Rattle.tcd_driver.specs.Tasks.{cert_of}
-use Rattle.tcd_driver.specs.Headlines.{HoldsFile, AreFirmwareFiles, HoldEach, refused_words}
+use Rattle.task_chains.specs.SafeTasks.{SafeTasks, need_of_task}
+use Rattle.tcd_base.specs.Files.{FileMap}
+use Rattle.tcd_driver.specs.Tasks.{cert_of_task}
+use Rattle.tcd_driver.specs.Headlines.{HoldsFile, AreFirmwareFiles, HoldEachFile, refused_words}
 use Rattle.tcd_driver.specs.BestCert.{EachIsRefused, IsLeastOfItsVersion}
-use Rattle.tcd_forms.specs.Lines.{sum_words, tasks_words}
-use Rattle.depth_maker.specs.LeastCertMade.{IsMade}
+use Rattle.tcd_forms.specs.Lines.{refused_sum_words, certified_tasks_words}
 
 -- an executable, a plan, and its tasks
-pub record AreTaskFiles (before : Map) (elf_name plan_name tasks_name : List ℕ) (image : ImageData) (plan : PlanData) (list : TasksData) : Type 0 where
+pub record AreTaskFiles (before : FileMap) (elf_name plan_name tasks_name : List ℕ) (image : ImageData) (plan : PlanData) (list : TasksData) : Type 0 where
   pub firmware : AreFirmwareFiles before elf_name plan_name image plan
-  pub tasks_file : HoldsFile before tasks_name (2 ^ 24) (λ bytes. Reads plan (lines_of bytes) (Ok list))
+  pub tasks_file : HoldsFile before tasks_name (2 ^ 24) (λ bytes. Reads plan (text_lines bytes) (Ok list))
 
--- the certificate is accepted for task u's view of the image and the plan, and keeps the task apart
--- from the others
+-- in the headlines of tasks: the certificate is accepted for task u's view of the image and the
+-- plan, and keeps the task apart from the others
 pub record IsAcceptedForTask (image : ImageData) (plan : PlanData) (list : TasksData) (u : ℕ) (cert : CertData) : Type 0 where
   pub accepted : Accepts (view_image_of image list u) (view_plan_of plan list u) cert
   pub apart : KeepsApart (view_image_of image list u) (view_plan_of plan list u) list cert
@@ -43,35 +42,36 @@ pub record IsAcceptedForTask (image : ImageData) (plan : PlanData) (list : Tasks
 pub record AreSafeTogether (image : ImageData) (plan : PlanData) (list : TasksData) (certs : List CertData) (needs : ℕ → ℕ) : Type 0 where
   pub as_many : length certs ≡ count list
   pub routine : HasRoutine image plan list
-  pub each : (u : ℕ) → u < count list → IsAcceptedForTask image plan list u (cert_of certs u)
-  pub needs_are : (u : ℕ) → needs u ≡ need_of_task image plan list (cert_of certs) u
-  pub enough : sum_below (count list) needs ≤ plan.areas - plan.reserve
+  pub each : (u : ℕ) → u < count list → IsAcceptedForTask image plan list u (cert_of_task certs u)
+  pub needs_are : (u : ℕ) → needs u ≡ need_of_task image plan list (cert_of_task certs) u
+  pub enough : sum_over_chains (count list) needs ≤ plan.areas - plan.reserve
   pub safe : SafeTasks image plan list needs
 
--- the sum of the certificates' needs
-abbrev pub sum_of : ImageData → PlanData → TasksData → List CertData → ℕ
-sum_of image plan list certs = sum_below (count list) (need_of_task image plan list (cert_of certs))
+-- in the headlines of tasks: the sum of the certificates' needs
+abbrev pub sum_of_task_needs : ImageData → PlanData → TasksData → List CertData → ℕ
+sum_of_task_needs image plan list certs = sum_over_chains (count list) (need_of_task image plan list (cert_of_task certs))
 
--- the line of an image without the switch routine: the first address that differs
+-- in the headlines of tasks: the line of an image without the switch routine, with the first
+-- address that differs
 abbrev pub switch_words : ℕ → List ℕ
 switch_words address = codes "refused switch at " ++ (hex_word address ++ 10 ∷ [])
 
 -- the line of a refusal, with the task before the line feed
-abbrev pub task_words : ℕ → Key → ℕ → ℕ → List ℕ
-task_words rule frame address u =
+abbrev pub refused_task_words : ℕ → Key → ℕ → ℕ → List ℕ
+refused_task_words rule frame address u =
     take (length (refused_words rule frame address) - 1) (refused_words rule frame address) ++ (codes " of task " ++ (decimal u ++ 10 ∷ []))
 
 -- `tasks` is done: by the certificates, one for each task, all tasks are safe together.
-pub record HeadlineOfTasks (elf_name plan_name tasks_name : List ℕ) (cert_names : List (List ℕ)) (before after : Map) (printed : List ℕ) : Type 0 where
+pub record HeadlineOfTasks (elf_name plan_name tasks_name : List ℕ) (cert_names : List (List ℕ)) (before after : FileMap) (printed : List ℕ) : Type 0 where
   pub image : ImageData
   pub plan : PlanData
   pub list : TasksData
   pub certs : List CertData
   pub needs : ℕ → ℕ
   pub files : AreTaskFiles before elf_name plan_name tasks_name image plan list
-  pub cert_files : HoldEach before (2 ^ 30) (λ bytes cert. certificate_of bytes ≡ Ok cert) cert_names certs
+  pub cert_files : HoldEachFile before (2 ^ 30) (λ bytes cert. certificate_of bytes ≡ Ok cert) cert_names certs
   pub together : AreSafeTogether image plan list certs needs
-  pub prints : printed ≡ tasks_words (sum_below (count list) needs) (plan.areas - plan.reserve) (count list)
+  pub prints : printed ≡ certified_tasks_words (sum_over_chains (count list) needs) (plan.areas - plan.reserve) (count list)
   pub stays : after ≡ before
 
 -- Task u is the first whose certificate is refused. It isn't accepted for the task's view, and this
@@ -79,11 +79,11 @@ pub record HeadlineOfTasks (elf_name plan_name tasks_name : List ℕ) (cert_name
 -- task apart (rule 17).
 pub record IsFirstRefusedTask (image : ImageData) (plan : PlanData) (list : TasksData) (certs : List CertData) (u rule : ℕ) (frame : Key) (address : ℕ) : Type 0 where
   pub task : u < count list
-  pub before : (w : ℕ) → w < u → IsAcceptedForTask image plan list w (cert_of certs w)
+  pub before : (w : ℕ) → w < u → IsAcceptedForTask image plan list w (cert_of_task certs w)
   pub fails :
-      IsFirstFault (view_image_of image list u) (view_plan_of plan list u) (cert_of certs u) rule frame address
-      ⊎ ((rule ≡ 17) × Accepts (view_image_of image list u) (view_plan_of plan list u) (cert_of certs u)
-      × IsTaskFault (view_image_of image list u) (view_plan_of plan list u) list (cert_of certs u) frame address)
+      IsFirstFault (view_image_of image list u) (view_plan_of plan list u) (cert_of_task certs u) rule frame address
+      ⊎ ((rule ≡ 17) × Accepts (view_image_of image list u) (view_plan_of plan list u) (cert_of_task certs u)
+      × IsTaskFault (view_image_of image list u) (view_plan_of plan list u) list (cert_of_task certs u) frame address)
 
 -- What is against the tasks, with its line: the image doesn't have the switch routine; or it does,
 -- and a task's certificate is refused; or none is refused, and the needs are together above the
@@ -92,41 +92,41 @@ pub data IsTasksFault (image : ImageData) (plan : PlanData) (list : TasksData) (
   no_switch : (address : ℕ) → IsRoutineFault image plan list address → line ≡ switch_words address → IsTasksFault image plan list certs line
   refused_task :
       (u rule : ℕ) (frame : Key) (address : ℕ) → HasRoutine image plan list → IsFirstRefusedTask image plan list certs u rule frame address
-      → line ≡ task_words rule frame address u → IsTasksFault image plan list certs line
+      → line ≡ refused_task_words rule frame address u → IsTasksFault image plan list certs line
   above :
-      HasRoutine image plan list → ((u : ℕ) → u < count list → IsAcceptedForTask image plan list u (cert_of certs u))
-      → plan.areas - plan.reserve < sum_of image plan list certs → line ≡ sum_words (sum_of image plan list certs) (plan.areas - plan.reserve)
+      HasRoutine image plan list → ((u : ℕ) → u < count list → IsAcceptedForTask image plan list u (cert_of_task certs u))
+      → plan.areas - plan.reserve < sum_of_task_needs image plan list certs → line ≡ refused_sum_words (sum_of_task_needs image plan list certs) (plan.areas - plan.reserve)
       → IsTasksFault image plan list certs line
 
 -- `tasks` refuses the image, a certificate, or the sum of the needs. There is a certificate for
 -- each task.
-pub record RefusalByTasks (elf_name plan_name tasks_name : List ℕ) (cert_names : List (List ℕ)) (before after : Map) (printed : List ℕ) : Type 0 where
+pub record RefusalByTasks (elf_name plan_name tasks_name : List ℕ) (cert_names : List (List ℕ)) (before after : FileMap) (printed : List ℕ) : Type 0 where
   pub image : ImageData
   pub plan : PlanData
   pub list : TasksData
   pub certs : List CertData
   pub files : AreTaskFiles before elf_name plan_name tasks_name image plan list
-  pub cert_files : HoldEach before (2 ^ 30) (λ bytes cert. certificate_of bytes ≡ Ok cert) cert_names certs
+  pub cert_files : HoldEachFile before (2 ^ 30) (λ bytes cert. certificate_of bytes ≡ Ok cert) cert_names certs
   pub as_many : length certs ≡ count list
   pub fault : IsTasksFault image plan list certs printed
   pub stays : after ≡ before
 
 -- the names hold the bytes of these certificates, one by one
-abbrev pub HoldCerts : Map → List (List ℕ) → List CertData → Type 0
-HoldCerts m [] [] = Unit {0}
-HoldCerts m [] (cert ∷ certs) = ⊥
-HoldCerts m (name ∷ names) [] = ⊥
-HoldCerts m (name ∷ names) (cert ∷ certs) = (get m name ≡ Some (bytes_of cert)) × HoldCerts m names certs
+abbrev pub HoldTaskCerts : FileMap → List (List ℕ) → List CertData → Type 0
+HoldTaskCerts m [] [] = Unit {0}
+HoldTaskCerts m [] (cert ∷ certs) = ⊥
+HoldTaskCerts m (name ∷ names) [] = ⊥
+HoldTaskCerts m (name ∷ names) (cert ∷ certs) = (get m name ≡ Some (bytes_of_cert cert)) × HoldTaskCerts m names certs
 
 -- the certificate is the least of version 2 for task u's view, and its bytes read back as it
 pub record IsLeastForTask (image : ImageData) (plan : PlanData) (list : TasksData) (u : ℕ) (cert : CertData) : Type 0 where
   pub version : cert.version ≡ 2
   pub least : IsLeastOfItsVersion (view_image_of image list u) (view_plan_of plan list u) cert
-  pub reads : certificate_of (bytes_of cert) ≡ Ok cert
+  pub reads : certificate_of (bytes_of_cert cert) ≡ Ok cert
 
 -- `taskcert` is done: the CERT names now hold such certificates, each the least of version 2. Each
 -- other name holds what it held.
-pub record HeadlineOfTaskcert (elf_name plan_name tasks_name : List ℕ) (cert_names : List (List ℕ)) (before after : Map) (printed : List ℕ) : Type 0 where
+pub record HeadlineOfTaskcert (elf_name plan_name tasks_name : List ℕ) (cert_names : List (List ℕ)) (before after : FileMap) (printed : List ℕ) : Type 0 where
   pub image : ImageData
   pub plan : PlanData
   pub list : TasksData
@@ -134,24 +134,24 @@ pub record HeadlineOfTaskcert (elf_name plan_name tasks_name : List ℕ) (cert_n
   pub needs : ℕ → ℕ
   pub files : AreTaskFiles before elf_name plan_name tasks_name image plan list
   pub together : AreSafeTogether image plan list certs needs
-  pub least : (u : ℕ) → u < count list → IsLeastForTask image plan list u (cert_of certs u)
-  pub written : HoldCerts after cert_names certs
+  pub least : (u : ℕ) → u < count list → IsLeastForTask image plan list u (cert_of_task certs u)
+  pub written : HoldTaskCerts after cert_names certs
   pub others : (other : List ℕ) → All (λ name. other ≢ name) cert_names → get after other ≡ get before other
-  pub prints : printed ≡ tasks_words (sum_below (count list) needs) (plan.areas - plan.reserve) (count list)
+  pub prints : printed ≡ certified_tasks_words (sum_over_chains (count list) needs) (plan.areas - plan.reserve) (count list)
 
--- No certificate of version 2 is accepted for the view, and this is why. Or none that is accepted
--- keeps the task apart (rule 17), and this is the first place at which the least one doesn't.
-pub data IsNoneForTask (view : ImageData) (plan : PlanData) (list : TasksData) : ℕ → Key → ℕ → Type 0 where
-  unaccepted : (rule : ℕ) (frame : Key) (address : ℕ) → EachIsRefused view plan 2 → IsRefusal view plan 2 rule frame address → IsNoneForTask view plan list rule frame address
+-- In the headlines of tasks: no certificate of version 2 is accepted for the view, for this reason;
+-- or each accepted one fails rule 17, and here the least one fails it.
+pub data NoCertForTask (view : ImageData) (plan : PlanData) (list : TasksData) : ℕ → Key → ℕ → Type 0 where
+  unaccepted : (rule : ℕ) (frame : Key) (address : ℕ) → EachIsRefused view plan 2 → IsRefusal view plan 2 rule frame address → NoCertForTask view plan list rule frame address
   not_apart :
       (cert : CertData) (frame : Key) (address : ℕ) → ((other : CertData) → IsCert other → other.version ≡ 2 → Accepts view plan other → KeepsApart view plan list other → ⊥)
-      → cert.version ≡ 2 → Accepts view plan cert → IsLeastOfItsVersion view plan cert → IsTaskFault view plan list cert frame address → IsNoneForTask view plan list 17 frame address
+      → cert.version ≡ 2 → Accepts view plan cert → IsLeastOfItsVersion view plan cert → IsTaskFault view plan list cert frame address → NoCertForTask view plan list 17 frame address
 
--- task u is the first without a certificate
-pub record IsFirstWithout (image : ImageData) (plan : PlanData) (list : TasksData) (u rule : ℕ) (frame : Key) (address : ℕ) : Type 0 where
+-- in the headlines of tasks, where `taskcert` refuses: task u is the first without a certificate
+pub record IsFirstWithoutCert (image : ImageData) (plan : PlanData) (list : TasksData) (u rule : ℕ) (frame : Key) (address : ℕ) : Type 0 where
   pub task : u < count list
   pub before : (w : ℕ) → w < u → (cert : CertData) × IsAcceptedForTask image plan list w cert × IsLeastForTask image plan list w cert
-  pub none : IsNoneForTask (view_image_of image list u) (view_plan_of plan list u) list rule frame address
+  pub none : NoCertForTask (view_image_of image list u) (view_plan_of plan list u) list rule frame address
 
 -- What is against the tasks, with its line: the image doesn't have the switch routine; or it does,
 -- and a task has no certificate; or each has one, and the needs of the least ones are together
@@ -159,16 +159,16 @@ pub record IsFirstWithout (image : ImageData) (plan : PlanData) (list : TasksDat
 pub data IsTaskcertFault (image : ImageData) (plan : PlanData) (list : TasksData) (line : List ℕ) : Type 0 where
   switch_missing : (address : ℕ) → IsRoutineFault image plan list address → line ≡ switch_words address → IsTaskcertFault image plan list line
   without :
-      (u rule : ℕ) (frame : Key) (address : ℕ) → HasRoutine image plan list → IsFirstWithout image plan list u rule frame address
-      → line ≡ task_words rule frame address u → IsTaskcertFault image plan list line
+      (u rule : ℕ) (frame : Key) (address : ℕ) → HasRoutine image plan list → IsFirstWithoutCert image plan list u rule frame address
+      → line ≡ refused_task_words rule frame address u → IsTaskcertFault image plan list line
   sum_above :
       (certs : List CertData) → HasRoutine image plan list
-      → ((u : ℕ) → u < count list → IsAcceptedForTask image plan list u (cert_of certs u) × IsLeastForTask image plan list u (cert_of certs u))
-      → plan.areas - plan.reserve < sum_of image plan list certs → line ≡ sum_words (sum_of image plan list certs) (plan.areas - plan.reserve)
+      → ((u : ℕ) → u < count list → IsAcceptedForTask image plan list u (cert_of_task certs u) × IsLeastForTask image plan list u (cert_of_task certs u))
+      → plan.areas - plan.reserve < sum_of_task_needs image plan list certs → line ≡ refused_sum_words (sum_of_task_needs image plan list certs) (plan.areas - plan.reserve)
       → IsTaskcertFault image plan list line
 
 -- `taskcert` refuses the image, a task, or the sum of the needs. There is a name for each task.
-pub record RefusalByTaskcert (elf_name plan_name tasks_name : List ℕ) (cert_names : List (List ℕ)) (before after : Map) (printed : List ℕ) : Type 0 where
+pub record RefusalByTaskcert (elf_name plan_name tasks_name : List ℕ) (cert_names : List (List ℕ)) (before after : FileMap) (printed : List ℕ) : Type 0 where
   pub image : ImageData
   pub plan : PlanData
   pub list : TasksData
@@ -176,16 +176,3 @@ pub record RefusalByTaskcert (elf_name plan_name tasks_name : List ℕ) (cert_na
   pub as_many : length cert_names ≡ count list
   pub fault : IsTaskcertFault image plan list printed
   pub stays : after ≡ before
-
--- this is the least certificate of version 2 that is accepted for the task's view, and it is judged
--- well
-pub record IsTaskMade (image : ImageData) (plan : PlanData) (tasks : TasksData) (u : ℕ) (cert : CertData) : Type 0 where
-  pub made : IsMade (view_image_of image tasks u) (view_plan_of plan tasks u) 2 cert
-  pub judged : IsJudged image plan tasks cert u
-
--- the bytes spell the certificate of task u, with this need
-pub record SpellTask (image : ImageData) (plan : PlanData) (tasks : TasksData) (u : ℕ) (bytes : List ℕ) (need : ℕ) : Type 0 where
-  pub cert : CertData
-  pub spell : bytes ≡ bytes_of cert
-  pub made : IsTaskMade image plan tasks u cert
-  pub need_is : need ≡ certified_need (view_image_of image tasks u) (view_plan_of plan tasks u) cert

@@ -1,6 +1,6 @@
 // The command `asm`.
 ghost use Rattle.tcd_driver.specs.Asm.{WritesObject, asm_reading};
-ghost use Rattle.tcd_reading.specs.Outcomes.{Comes, IsTold};
+ghost use Rattle.tcd_reading.specs.Outcomes.{IsCommandOutcome, IsToldOutcome};
 
 use std::alloc::Global;
 use tc_object::Object;
@@ -16,7 +16,7 @@ pub(crate) fn assemble_file<F: Files>(
     object: &str,
     files: &mut F,
 ) -> Outcome
-    ensures { Comes (asm_reading (record { source = source.now; object = object.now }))
+    ensures { IsCommandOutcome (asm_reading (record { source = source.now; object = object.now }))
         (F.seen files.old) (F.seen files.new) result }
 {
     match read_input(&SourceFile, alloc, source, files) {
@@ -27,7 +27,7 @@ pub(crate) fn assemble_file<F: Files>(
 
 // The report with an object to write under this name.
 fn object_report(alloc: Global, name: &str, object: &Object) -> Outcome
-    ensures { IsTold (WritesObject name.now object.now) ⊥ result }
+    ensures { IsToldOutcome (WritesObject name.now object.now) ⊥ result }
 {
     match object.write(alloc) {
         Ok(bytes) => {

@@ -1,8 +1,8 @@
 // The command `boot`.
 ghost use Rattle.tcd_driver.specs.Boot.{IsBootVerdict, boot_reading};
-ghost use Rattle.tcd_reading.specs.Outcomes.{Comes, IsTold};
+ghost use Rattle.tcd_reading.specs.Outcomes.{IsCommandOutcome, IsToldOutcome};
 
-use crate::lines::unbooted_line;
+use crate::lines::refused_boot_line;
 use depth_check::{Verdict, check_packed};
 use elf_image::Image;
 use packed_cert::PackedCert;
@@ -24,7 +24,7 @@ pub(crate) fn boot_files<F: Files>(
     at: u32,
     files: &mut F,
 ) -> Outcome
-    ensures { Comes
+    ensures { IsCommandOutcome
         (boot_reading (record { elf = elf.now; plan = plan.now; cert = cert.now; at = at }))
         (F.seen files.old) (F.seen files.new) result }
 {
@@ -45,7 +45,7 @@ pub(crate) fn boot_files<F: Files>(
 
 // Checks the certificate and the boot sequence at an address, and reports the verdict.
 fn boot_verdict(alloc: Global, image: &Image, plan: &Plan, cert: &PackedCert, at: u32) -> Outcome
-    ensures { IsTold (IsBootVerdict image.now plan.now cert.now at) ⊥ result }
+    ensures { IsToldOutcome (IsBootVerdict image.now plan.now cert.now at) ⊥ result }
 {
     // Reading a field gives the facts that hold for every image.
     let _entry = image.entry;
@@ -56,7 +56,7 @@ fn boot_verdict(alloc: Global, image: &Image, plan: &Plan, cert: &PackedCert, at
                 Status::Done,
                 boots_line(alloc, events, need, plan.areas - plan.reserve),
             ),
-            Err(e) => report(alloc, Status::Refused, unbooted_line(alloc, e)),
+            Err(e) => report(alloc, Status::Refused, refused_boot_line(alloc, e)),
         },
         Verdict::No { rule, key, addr } => {
             report(alloc, Status::Refused, refused_line(alloc, rule, key, addr))

@@ -1,12 +1,12 @@
 // The command `bootgen`.
 ghost use Rattle.std.specs.Prelude.{◌≤◌, ◌+◌, ◌^◌};
 ghost use Rattle.tcd_driver.specs.Boot.{WritesBoot, bootgen_reading};
-ghost use Rattle.tcd_reading.specs.Outcomes.{Comes, IsTold};
+ghost use Rattle.tcd_reading.specs.Outcomes.{IsCommandOutcome, IsToldOutcome};
 
 use std::alloc::Global;
 use tc_boot::boot_source;
 use tcd_base::Files;
-use tcd_forms::{PlanFile, generated_boot_line, line_of};
+use tcd_forms::{PlanFile, copy_printed_line, generated_boot_line};
 use tcd_plan::Plan;
 use tcd_reading::{Outcome, read_input, report_file};
 
@@ -21,7 +21,7 @@ pub(crate) fn generate_boot<F: Files>(
     files: &mut F,
 ) -> Outcome
     requires { at + 224 ≤ 2 ^ 32 }
-    ensures { Comes
+    ensures { IsCommandOutcome
         (bootgen_reading (record {
           plan = plan.now;
           entry = entry;
@@ -39,11 +39,11 @@ pub(crate) fn generate_boot<F: Files>(
 // The report with the source of a boot sequence to write under this name.
 fn boot_report(alloc: Global, plan: &Plan, entry: u32, at: u32, source: &str) -> Outcome
     requires { at + 224 ≤ 2 ^ 32 }
-    ensures { IsTold (WritesBoot entry at source.now plan.now) ⊥ result }
+    ensures { IsToldOutcome (WritesBoot entry at source.now plan.now) ⊥ result }
 {
     match boot_source(alloc, plan, entry, at) {
         Ok(text) => {
-            let line = line_of(alloc, generated_boot_line());
+            let line = copy_printed_line(alloc, generated_boot_line());
             report_file(alloc, source, text.into_bytes(), line)
         }
         Err(_) => Outcome::NoMemory,

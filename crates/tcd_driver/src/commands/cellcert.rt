@@ -3,7 +3,7 @@ ghost use Rattle.depth_maker.specs.LeastCertMade.{AreMade};
 ghost use Rattle.value_cells.specs.Cells as spec;
 ghost use Rattle.value_cells.specs.Cells.{AreCells};
 ghost use Rattle.tcd_driver.specs.Cellcert.{IsCertifyingCells, cellcert_reading};
-ghost use Rattle.tcd_reading.specs.Outcomes.{Comes, IsTold};
+ghost use Rattle.tcd_reading.specs.Outcomes.{IsCommandOutcome, IsToldOutcome};
 
 use crate::cell_and_task_files::CellsFile;
 use depth_cert::CertErr;
@@ -28,7 +28,7 @@ pub(crate) fn certify_cells<F: Files>(
     cert: &str,
     files: &mut F,
 ) -> Outcome
-    ensures { Comes
+    ensures { IsCommandOutcome
         (cellcert_reading (record {
           elf = elf.now;
           plan = plan.now;
@@ -49,17 +49,17 @@ pub(crate) fn certify_cells<F: Files>(
         Ok(words) => words,
         Err(outcome) => return outcome,
     };
-    make_cert(alloc, cert, &image, &board, &words)
+    make_cells_cert(alloc, cert, &image, &board, &words)
 }
 
 // Makes the certificate of version 2 under the plan in which the cells are devices, and reports it
 // with the file to write.
-fn make_cert(alloc: Global, name: &str, image: &Image, plan: &Plan, cells: &Cells) -> Outcome
+fn make_cells_cert(alloc: Global, name: &str, image: &Image, plan: &Plan, cells: &Cells) -> Outcome
     requires { AreCells plan.now cells.now }
-    ensures { IsTold (IsCertifyingCells name.now image.now plan.now cells.now) ⊥ result }
+    ensures { IsToldOutcome (IsCertifyingCells name.now image.now plan.now cells.now) ⊥ result }
 {
     match make_bytes(alloc, image, &with_cells(plan, cells), 2) {
-        Ok(bytes) => report_made(alloc, name, image, plan, cells, bytes),
+        Ok(bytes) => report_cells_cert(alloc, name, image, plan, cells, bytes),
         Err(MakeErr::Refused { rule, key, addr }) => {
             report(alloc, Status::Refused, refused_line(alloc, rule, key, addr))
         }
@@ -69,7 +69,7 @@ fn make_cert(alloc: Global, name: &str, image: &Image, plan: &Plan, cells: &Cell
 
 // Checks the certificate in these bytes, and whether it keeps the cells. Reports it with the file
 // to write.
-fn report_made(
+fn report_cells_cert(
     alloc: Global,
     name: &str,
     image: &Image,
@@ -79,7 +79,7 @@ fn report_made(
 ) -> Outcome
     requires cells { AreCells plan.now cells.now }
     requires made { AreMade image.now (spec.with_cells plan.now cells.now) 2 bytes.items }
-    ensures { IsTold (IsCertifyingCells name.now image.now plan.now cells.now) ⊥ result }
+    ensures { IsToldOutcome (IsCertifyingCells name.now image.now plan.now cells.now) ⊥ result }
 {
     let areas = plan.areas - plan.reserve;
     let cert = match PackedCert::read(alloc, bytes) {

@@ -1,7 +1,7 @@
 // The command `cells`.
 ghost use Rattle.value_cells.specs.Cells.{AreCells};
 ghost use Rattle.tcd_driver.specs.Cells.{IsCellsVerdict, cells_reading};
-ghost use Rattle.tcd_reading.specs.Outcomes.{Comes, IsTold};
+ghost use Rattle.tcd_reading.specs.Outcomes.{IsCommandOutcome, IsToldOutcome};
 
 use crate::cell_and_task_files::CellsFile;
 use depth_check::{Verdict, check_packed};
@@ -25,7 +25,7 @@ pub(crate) fn check_cells<F: Files>(
     cert: &str,
     files: &mut F,
 ) -> Outcome
-    ensures { Comes
+    ensures { IsCommandOutcome
         (cells_reading (record {
           elf = elf.now;
           plan = plan.now;
@@ -63,7 +63,7 @@ fn cells_verdict(
     cert: &PackedCert,
 ) -> Outcome
     requires { AreCells plan.now cells.now }
-    ensures { IsTold (IsCellsVerdict image.now plan.now cells.now cert.now) ⊥ result }
+    ensures { IsToldOutcome (IsCellsVerdict image.now plan.now cells.now cert.now) ⊥ result }
 {
     // What holds of every certificate is known after its version is read.
     let _version = cert.version();

@@ -1,8 +1,8 @@
 // The command `cert`.
 ghost use Rattle.tcd_driver.specs.Cert.{IsCertifying, cert_reading};
-ghost use Rattle.tcd_reading.specs.Outcomes.{Comes, IsTold};
+ghost use Rattle.tcd_reading.specs.Outcomes.{IsCommandOutcome, IsToldOutcome};
 
-use crate::cert_making::{Making, make_best};
+use crate::cert_making::{Making, make_best_cert};
 use elf_image::Image;
 use std::alloc::Global;
 use tcd_base::Files;
@@ -19,7 +19,8 @@ pub(crate) fn certify_files<F: Files>(
     cert: &str,
     files: &mut F,
 ) -> Outcome
-    ensures { Comes (cert_reading (record { elf = elf.now; plan = plan.now; cert = cert.now }))
+    ensures { IsCommandOutcome
+        (cert_reading (record { elf = elf.now; plan = plan.now; cert = cert.now }))
         (F.seen files.old) (F.seen files.new) result }
 {
     let image = match read_input(&ElfFile, alloc, elf, files) {
@@ -30,14 +31,14 @@ pub(crate) fn certify_files<F: Files>(
         Ok(board) => board,
         Err(outcome) => return outcome,
     };
-    certify(alloc, cert, &image, &board)
+    certify_image(alloc, cert, &image, &board)
 }
 
-// Makes the certificate, and reports it with its file to write.
-fn certify(alloc: Global, name: &str, image: &Image, plan: &Plan) -> Outcome
-    ensures { IsTold (IsCertifying name.now image.now plan.now) ⊥ result }
+/// Makes the best certificate of an image, and reports it with its file to write.
+fn certify_image(alloc: Global, name: &str, image: &Image, plan: &Plan) -> Outcome
+    ensures { IsToldOutcome (IsCertifying name.now image.now plan.now) ⊥ result }
 {
-    match make_best(alloc, image, plan) {
+    match make_best_cert(alloc, image, plan) {
         Making::Certified { bytes, need } => {
             let line = certified_line(alloc, need, plan.areas - plan.reserve);
             report_file(alloc, name, bytes, line)

@@ -1,10 +1,10 @@
 // The command `cfg`.
 ghost use Rattle.std.specs.Prelude.{IfOk};
-ghost use Rattle.tcd_driver.specs.Cfg.{IsDrawing, IsDrawn, cfg_reading};
-ghost use Rattle.tcd_driver.specs.BestCert.{SpellOne};
-ghost use Rattle.tcd_reading.specs.Outcomes.{Comes, IsTold};
+ghost use Rattle.tcd_driver.specs.Cfg.{IsCfgReport, IsCfgText, cfg_reading};
+ghost use Rattle.tcd_driver.specs.BestCert.{SpellSomeBestCert};
+ghost use Rattle.tcd_reading.specs.Outcomes.{IsCommandOutcome, IsToldOutcome};
 
-use crate::cert_making::{Making, make_best};
+use crate::cert_making::{Making, make_best_cert};
 use depth_cert::CertErr;
 use elf_image::Image;
 use packed_cert::PackedCert;
@@ -18,7 +18,7 @@ use tcd_report::graph_packed;
 /// Reads an executable and a plan, and reports the graph of their certificate.
 #[inline(never)]
 pub(crate) fn draw_files<F: Files>(alloc: Global, elf: &str, plan: &str, files: &mut F) -> Outcome
-    ensures { Comes (cfg_reading (record { elf = elf.now; plan = plan.now }))
+    ensures { IsCommandOutcome (cfg_reading (record { elf = elf.now; plan = plan.now }))
         (F.seen files.old) (F.seen files.new) result }
 {
     let image = match read_input(&ElfFile, alloc, elf, files) {
@@ -34,11 +34,11 @@ pub(crate) fn draw_files<F: Files>(alloc: Global, elf: &str, plan: &str, files: 
 
 // Makes the certificate, and reports its graph.
 fn draw_graph(alloc: Global, image: &Image, plan: &Plan) -> Outcome
-    ensures { IsTold (IsDrawing image.now plan.now) ⊥ result }
+    ensures { IsToldOutcome (IsCfgReport image.now plan.now) ⊥ result }
 {
-    match make_best(alloc, image, plan) {
+    match make_best_cert(alloc, image, plan) {
         Making::Certified { bytes, .. } => {
-            let text = graph_text(alloc, image, plan, bytes);
+            let text = cfg_command_text(alloc, image, plan, bytes);
             report(alloc, Status::Done, text)
         }
         Making::Refused { rule, key, addr } => {
@@ -50,14 +50,14 @@ fn draw_graph(alloc: Global, image: &Image, plan: &Plan) -> Outcome
 
 // The graph of the certificate that these bytes spell.
 #[inline(never)]
-fn graph_text(
+fn cfg_command_text(
     alloc: Global,
     image: &Image,
     plan: &Plan,
     bytes: Vec<u8>,
 ) -> Result<Vec<u8>, NoMemory>
-    requires { SpellOne image.now plan.now bytes.items }
-    ensures { IfOk result (λ text. IsDrawn image.now plan.now text.items) }
+    requires { SpellSomeBestCert image.now plan.now bytes.items }
+    ensures { IfOk result (λ text. IsCfgText image.now plan.now text.items) }
 {
     // Reading a field gives the facts that hold for every image and for every plan.
     let _entry = image.entry;

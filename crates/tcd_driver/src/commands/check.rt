@@ -1,6 +1,6 @@
 // The command `check`.
-ghost use Rattle.tcd_driver.specs.Check.{IsVerdict, check_reading};
-ghost use Rattle.tcd_reading.specs.Outcomes.{Comes, IsTold};
+ghost use Rattle.tcd_driver.specs.Check.{IsCheckVerdict, check_reading};
+ghost use Rattle.tcd_reading.specs.Outcomes.{IsCommandOutcome, IsToldOutcome};
 
 use depth_check::{Verdict, check_packed};
 use elf_image::Image;
@@ -20,7 +20,8 @@ pub(crate) fn check_files<F: Files>(
     cert: &str,
     files: &mut F,
 ) -> Outcome
-    ensures { Comes (check_reading (record { elf = elf.now; plan = plan.now; cert = cert.now }))
+    ensures { IsCommandOutcome
+        (check_reading (record { elf = elf.now; plan = plan.now; cert = cert.now }))
         (F.seen files.old) (F.seen files.new) result }
 {
     let image = match read_input(&ElfFile, alloc, elf, files) {
@@ -35,12 +36,12 @@ pub(crate) fn check_files<F: Files>(
         Ok(proof) => proof,
         Err(outcome) => return outcome,
     };
-    verdict(alloc, &image, &board, &proof)
+    check_verdict(alloc, &image, &board, &proof)
 }
 
 // Checks the certificate, and reports the verdict.
-fn verdict(alloc: Global, image: &Image, plan: &Plan, cert: &PackedCert) -> Outcome
-    ensures { IsTold (IsVerdict image.now plan.now cert.now) ⊥ result }
+fn check_verdict(alloc: Global, image: &Image, plan: &Plan, cert: &PackedCert) -> Outcome
+    ensures { IsToldOutcome (IsCheckVerdict image.now plan.now cert.now) ⊥ result }
 {
     match check_packed(image, plan, cert) {
         Verdict::Yes(need) => {

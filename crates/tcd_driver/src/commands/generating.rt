@@ -3,10 +3,10 @@ ghost use Rattle.std.specs.Prelude.{◌≤◌};
 ghost use Rattle.depth_maker.specs.LeastCertMade.{AreMade};
 ghost use Rattle.tcd_report.specs.Generated.{generated_image};
 ghost use Rattle.tcd_report.specs.Generated.Planned.{generated_plan};
-ghost use Rattle.tcd_driver.specs.Gen.{IsSummary};
-ghost use Rattle.tcd_reading.specs.Outcomes.{IsTold};
+ghost use Rattle.tcd_driver.specs.Gen.{IsGenReport};
+ghost use Rattle.tcd_reading.specs.Outcomes.{IsToldOutcome};
 
-use crate::own_output::{only_image_memory, only_plan_memory};
+use crate::own_output::{own_image_memory_error, own_plan_memory_error};
 use depth_cert::CertErr;
 use depth_check::{Verdict, check_packed};
 use depth_maker::{MakeErr, make_bytes};
@@ -20,9 +20,10 @@ use tcd_report::generate;
 
 /// Generates the image with this number of functions and its plan, and certifies them.
 #[inline(never)]
-pub(crate) fn generate_image(alloc: Global, functions: u32) -> Outcome
+pub(crate) fn certify_generated_image(alloc: Global, functions: u32) -> Outcome
     requires { (1 ≤ functions) × (functions ≤ 500) }
-    ensures { IsTold (IsSummary functions (generated_image functions) generated_plan) ⊥ result }
+    ensures { IsToldOutcome (IsGenReport functions (generated_image functions) generated_plan) ⊥
+        result }
 {
     let files = match generate(alloc, functions) {
         Ok(files) => files,
@@ -31,25 +32,25 @@ pub(crate) fn generate_image(alloc: Global, functions: u32) -> Outcome
     let image = match Image::read(alloc, &files.elf) {
         Ok(image) => image,
         Err(e) => {
-            only_image_memory(e);
+            own_image_memory_error(e);
             return Outcome::NoMemory;
         }
     };
     match Plan::read(alloc, &files.plan) {
-        Ok(plan) => summarize(alloc, functions, &image, &plan),
+        Ok(plan) => report_generated_image(alloc, functions, &image, &plan),
         Err(e) => {
-            only_plan_memory(e);
+            own_plan_memory_error(e);
             Outcome::NoMemory
         }
     }
 }
 
-// Makes the least certificate of version 1, and reports it.
-fn summarize(alloc: Global, functions: u32, image: &Image, plan: &Plan) -> Outcome
-    ensures { IsTold (IsSummary functions image.now plan.now) ⊥ result }
+/// Makes the least certificate of version 1 of a generated image, and reports it.
+fn report_generated_image(alloc: Global, functions: u32, image: &Image, plan: &Plan) -> Outcome
+    ensures { IsToldOutcome (IsGenReport functions image.now plan.now) ⊥ result }
 {
     match make_bytes(alloc, image, plan, 1) {
-        Ok(bytes) => check_and_count(alloc, functions, image, plan, bytes),
+        Ok(bytes) => count_generated_cert(alloc, functions, image, plan, bytes),
         Err(MakeErr::Refused { rule, key, addr }) => {
             report(alloc, Status::Refused, refused_line(alloc, rule, key, addr))
         }
@@ -57,8 +58,8 @@ fn summarize(alloc: Global, functions: u32, image: &Image, plan: &Plan) -> Outco
     }
 }
 
-// Checks the certificate that was made, and reports the numbers of its nodes and points.
-fn check_and_count(
+/// Checks a generated image's certificate, and reports the numbers of its nodes and points.
+fn count_generated_cert(
     alloc: Global,
     functions: u32,
     image: &Image,
@@ -66,7 +67,7 @@ fn check_and_count(
     bytes: Vec<u8>,
 ) -> Outcome
     requires { AreMade image.now plan.now 1 bytes.items }
-    ensures { IsTold (IsSummary functions image.now plan.now) ⊥ result }
+    ensures { IsToldOutcome (IsGenReport functions image.now plan.now) ⊥ result }
 {
     let cert = match PackedCert::read(alloc, bytes) {
         Ok(cert) => cert,

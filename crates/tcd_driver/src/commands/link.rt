@@ -3,8 +3,8 @@ ghost use Rattle.std.specs.Prelude.{◌≤◌, length, map, string_bytes};
 ghost use Rattle.tc_object.specs.Objects.{ObjectData};
 ghost use Rattle.tcd_forms.specs.Forms.{object_form};
 ghost use Rattle.tcd_reading.specs.Inputs.{each, answer};
-ghost use Rattle.tcd_driver.specs.Link.{IsLinked, WritesImage, link_reading};
-ghost use Rattle.tcd_reading.specs.Outcomes.{Comes, IsTold};
+ghost use Rattle.tcd_driver.specs.Link.{IsLinkReport, WritesImage, link_reading};
+ghost use Rattle.tcd_reading.specs.Outcomes.{IsCommandOutcome, IsToldOutcome};
 
 use bumpalo::Bump;
 use elf_image::Image;
@@ -12,7 +12,7 @@ use std::alloc::Global;
 use tc_link::{Layout, link_borrowed};
 use tc_object::ObjectRef;
 use tcd_base::Files;
-use tcd_forms::{LayoutFile, ObjectFile, link_line, linked_line};
+use tcd_forms::{LayoutFile, ObjectFile, bad_link_line, linked_line};
 use tcd_reading::{Outcome, Status, read_input, report, report_file};
 
 /// Reads a layout and objects, and links the objects by the layout.
@@ -25,7 +25,7 @@ pub(crate) fn link_files<F: Files>(
     files: &mut F,
 ) -> Outcome
     requires { length objects.now ≤ 65535 }
-    ensures { Comes
+    ensures { IsCommandOutcome
         (link_reading (record {
           layout = layout.now;
           image = image.now;
@@ -34,13 +34,13 @@ pub(crate) fn link_files<F: Files>(
         (F.seen files.old) (F.seen files.new) result }
 {
     match read_input(&LayoutFile, alloc, layout, files) {
-        Ok(places) => link_by(alloc, image, &places, objects, files),
+        Ok(places) => link_object_files(alloc, image, &places, objects, files),
         Err(outcome) => outcome,
     }
 }
 
 // Reads the objects, and links them by this layout.
-fn link_by<F: Files>(
+fn link_object_files<F: Files>(
     alloc: Global,
     name: &str,
     layout: &Layout,
@@ -48,9 +48,9 @@ fn link_by<F: Files>(
     files: &mut F,
 ) -> Outcome
     requires { length objects.now ≤ 65535 }
-    ensures { Comes
+    ensures { IsCommandOutcome
         (each ObjectData object_form 0 (map string_bytes objects.now)
-        (λ os. answer (IsLinked name.now layout.now os)))
+        (λ os. answer (IsLinkReport name.now layout.now os)))
         (F.seen files.old) (F.seen files.new) result }
 {
     let arena = Bump::new(alloc);
@@ -69,23 +69,23 @@ fn link_by<F: Files>(
             Err(_) => return Outcome::NoMemory,
         }
     }
-    link_objects(alloc, name, layout, &parts)
+    link_and_report(alloc, name, layout, &parts)
 }
 
 // Links the objects, and reports the image or the refusal.
-fn link_objects(alloc: Global, name: &str, layout: &Layout, objects: &[ObjectRef<'_>]) -> Outcome
+fn link_and_report(alloc: Global, name: &str, layout: &Layout, objects: &[ObjectRef<'_>]) -> Outcome
     requires { length objects.now ≤ 65535 }
-    ensures { IsTold (IsLinked name.now layout.now objects.now) ⊥ result }
+    ensures { IsToldOutcome (IsLinkReport name.now layout.now objects.now) ⊥ result }
 {
     match link_borrowed(alloc, objects, layout) {
-        Ok(image) => image_report(alloc, name, &image),
-        Err(e) => report(alloc, Status::BadInput, link_line(alloc, e)),
+        Ok(image) => linked_image_report(alloc, name, &image),
+        Err(e) => report(alloc, Status::BadInput, bad_link_line(alloc, e)),
     }
 }
 
 // The report with an image to write under this name.
-fn image_report(alloc: Global, name: &str, image: &Image) -> Outcome
-    ensures { IsTold (WritesImage name.now image.now) ⊥ result }
+fn linked_image_report(alloc: Global, name: &str, image: &Image) -> Outcome
+    ensures { IsToldOutcome (WritesImage name.now image.now) ⊥ result }
 {
     match image.write(alloc) {
         Ok(bytes) => {

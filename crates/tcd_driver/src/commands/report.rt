@@ -3,7 +3,7 @@ ghost use Rattle.std.specs.Prelude.{IfOk};
 ghost use Rattle.cfg_recover.specs.RulesHoldOrFail.{Accepts};
 ghost use Rattle.tcd_report.specs.Reports.{IsReport};
 ghost use Rattle.tcd_driver.specs.Reporting.{IsReporting, report_reading};
-ghost use Rattle.tcd_reading.specs.Outcomes.{Comes, IsTold};
+ghost use Rattle.tcd_reading.specs.Outcomes.{IsCommandOutcome, IsToldOutcome};
 
 use depth_check::{Verdict, check_packed};
 use elf_image::Image;
@@ -24,7 +24,8 @@ pub(crate) fn report_files<F: Files>(
     cert: &str,
     files: &mut F,
 ) -> Outcome
-    ensures { Comes (report_reading (record { elf = elf.now; plan = plan.now; cert = cert.now }))
+    ensures { IsCommandOutcome
+        (report_reading (record { elf = elf.now; plan = plan.now; cert = cert.now }))
         (F.seen files.old) (F.seen files.new) result }
 {
     let image = match read_input(&ElfFile, alloc, elf, files) {
@@ -44,10 +45,14 @@ pub(crate) fn report_files<F: Files>(
 
 // Checks the certificate, and makes its report.
 fn check_and_report(alloc: Global, image: &Image, plan: &Plan, cert: &PackedCert) -> Outcome
-    ensures { IsTold (IsReporting image.now plan.now cert.now) ⊥ result }
+    ensures { IsToldOutcome (IsReporting image.now plan.now cert.now) ⊥ result }
 {
     match check_packed(image, plan, cert) {
-        Verdict::Yes(_) => report(alloc, Status::Done, report_text(alloc, image, plan, cert)),
+        Verdict::Yes(_) => report(
+            alloc,
+            Status::Done,
+            report_command_text(alloc, image, plan, cert),
+        ),
         Verdict::No { rule, key, addr } => {
             report(alloc, Status::Refused, refused_line(alloc, rule, key, addr))
         }
@@ -56,7 +61,7 @@ fn check_and_report(alloc: Global, image: &Image, plan: &Plan, cert: &PackedCert
 
 // The report of an accepted certificate as bytes.
 #[inline(never)]
-fn report_text(
+fn report_command_text(
     alloc: Global,
     image: &Image,
     plan: &Plan,

@@ -1,7 +1,7 @@
 // The command `run`.
 ghost use Rattle.tc_script.specs.ScriptsFitPlans.{FitsPlan};
-ghost use Rattle.tcd_driver.specs.Run.{IsRun, run_reading};
-ghost use Rattle.tcd_reading.specs.Outcomes.{Comes, IsTold};
+ghost use Rattle.tcd_driver.specs.Run.{IsRunReport, run_reading};
+ghost use Rattle.tcd_reading.specs.Outcomes.{IsCommandOutcome, IsToldOutcome};
 
 use elf_image::Image;
 use std::alloc::Global;
@@ -21,7 +21,8 @@ pub(crate) fn run_files<F: Files>(
     script: &str,
     files: &mut F,
 ) -> Outcome
-    ensures { Comes (run_reading (record { elf = elf.now; plan = plan.now; script = script.now }))
+    ensures { IsCommandOutcome
+        (run_reading (record { elf = elf.now; plan = plan.now; script = script.now }))
         (F.seen files.old) (F.seen files.new) result }
 {
     let image = match read_input(&ElfFile, alloc, elf, files) {
@@ -43,7 +44,7 @@ pub(crate) fn run_files<F: Files>(
 // Starts the machine, runs it by the script, and reports how the run ended.
 fn run_script(alloc: Global, image: &Image, plan: &Plan, script: &Script) -> Outcome
     requires { FitsPlan plan.now script.now }
-    ensures { IsTold (IsRun image.now plan.now script.now) ⊥ result }
+    ensures { IsToldOutcome (IsRunReport image.now plan.now script.now) ⊥ result }
 {
     match Machine::start(alloc, image, plan) {
         Ok(machine) => {

@@ -2,17 +2,19 @@
 ghost use Rattle.std.specs.Prelude.{◌≡◌, ◌≤◌, IfOk, List, length, map, string_bytes};
 ghost use Rattle.tcd_forms.specs.Forms.{SourceData, placed_source_form};
 ghost use Rattle.tcd_reading.specs.Inputs.{each, answer};
-ghost use Rattle.tcd_reading.specs.Outcomes.{Comes, IsTold};
-ghost use Rattle.tcd_driver.specs.Ship.{AreSourcesOf, IsShipping, SpellImage, shipped_by, ship_names, ship_reading};
+ghost use Rattle.tcd_reading.specs.Outcomes.{IsCommandOutcome, IsToldOutcome};
+ghost use Rattle.tcd_driver.specs.Ship.{AreSourcesOfObjects, IsShipping, SpellShippedImage, shipped_by, ship_names, ship_reading};
 
-use crate::cert_making::{Making, make_best};
-use crate::own_output::only_image_memory;
+use crate::cert_making::{Making, make_best_cert};
+use crate::own_output::own_image_memory_error;
 use elf_image::Image;
 use std::alloc::Global;
 use tc_link::{Layout, link};
 use tc_object::Object;
 use tcd_base::{Files, NoMemory};
-use tcd_forms::{LayoutFile, PlacedSourceFile, PlanFile, certified_line, link_line, refused_line};
+use tcd_forms::{
+    LayoutFile, PlacedSourceFile, PlanFile, bad_link_line, certified_line, refused_line,
+};
 use tcd_plan::Plan;
 use tcd_reading::{Outcome, Status, Write, read_input, report, report_two};
 
@@ -30,7 +32,8 @@ pub(crate) struct Shipment<'a> {
 #[inline(never)]
 pub(crate) fn ship_files<F: Files>(alloc: Global, names: &Shipment<'_>, files: &mut F) -> Outcome
     requires { length names.now.sources.now ≤ 65535 }
-    ensures { Comes (ship_reading (ship_names names.now)) (F.seen files.old) (F.seen files.new)
+    ensures { IsCommandOutcome (ship_reading (ship_names names.now)) (F.seen files.old)
+        (F.seen files.new)
         result }
 {
     let plan = match read_input(&PlanFile, alloc, names.plan, files) {
@@ -53,7 +56,7 @@ fn ship_sources<F: Files>(
     files: &mut F,
 ) -> Outcome
     requires { length names.now.sources.now ≤ 65535 }
-    ensures { Comes
+    ensures { IsCommandOutcome
         (each SourceData placed_source_form 0 (map string_bytes names.now.sources.now)
         (λ ss. answer (shipped_by names.now plan.now layout.now ss)))
         (F.seen files.old) (F.seen files.new) result }
@@ -83,19 +86,19 @@ fn ship_objects(
     objects: &[Object],
 ) -> Outcome
     requires { length objects.now ≤ 65535 }
-    ensures { (ss : List SourceData) → AreSourcesOf ss objects.now →
-        IsTold (shipped_by names.now plan.now layout.now ss) ⊥ result }
+    ensures { (ss : List SourceData) → AreSourcesOfObjects ss objects.now →
+        IsToldOutcome (shipped_by names.now plan.now layout.now ss) ⊥ result }
 {
     let _entry = &layout.entry;
     match link(alloc, objects, layout) {
         Ok(image) => ship_image(alloc, names, plan, &image),
-        Err(e) => report(alloc, Status::BadInput, link_line(alloc, e)),
+        Err(e) => report(alloc, Status::BadInput, bad_link_line(alloc, e)),
     }
 }
 
 // Certifies the image that reading the bytes of the output file gives.
 fn ship_image(alloc: Global, names: &Shipment<'_>, plan: &Plan, image: &Image) -> Outcome
-    ensures { IsTold (IsShipping names.now.elf.now names.now.cert.now plan.now image.now) ⊥
+    ensures { IsToldOutcome (IsShipping names.now.elf.now names.now.cert.now plan.now image.now) ⊥
         result }
 {
     let bytes = match image.write(alloc) {
@@ -105,14 +108,14 @@ fn ship_image(alloc: Global, names: &Shipment<'_>, plan: &Plan, image: &Image) -
     match Image::read(alloc, &bytes) {
         Ok(read) => ship_bytes(alloc, names, plan, &read, bytes),
         Err(e) => {
-            only_image_memory(e);
+            own_image_memory_error(e);
             Outcome::NoMemory
         }
     }
 }
 
-// The two files to write, in this order.
-fn two_files(
+/// The two files that `ship` writes, in this order: the executable and its certificate.
+fn shipped_files(
     alloc: Global,
     names: &Shipment<'_>,
     image: Vec<u8>,
@@ -134,14 +137,14 @@ fn ship_bytes(
     image: &Image,
     bytes: Vec<u8>,
 ) -> Outcome
-    requires { SpellImage image.now bytes.items }
-    ensures { IsTold (IsShipping names.now.elf.now names.now.cert.now plan.now image.now) ⊥
+    requires { SpellShippedImage image.now bytes.items }
+    ensures { IsToldOutcome (IsShipping names.now.elf.now names.now.cert.now plan.now image.now) ⊥
         result }
 {
-    match make_best(alloc, image, plan) {
+    match make_best_cert(alloc, image, plan) {
         Making::Certified { bytes: cert, need } => {
             let line = certified_line(alloc, need, plan.areas - plan.reserve);
-            match two_files(alloc, names, bytes, cert) {
+            match shipped_files(alloc, names, bytes, cert) {
                 Ok((first, second)) => report_two(alloc, first, second, line),
                 Err(_) => Outcome::NoMemory,
             }

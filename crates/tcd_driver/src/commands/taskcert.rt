@@ -3,14 +3,14 @@ ghost use Rattle.std.specs.Prelude.{◌≡◌, ◌<◌, ◌++◌, ◌∷◌, [],
 ghost use Rattle.depth_maker.specs.LeastCertMade.{AreMade};
 ghost use Rattle.task_chains.specs.Tasks.{count};
 ghost use Rattle.task_chains.specs.Views.{FitPlan};
-ghost use Rattle.tcd_reading.specs.Outcomes.{Comes, IsTold};
-ghost use Rattle.tcd_driver.specs.Taskcert.{IsTaskcerting, MakesApart, MakesTask, MakesAll, taskcert_reading};
+ghost use Rattle.tcd_reading.specs.Outcomes.{IsCommandOutcome, IsToldOutcome};
+ghost use Rattle.tcd_driver.specs.Taskcert.{IsTaskcerting, MakesTaskViewCert, MakesTaskCert, MakesAllTaskCerts, taskcert_reading};
 ghost use Rattle.tcd_reading.specs.Reports.{writes_files};
 
 use crate::cell_and_task_files::TasksFile;
 use crate::cert_making::Making;
-use crate::commands::tasks::need_to_count;
-use crate::lines::tasks_line;
+use crate::commands::tasks::task_need_to_count;
+use crate::lines::bad_tasks_line;
 use depth_cert::{CertErr, Key};
 use depth_check::{Verdict, check_packed};
 use depth_maker::{MakeErr, make_bytes};
@@ -20,7 +20,8 @@ use std::alloc::Global;
 use task_chains::{Tasks, TasksErr, routine_fault, task_fault_packed, view_image, view_plan};
 use tcd_base::{Files, NoMemory};
 use tcd_forms::{
-    ElfFile, PlanFile, certified_tasks_line, refused_task_line, sum_line, switch_line,
+    ElfFile, PlanFile, certified_tasks_line, refused_sum_line, refused_switch_line,
+    refused_task_line,
 };
 use tcd_plan::Plan;
 use tcd_reading::{Outcome, Status, Write, read_input, report};
@@ -53,7 +54,7 @@ pub(crate) fn certify_tasks<F: Files>(
     certs: &[String],
     files: &mut F,
 ) -> Outcome
-    ensures { Comes
+    ensures { IsCommandOutcome
         (taskcert_reading (record {
           elf = elf.now;
           plan = plan.now;
@@ -75,31 +76,41 @@ pub(crate) fn certify_tasks<F: Files>(
         Err(outcome) => return outcome,
     };
     if certs.len() == list.list.len() {
-        make_certs(alloc, &image, &board, &list, certs)
+        certify_all_tasks(alloc, &image, &board, &list, certs)
     } else {
-        report(alloc, Status::BadInput, tasks_line(alloc, TasksErr::Count))
+        report(
+            alloc,
+            Status::BadInput,
+            bad_tasks_line(alloc, TasksErr::Count),
+        )
     }
 }
 
 // Makes a certificate for each task, and reports them with the files to write.
-fn make_certs(alloc: Global, image: &Image, plan: &Plan, tasks: &Tasks, names: &[String]) -> Outcome
+fn certify_all_tasks(
+    alloc: Global,
+    image: &Image,
+    plan: &Plan,
+    tasks: &Tasks,
+    names: &[String],
+) -> Outcome
     requires fit { FitPlan plan.now tasks.now }
     requires many { length names.now ≡ count tasks.now }
-    ensures { IsTold
+    ensures { IsToldOutcome
         (IsTaskcerting (map string_bytes names.now) image.now plan.now tasks.now) ⊥ result }
 {
     let areas = plan.areas - plan.reserve;
     let count = tasks.list.len();
     if let Some(addr) = routine_fault(image, plan, tasks) {
-        return report(alloc, Status::Refused, switch_line(alloc, addr));
+        return report(alloc, Status::Refused, refused_switch_line(alloc, addr));
     }
-    match make_each(alloc, image, plan, tasks, names) {
+    match make_each_task_cert(alloc, image, plan, tasks, names) {
         TasksMaking::Certified { writes, sum } => {
             if sum <= u64::from(areas) {
                 let line = certified_tasks_line(alloc, sum, areas, count);
-                report_files(writes, line)
+                report_task_certs(writes, line)
             } else {
-                report(alloc, Status::Refused, sum_line(alloc, sum, areas))
+                report(alloc, Status::Refused, refused_sum_line(alloc, sum, areas))
             }
         }
         TasksMaking::Against {
@@ -116,8 +127,9 @@ fn make_certs(alloc: Global, image: &Image, plan: &Plan, tasks: &Tasks, names: &
 }
 
 // Reports files to write, one after another, and the text on them, unless memory ran out.
-fn report_files(writes: Vec<Write>, line: Result<Vec<u8>, NoMemory>) -> Outcome
-    ensures { IsTold (λ r. IsOkAnd line (λ l. r ≡ writes_files writes.items l.items)) ⊥ result }
+fn report_task_certs(writes: Vec<Write>, line: Result<Vec<u8>, NoMemory>) -> Outcome
+    ensures { IsToldOutcome (λ r. IsOkAnd line (λ l. r ≡ writes_files writes.items l.items)) ⊥
+        result }
 {
     match line {
         Ok(text) => Outcome::Report {
@@ -129,8 +141,8 @@ fn report_files(writes: Vec<Write>, line: Result<Vec<u8>, NoMemory>) -> Outcome
     }
 }
 
-// Adds one file to write.
-fn add_file(
+/// Adds the certificate of a task to the files to write.
+fn add_task_cert_file(
     alloc: Global,
     writes: &mut Vec<Write>,
     name: &str,
@@ -144,7 +156,7 @@ fn add_file(
 }
 
 // Makes a certificate for each task.
-fn make_each(
+fn make_each_task_cert(
     alloc: Global,
     image: &Image,
     plan: &Plan,
@@ -153,17 +165,17 @@ fn make_each(
 ) -> TasksMaking
     requires fit { FitPlan plan.now tasks.now }
     requires many { length names.now ≡ count tasks.now }
-    ensures { MakesAll (map string_bytes names.now) image.now plan.now tasks.now result }
+    ensures { MakesAllTaskCerts (map string_bytes names.now) image.now plan.now tasks.now result }
 {
     // What holds of all tasks is known after they are read.
     let _switch = tasks.switch;
     let mut writes = Vec::new(alloc);
     let mut sum = 0u64;
     for u in 0..names.len() {
-        match make_task(alloc, image, plan, tasks, u) {
+        match make_task_cert(alloc, image, plan, tasks, u) {
             Making::Certified { bytes, need } => {
-                match add_file(alloc, &mut writes, names[u].as_str(), bytes) {
-                    Ok(()) => sum += u64::from(need_to_count(u, need)),
+                match add_task_cert_file(alloc, &mut writes, names[u].as_str(), bytes) {
+                    Ok(()) => sum += u64::from(task_need_to_count(u, need)),
                     Err(_) => return TasksMaking::NoMemory,
                 }
             }
@@ -182,35 +194,41 @@ fn make_each(
 }
 
 // Makes the least certificate of version 2 for a task's view, and checks that it keeps rule 17.
-fn make_task(alloc: Global, image: &Image, plan: &Plan, tasks: &Tasks, u: usize) -> Making
+fn make_task_cert(alloc: Global, image: &Image, plan: &Plan, tasks: &Tasks, u: usize) -> Making
     requires task { u < count tasks.now }
     requires fit { FitPlan plan.now tasks.now }
-    ensures { MakesTask image.now plan.now tasks.now u result }
+    ensures { MakesTaskCert image.now plan.now tasks.now u result }
 {
     // What holds of plans and tasks is known after they are read.
     let _areas = plan.areas;
     let _switch = tasks.switch;
     match view_image(alloc, image, tasks, u) {
-        Ok(view) => make_apart(alloc, &view, &view_plan(plan, tasks, u), tasks),
+        Ok(view) => make_task_view_cert(alloc, &view, &view_plan(plan, tasks, u), tasks),
         Err(_) => Making::NoMemory,
     }
 }
 
-// Makes the least certificate of version 2 for a view, and checks that it keeps rule 17.
-fn make_apart(alloc: Global, view: &Image, plan: &Plan, tasks: &Tasks) -> Making
-    ensures { MakesApart view.now plan.now tasks.now result }
+/// Makes the least certificate of version 2 of a task's view, and checks that it keeps rule 17.
+fn make_task_view_cert(alloc: Global, view: &Image, plan: &Plan, tasks: &Tasks) -> Making
+    ensures { MakesTaskViewCert view.now plan.now tasks.now result }
 {
     match make_bytes(alloc, view, plan, 2) {
-        Ok(bytes) => apart(alloc, view, plan, tasks, bytes),
+        Ok(bytes) => check_task_view_cert(alloc, view, plan, tasks, bytes),
         Err(MakeErr::Refused { rule, key, addr }) => Making::Refused { rule, key, addr },
         Err(MakeErr::NoMemory) => Making::NoMemory,
     }
 }
 
-// Checks that the least certificate, which is in these bytes, keeps rule 17.
-fn apart(alloc: Global, view: &Image, plan: &Plan, tasks: &Tasks, bytes: Vec<u8>) -> Making
+/// Checks that the least certificate of a task's view, which is in these bytes, keeps rule 17.
+fn check_task_view_cert(
+    alloc: Global,
+    view: &Image,
+    plan: &Plan,
+    tasks: &Tasks,
+    bytes: Vec<u8>,
+) -> Making
     requires { AreMade view.now plan.now 2 bytes.items }
-    ensures { MakesApart view.now plan.now tasks.now result }
+    ensures { MakesTaskViewCert view.now plan.now tasks.now result }
 {
     // What holds of every plan is known after it is read.
     let _areas = plan.areas;

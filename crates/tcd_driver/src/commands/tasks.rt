@@ -5,11 +5,11 @@ ghost use Rattle.task_chains.specs.Tasks.{count};
 ghost use Rattle.task_chains.specs.Views.{FitPlan};
 ghost use Rattle.tcd_forms.specs.Forms.{cert_form};
 ghost use Rattle.tcd_reading.specs.Inputs.{each, answer};
-ghost use Rattle.tcd_reading.specs.Outcomes.{Comes, IsTold};
-ghost use Rattle.tcd_driver.specs.Tasks.{IsTasksVerdict, JudgesTask, Tallies, certs_reading, tasks_reading};
+ghost use Rattle.tcd_reading.specs.Outcomes.{IsCommandOutcome, IsToldOutcome};
+ghost use Rattle.tcd_driver.specs.Tasks.{IsTasksVerdict, JudgesTask, Tallies, task_certs_reading, tasks_reading};
 
 use crate::cell_and_task_files::TasksFile;
-use crate::lines::tasks_line;
+use crate::lines::bad_tasks_line;
 use depth_cert::Key;
 use depth_check::{Verdict, check_packed};
 use elf_image::Image;
@@ -18,7 +18,8 @@ use std::alloc::Global;
 use task_chains::{Tasks, TasksErr, routine_fault, task_fault_packed, view_image, view_plan};
 use tcd_base::{Files, NoMemory};
 use tcd_forms::{
-    CertFile, ElfFile, PlanFile, certified_tasks_line, refused_task_line, sum_line, switch_line,
+    CertFile, ElfFile, PlanFile, certified_tasks_line, refused_sum_line, refused_switch_line,
+    refused_task_line,
 };
 use tcd_plan::Plan;
 use tcd_reading::{Outcome, Status, read_input, report};
@@ -47,7 +48,7 @@ pub(crate) fn check_tasks<F: Files>(
     certs: &[String],
     files: &mut F,
 ) -> Outcome
-    ensures { Comes
+    ensures { IsCommandOutcome
         (tasks_reading (record {
           elf = elf.now;
           plan = plan.now;
@@ -68,11 +69,11 @@ pub(crate) fn check_tasks<F: Files>(
         Ok(list) => list,
         Err(outcome) => return outcome,
     };
-    read_certs(alloc, &image, &board, &list, certs, files)
+    read_task_certs(alloc, &image, &board, &list, certs, files)
 }
 
 // Reads the certificates if there are as many as tasks, and reports the verdict.
-fn read_certs<F: Files>(
+fn read_task_certs<F: Files>(
     alloc: Global,
     image: &Image,
     plan: &Plan,
@@ -81,18 +82,23 @@ fn read_certs<F: Files>(
     files: &mut F,
 ) -> Outcome
     requires { FitPlan plan.now tasks.now }
-    ensures { Comes (certs_reading (map string_bytes names.now) image.now plan.now tasks.now)
+    ensures { IsCommandOutcome
+        (task_certs_reading (map string_bytes names.now) image.now plan.now tasks.now)
         (F.seen files.old) (F.seen files.new) result }
 {
     if names.len() == tasks.list.len() {
-        read_each(alloc, image, plan, tasks, names, files)
+        read_each_task_cert(alloc, image, plan, tasks, names, files)
     } else {
-        report(alloc, Status::BadInput, tasks_line(alloc, TasksErr::Count))
+        report(
+            alloc,
+            Status::BadInput,
+            bad_tasks_line(alloc, TasksErr::Count),
+        )
     }
 }
 
-// Reads the certificates, and reports the verdict.
-fn read_each<F: Files>(
+/// Reads a certificate for each task, and reports the verdict on the tasks.
+fn read_each_task_cert<F: Files>(
     alloc: Global,
     image: &Image,
     plan: &Plan,
@@ -102,7 +108,7 @@ fn read_each<F: Files>(
 ) -> Outcome
     requires fit { FitPlan plan.now tasks.now }
     requires many { length names.now ≡ count tasks.now }
-    ensures { Comes
+    ensures { IsCommandOutcome
         (each CertData (λ _. cert_form) 0 (map string_bytes names.now)
         (λ cs. answer (IsTasksVerdict image.now plan.now tasks.now cs)))
         (F.seen files.old) (F.seen files.new) result }
@@ -132,12 +138,12 @@ fn tasks_verdict(
 ) -> Outcome
     requires fit { FitPlan plan.now tasks.now }
     requires many { length certs.now ≡ count tasks.now }
-    ensures { IsTold (IsTasksVerdict image.now plan.now tasks.now certs.now) ⊥ result }
+    ensures { IsToldOutcome (IsTasksVerdict image.now plan.now tasks.now certs.now) ⊥ result }
 {
     let areas = plan.areas - plan.reserve;
     let count = tasks.list.len();
     if let Some(addr) = routine_fault(image, plan, tasks) {
-        return report(alloc, Status::Refused, switch_line(alloc, addr));
+        return report(alloc, Status::Refused, refused_switch_line(alloc, addr));
     }
     match judge_tasks(alloc, image, plan, tasks, certs) {
         Ok(Tally::Sum(sum)) => {
@@ -145,7 +151,7 @@ fn tasks_verdict(
                 let line = certified_tasks_line(alloc, sum, areas, count);
                 report(alloc, Status::Done, line)
             } else {
-                report(alloc, Status::Refused, sum_line(alloc, sum, areas))
+                report(alloc, Status::Refused, refused_sum_line(alloc, sum, areas))
             }
         }
         Ok(
@@ -180,7 +186,7 @@ fn judge_tasks(
     let mut sum = 0u64;
     for u in 0..certs.len() {
         match judge_task(alloc, image, plan, tasks, u, &certs[u])? {
-            Verdict::Yes(need) => sum += u64::from(need_to_count(u, need)),
+            Verdict::Yes(need) => sum += u64::from(task_need_to_count(u, need)),
             Verdict::No { rule, key, addr } => {
                 return Ok(Tally::Against {
                     task: u,
@@ -195,7 +201,7 @@ fn judge_tasks(
 }
 
 /// Returns the need that counts for a task: all tasks except the first start with two areas.
-pub(crate) fn need_to_count(u: usize, need: u32) -> u32
+pub(crate) fn task_need_to_count(u: usize, need: u32) -> u32
     ensures { result ≡ (if u == 0 then need else max need 2) }
 {
     if u == 0 { need } else { need.max(2) }

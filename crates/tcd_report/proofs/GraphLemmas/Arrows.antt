@@ -6,15 +6,14 @@ use Rattle.std.proofs.lemmas.Bool.{cases_Bool, eqb-true}
 use Rattle.std.proofs.lemmas.List.Elements.{Contains-append_left, Contains-append_right}
 use Rattle.tc_isa.specs.declared.shapes.Shape.{Shape}
 use Rattle.tc_isa.specs.declared.shapes.Shape.TheVariants as shape
-use Rattle.value_domain.specs.Sets.{Among, distinct}
+use Rattle.value_domain.specs.Sets.{Among, sorted_set_of}
 use Rattle.value_domain.proofs.SetLaws.{distinct_has}
 use Rattle.depth_cert.specs.declared.keys.Key.{Key}
 use Rattle.depth_cert.specs.Certs.{CertData}
-use Rattle.cfg_recover.specs.Duties.{Owed, owed, jump, enter, OwesJump}
-use Rattle.cfg_recover.specs.EdgesAreOwed.{OwesEntry}
+use Rattle.cfg_recover.specs.Duties.{Owed, owed, jump, enter, OwesJump, OwesEntry}
 use Rattle.cfg_recover.specs.StepEdges.{to, call, irq, sys, aln}
 use Rattle.cfg_recover.proofs.Members.{contains_first, contains_among, contains_map, contains_flat, contains_filter}
-use Rattle.tcd_report.specs.Graphs.{Arrow, goes, back, jump_by, entry_by, entries_in, each_once, leaves_by, jumps_in, calls_in, backs_in, systems_in, misaligned_in, interrupts_in, arrows_of}
+use Rattle.tcd_report.specs.Graphs.{Arrow, goes, back, jump_by, entry_by, entries_in, each_address_once, leaves_by, jumps_in, calls_in, backs_in, systems_in, misaligned_in, interrupts_in, arrows_of}
 
 among_at : (xs : List ℕ) (x k : ℕ) → k < length xs → get_or xs k x ≡ x → Among x xs
 among_at [] x k lt e = absurd (omega arith)
@@ -24,20 +23,20 @@ among_at (y ∷ ys) x (suc k) lt e = inr (among_at ys x k (omega arith) e)
 among_of : (xs : List ℕ) (x : ℕ) → Contains xs x → Among x xs
 among_of xs x c = among_at xs x c.0 c.1 c.2
 
-contains_distinct : (xs : List ℕ) (x : ℕ) → Contains xs x → Contains (distinct xs) x
-contains_distinct xs x c = contains_among (distinct xs) x (distinct_has x xs (among_of xs x c))
+contains_distinct : (xs : List ℕ) (x : ℕ) → Contains xs x → Contains (sorted_set_of xs) x
+contains_distinct xs x c = contains_among (sorted_set_of xs) x (distinct_has x xs (among_of xs x c))
 
-once_has : (xs : List ℕ) (x : ℕ) → Among x xs → Contains (each_once xs) x
+once_has : (xs : List ℕ) (x : ℕ) → Among x xs → Contains (each_address_once xs) x
 once_has [] x h = absurd h
-once_has (y ∷ ys) x (inl e) = subst (λ z. Contains (y ∷ filter (λ w. not (w == y)) (each_once ys)) z) (sym e) (contains_first y (filter (λ w. not (w == y)) (each_once ys)))
+once_has (y ∷ ys) x (inl e) = subst (λ z. Contains (y ∷ filter (λ w. not (w == y)) (each_address_once ys)) z) (sym e) (contains_first y (filter (λ w. not (w == y)) (each_address_once ys)))
 once_has (y ∷ ys) x (inr h) =
     let rest = once_has ys x h in
     elim (cases_Bool (x == y)) [
-      | inl same ↦ subst (λ z. Contains (y ∷ filter (λ w. not (w == y)) (each_once ys)) z) (sym (eqb-true x y same)) (contains_first y (filter (λ w. not (w == y)) (each_once ys)))
-      | inr other ↦ Contains-append_right (y ∷ []) (filter (λ w. not (w == y)) (each_once ys)) x (contains_filter (λ w. not (w == y)) x (each_once ys) rest (ap not other))
+      | inl same ↦ subst (λ z. Contains (y ∷ filter (λ w. not (w == y)) (each_address_once ys)) z) (sym (eqb-true x y same)) (contains_first y (filter (λ w. not (w == y)) (each_address_once ys)))
+      | inr other ↦ Contains-append_right (y ∷ []) (filter (λ w. not (w == y)) (each_address_once ys)) x (contains_filter (λ w. not (w == y)) x (each_address_once ys) rest (ap not other))
     ]
 
-contains_once : (xs : List ℕ) (x : ℕ) → Contains xs x → Contains (each_once xs) x
+contains_once : (xs : List ℕ) (x : ℕ) → Contains xs x → Contains (each_address_once xs) x
 contains_once xs x c = once_has xs x (among_of xs x c)
 
 jump_there : (ds : List Owed) (q : ℕ) → OwesJump ds q → Contains (flat_map (λ d. jump_by d.duty) ds) q

@@ -9,22 +9,23 @@ use Rattle.tc_isa.specs.declared.shapes.Arg.{Arg}
 use Rattle.tc_isa.specs.declared.shapes.Target.{Target}
 use Rattle.tc_isa.specs.declared.shapes.Shape.{Shape}
 use Rattle.tc_isa.specs.declared.shapes.Shape.TheVariants.{Branch, Call, Jump, Load, Mtcr, Ret, Rfe, Store, Syscall}
-use Rattle.tc_machine.specs.Machine.{moved}
+use Rattle.tc_machine.specs.Machine.{machine_address_ahead}
 use Rattle.value_domain.specs.declared.values.Val.{Val}
 use Rattle.value_domain.specs.declared.states.State.{State}
 use Rattle.value_domain.specs.Limits.{Limits}
-use Rattle.vd_transfer.specs.Branches.{possible, refine_of}
+use Rattle.vd_transfer.specs.Branches.{possible_side, refine_of}
 use Rattle.vd_transfer.specs.EffectsOnStates.{address_of, transfer_of}
 use Rattle.depth_cert.specs.declared.keys.Key.{Key}
 use Rattle.depth_cert.specs.declared.points.Exit.{Exit}
 use Rattle.depth_cert.specs.Certs.{CertData}
 use Rattle.depth_cert.specs.Exits.{exit_of}
-use Rattle.cfg_recover.specs.Entries.{aln_entry, aln_key, call_entry, call_key, irq_entry, irq_key, sys_key, irqs_of, vectors_in}
+use Rattle.cfg_recover.specs.Entries.{aln_entry, aln_key, call_entry, call_key, irq_entry, irq_key, sys_key, irqs_of}
+use Rattle.tcd_report.specs.Graphs.Handlers.{irq_entry_vectors}
 use Rattle.cfg_recover.specs.FlowDuties.{entered_key}
 use Rattle.cfg_recover.specs.LocalRules.{targets_of}
 use Rattle.store_ranges.specs.Accesses.{are_aligned}
-use Rattle.cfg_recover.specs.Duties.{Owed, owed, jump, enter, resume, leave, jump_on, jumps_to, loaded_at, next_of, successors_of, entered_and_back, entries_of, misaligned_at, misaligned_entry, misaligned_of, interrupts_of, leavings_of, duties_of, key_by}
-use Rattle.tcd_report.specs.Graphs.{jump_by, entry_by, entries_in, back_by, each_once, jumped_in, returned_in, called_of, systems_of}
+use Rattle.cfg_recover.specs.Duties.{Owed, owed, jump, enter, resume, leave, jump_on, jumps_to, loaded_for_duties, next_of, successors_of, entered_and_back, entries_of, misaligned_at, misaligned_entry, misaligned_of, interrupts_of, leavings_of, duties_of, key_by}
+use Rattle.tcd_report.specs.Graphs.{jump_by, entry_by, entries_in, back_by, each_address_once, jumped_in, returned_in, called_of, systems_of}
 use Rattle.tcd_report.specs.Reports.Calls.{called_by}
 
 -- ---- lists of lists
@@ -62,15 +63,15 @@ module _ {X : Type 0} (f : Owed → List X) where
 
   next_none : ((q : ℕ) (t : State) → f (owed 4 (jump q t)) ≡ []) → (b : Limits) (image : ImageData) (plan : PlanData) (p : ℕ) (s : State) (shape : Shape) (n : ℕ) → flat_map f (next_of b image plan p s shape n) ≡ []
   next_none e b image plan p s shape n =
-      let t : State = transfer_of b plan shape s (loaded_at b image plan s shape) in
-      one_none (owed 4 (jump (moved p n) t)) (e (moved p n) t)
+      let t : State = transfer_of b plan shape s (loaded_for_duties b image plan s shape) in
+      one_none (owed 4 (jump (machine_address_ahead p n) t)) (e (machine_address_ahead p n) t)
 
   successors_none : ((q : ℕ) (t : State) → f (owed 4 (jump q t)) ≡ []) → (b : Limits) (image : ImageData) (plan : PlanData) (p : ℕ) (s : State) (shape : Shape) (n : ℕ) → flat_map f (successors_of b image plan p s shape n) ≡ []
   successors_none e b image plan p s (Branch cond x y by lowers) n =
       let o : Bool → Option State = refine_of b plan (Branch cond x y by lowers) s in
-      flat_map-append f (jump_on (moved p n) (o false)) (jump_on (moved p by) (o true))
-      ∙ ap (λ l. l ++ flat_map f (jump_on (moved p by) (o true))) (side_none e (moved p n) (o false))
-      ∙ side_none e (moved p by) (o true)
+      flat_map-append f (jump_on (machine_address_ahead p n) (o false)) (jump_on (machine_address_ahead p by) (o true))
+      ∙ ap (λ l. l ++ flat_map f (jump_on (machine_address_ahead p by) (o true))) (side_none e (machine_address_ahead p n) (o false))
+      ∙ side_none e (machine_address_ahead p by) (o true)
   successors_none e b image plan p s (Jump to) n =
       let ts : List ℕ = unwrap_or (targets_of plan s p to) [] in
       flat_mapped f (λ t. owed 4 (jump t s)) (λ t. []) (λ t. e t s) ts ∙ flat_none ts
@@ -82,15 +83,15 @@ module _ {X : Type 0} (f : Owed → List X) where
   successors_none e b image plan p s shape n = next_none e b image plan p s shape n
 
   -- the entries of called functions, one for each target
-  calls_are : (g : ℕ → List X) (plan : PlanData) (key : Key) (p : ℕ) (s : State) (to : Target) (n : ℕ) → ((t : ℕ) → flat_map f (entered_and_back 5 (call_key key t) (call_entry s) (moved p n)) ≡ g t)
+  calls_are : (g : ℕ → List X) (plan : PlanData) (key : Key) (p : ℕ) (s : State) (to : Target) (n : ℕ) → ((t : ℕ) → flat_map f (entered_and_back 5 (call_key key t) (call_entry s) (machine_address_ahead p n)) ≡ g t)
       → flat_map f (entries_of plan key p s (Call to) n) ≡ flat_map g (unwrap_or (targets_of plan s p to) [])
-  calls_are g plan key p s to n e = flat_flat f (λ t. entered_and_back 5 (call_key key t) (call_entry s) (moved p n)) g e (unwrap_or (targets_of plan s p to) [])
+  calls_are g plan key p s to n e = flat_flat f (λ t. entered_and_back 5 (call_key key t) (call_entry s) (machine_address_ahead p n)) g e (unwrap_or (targets_of plan s p to) [])
 
   entries_none : ((k : Key) (t : State) → f (owed 5 (enter k t)) ≡ []) → ((k : Key) (t : State) → f (owed 12 (enter k t)) ≡ []) → ((k : Key) (q : ℕ) → f (owed 4 (resume k q)) ≡ []) → (plan : PlanData) (key : Key) (p : ℕ) (s : State) (shape : Shape) (n : ℕ)
       → flat_map f (entries_of plan key p s shape n) ≡ []
   entries_none a c back plan key p s (Call to) n =
-      calls_are (λ t. []) plan key p s to n (λ t. two_none _ _ (a (call_key key t) (call_entry s)) (back (call_key key t) (moved p n))) ∙ flat_none (unwrap_or (targets_of plan s p to) [])
-  entries_none a c back plan key p s (Syscall tin) n = two_none _ _ (c (sys_key plan key) _) (back (sys_key plan key) (moved p n))
+      calls_are (λ t. []) plan key p s to n (λ t. two_none _ _ (a (call_key key t) (call_entry s)) (back (call_key key t) (machine_address_ahead p n))) ∙ flat_none (unwrap_or (targets_of plan s p to) [])
+  entries_none a c back plan key p s (Syscall tin) n = two_none _ _ (c (sys_key plan key) _) (back (sys_key plan key) (machine_address_ahead p n))
   entries_none a c back plan key p s shape n = refl
 
   at_none : ((k : Key) (t : State) → f (owed 10 (enter k t)) ≡ []) → (plan : PlanData) (key : Key) (s : State) (at : Val) (size : ℕ) → flat_map f (misaligned_at plan key s at size) ≡ []
@@ -133,7 +134,7 @@ module _ {X : Type 0} (f : Owed → List X) where
       ∙ ap (λ l. v ++ w ++ x ++ y ++ l) he
 
 -- ---- jumps
-pub possible_some : (r : Bool) (s : State) → is_some (possible r s) ≡ r
+pub possible_some : (r : Bool) (s : State) → is_some (possible_side r s) ≡ r
 possible_some true s = refl
 possible_some false s = refl
 
@@ -191,12 +192,12 @@ called_keys plan key p s shape n = refl
 
 -- ---- returns of entered frames
 pub calls_return : (cert : CertData) (plan : PlanData) (key : Key) (p : ℕ) (s : State) (to : Target) (n : ℕ)
-    → returned_in cert (entries_of plan key p s (Call to) n) ≡ flat_map (λ t. back_by cert (resume (entered_key key 1 t) (moved p n))) (unwrap_or (targets_of plan s p to) [])
+    → returned_in cert (entries_of plan key p s (Call to) n) ≡ flat_map (λ t. back_by cert (resume (entered_key key 1 t) (machine_address_ahead p n))) (unwrap_or (targets_of plan s p to) [])
 calls_return cert plan key p s to n =
-    calls_are (λ d. back_by cert d.duty) (λ t. back_by cert (resume (entered_key key 1 t) (moved p n))) plan key p s to n (λ t. append-nil (back_by cert (resume (entered_key key 1 t) (moved p n))))
+    calls_are (λ d. back_by cert d.duty) (λ t. back_by cert (resume (entered_key key 1 t) (machine_address_ahead p n))) plan key p s to n (λ t. append-nil (back_by cert (resume (entered_key key 1 t) (machine_address_ahead p n))))
 
-pub system_returns : (cert : CertData) (plan : PlanData) (key : Key) (p : ℕ) (s : State) (tin n : ℕ) → returned_in cert (entries_of plan key p s (Syscall tin) n) ≡ back_by cert (resume (sys_key plan key) (moved p n))
-system_returns cert plan key p s tin n = append-nil (back_by cert (resume (sys_key plan key) (moved p n)))
+pub system_returns : (cert : CertData) (plan : PlanData) (key : Key) (p : ℕ) (s : State) (tin n : ℕ) → returned_in cert (entries_of plan key p s (Syscall tin) n) ≡ back_by cert (resume (sys_key plan key) (machine_address_ahead p n))
+system_returns cert plan key p s tin n = append-nil (back_by cert (resume (sys_key plan key) (machine_address_ahead p n)))
 
 pub none_returns : (cert : CertData) (plan : PlanData) (key : Key) (p : ℕ) (s : State) (shape : Shape) (n : ℕ) → ((to : Target) → shape ≡ Call to → ⊥) → ((tin : ℕ) → shape ≡ Syscall tin → ⊥) → returned_in cert (entries_of plan key p s shape n) ≡ []
 none_returns cert plan key p s (Call to) n call sys = absurd (call to refl)
@@ -228,18 +229,18 @@ no_access b plan key s (Store src base offset size after) load store = absurd (s
 no_access b plan key s shape load store = refl
 
 -- ---- lists of one entry at most
-pub systems_once : (plan : PlanData) (key : Key) (shape : Shape) → each_once (systems_of plan key shape) ≡ systems_of plan key shape
+pub systems_once : (plan : PlanData) (key : Key) (shape : Shape) → each_address_once (systems_of plan key shape) ≡ systems_of plan key shape
 systems_once plan key (Syscall tin) = refl
 systems_once plan key shape = refl
 
-once_at : (plan : PlanData) (key : Key) (s : State) (at : Val) (size : ℕ) → each_once (entries_in 10 (misaligned_at plan key s at size)) ≡ entries_in 10 (misaligned_at plan key s at size)
+once_at : (plan : PlanData) (key : Key) (s : State) (at : Val) (size : ℕ) → each_address_once (entries_in 10 (misaligned_at plan key s at size)) ≡ entries_in 10 (misaligned_at plan key s at size)
 once_at plan key s at size =
-    elim (are_aligned at size) as (λ t. each_once (entries_in 10 (if t then [] else misaligned_entry plan key s ∷ [])) ≡ entries_in 10 (if t then [] else misaligned_entry plan key s ∷ [])) [
+    elim (are_aligned at size) as (λ t. each_address_once (entries_in 10 (if t then [] else misaligned_entry plan key s ∷ [])) ≡ entries_in 10 (if t then [] else misaligned_entry plan key s ∷ [])) [
       | true ↦ refl
       | false ↦ refl
     ]
 
-pub misaligned_once : (b : Limits) (plan : PlanData) (key : Key) (s : State) (shape : Shape) → each_once (entries_in 10 (misaligned_of b plan key s shape)) ≡ entries_in 10 (misaligned_of b plan key s shape)
+pub misaligned_once : (b : Limits) (plan : PlanData) (key : Key) (s : State) (shape : Shape) → each_address_once (entries_in 10 (misaligned_of b plan key s shape)) ≡ entries_in 10 (misaligned_of b plan key s shape)
 misaligned_once b plan key s (Load dst base offset size signed after) = once_at plan key s (address_of b plan (Load dst base offset size signed after) s) size
 misaligned_once b plan key s (Store src base offset size after) = once_at plan key s (address_of b plan (Store src base offset size after) s) size
 misaligned_once b plan key s shape = refl
@@ -297,11 +298,11 @@ module _ (b : Limits) (image : ImageData) (plan : PlanData) (cert : CertData) (k
       (interrupts_none g (λ k t. refl) plan key s) (leavings_none g (λ x. refl) (λ x. refl) key s shape)
       ∙ append-nil (x ++ []) ∙ append-nil x
 
-  pub interrupts_told : entries_in 11 (duties_of b image plan key p s shape n) ≡ vectors_in plan (irqs_of plan s)
+  pub interrupts_told : entries_in 11 (duties_of b image plan key p s shape n) ≡ irq_entry_vectors plan (irqs_of plan s)
   unfolding succ ent acc irqs left duties_of entry_in
   interrupts_told =
       let g : Owed → List ℕ = entry_in 11 in
-      let y : List ℕ = vectors_in plan (irqs_of plan s) in
+      let y : List ℕ = irq_entry_vectors plan (irqs_of plan s) in
       parts g succ ent acc irqs left [] [] [] y [] (successors_none g (λ q t. refl) b image plan p s shape n) (entries_none g (λ k t. refl) (λ k t. refl) (λ k q. refl) plan key p s shape n) (misaligned_none g (λ k t. refl) b plan key s shape)
       (flat_mapped g (λ i. owed 11 (enter (irq_key plan i) (irq_entry plan key s i))) (λ i. (irq_key plan i).entry ∷ []) (λ i. refl) (irqs_of plan s) ∙ flat_each (λ i. (irq_key plan i).entry) (irqs_of plan s))
       (leavings_none g (λ x. refl) (λ x. refl) key s shape)

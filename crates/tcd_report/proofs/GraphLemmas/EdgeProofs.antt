@@ -15,10 +15,10 @@ use Rattle.tc_machine.specs.declared.events.Cause.{Cause}
 use Rattle.tc_machine.specs.declared.events.Cause.TheVariants.{NoCode}
 use Rattle.tc_machine.specs.declared.events.Event.{Event}
 use Rattle.tc_machine.specs.declared.state.Machine.{Machine}
-use Rattle.tc_machine.specs.Machine.{moved}
-use Rattle.tc_machine.specs.Fetching.{mapped_bytes, shaped, fetched, size_in}
+use Rattle.tc_machine.specs.Machine.{machine_address_ahead, IsMachine}
+use Rattle.tc_machine.specs.Fetching.{mapped_bytes, fetched_shape, fetched, fetched_size}
 use Rattle.tc_machine.specs.Stepping.{is_taken, step, run}
-use Rattle.tc_machine.specs.Safe.{IsMachine, AllFit, IsAtCode}
+use Rattle.tc_machine.specs.Safe.{AllFit, IsAtCode}
 use Rattle.tc_machine.proofs.Fetched.{mapped_bytes-front}
 use Rattle.tc_machine.proofs.Stays.{irq_lt, stays_step}
 use Rattle.value_domain.specs.declared.states.State.{State}
@@ -33,24 +33,24 @@ use Rattle.cfg_recover.specs.Duties.{Owed, duties_of}
 use Rattle.cfg_recover.specs.RulesHoldOrFail.{limits_in}
 use Rattle.tc_machine.specs.Instructions.{traps}
 use Rattle.cfg_recover.specs.Frames.{Standing, frames_by, frames_after, frames_from, frames}
-use Rattle.cfg_recover.specs.EdgesAreOwed.{IsOwed, EdgeOwed}
-use Rattle.cfg_recover.specs.StepEdges.{Way, to, call, irq, sys, aln, ret, rfe, way_of_shape, way_by, way_in, way_of_step}
+use Rattle.cfg_recover.specs.EdgesAreOwed.{IsEdgeWayOwed, EdgeOwed}
+use Rattle.cfg_recover.specs.StepEdges.{EdgeWay, to, call, irq, sys, aln, ret, rfe, edge_way_of_shape, edge_way_by_trap, edge_way_in_fetch, edge_way_of_step}
 use Rattle.cfg_recover.proofs.CodeLaws.{IsCode-one}
 use Rattle.cfg_recover.proofs.Members.{contains_first, contains_map, contains_flat}
-use Rattle.tcd_report.specs.Graphs.{Arrow, goes, line_text, arrows_of, ArePointLines, AreParts, AreJoined, AreNodeLines, AreGraphLines, leaves_by}
+use Rattle.tcd_report.specs.Graphs.{Arrow, goes, line_text, arrows_of, ArePointLines, AreLineParts, AreJoinedLines, AreNodeLines, AreGraphLines, leaves_by}
 use Rattle.tcd_report.specs.Graphs.EdgeLaws.{IsOnLine, EdgesStandOnLines}
 use Rattle.tcd_report.proofs.GraphLemmas.Arrows.{to_there, call_there, irq_there, sys_there, aln_there, leaving_there}
 use Rattle.depth_cert.proofs.KeyLaws.{found_in, one_number}
 
 -- ---- a step with the way of a return has a return instruction
-shape_ret : (s : Shape) (q : ℕ) → way_of_shape s q ≡ ret → s ≡ shape.Ret
+shape_ret : (s : Shape) (q : ℕ) → edge_way_of_shape s q ≡ ret → s ≡ shape.Ret
 shape_ret (shape.Call t) q e = absurd (let f : call q ≡ ret = e in cc)
 shape_ret shape.Ret q e = refl
 shape_ret shape.Rfe q e = absurd (let f : rfe ≡ ret = e in cc)
 shape_ret (shape.Syscall tin) q e = absurd (let f : sys q ≡ ret = e in cc)
 shape_ret _ q e = absurd (let f : to q ≡ ret = e in cc)
 
-shape_rfe : (s : Shape) (q : ℕ) → way_of_shape s q ≡ rfe → s ≡ shape.Rfe
+shape_rfe : (s : Shape) (q : ℕ) → edge_way_of_shape s q ≡ rfe → s ≡ shape.Rfe
 shape_rfe (shape.Call t) q e = absurd (let f : call q ≡ rfe = e in cc)
 shape_rfe shape.Ret q e = absurd (let f : ret ≡ rfe = e in cc)
 shape_rfe shape.Rfe q e = refl
@@ -58,27 +58,27 @@ shape_rfe (shape.Syscall tin) q e = absurd (let f : sys q ≡ rfe = e in cc)
 shape_rfe _ q e = absurd (let f : to q ≡ rfe = e in cc)
 
 -- without an interrupt and a misaligned trap, the way is that of the instruction
-way_ret : (m : Machine) (e : Event) (s : Shape) (n : ℕ) → fetched m ≡ Ok (s, n) → way_of_step m e ≡ ret → s ≡ shape.Ret
+way_ret : (m : Machine) (e : Event) (s : Shape) (n : ℕ) → fetched m ≡ Ok (s, n) → edge_way_of_step m e ≡ ret → s ≡ shape.Ret
 way_ret m e s n f w =
     elim (cases_Bool (is_taken m e)) [
-      | inl taken ↦ absurd (let g : irq (step m e).pc ≡ ret = sym (ap (λ b. if b then irq (step m e).pc else way_in m e (fetched m) (step m e).pc) taken) ∙ w in cc)
+      | inl taken ↦ absurd (let g : irq (step m e).pc ≡ ret = sym (ap (λ b. if b then irq (step m e).pc else edge_way_in_fetch m e (fetched m) (step m e).pc) taken) ∙ w in cc)
       | inr not_taken ↦
-          let by : way_by m e s (step m e).pc ≡ ret = sym (ap (λ b. if b then irq (step m e).pc else way_in m e (fetched m) (step m e).pc) not_taken ∙ ap (λ r. way_in m e r (step m e).pc) f) ∙ w in
+          let by : edge_way_by_trap m e s (step m e).pc ≡ ret = sym (ap (λ b. if b then irq (step m e).pc else edge_way_in_fetch m e (fetched m) (step m e).pc) not_taken ∙ ap (λ r. edge_way_in_fetch m e r (step m e).pc) f) ∙ w in
           elim (cases_Bool (traps m e s)) [
-            | inl trapped ↦ absurd (let g : aln (step m e).pc ≡ ret = sym (ap (λ b. if b then aln (step m e).pc else way_of_shape s (step m e).pc) trapped) ∙ by in cc)
-            | inr goes_on ↦ shape_ret s (step m e).pc (sym (ap (λ b. if b then aln (step m e).pc else way_of_shape s (step m e).pc) goes_on) ∙ by)
+            | inl trapped ↦ absurd (let g : aln (step m e).pc ≡ ret = sym (ap (λ b. if b then aln (step m e).pc else edge_way_of_shape s (step m e).pc) trapped) ∙ by in cc)
+            | inr goes_on ↦ shape_ret s (step m e).pc (sym (ap (λ b. if b then aln (step m e).pc else edge_way_of_shape s (step m e).pc) goes_on) ∙ by)
           ]
     ]
 
-way_rfe : (m : Machine) (e : Event) (s : Shape) (n : ℕ) → fetched m ≡ Ok (s, n) → way_of_step m e ≡ rfe → s ≡ shape.Rfe
+way_rfe : (m : Machine) (e : Event) (s : Shape) (n : ℕ) → fetched m ≡ Ok (s, n) → edge_way_of_step m e ≡ rfe → s ≡ shape.Rfe
 way_rfe m e s n f w =
     elim (cases_Bool (is_taken m e)) [
-      | inl taken ↦ absurd (let g : irq (step m e).pc ≡ rfe = sym (ap (λ b. if b then irq (step m e).pc else way_in m e (fetched m) (step m e).pc) taken) ∙ w in cc)
+      | inl taken ↦ absurd (let g : irq (step m e).pc ≡ rfe = sym (ap (λ b. if b then irq (step m e).pc else edge_way_in_fetch m e (fetched m) (step m e).pc) taken) ∙ w in cc)
       | inr not_taken ↦
-          let by : way_by m e s (step m e).pc ≡ rfe = sym (ap (λ b. if b then irq (step m e).pc else way_in m e (fetched m) (step m e).pc) not_taken ∙ ap (λ r. way_in m e r (step m e).pc) f) ∙ w in
+          let by : edge_way_by_trap m e s (step m e).pc ≡ rfe = sym (ap (λ b. if b then irq (step m e).pc else edge_way_in_fetch m e (fetched m) (step m e).pc) not_taken ∙ ap (λ r. edge_way_in_fetch m e r (step m e).pc) f) ∙ w in
           elim (cases_Bool (traps m e s)) [
-            | inl trapped ↦ absurd (let g : aln (step m e).pc ≡ rfe = sym (ap (λ b. if b then aln (step m e).pc else way_of_shape s (step m e).pc) trapped) ∙ by in cc)
-            | inr goes_on ↦ shape_rfe s (step m e).pc (sym (ap (λ b. if b then aln (step m e).pc else way_of_shape s (step m e).pc) goes_on) ∙ by)
+            | inl trapped ↦ absurd (let g : aln (step m e).pc ≡ rfe = sym (ap (λ b. if b then aln (step m e).pc else edge_way_of_shape s (step m e).pc) trapped) ∙ by in cc)
+            | inr goes_on ↦ shape_rfe s (step m e).pc (sym (ap (λ b. if b then aln (step m e).pc else edge_way_of_shape s (step m e).pc) goes_on) ∙ by)
           ]
     ]
 
@@ -87,29 +87,29 @@ AllKeys : List Standing → Type 0
 AllKeys [] = Unit {0}
 AllKeys (f ∷ fs) = IsKey f.key × AllKeys fs
 
-IsBelow : Way → Type 0
+IsBelow : EdgeWay → Type 0
 IsBelow (call q) = q < 2 ^ 32
 IsBelow (irq q) = q < 2 ^ 32
 IsBelow (sys q) = q < 2 ^ 32
 IsBelow (aln q) = q < 2 ^ 32
 IsBelow _ = Unit {0}
 
-shape_below : (s : Shape) (q : ℕ) → q < 2 ^ 32 → IsBelow (way_of_shape s q)
+shape_below : (s : Shape) (q : ℕ) → q < 2 ^ 32 → IsBelow (edge_way_of_shape s q)
 unfolding IsBelow
 shape_below (shape.Call t) q h = h
 shape_below (shape.Syscall tin) q h = h
 shape_below _ q h = tt
 
-in_below : (m : Machine) (e : Event) (r : Result (Shape × ℕ) Cause) (q : ℕ) → q < 2 ^ 32 → IsBelow (way_in m e r q)
+in_below : (m : Machine) (e : Event) (r : Result (Shape × ℕ) Cause) (q : ℕ) → q < 2 ^ 32 → IsBelow (edge_way_in_fetch m e r q)
 unfolding IsBelow
-in_below m e (Ok found) q h = elim (traps m e found.0) as (λ b. IsBelow (if b then aln q else way_of_shape found.0 q)) [ true ↦ h | false ↦ shape_below found.0 q h ]
+in_below m e (Ok found) q h = elim (traps m e found.0) as (λ b. IsBelow (if b then aln q else edge_way_of_shape found.0 q)) [ true ↦ h | false ↦ shape_below found.0 q h ]
 in_below m e (Err cause) q h = tt
 
-step_below : (m : Machine) (e : Event) → (step m e).pc < 2 ^ 32 → IsBelow (way_of_step m e)
+step_below : (m : Machine) (e : Event) → (step m e).pc < 2 ^ 32 → IsBelow (edge_way_of_step m e)
 unfolding IsBelow
-step_below m e h = elim (is_taken m e) as (λ b. IsBelow (if b then irq (step m e).pc else way_in m e (fetched m) (step m e).pc)) [ true ↦ h | false ↦ in_below m e (fetched m) (step m e).pc h ]
+step_below m e h = elim (is_taken m e) as (λ b. IsBelow (if b then irq (step m e).pc else edge_way_in_fetch m e (fetched m) (step m e).pc)) [ true ↦ h | false ↦ in_below m e (fetched m) (step m e).pc h ]
 
-keys_by : (p next prio : ℕ) (w : Way) (fs : List Standing) → prio < 2 ^ 8 → IsBelow w → AllKeys fs → AllKeys (frames_by p next prio w fs)
+keys_by : (p next prio : ℕ) (w : EdgeWay) (fs : List Standing) → prio < 2 ^ 8 → IsBelow w → AllKeys fs → AllKeys (frames_by p next prio w fs)
 unfolding AllKeys IsBelow
 keys_by p next prio (to q) [] small h k = k
 keys_by p next prio (to q) (f ∷ fs) small h k = k
@@ -131,10 +131,10 @@ keys_from ok m [] fs is fit k = k
 keys_from ok m (e ∷ es) fs is fit k =
     let small : e.irq < 2 ^ 8 = irq_lt ok m e fit.0 in
     let after : IsMachine (step m e) = stays_step m e is small fit.0.input fit.0.status in
-    keys_from ok (step m e) es (frames_after m e fs) after fit.1 (keys_by m.pc (moved m.pc (size_in (fetched m))) e.irq (way_of_step m e) fs small (step_below m e after.pc) k)
+    keys_from ok (step m e) es (frames_after m e fs) after fit.1 (keys_by m.pc (machine_address_ahead m.pc (fetched_size (fetched m))) e.irq (edge_way_of_step m e) fs small (step_below m e after.pc) k)
 
 -- ---- the parts of joined lines
-part_at : {A : Type 0} (Has : A → List (List ℕ) → Type 0) (xs : List A) (ps : List (List (List ℕ))) (x : A) (k : ℕ) → AreParts Has xs ps → k < length xs → get_or xs k x ≡ x → (p : List (List ℕ)) × (Has x p × Contains ps p)
+part_at : {A : Type 0} (Has : A → List (List ℕ) → Type 0) (xs : List A) (ps : List (List (List ℕ))) (x : A) (k : ℕ) → AreLineParts Has xs ps → k < length xs → get_or xs k x ≡ x → (p : List (List ℕ)) × (Has x p × Contains ps p)
 part_at Has [] ps x k h lt e = absurd (omega arith)
 part_at Has (y ∷ ys) [] x k h lt e = absurd h
 part_at Has (y ∷ ys) (p ∷ ps) x zero h lt e = (p, (subst (λ z. Has z p) e h.0, contains_first p ps))
@@ -142,13 +142,13 @@ part_at Has (y ∷ ys) (p ∷ ps) x (suc k) h lt e =
     let r = part_at Has ys ps x k h.1 (omega arith) e in
     (r.0, ((r.1).0, Contains-append_right (p ∷ []) ps r.0 (r.1).1))
 
-part_of : {A : Type 0} (Has : A → List (List ℕ) → Type 0) (xs : List A) (lines : List (List ℕ)) (x : A) → AreJoined Has xs lines → Contains xs x → (p : List (List ℕ)) × (Has x p × ((l : List ℕ) → Contains p l → Contains lines l))
+part_of : {A : Type 0} (Has : A → List (List ℕ) → Type 0) (xs : List A) (lines : List (List ℕ)) (x : A) → AreJoinedLines Has xs lines → Contains xs x → (p : List (List ℕ)) × (Has x p × ((l : List ℕ) → Contains p l → Contains lines l))
 part_of Has xs lines x j c =
     let r = part_at Has xs j.parts x c.0 j.each c.1 c.2 in
     (r.0, ((r.1).0, λ l at. subst (λ ls. Contains ls l) (sym j.are) (contains_flat (λ p. p) l r.0 j.parts (r.1).1 at)))
 
 -- ---- a point's lines
-arrow_there : (cert : CertData) (ds : List Owed) (s : Shape) (key : Key) (prio : ℕ) (fs : List Standing) (q : ℕ) (w : Way) → (w ≡ ret → s ≡ shape.Ret) → (w ≡ rfe → s ≡ shape.Rfe) → IsOwed ds key prio fs q w → Contains (arrows_of cert ds s) (goes w)
+arrow_there : (cert : CertData) (ds : List Owed) (s : Shape) (key : Key) (prio : ℕ) (fs : List Standing) (q : ℕ) (w : EdgeWay) → (w ≡ ret → s ≡ shape.Ret) → (w ≡ rfe → s ≡ shape.Rfe) → IsEdgeWayOwed ds key prio fs q w → Contains (arrows_of cert ds s) (goes w)
 arrow_there cert ds s key prio fs q (to x) r x_r o = to_there cert ds s x o
 arrow_there cert ds s key prio fs q (call x) r x_r o = call_there cert ds s (call_key key x) o
 arrow_there cert ds s key prio fs q (irq x) r x_r o = irq_there cert ds s (handler_key 2 x prio) o
@@ -180,9 +180,9 @@ module _ (image : ImageData) (plan : PlanData) (cert : CertData) where
       let spelled = (at.spells).spelled in
       let short = (decode_laws.lengths (at.bytes ++ []) at.inst (length at.bytes) (decode_laws.spelled at.bytes [] at.inst spelled)).1 in
       let front = mapped_bytes-front 4 m.mem m.pc at.bytes short (rom_fits ok m.pc (length at.bytes) (at.spells).in_rom) at.there in
-      ap (λ t. cond t (shaped (decoded_of (mapped_bytes 4 m.mem m.pc))) (Err NoCode)) (eq-eqb _ _ even)
-      ∙ ap (λ bs. shaped (decoded_of bs)) front.1
-      ∙ ap shaped (decode_laws.spelled at.bytes front.0 at.inst spelled)
+      ap (λ t. cond t (fetched_shape (decoded_of (mapped_bytes 4 m.mem m.pc))) (Err NoCode)) (eq-eqb _ _ even)
+      ∙ ap (λ bs. fetched_shape (decoded_of bs)) front.1
+      ∙ ap fetched_shape (decode_laws.spelled at.bytes front.0 at.inst spelled)
 
   on_line : IsPlan plan → IsCert cert → (lines : List (List ℕ)) → AreGraphLines image plan cert lines → (m : Machine) (e : Event) → IsAtCode image plan m → (fs : List Standing) → AllKeys fs → EdgeOwed image plan cert m e fs → IsOnLine lines m e fs
   unfolding AllKeys
@@ -200,9 +200,9 @@ module _ (image : ImageData) (plan : PlanData) (cert : CertData) where
       let one : shape_of at.inst ≡ o.shape = (IsCode-one image plan m.pc (shape_of at.inst) o.shape (length at.bytes) o.size there o.code).0 in
       let gets = fetched_there ok m at even in
       let ds : List Owed = duties_of (limits_in plan cert) image plan f.key m.pc (o.point).state o.shape o.size in
-      let arrow : Contains (arrows_of cert ds o.shape) (goes (way_of_step m e)) =
-      arrow_there cert ds o.shape f.key e.irq (f ∷ fs) (step m e).pc (way_of_step m e) (λ w. sym one ∙ way_ret m e (shape_of at.inst) (length at.bytes) gets w) (λ w. sym one ∙ way_rfe m e (shape_of at.inst) (length at.bytes) gets w) o.owed in
-      (nodes.1).1 _ ((points.1).1 _ (line_there o.node o.point points.0 f.key m.pc o.shape o.size (goes (way_of_step m e)) (points.1).0 same here o.code arrow))
+      let arrow : Contains (arrows_of cert ds o.shape) (goes (edge_way_of_step m e)) =
+      arrow_there cert ds o.shape f.key e.irq (f ∷ fs) (step m e).pc (edge_way_of_step m e) (λ w. sym one ∙ way_ret m e (shape_of at.inst) (length at.bytes) gets w) (λ w. sym one ∙ way_rfe m e (shape_of at.inst) (length at.bytes) gets w) o.owed in
+      (nodes.1).1 _ ((points.1).1 _ (line_there o.node o.point points.0 f.key m.pc o.shape o.size (goes (edge_way_of_step m e)) (points.1).0 same here o.code arrow))
 
 pub edges_stand : EdgesStandOnLines
 unfolding AllKeys

@@ -16,8 +16,8 @@ use Rattle.cfg_recover.specs.Code.{IsCode}
 use Rattle.cfg_recover.specs.RulesHoldOrFail.{limits_in}
 use Rattle.cfg_recover.specs.StepEdges.{to, call, irq, sys, aln, ret, rfe}
 use Rattle.tcd_report.specs.declared.graphs.edges.Edges.{Edges}
-use Rattle.tcd_report.specs.Graphs.{Arrow, goes, back, end_to, line_front, line_text, leaves_by, jumps_in, calls_in, backs_in, systems_in, misaligned_in, interrupts_in, arrows_of, ArePointLines, AreEdges, lines_to, ways_text, leaving_text}
-use Rattle.tcd_report.specs.Judging.{GrowsBy}
+use Rattle.tcd_report.specs.Graphs.{Arrow, goes, back, line_end_to, line_front, line_text, leaves_by, jumps_in, calls_in, backs_in, systems_in, misaligned_in, interrupts_in, arrows_of, ArePointLines, AreEdges, lines_to, ways_text, leaving_text}
+use Rattle.tcd_report.specs.Texts.{GrowsBy}
 
 -- lines that are made of a list, one after another
 lines_joined : {A : Type 0} (f : A → List ℕ) (xs : List A) → flat_map (λ l. l) (map f xs) ≡ flat_map f xs
@@ -25,9 +25,9 @@ lines_joined f [] = refl
 lines_joined f (x ∷ xs) = ap (λ l. f x ++ l) (lines_joined f xs)
 
 -- one line with this word for each address
-lines_with : (key : Key) (p : ℕ) (word : List ℕ) (arrow : ℕ → Arrow) → ((q : ℕ) → line_text key p (arrow q) ≡ line_front key p ++ end_to word q) → (qs : List ℕ) → flat_map (line_text key p) (map arrow qs) ≡ lines_to (line_front key p) word qs
+lines_with : (key : Key) (p : ℕ) (word : List ℕ) (arrow : ℕ → Arrow) → ((q : ℕ) → line_text key p (arrow q) ≡ line_front key p ++ line_end_to word q) → (qs : List ℕ) → flat_map (line_text key p) (map arrow qs) ≡ lines_to (line_front key p) word qs
 lines_with key p word arrow e [] = refl
-lines_with key p word arrow e (q ∷ qs) = ap (λ l. l ++ flat_map (line_text key p) (map arrow qs)) (e q) ∙ ap (λ l. (line_front key p ++ end_to word q) ++ l) (lines_with key p word arrow e qs)
+lines_with key p word arrow e (q ∷ qs) = ap (λ l. l ++ flat_map (line_text key p) (map arrow qs)) (e q) ∙ ap (λ l. (line_front key p ++ line_end_to word q) ++ l) (lines_with key p word arrow e qs)
 
 leaving_is : (key : Key) (p : ℕ) (s : Shape) → flat_map (line_text key p) (leaves_by s) ≡ leaving_text (line_front key p) s
 leaving_is key p shape.Ret = append-nil (line_text key p (goes ret))

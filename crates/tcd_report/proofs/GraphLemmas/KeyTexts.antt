@@ -10,7 +10,7 @@ use Rattle.tcd_text.specs.Digits.{hex_word}
 use Rattle.tcd_text.proofs.DigitLaws.{hex_word-ascii}
 use Rattle.depth_cert.specs.declared.keys.Key.{Key}
 use Rattle.depth_cert.specs.Keys.{start_kind, call_kind, irq_kind, sys_kind}
-use Rattle.tcd_report.specs.Texts.{kind_text, key_text}
+use Rattle.tcd_report.specs.Texts.{key_kind_text, key_text}
 use Rattle.tcd_report.specs.Graphs.{key_front, line_front}
 
 both : (a b : Bool) → (a && b) ≡ true → (a ≡ true) × (b ≡ true)
@@ -30,8 +30,8 @@ either : (b : Bool) (x y : List ℕ) → IsAscii x → IsAscii y → IsAscii (if
 either true x y h g = h
 either false x y h g = g
 
-kind_ascii : (kind : ℕ) → IsAscii (kind_text kind)
-unfolding kind_text
+kind_ascii : (kind : ℕ) → IsAscii (key_kind_text kind)
+unfolding key_kind_text
 kind_ascii kind =
     either (kind == start_kind) (codes "start ") _ (literal (codes "start ") refl)
     (either (kind == call_kind) (codes "call ") _ (literal (codes "call ") refl)
@@ -49,7 +49,7 @@ key_ascii key entry prio =
     let from_is : List ℕ = codes " is " ++ stack in
     let from_number : List ℕ = decimal key.prio ++ from_is in
     let from_prio : List ℕ = codes " prio " ++ from_number in
-    IsAscii-append (kind_text key.kind) (hex_word key.entry ++ from_prio) (kind_ascii key.kind)
+    IsAscii-append (key_kind_text key.kind) (hex_word key.entry ++ from_prio) (kind_ascii key.kind)
     (IsAscii-append (hex_word key.entry) from_prio (hex_word-ascii key.entry entry)
     (IsAscii-append (codes " prio ") from_number (literal (codes " prio ") refl)
     (IsAscii-append (decimal key.prio) from_is (IsAscii-decimal key.prio (omega (arith, prio)))

@@ -10,8 +10,8 @@ use Rattle.std.specs.Str.{IsAscii}
 use Rattle.std.proofs.lemmas.Str.Ascii.{IsAscii-nil, IsAscii-cons}
 use Rattle.tcd_text.specs.Digits.{hex_byte, hex_word}
 use Rattle.tcd_text.proofs.DigitLaws.{hex_word-front}
-use Rattle.tcd_report.specs.Graphs.{end_to, lines_to}
-use Rattle.tcd_report.specs.Graphs.Handlers.{with_front}
+use Rattle.tcd_report.specs.Graphs.{line_end_to, lines_to}
+use Rattle.tcd_report.specs.Graphs.Handlers.{with_handler_front}
 
 -- an address and a line feed
 pub address_line : (x : ℕ) (w : List ℕ) → w ≡ hex_word x
@@ -26,22 +26,22 @@ address_ascii x h = hex_word-front x (10 ∷ []) h (IsAscii-cons 10 [] (omega ar
 -- the end of a handler's line
 pub handler_line : (x : ℕ) (w : List ℕ) → w ≡ hex_word x
     → 105 ∷ 114 ∷ 113 ∷ 32 ∷ get_or w 0 0 ∷ get_or w 1 0 ∷ get_or w 2 0 ∷ get_or w 3 0 ∷ get_or w 4 0 ∷ get_or w 5 0 ∷ get_or w 6 0 ∷ get_or w 7 0 ∷ 10 ∷ []
-    ≡ end_to (codes "irq ") x
+    ≡ line_end_to (codes "irq ") x
 handler_line x w e = ap (λ (l : List ℕ). 105 ∷ 114 ∷ 113 ∷ 32 ∷ l) (address_line x w e)
 
-pub handler_ascii : (x : ℕ) → x < 2 ^ 32 → IsAscii (end_to (codes "irq ") x)
+pub handler_ascii : (x : ℕ) → x < 2 ^ 32 → IsAscii (line_end_to (codes "irq ") x)
 handler_ascii x h =
     let line : List ℕ = hex_word x ++ 10 ∷ [] in
     IsAscii-cons 105 (114 ∷ 113 ∷ 32 ∷ line) (omega arith) (IsAscii-cons 114 (113 ∷ 32 ∷ line) (omega arith)
     (IsAscii-cons 113 (32 ∷ line) (omega arith) (IsAscii-cons 32 line (omega arith) (address_ascii x h))))
 
 -- each end has thirteen bytes
-end_size : (q : ℕ) → length (end_to (codes "irq ") q) ≡ 13
+end_size : (q : ℕ) → length (line_end_to (codes "irq ") q) ≡ 13
 unfolding hex_byte hex_word
 end_size q = refl
 
-line_size : (front : List ℕ) (q : ℕ) → length (front ++ end_to (codes "irq ") q) ≡ length front + 13
-line_size front q = length-append front (end_to (codes "irq ") q) ∙ ap (λ n. length front + n) (end_size q)
+line_size : (front : List ℕ) (q : ℕ) → length (front ++ line_end_to (codes "irq ") q) ≡ length front + 13
+line_size front q = length-append front (line_end_to (codes "irq ") q) ∙ ap (λ n. length front + n) (end_size q)
 
 next_size : (n k : ℕ) → k + n * k ≡ suc n * k
 next_size n k = add_comm k (n * k) ∙ sym (suc-mul n k)
@@ -56,18 +56,18 @@ no_place k = omega arith
 pub lines_size : (front entries : List ℕ) → length (lines_to front (codes "irq ") entries) ≡ length entries * (length front + 13)
 lines_size front [] = omega arith
 lines_size front (q ∷ qs) =
-    let one : length (lines_to front (codes "irq ") (q ∷ qs)) ≡ length (front ++ end_to (codes "irq ") q) + length (lines_to front (codes "irq ") qs) =
-    length-append (front ++ end_to (codes "irq ") q) (lines_to front (codes "irq ") qs) in
+    let one : length (lines_to front (codes "irq ") (q ∷ qs)) ≡ length (front ++ line_end_to (codes "irq ") q) + length (lines_to front (codes "irq ") qs) =
+    length-append (front ++ line_end_to (codes "irq ") q) (lines_to front (codes "irq ") qs) in
     one ∙ ap (λ n. n + length (lines_to front (codes "irq ") qs)) (line_size front q) ∙ ap (λ n. (length front + 13) + n) (lines_size front qs) ∙ next_size (length qs) (length front + 13)
 
 -- an ASCII front gives ASCII lines
 pub lines_ascii : (front entries : List ℕ) → IsAscii front → ((k : ℕ) → get_or entries k 0 < 2 ^ 32) → IsAscii (lines_to front (codes "irq ") entries)
 lines_ascii front [] is below = IsAscii-nil
 lines_ascii front (q ∷ qs) is below =
-    IsAscii-append (front ++ end_to (codes "irq ") q) (lines_to front (codes "irq ") qs) (IsAscii-append front (end_to (codes "irq ") q) is (handler_ascii q (below 0))) (lines_ascii front qs is (λ k. below (suc k)))
+    IsAscii-append (front ++ line_end_to (codes "irq ") q) (lines_to front (codes "irq ") qs) (IsAscii-append front (line_end_to (codes "irq ") q) is (handler_ascii q (below 0))) (lines_ascii front qs is (λ k. below (suc k)))
 
 -- a front that is written over another between lines before it and lines after it
-front_between : (a old front e b lines : List ℕ) (at : ℕ) → lines ≡ a ++ ((old ++ e) ++ b) → length a ≡ at → length old ≡ length front → with_front lines at front ≡ a ++ ((front ++ e) ++ b)
+front_between : (a old front e b lines : List ℕ) (at : ℕ) → lines ≡ a ++ ((old ++ e) ++ b) → length a ≡ at → length old ≡ length front → with_handler_front lines at front ≡ a ++ ((front ++ e) ++ b)
 front_between a old front e b lines at are size same =
     let flat : lines ≡ a ++ (old ++ (e ++ b)) = are ∙ ap (λ l. a ++ l) (append_assoc old e b) in
     let head : take at lines ≡ a = ap (take at) flat ∙ ap (λ n. take n (a ++ (old ++ (e ++ b)))) (sym size) ∙ take-append_seam a (old ++ (e ++ b)) in
@@ -79,10 +79,10 @@ front_between a old front e b lines at are size same =
 -- the front is written over that of one line more
 pub front_more : (front old entries lines : List ℕ) (i at : ℕ) → length old ≡ length front → at ≡ i * (length front + 13) → i < length entries
     → lines ≡ lines_to front (codes "irq ") (take i entries) ++ lines_to old (codes "irq ") (drop i entries)
-    → with_front lines at front ≡ lines_to front (codes "irq ") (take (i + 1) entries) ++ lines_to old (codes "irq ") (drop (i + 1) entries)
+    → with_handler_front lines at front ≡ lines_to front (codes "irq ") (take (i + 1) entries) ++ lines_to old (codes "irq ") (drop (i + 1) entries)
 front_more front old entries lines i at same place lt are =
     let q : ℕ = get_or entries i 0 in
-    let e : List ℕ = end_to (codes "irq ") q in
+    let e : List ℕ = line_end_to (codes "irq ") q in
     let before : List ℕ = lines_to front (codes "irq ") (take i entries) in
     let after : List ℕ = lines_to old (codes "irq ") (drop (i + 1) entries) in
     let size : length before ≡ at = lines_size front (take i entries) ∙ ap (λ n. n * (length front + 13)) (length-take-le i entries (omega (arith, lt))) ∙ sym place in
@@ -90,7 +90,7 @@ front_more front old entries lines i at same place lt are =
     ap (lines_to old (codes "irq ")) (drop-cons entries i 0 lt) ∙ ap (λ n. (old ++ e) ++ lines_to old (codes "irq ") (drop n entries)) (sym (add-one i)) in
     let whole : before ++ ((front ++ e) ++ after) ≡ lines_to front (codes "irq ") (take (i + 1) entries) ++ after =
     sym (append_assoc before (front ++ e) after)
-    ∙ ap (λ l. l ++ after) (ap (λ l. before ++ l) (sym (append-nil (front ++ e))) ∙ sym (flat_map-append (λ p. front ++ end_to (codes "irq ") p) (take i entries) (q ∷ [])) ∙ ap (lines_to front (codes "irq ")) (sym (take_more entries i 0 lt))) in
+    ∙ ap (λ l. l ++ after) (ap (λ l. before ++ l) (sym (append-nil (front ++ e))) ∙ sym (flat_map-append (λ p. front ++ line_end_to (codes "irq ") p) (take i entries) (q ∷ [])) ∙ ap (lines_to front (codes "irq ")) (sym (take_more entries i 0 lt))) in
     front_between before old front e after lines at (are ∙ ap (λ l. before ++ l) rest) size same ∙ whole
 
 -- all fronts are written

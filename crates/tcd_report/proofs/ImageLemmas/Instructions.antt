@@ -3,56 +3,56 @@ use Rattle.std.proofs.Common.{◌≡◌, ◌+◌, ◌-◌, ◌*◌, ◌/◌, ◌
 use Rattle.tcd_base.specs.Bytes.{bytes_of_word, four_bytes}
 use Rattle.tc_isa.specs.declared.table.Form.TheVariants.{B}
 use Rattle.tc_isa.specs.Forms.{fields}
-use Rattle.tc_isa.specs.Spelling.{word}
-use Rattle.tcd_report.specs.Generated.{code, call_from, call_if_below, function_at, function_code, handler, handler_at, main_code, system_code}
+use Rattle.tc_isa.specs.Spelling.{word_by_form}
+use Rattle.tcd_report.specs.Generated.{generated_code, call_from, call_if_below, generated_function_at, function_code, generated_handler, generated_handler_at, main_code, system_code}
 
 -- ---- calls
-word_small : (k : ℕ) → k < 2 ^ 24 → word B 0x6d 0 (fields 0 0 0 0 k) < 2 ^ 32
-unfolding word
+word_small : (k : ℕ) → k < 2 ^ 24 → word_by_form B 0x6d 0 (fields 0 0 0 0 k) < 2 ^ 32
+unfolding word_by_form
 word_small k h = omega arith
 
-call_is : (at to : ℕ) → call_from at to ≡ four_bytes (word B 0x6d 0 (fields 0 0 0 0 ((to - at) / 2)))
-unfolding code
+call_is : (at to : ℕ) → call_from at to ≡ four_bytes (word_by_form B 0x6d 0 (fields 0 0 0 0 ((to - at) / 2)))
+unfolding generated_code
 call_is at to = refl
 
 -- the bytes of a call's word
-pub call_bytes : (at to w : ℕ) → (to - at) / 2 < 2 ^ 24 → w ≡ word B 0x6d 0 (fields 0 0 0 0 ((to - at) / 2)) → bytes_of_word w ≡ call_from at to
+pub call_bytes : (at to w : ℕ) → (to - at) / 2 < 2 ^ 24 → w ≡ word_by_form B 0x6d 0 (fields 0 0 0 0 ((to - at) / 2)) → bytes_of_word w ≡ call_from at to
 call_bytes at to w h e =
-    let x : ℕ = word B 0x6d 0 (fields 0 0 0 0 ((to - at) / 2)) in
+    let x : ℕ = word_by_form B 0x6d 0 (fields 0 0 0 0 ((to - at) / 2)) in
     let small : x < 2 ^ 32 = word_small ((to - at) / 2) h in
     let p : x / 16777216 % 256 ≡ x / 2 ^ 24 = omega arith in
     ap bytes_of_word e ∙ ap (λ d. x % 256 ∷ x / 256 % 256 ∷ x / 65536 % 256 ∷ d ∷ []) p ∙ sym (call_is at to)
 
 -- ---- functions and handlers
-pub function_bytes : (n i : ℕ) → function_code n i ≡ 0x20 ∷ 0x08 ∷ 0x74 ∷ 0xaf ∷ (call_if_below n (function_at i + 4) (2 * i + 1) ++ (call_if_below n (function_at i + 8) (2 * i + 2) ++ 0x00 ∷ 0x90 ∷ []))
-unfolding function_code code word
+pub function_bytes : (n i : ℕ) → function_code n i ≡ 0x20 ∷ 0x08 ∷ 0x74 ∷ 0xaf ∷ (call_if_below n (generated_function_at i + 4) (2 * i + 1) ++ (call_if_below n (generated_function_at i + 8) (2 * i + 2) ++ 0x00 ∷ 0x90 ∷ []))
+unfolding function_code generated_code word_by_form
 function_bytes n i = refl
 
-bisr_bytes : (p : ℕ) → code (codes "bisr16") (fields 0 0 0 0 p) ≡ 0xe0 ∷ p ∷ []
-unfolding code word
+bisr_bytes : (p : ℕ) → generated_code (codes "bisr16") (fields 0 0 0 0 p) ≡ 0xe0 ∷ p ∷ []
+unfolding generated_code word_by_form
 bisr_bytes p =
     let x : ℕ = p * 2 ^ 8 + 0xe0 in
     let low : x % 256 ≡ 0xe0 = omega arith in
     let high : x / 256 ≡ p = omega arith in
     ap (λ a. a ∷ x / 256 ∷ []) low ∙ ap (λ b. 0xe0 ∷ b ∷ []) high
 
-rest_bytes : code (codes "rslcx") (fields 0 0 0 0 0) ++ code (codes "rfe16") (fields 0 0 0 0 0) ≡ 0x0d ∷ 0x00 ∷ 0x40 ∷ 0x02 ∷ 0x00 ∷ 0x80 ∷ []
-unfolding code word
+rest_bytes : generated_code (codes "rslcx") (fields 0 0 0 0 0) ++ generated_code (codes "rfe16") (fields 0 0 0 0 0) ≡ 0x0d ∷ 0x00 ∷ 0x40 ∷ 0x02 ∷ 0x00 ∷ 0x80 ∷ []
+unfolding generated_code word_by_form
 rest_bytes = refl
 
-pub handler_bytes : (n p : ℕ) → handler n p ≡ 0xe0 ∷ p ∷ (call_from (0x80002002 + 32 * p) (function_at (n - 1)) ++ 0x0d ∷ 0x00 ∷ 0x40 ∷ 0x02 ∷ 0x00 ∷ 0x80 ∷ [])
-unfolding handler
+pub handler_bytes : (n p : ℕ) → generated_handler n p ≡ 0xe0 ∷ p ∷ (call_from (0x80002002 + 32 * p) (generated_function_at (n - 1)) ++ 0x0d ∷ 0x00 ∷ 0x40 ∷ 0x02 ∷ 0x00 ∷ 0x80 ∷ [])
+unfolding generated_handler
 handler_bytes n p =
-    let at : handler_at p + 2 ≡ 0x80002002 + 32 * p = omega arith in
-    ap (λ bs. bs ++ (call_from (handler_at p + 2) (function_at (n - 1)) ++ (code (codes "rslcx") (fields 0 0 0 0 0) ++ code (codes "rfe16") (fields 0 0 0 0 0)))) (bisr_bytes p)
-    ∙ ap (λ bs. 0xe0 ∷ p ∷ (call_from (handler_at p + 2) (function_at (n - 1)) ++ bs)) rest_bytes
-    ∙ ap (λ x. 0xe0 ∷ p ∷ (call_from x (function_at (n - 1)) ++ 0x0d ∷ 0x00 ∷ 0x40 ∷ 0x02 ∷ 0x00 ∷ 0x80 ∷ [])) at
+    let at : generated_handler_at p + 2 ≡ 0x80002002 + 32 * p = omega arith in
+    ap (λ bs. bs ++ (call_from (generated_handler_at p + 2) (generated_function_at (n - 1)) ++ (generated_code (codes "rslcx") (fields 0 0 0 0 0) ++ generated_code (codes "rfe16") (fields 0 0 0 0 0)))) (bisr_bytes p)
+    ∙ ap (λ bs. 0xe0 ∷ p ∷ (call_from (generated_handler_at p + 2) (generated_function_at (n - 1)) ++ bs)) rest_bytes
+    ∙ ap (λ x. 0xe0 ∷ p ∷ (call_from x (generated_function_at (n - 1)) ++ 0x0d ∷ 0x00 ∷ 0x40 ∷ 0x02 ∷ 0x00 ∷ 0x80 ∷ [])) at
 
 -- ---- the code that is the same for each n
 pub main_bytes : main_code ≡ 0x91 ∷ 0x00 ∷ 0x00 ∷ 0xff ∷ 0x19 ∷ 0xff ∷ 0x00 ∷ 0x00 ∷ 0x91 ∷ 0x00 ∷ 0x00 ∷ 0xe8 ∷ 0x01 ∷ 0xef ∷ 0x02 ∷ 0xe6 ∷ 0x99 ∷ 0xee ∷ 0x00 ∷ 0x40 ∷ 0x2d ∷ 0x0e ∷ 0x00 ∷ 0x00 ∷ 0xad ∷ 0x10 ∷ 0x80 ∷ 0x00 ∷ 0x1d ∷ 0xff ∷ 0xf2 ∷ 0xff ∷ []
-unfolding main_code code word
+unfolding main_code generated_code word_by_form
 main_bytes = refl
 
 pub system_bytes : system_code ≡ 0x00 ∷ 0x80 ∷ []
-unfolding system_code code word
+unfolding system_code generated_code word_by_form
 system_bytes = refl

@@ -5,10 +5,10 @@ use Rattle.serde_json.specs.Data.{Data, null}
 use Rattle.serde_json.specs.Read.{read}
 use Rattle.serde_json.proofs.OnLiterals.{serde_json_on_literals}
 use Rattle.tcd_plan.specs.KeyRows.{key_rows}
-use Rattle.tcd_plan.specs.Plans.{Gives, plan_of, plan_in, refusal_of}
+use Rattle.tcd_plan.specs.Plans.{GivesPlan, plan_of, plan_in, plan_refusal}
 use Rattle.tcd_plan.specs.PlanData.{too_many_of, has_areas, has_vectors}
-use Rattle.tcd_plan.specs.Regions.{overlap_of}
-use Rattle.tcd_plan.specs.KeyFaults.{missing_of, unknown_of, bad_value_of}
+use Rattle.tcd_plan.specs.Regions.{plan_range_overlap}
+use Rattle.tcd_plan.specs.KeyFaults.{first_missing_key, first_unknown_key, first_bad_key}
 use Rattle.tcd_report.specs.Generated.Planned.{generated_plan, generated_text}
 
 document : Data
@@ -19,8 +19,8 @@ unfolding document serde_json_on_literals
 read_is = refl
 
 plan_is : plan_of document ≡ Ok generated_plan
-unfolding document serde_json_on_literals key_rows missing_of unknown_of bad_value_of plan_in too_many_of has_areas has_vectors overlap_of refusal_of
+unfolding document serde_json_on_literals key_rows first_missing_key first_unknown_key first_bad_key plan_in too_many_of has_areas has_vectors plan_range_overlap plan_refusal
 plan_is = refl
 
-pub text_tells : IsUtf8 generated_text → Gives generated_text (Ok generated_plan)
+pub text_tells : IsUtf8 generated_text → GivesPlan generated_text (Ok generated_plan)
 text_tells u = (document, u, read_is, plan_is)

@@ -17,8 +17,8 @@ use Rattle.depth_cert.specs.Nodes.{NodeData, IsNode}
 use Rattle.depth_cert.specs.Certs.{CertData, IsCert, find_node}
 use Rattle.cfg_recover.specs.RulesHoldOrFail.{Accepts}
 use Rattle.cfg_recover.proofs.Members.{contains_map}
-use Rattle.tcd_report.specs.Reports.Calls.{CallsAt, Calls, CallsInARow}
-use Rattle.tcd_report.specs.Reports.Heights.{IsMostOf, HasRowAt, AreLow, IsHeight, IsTold, TellsHeights, HasHeights}
+use Rattle.tcd_report.specs.Reports.Calls.{CallsAt, NodeCalls, HasCallChain}
+use Rattle.tcd_report.specs.Reports.Heights.{IsGreatestHeightOf, HasCalleeHeightAt, AreHeightsLow, IsHeight, HasNodeHeight, TellsHeights, HasHeights}
 use Rattle.tcd_report.specs.Reports.{rank_of}
 use Rattle.depth_cert.specs.Keys.{key_eq}
 use Rattle.tcd_report.proofs.ReportLemmas.NodeLaws.{map_contains, node_stands, one_node, callee_needs}
@@ -52,14 +52,14 @@ key_eq_self k = and_from _ _ (eq-eqb k.kind k.kind refl) (and_from _ _ (eq-eqb k
 
 module _ (image : ImageData) (plan : PlanData) (cert : CertData) (is : IsCert cert) (accepted : Accepts image plan cert) where
   -- the length of a call chain from a node is at most the node's need
-  row_low : (n : ℕ) (node : NodeData) → Contains cert.nodes node → CallsInARow image plan cert node n → n ≤ node.need
+  row_low : (n : ℕ) (node : NodeData) → Contains cert.nodes node → HasCallChain image plan cert node n → n ≤ node.need
   row_low zero node stands r = omega arith
   row_low (suc n) node stands r =
       let less = callee_needs image plan cert is accepted node r.0 stands (r.1).0 ((r.1).1).0 in
       let low = row_low n r.0 (r.1).0 ((r.1).1).1 in
       omega (arith, less, low)
 
-  pub tells_low : {S : Type 0} (heights : HashMap Key ℕ S) → TellsHeights image plan cert heights → AreLow heights
+  pub tells_low : {S : Type 0} (heights : HashMap Key ℕ S) → TellsHeights image plan cert heights → AreHeightsLow heights
   tells_low heights tells k h e =
       let told = tells k h e in
       let low = row_low h told.node told.stands (told.height).reached in
@@ -68,12 +68,12 @@ module _ (image : ImageData) (plan : PlanData) (cert : CertData) (is : IsCert ce
 
   -- the height of a node, by those of the nodes that it calls
   pub height_is : {S : Type 0} (heights : HashMap Key ℕ S) → TellsHeights image plan cert heights → (node : NodeData) (n : ℕ)
-      → ((callee : NodeData) → Contains cert.nodes callee → Calls image plan cert node callee.key → (h : ℕ) × (get key_eq heights callee.key ≡ Some h)) → IsMostOf (HasRowAt image plan cert heights node.key) node.points n → IsHeight image plan cert node n
+      → ((callee : NodeData) → Contains cert.nodes callee → NodeCalls image plan cert node callee.key → (h : ℕ) × (get key_eq heights callee.key ≡ Some h)) → IsGreatestHeightOf (HasCalleeHeightAt image plan cert heights node.key) node.points n → IsHeight image plan cert node n
   height_is heights tells node n known most =
       record {
         reached =
             elim most.reached [
-              | inl none ↦ subst (λ m. CallsInARow image plan cert node m) (sym none) tt
+              | inl none ↦ subst (λ m. HasCallChain image plan cert node m) (sym none) tt
               | inr has ↦
                   let point : Point = has.0 in
                   let row = (has.1).1 in
@@ -81,18 +81,18 @@ module _ (image : ImageData) (plan : PlanData) (cert : CertData) (is : IsCert ce
                   let at : CallsAt image plan cert node.key point k = (row.1).0 in
                   let h : ℕ = ((row.1).1).0 in
                   let told = tells k h (((row.1).1).1).0 in
-                  let calls : Calls image plan cert node (told.node).key = record { point = point; stands = (has.1).0; at = subst (λ j. CallsAt image plan cert node.key point j) (sym told.key) at } in
-                  let whole : CallsInARow image plan cert node (suc h) = (told.node, (told.stands, (calls, (told.height).reached))) in
-                  subst (λ m. CallsInARow image plan cert node m) (sym (((row.1).1).1).1) whole
+                  let calls : NodeCalls image plan cert node (told.node).key = record { point = point; stands = (has.1).0; at = subst (λ j. CallsAt image plan cert node.key point j) (sym told.key) at } in
+                  let whole : HasCallChain image plan cert node (suc h) = (told.node, (told.stands, (calls, (told.height).reached))) in
+                  subst (λ m. HasCallChain image plan cert node m) (sym (((row.1).1).1).1) whole
             ];
         most = bounded;
       }
     where
-      bounded : (m : ℕ) → CallsInARow image plan cert node m → m ≤ n
+      bounded : (m : ℕ) → HasCallChain image plan cert node m → m ≤ n
       bounded zero r = omega arith
       bounded (suc m) r =
           let callee : NodeData = r.0 in
-          let calls : Calls image plan cert node callee.key = ((r.1).1).0 in
+          let calls : NodeCalls image plan cert node callee.key = ((r.1).1).0 in
           let has = known callee (r.1).0 calls in
           let told = tells callee.key has.0 has.1 in
           let same : told.node ≡ callee = one_node cert is told.node callee told.stands (r.1).0 told.key in
@@ -102,13 +102,13 @@ module _ (image : ImageData) (plan : PlanData) (cert : CertData) (is : IsCert ce
           omega (arith, less, row)
 
   -- ---- a map with one node more
-  pub tells_more : {S : Type 0} (heights more : HashMap Key ℕ S) (key : Key) (n : ℕ) → TellsHeights image plan cert heights → IsTold image plan cert key n → ((q : Key) → get key_eq more q ≡ cond (key_eq key q) (Some n) (get key_eq heights q)) → TellsHeights image plan cert more
+  pub tells_more : {S : Type 0} (heights more : HashMap Key ℕ S) (key : Key) (n : ℕ) → TellsHeights image plan cert heights → HasNodeHeight image plan cert key n → ((q : Key) → get key_eq more q ≡ cond (key_eq key q) (Some n) (get key_eq heights q)) → TellsHeights image plan cert more
   tells_more heights more key n tells told news k h e =
       elim (cases_Bool (key_eq key k)) [
         | inl same ↦
             let f : Some n ≡ Some h = sym (ap (λ b. cond b (Some n) (get key_eq heights k)) same) ∙ sym (news k) ∙ e in
             let number : n ≡ h = cc in
-            subst (λ m. IsTold image plan cert k m) number (subst (λ j. IsTold image plan cert j n) (key_eq_true key k same) told)
+            subst (λ m. HasNodeHeight image plan cert k m) number (subst (λ j. HasNodeHeight image plan cert j n) (key_eq_true key k same) told)
         | inr other ↦ tells k h (sym (ap (λ b. cond b (Some n) (get key_eq heights k)) other) ∙ sym (news k) ∙ e)
       ]
 
@@ -145,7 +145,7 @@ ranked cert is rs moved r c =
 -- the heights of called nodes are known before that of the caller
 pub callees_known : {S : Type 0} (image : ImageData) (plan : PlanData) (cert : CertData) → IsCert cert → Accepts image plan cert → (heights : HashMap Key ℕ S) (cmp : Key → Key → Ordering) (rs : List (ℕ × Key)) → IsPermutation (map rank_of cert.nodes) rs
     → IsSortedBy (λ x y. is_lt (ordering_then (nat_cmp x.0 y.0) (cmp x.1 y.1))) rs → (i : ℕ) (x : ℕ × Key) (node : NodeData) → i < length rs → x ≡ get_or rs i x → HasHeights heights (take i rs) → IsRanked cert x node → (callee : NodeData)
-    → Contains cert.nodes callee → Calls image plan cert node callee.key → (h : ℕ) × (get key_eq heights callee.key ≡ Some h)
+    → Contains cert.nodes callee → NodeCalls image plan cert node callee.key → (h : ℕ) × (get key_eq heights callee.key ≡ Some h)
 callees_known image plan cert is accepted heights cmp rs moved sorted i x node lt at has rank callee there calls =
     let less = callee_needs image plan cert is accepted node callee rank.stands there calls in
     let c : Contains rs (rank_of callee) = Contains-permutation (map rank_of cert.nodes) rs (rank_of callee) moved (contains_map rank_of cert.nodes callee there) in

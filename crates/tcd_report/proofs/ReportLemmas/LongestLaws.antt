@@ -12,19 +12,19 @@ use Rattle.depth_cert.specs.declared.keys.Key.{Key}
 use Rattle.depth_cert.specs.Nodes.{NodeData}
 use Rattle.depth_cert.specs.Certs.{CertData, IsCert}
 use Rattle.cfg_recover.proofs.Members.{contains_first}
-use Rattle.tcd_report.specs.Reports.Longest.{prios_below, IsLongest, AtPrio, greater, row_of, rows_below, IsGreatest}
+use Rattle.tcd_report.specs.Reports.Longest.{prios_below, IsLongest, AtPrio, longest_with, row_of, rows_below, IsLongestIfAny}
 use Rattle.tcd_report.specs.Reports.Heights.{IsHeight, TellsHeights}
 use Rattle.depth_cert.specs.Keys.{key_eq}
 use Rattle.tcd_report.specs.declared.reports.longest_by_priority.LongestCalls.{LongestCalls}
 use Rattle.tcd_report.proofs.ReportLemmas.NodeLaws.{one_node}
 
 -- ---- one node more
-greatest_same : (P Q : ℕ → Type 0) (o : Option ℕ) → ((m : ℕ) → P m → Q m) → ((m : ℕ) → Q m → P m) → IsGreatest P o → IsGreatest Q o
+greatest_same : (P Q : ℕ → Type 0) (o : Option ℕ) → ((m : ℕ) → P m → Q m) → ((m : ℕ) → Q m → P m) → IsLongestIfAny P o → IsLongestIfAny Q o
 greatest_same P Q None there back h = λ m q. h m (back m q)
 greatest_same P Q (Some n) there back h = (there n h.0, λ m q. h.1 m (back m q))
 
 -- the greatest number, with one number more
-greatest_with : (P Q : ℕ → Type 0) (o : Option ℕ) (h : ℕ) → ((m : ℕ) → P m → Q m) → Q h → ((m : ℕ) → Q m → P m ⊎ (h ≡ m)) → IsGreatest P o → IsGreatest Q (Some (greater o h))
+greatest_with : (P Q : ℕ → Type 0) (o : Option ℕ) (h : ℕ) → ((m : ℕ) → P m → Q m) → Q h → ((m : ℕ) → Q m → P m ⊎ (h ≡ m)) → IsLongestIfAny P o → IsLongestIfAny Q (Some (longest_with o h))
 greatest_with P Q None h there new back g = (new, λ m q. elim (back m q) [ inl p ↦ absurd (g m p) | inr e ↦ omega (arith, e) ])
 greatest_with P Q (Some n) h there new back g = (
   elim (cases_lt n h) [
@@ -39,7 +39,7 @@ module _ {S : Type 0} (heights : HashMap Key ℕ S) (nodes : List NodeData) (nod
   kept p m a = (a.0, (Contains-append_left nodes (node ∷ []) a.0 (a.1).0, (a.1).1))
 
   -- another priority keeps its number
-  other_prio : (p : ℕ) (o : Option ℕ) → ((node.key).prio ≡ p → ⊥) → IsGreatest (AtPrio heights nodes p) o → IsGreatest (AtPrio heights (nodes ++ node ∷ []) p) o
+  other_prio : (p : ℕ) (o : Option ℕ) → ((node.key).prio ≡ p → ⊥) → IsLongestIfAny (AtPrio heights nodes p) o → IsLongestIfAny (AtPrio heights (nodes ++ node ∷ []) p) o
   other_prio p o ne g =
       greatest_same (AtPrio heights nodes p) (AtPrio heights (nodes ++ node ∷ []) p) o (kept p)
       (λ m a.
@@ -49,7 +49,7 @@ module _ {S : Type 0} (heights : HashMap Key ℕ S) (nodes : List NodeData) (nod
       ]) g
 
   -- the node's own priority gets the greater of both
-  own_prio : (o : Option ℕ) → IsGreatest (AtPrio heights nodes (node.key).prio) o → IsGreatest (AtPrio heights (nodes ++ node ∷ []) (node.key).prio) (Some (greater o h))
+  own_prio : (o : Option ℕ) → IsLongestIfAny (AtPrio heights nodes (node.key).prio) o → IsLongestIfAny (AtPrio heights (nodes ++ node ∷ []) (node.key).prio) (Some (longest_with o h))
   own_prio o g =
       greatest_with (AtPrio heights nodes (node.key).prio) (AtPrio heights (nodes ++ node ∷ []) (node.key).prio) o h (kept (node.key).prio) (node, (Contains-push nodes node, (refl, told)))
       (λ m a.
@@ -59,28 +59,28 @@ module _ {S : Type 0} (heights : HashMap Key ℕ S) (nodes : List NodeData) (nod
       ]) g
 
 pub longest_more : {S T : Type 0} (heights : HashMap Key ℕ S) (rows more : HashMap ℕ ℕ T) (nodes : List NodeData) (i : ℕ) (node : NodeData) (h n : ℕ) → i < length nodes → node ≡ get_or nodes i node → get key_eq heights node.key ≡ Some h
-    → n ≡ greater (get nat_eq rows (node.key).prio) h → ((q : ℕ) → get nat_eq more q ≡ cond (nat_eq (node.key).prio q) (Some n) (get nat_eq rows q))
-    → ((p : ℕ) → IsGreatest (AtPrio heights (take i nodes) p) (get nat_eq rows p)) → (p : ℕ) → IsGreatest (AtPrio heights (take (i + 1) nodes) p) (get nat_eq more p)
+    → n ≡ longest_with (get nat_eq rows (node.key).prio) h → ((q : ℕ) → get nat_eq more q ≡ cond (nat_eq (node.key).prio q) (Some n) (get nat_eq rows q))
+    → ((p : ℕ) → IsLongestIfAny (AtPrio heights (take i nodes) p) (get nat_eq rows p)) → (p : ℕ) → IsLongestIfAny (AtPrio heights (take (i + 1) nodes) p) (get nat_eq more p)
 longest_more heights rows more nodes i node h n lt at told is news before p =
     let all : take i nodes ++ node ∷ [] ≡ take (i + 1) nodes = ap (λ y. take i nodes ++ y ∷ []) at ∙ sym (take_more nodes i node lt) in
-    subst (λ ns. IsGreatest (AtPrio heights ns p) (get nat_eq more p)) all (
+    subst (λ ns. IsLongestIfAny (AtPrio heights ns p) (get nat_eq more p)) all (
     elim (cases_Bool (nat_eq (node.key).prio p)) [
       | inl same ↦
           let e : (node.key).prio ≡ p = eqb-true (node.key).prio p same in
           let own = own_prio heights (take i nodes) node h told (get nat_eq rows (node.key).prio) (before (node.key).prio) in
-          let there : Some (greater (get nat_eq rows (node.key).prio) h) ≡ get nat_eq more p = ap Some (sym is) ∙ sym (news p ∙ ap (λ b. cond b (Some n) (get nat_eq rows p)) same) in
-          subst (λ o. IsGreatest (AtPrio heights (take i nodes ++ node ∷ []) p) o) there
-          (subst (λ q. IsGreatest (AtPrio heights (take i nodes ++ node ∷ []) q) (Some (greater (get nat_eq rows (node.key).prio) h))) e own)
+          let there : Some (longest_with (get nat_eq rows (node.key).prio) h) ≡ get nat_eq more p = ap Some (sym is) ∙ sym (news p ∙ ap (λ b. cond b (Some n) (get nat_eq rows p)) same) in
+          subst (λ o. IsLongestIfAny (AtPrio heights (take i nodes ++ node ∷ []) p) o) there
+          (subst (λ q. IsLongestIfAny (AtPrio heights (take i nodes ++ node ∷ []) q) (Some (longest_with (get nat_eq rows (node.key).prio) h))) e own)
       | inr other ↦
-          subst (λ o. IsGreatest (AtPrio heights (take i nodes ++ node ∷ []) p) o) (sym (news p ∙ ap (λ b. cond b (Some n) (get nat_eq rows p)) other))
+          subst (λ o. IsLongestIfAny (AtPrio heights (take i nodes ++ node ∷ []) p) o) (sym (news p ∙ ap (λ b. cond b (Some n) (get nat_eq rows p)) other))
           (other_prio heights (take i nodes) node h told p (get nat_eq rows p) (eqb-false (node.key).prio p other) (before p))
     ]
     )
 
 -- all nodes
-pub longest_all : {S T : Type 0} (heights : HashMap Key ℕ S) (rows : HashMap ℕ ℕ T) (nodes : List NodeData) (i : ℕ) → length nodes ≤ i → ((p : ℕ) → IsGreatest (AtPrio heights (take i nodes) p) (get nat_eq rows p))
-    → (p : ℕ) → IsGreatest (AtPrio heights nodes p) (get nat_eq rows p)
-longest_all heights rows nodes i ge h p = subst (λ ns. IsGreatest (AtPrio heights ns p) (get nat_eq rows p)) (take_all i nodes ge) (h p)
+pub longest_all : {S T : Type 0} (heights : HashMap Key ℕ S) (rows : HashMap ℕ ℕ T) (nodes : List NodeData) (i : ℕ) → length nodes ≤ i → ((p : ℕ) → IsLongestIfAny (AtPrio heights (take i nodes) p) (get nat_eq rows p))
+    → (p : ℕ) → IsLongestIfAny (AtPrio heights nodes p) (get nat_eq rows p)
+longest_all heights rows nodes i ge h p = subst (λ ns. IsLongestIfAny (AtPrio heights ns p) (get nat_eq rows p)) (take_all i nodes ge) (h p)
 
 -- ---- the longest chains in the report
 range_more : (a n j : ℕ) → a + n ≡ j → range_with_len a (suc n) ≡ range_with_len a n ++ j ∷ []
@@ -130,7 +130,7 @@ any_none p (m ∷ ms) h =
 module _ {S : Type 0} (image : ImageData) (plan : PlanData) (cert : CertData) (is : IsCert cert) (heights : HashMap Key ℕ S) (tells : TellsHeights image plan cert heights)
     (known : (n : NodeData) → Contains cert.nodes n → (h : ℕ) × (get key_eq heights n.key ≡ Some h)) where
   -- a priority is in the report if it has nodes
-  row_where : (p : ℕ) (o : Option ℕ) → IsGreatest (AtPrio heights cert.nodes p) o → list_any (λ (m : NodeData). (m.key).prio == p) cert.nodes ≡ is_some o
+  row_where : (p : ℕ) (o : Option ℕ) → IsLongestIfAny (AtPrio heights cert.nodes p) o → list_any (λ (m : NodeData). (m.key).prio == p) cert.nodes ≡ is_some o
   row_where p None g = any_none p cert.nodes (λ n c e. let h = known n c in g h.0 (n, (c, (e, h.1))))
   row_where p (Some n) g = let a = g.0 in any_there p cert.nodes a.0 ((a.1).0).0 ((a.1).0).1 ((a.1).0).2 ((a.1).1).0
 
@@ -140,7 +140,7 @@ module _ {S : Type 0} (image : ImageData) (plan : PlanData) (cert : CertData) (i
       subst (λ n. IsHeight image plan cert n h) (one_node cert is told.node node told.stands c told.key) told.height
 
   -- its number is the length of its longest chain
-  longest_is : (p n : ℕ) → IsGreatest (AtPrio heights cert.nodes p) (Some n) → IsLongest image plan cert p n
+  longest_is : (p n : ℕ) → IsLongestIfAny (AtPrio heights cert.nodes p) (Some n) → IsLongest image plan cert p n
   longest_is p n g =
       let a = g.0 in
       record {
@@ -155,10 +155,10 @@ module _ {S : Type 0} (image : ImageData) (plan : PlanData) (cert : CertData) (i
             omega (arith, less, most);
       }
 
-  pub prios_are : (row : ℕ → Option ℕ) → ((p : ℕ) → IsGreatest (AtPrio heights cert.nodes p) (row p)) → (n : ℕ) → map (λ (r : LongestCalls). r.prio) (rows_below row n) ≡ prios_below cert.nodes n
+  pub prios_are : (row : ℕ → Option ℕ) → ((p : ℕ) → IsLongestIfAny (AtPrio heights cert.nodes p) (row p)) → (n : ℕ) → map (λ (r : LongestCalls). r.prio) (rows_below row n) ≡ prios_below cert.nodes n
   unfolding prios_below
   prios_are row all n = rows_prios row (λ p. list_any (λ (m : NodeData). (m.key).prio == p) cert.nodes) (λ p. row_where p (row p) (all p)) n
 
-  pub rows_longest : (row : ℕ → Option ℕ) → ((p : ℕ) → IsGreatest (AtPrio heights cert.nodes p) (row p)) → (n : ℕ) → All (λ (r : LongestCalls). IsLongest image plan cert r.prio r.longest) (rows_below row n)
+  pub rows_longest : (row : ℕ → Option ℕ) → ((p : ℕ) → IsLongestIfAny (AtPrio heights cert.nodes p) (row p)) → (n : ℕ) → All (λ (r : LongestCalls). IsLongest image plan cert r.prio r.longest) (rows_below row n)
   rows_longest row all n =
-      rows_all (λ (r : LongestCalls). IsLongest image plan cert r.prio r.longest) row (λ p m e. longest_is p m (subst (λ o. IsGreatest (AtPrio heights cert.nodes p) o) e (all p))) n
+      rows_all (λ (r : LongestCalls). IsLongest image plan cert r.prio r.longest) row (λ p m e. longest_is p m (subst (λ o. IsLongestIfAny (AtPrio heights cert.nodes p) o) e (all p))) n

@@ -17,9 +17,9 @@ use Rattle.depth_cert.specs.Nodes.{NodeData}
 use Rattle.depth_cert.specs.Certs.{CertData, IsCert, find_node, key_numbers}
 use Rattle.cfg_recover.specs.LocalFaults.{IsFaultless}
 use Rattle.cfg_recover.specs.Duties.{Duty, enter, Owed, owed, duties_of, key_by}
-use Rattle.cfg_recover.specs.RulesHoldOrFail.{limits_in, RuleHolds, HasNeed, IsNeedAbove, Accepts}
+use Rattle.cfg_recover.specs.RulesHoldOrFail.{limits_in, RuleHolds, NeedRuleHolds, EntryNeedRuleHolds, Accepts}
 use Rattle.cfg_recover.proofs.Members.{contains_first}
-use Rattle.tcd_report.specs.Reports.Calls.{called_by, Calls}
+use Rattle.tcd_report.specs.Reports.Calls.{called_by, NodeCalls}
 use Rattle.tcd_report.proofs.JudgedPoints.{all_rules}
 
 -- ---- lists
@@ -112,16 +112,16 @@ one_node cert is a b ca cb e =
     let f : Some a ≡ Some b = sym (node_stands cert is a ca) ∙ ap (λ k. find_node k cert.nodes) e ∙ node_stands cert is b cb in cc
 
 -- a called node has a lesser need
-pub callee_needs : (image : ImageData) (plan : PlanData) (cert : CertData) → IsCert cert → Accepts image plan cert → (caller callee : NodeData) → Contains cert.nodes caller → Contains cert.nodes callee → Calls image plan cert caller callee.key → callee.need < caller.need
+pub callee_needs : (image : ImageData) (plan : PlanData) (cert : CertData) → IsCert cert → Accepts image plan cert → (caller callee : NodeData) → Contains cert.nodes caller → Contains cert.nodes callee → NodeCalls image plan cert caller callee.key → callee.need < caller.need
 callee_needs image plan cert is accepted caller callee stands there calls =
     let point : Point = calls.point in
     let all : (r : ℕ) → RuleHolds image plan cert caller point r = all_rules image plan cert accepted caller stands point calls.stands in
     let values : AreValues (limits_in plan cert) (point.state).regs = (all 2).values refl in
     let faultless : IsFaultless (limits_in plan cert) image plan caller.key point.addr point.state = λ r. (all r).own values in
     let ds : List Owed = duties_of (limits_in plan cert) image plan caller.key point.addr point.state (calls.at).shape (calls.at).size in
-    let needs : HasNeed image plan cert caller point ds = (all 14).needs (calls.at).shape (calls.at).size refl values faultless (calls.at).code in
+    let needs : NeedRuleHolds image plan cert caller point ds = (all 14).needs (calls.at).shape (calls.at).size refl values faultless (calls.at).code in
     let duty = called_duty ds callee.key (calls.at).called in
-    let above : IsNeedAbove cert caller point.state (enter callee.key duty.0) = All-contains (λ (d : Owed). IsNeedAbove cert caller point.state d.duty) ds (owed 5 (enter callee.key duty.0)) needs.entered duty.1 in
+    let above : EntryNeedRuleHolds cert caller point.state (enter callee.key duty.0) = All-contains (λ (d : Owed). EntryNeedRuleHolds cert caller point.state d.duty) ds (owed 5 (enter callee.key duty.0)) needs.entered duty.1 in
     let more : length (point.state).locals.items + 1 + callee.need ≤ caller.need =
     subst (λ (o : Option NodeData). IfSome o (λ n. length (point.state).locals.items + 1 + n.need ≤ caller.need)) (node_stands cert is callee there) above in
     omega (arith, more)

@@ -7,13 +7,13 @@ use Rattle.serde_json.specs.Written.{has_float, items_have_float}
 use Rattle.serde_json.specs.View.{items_of}
 use Rattle.depth_cert.specs.Nodes.{NodeData}
 use Rattle.tcd_report.specs.declared.reports.longest_by_priority.LongestCalls.{LongestCalls}
-use Rattle.tcd_report.specs.Reports.{count, node_data, nodes_data, row_data, rows_data, whole_data}
+use Rattle.tcd_report.specs.Reports.{reported_count, reported_node, nodes_data, row_data, rows_data, whole_data}
 
 rows_plain : (rows : List LongestCalls) → items_have_float (items_of (map row_data rows)) ≡ false
 rows_plain [] = refl
 rows_plain (r ∷ rs) = rows_plain rs
 
-nodes_plain : (nodes : List NodeData) → items_have_float (items_of (map node_data nodes)) ≡ false
+nodes_plain : (nodes : List NodeData) → items_have_float (items_of (map reported_node nodes)) ≡ false
 nodes_plain [] = refl
 nodes_plain (n ∷ ns) = nodes_plain ns
 
@@ -21,10 +21,10 @@ pub report_plain : (areas certified reserve : ℕ) (rows : List LongestCalls) (n
 report_plain areas certified reserve rows nodes = or_from _ _ (rows_plain rows) (or_from _ _ (nodes_plain nodes) refl)
 
 -- five members that are put into an object one after another
-pub whole_is : (a s areas need reserve : ℕ) (calls nodes : Data) (m0 m1 m2 m3 m4 m5 : Members) → m0 ≡ no_members → m1 ≡ put (codes "areas") (count a) m0 → m2 ≡ put (codes "calls") calls m1 → m3 ≡ put (codes "certified") (count need) m2
-    → m4 ≡ put (codes "nodes") nodes m3 → m5 ≡ put (codes "reserve") (count s) m4 → a ≡ areas → s ≡ reserve → object m5 ≡ whole_data areas calls need nodes reserve
+pub whole_is : (a s areas need reserve : ℕ) (calls nodes : Data) (m0 m1 m2 m3 m4 m5 : Members) → m0 ≡ no_members → m1 ≡ put (codes "areas") (reported_count a) m0 → m2 ≡ put (codes "calls") calls m1 → m3 ≡ put (codes "certified") (reported_count need) m2
+    → m4 ≡ put (codes "nodes") nodes m3 → m5 ≡ put (codes "reserve") (reported_count s) m4 → a ≡ areas → s ≡ reserve → object m5 ≡ whole_data areas calls need nodes reserve
 whole_is a s areas need reserve calls nodes m0 m1 m2 m3 m4 m5 e0 e1 e2 e3 e4 e5 ea es =
     ap object
-    (e5 ∙ ap (put (codes "reserve") (count s)) (e4 ∙ ap (put (codes "nodes") nodes) (e3 ∙ ap (put (codes "certified") (count need)) (e2 ∙ ap (put (codes "calls") calls) (e1 ∙ ap (put (codes "areas") (count a)) e0)))))
+    (e5 ∙ ap (put (codes "reserve") (reported_count s)) (e4 ∙ ap (put (codes "nodes") nodes) (e3 ∙ ap (put (codes "certified") (reported_count need)) (e2 ∙ ap (put (codes "calls") calls) (e1 ∙ ap (put (codes "areas") (reported_count a)) e0)))))
     ∙ ap (λ n. whole_data n calls need nodes s) ea
     ∙ ap (λ n. whole_data areas calls need nodes n) es

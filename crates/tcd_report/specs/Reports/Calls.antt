@@ -25,13 +25,13 @@ pub record CallsAt (image : ImageData) (plan : PlanData) (cert : CertData) (call
   pub called : Contains (called_by (duties_of (limits_in plan cert) image plan caller point.addr point.state shape size)) key
 
 -- the instruction at some point of a node calls the function with this key
-pub record Calls (image : ImageData) (plan : PlanData) (cert : CertData) (caller : NodeData) (key : Key) : Type 0 where
+pub record NodeCalls (image : ImageData) (plan : PlanData) (cert : CertData) (caller : NodeData) (key : Key) : Type 0 where
   pub point : Point
   pub stands : Contains caller.points point
   pub at : CallsAt image plan cert caller.key point key
 
 -- a call chain of this length begins in a node
-abbrev pub CallsInARow : ImageData → PlanData → CertData → NodeData → ℕ → Type 0
-CallsInARow image plan cert node zero = Unit {0}
-CallsInARow image plan cert node (suc n) =
-    (callee : NodeData) × (Contains cert.nodes callee × (Calls image plan cert node callee.key × CallsInARow image plan cert callee n))
+abbrev pub HasCallChain : ImageData → PlanData → CertData → NodeData → ℕ → Type 0
+HasCallChain image plan cert node zero = Unit {0}
+HasCallChain image plan cert node (suc n) =
+    (callee : NodeData) × (Contains cert.nodes callee × (NodeCalls image plan cert node callee.key × HasCallChain image plan cert callee n))

@@ -7,37 +7,37 @@ use Rattle.depth_cert.specs.declared.keys.Key.{Key}
 use Rattle.depth_cert.specs.declared.points.Point.{Point}
 use Rattle.depth_cert.specs.Nodes.{NodeData}
 use Rattle.depth_cert.specs.Certs.{CertData}
-use Rattle.tcd_report.specs.Reports.Calls.{CallsAt, CallsInARow}
+use Rattle.tcd_report.specs.Reports.Calls.{CallsAt, HasCallChain}
 use Rattle.depth_cert.specs.Keys.{key_eq}
 
 -- n is the greatest number with this property, or 0 if there is none
-pub record IsMost (P : ℕ → Type 0) (n : ℕ) : Type 0 where
+pub record IsGreatestHeight (P : ℕ → Type 0) (n : ℕ) : Type 0 where
   pub reached : (n ≡ 0) ⊎ P n
   pub most : (m : ℕ) → P m → m ≤ n
 
 -- n is the greatest number that belongs to an element of a list, or 0 if there is none
-abbrev pub IsMostOf : {A : Type 0} → (A → ℕ → Type 0) → List A → ℕ → Type 0
-IsMostOf {A = A} Has xs n = IsMost (λ m. (x : A) × (Contains xs x × Has x m)) n
+abbrev pub IsGreatestHeightOf : {A : Type 0} → (A → ℕ → Type 0) → List A → ℕ → Type 0
+IsGreatestHeightOf {A = A} Has xs n = IsGreatestHeight (λ m. (x : A) × (Contains xs x × Has x m)) n
 
 -- the number is the height of a key in the map, plus 1
-abbrev pub HasRow : {S : Type 0} → HashMap Key ℕ S → Key → ℕ → Type 0
-HasRow heights k m = (h : ℕ) × ((get key_eq heights k ≡ Some h) × (m ≡ suc h))
+abbrev pub HasCalleeHeight : {S : Type 0} → HashMap Key ℕ S → Key → ℕ → Type 0
+HasCalleeHeight heights k m = (h : ℕ) × ((get key_eq heights k ≡ Some h) × (m ≡ suc h))
 
 -- the number is the height of a key that a point calls, plus 1
-abbrev pub HasRowAt : {S : Type 0} → ImageData → PlanData → CertData → HashMap Key ℕ S → Key → Point → ℕ → Type 0
-HasRowAt image plan cert heights key point m = (k : Key) × (CallsAt image plan cert key point k × HasRow heights k m)
+abbrev pub HasCalleeHeightAt : {S : Type 0} → ImageData → PlanData → CertData → HashMap Key ℕ S → Key → Point → ℕ → Type 0
+HasCalleeHeightAt image plan cert heights key point m = (k : Key) × (CallsAt image plan cert key point k × HasCalleeHeight heights k m)
 
 -- no height in the map is above 4,096
-abbrev pub AreLow : {S : Type 0} → HashMap Key ℕ S → Type 0
-AreLow heights = (k : Key) (h : ℕ) → get key_eq heights k ≡ Some h → h ≤ 4096
+abbrev pub AreHeightsLow : {S : Type 0} → HashMap Key ℕ S → Type 0
+AreHeightsLow heights = (k : Key) (h : ℕ) → get key_eq heights k ≡ Some h → h ≤ 4096
 
 -- h is the length of the longest call chain that begins in a node
 pub record IsHeight (image : ImageData) (plan : PlanData) (cert : CertData) (node : NodeData) (h : ℕ) : Type 0 where
-  pub reached : CallsInARow image plan cert node h
-  pub most : (m : ℕ) → CallsInARow image plan cert node m → m ≤ h
+  pub reached : HasCallChain image plan cert node h
+  pub most : (m : ℕ) → HasCallChain image plan cert node m → m ≤ h
 
 -- a node with this key has this height
-pub record IsTold (image : ImageData) (plan : PlanData) (cert : CertData) (k : Key) (h : ℕ) : Type 0 where
+pub record HasNodeHeight (image : ImageData) (plan : PlanData) (cert : CertData) (k : Key) (h : ℕ) : Type 0 where
   pub node : NodeData
   pub stands : Contains cert.nodes node
   pub key : node.key ≡ k
@@ -45,7 +45,7 @@ pub record IsTold (image : ImageData) (plan : PlanData) (cert : CertData) (k : K
 
 -- the map has only heights of nodes
 abbrev pub TellsHeights : {S : Type 0} → ImageData → PlanData → CertData → HashMap Key ℕ S → Type 0
-TellsHeights image plan cert heights = (k : Key) (h : ℕ) → get key_eq heights k ≡ Some h → IsTold image plan cert k h
+TellsHeights image plan cert heights = (k : Key) (h : ℕ) → get key_eq heights k ≡ Some h → HasNodeHeight image plan cert k h
 
 -- the map has a height for each of these keys
 abbrev pub HasHeights : {S : Type 0} → HashMap Key ℕ S → List (ℕ × Key) → Type 0

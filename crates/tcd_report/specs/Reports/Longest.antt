@@ -8,7 +8,7 @@ use Rattle.tcd_report.specs.declared.reports.longest_by_priority.LongestCalls.{L
 use Rattle.elf_image.specs.Images.{ImageData}
 use Rattle.tcd_plan.specs.PlanData.{PlanData}
 use Rattle.depth_cert.specs.Certs.{CertData}
-use Rattle.tcd_report.specs.Reports.Calls.{CallsInARow}
+use Rattle.tcd_report.specs.Reports.Calls.{HasCallChain}
 use Rattle.std.specs.List.{list_any, range_with_len}
 
 -- the number is the height of a node of this priority
@@ -16,9 +16,9 @@ abbrev pub AtPrio : {S : Type 0} → HashMap Key ℕ S → List NodeData → ℕ
 AtPrio heights nodes p m = (n : NodeData) × (Contains nodes n × (((n.key).prio ≡ p) × (get key_eq heights n.key ≡ Some m)))
 
 -- the greater of a number, if there is one, and another number
-abbrev pub greater : Option ℕ → ℕ → ℕ
-greater None h = h
-greater (Some n) h = max h n
+abbrev pub longest_with : Option ℕ → ℕ → ℕ
+longest_with None h = h
+longest_with (Some n) h = max h n
 
 -- the longest call chain of a priority, if it has nodes
 abbrev pub row_of : ℕ → Option ℕ → List LongestCalls
@@ -36,8 +36,8 @@ pub record IsLongest (image : ImageData) (plan : PlanData) (cert : CertData) (pr
   pub node : NodeData
   pub stands : Contains cert.nodes node
   pub at_prio : (node.key).prio ≡ prio
-  pub reached : CallsInARow image plan cert node n
-  pub most : (other : NodeData) (m : ℕ) → Contains cert.nodes other → (other.key).prio ≡ prio → CallsInARow image plan cert other m → m ≤ n
+  pub reached : HasCallChain image plan cert node n
+  pub most : (other : NodeData) (m : ℕ) → Contains cert.nodes other → (other.key).prio ≡ prio → HasCallChain image plan cert other m → m ≤ n
 
 -- the priorities of the nodes that are below a number, ascending
 unfoldable pub prios_below : List NodeData → ℕ → List ℕ
@@ -51,7 +51,7 @@ priorities = 256
 abbrev pub prios_of : List NodeData → List ℕ
 prios_of nodes = prios_below nodes priorities
 
--- the greatest number with this property, if there is one
-abbrev pub IsGreatest : (ℕ → Type 0) → Option ℕ → Type 0
-IsGreatest P None = (m : ℕ) → P m → ⊥
-IsGreatest P (Some n) = P n × ((m : ℕ) → P m → m ≤ n)
+-- for the longest call chain of a priority: the greatest number with this property, if there is one
+abbrev pub IsLongestIfAny : (ℕ → Type 0) → Option ℕ → Type 0
+IsLongestIfAny P None = (m : ℕ) → P m → ⊥
+IsLongestIfAny P (Some n) = P n × ((m : ℕ) → P m → m ≤ n)

@@ -2,15 +2,14 @@
 ghost use Rattle.std.specs.Prelude.{◌≡◌, ◌≤◌, ◌<◌, ◌+◌, ◌-◌, ◌/◌, ◌^◌, ◌++◌, OnOk, replicate};
 ghost use Rattle.tc_isa.specs.declared.table.Form.TheVariants.{B};
 ghost use Rattle.tc_isa.specs.Forms.{fields};
-ghost use Rattle.tc_isa.specs.Spelling.{word};
-ghost use Rattle.tcd_report.specs.Generated.{call_from, handler};
-ghost use Rattle.tcd_base.specs.Bytes.{filled};
+ghost use Rattle.tc_isa.specs.Spelling.{word_by_form};
+ghost use Rattle.tcd_report.specs.Generated.{call_from, generated_handler, zero_padded_bytes};
 
 use crate::generating::functions::append_handler;
 use tcd_base::{NoMemory, put_u32};
 
-/// Appends bytes.
-pub(crate) fn append(out: &mut Vec<u8>, more: &[u8]) -> Result<(), NoMemory>
+/// Appends bytes of instructions to those of a segment of a generated image.
+pub(crate) fn append_segment_bytes(out: &mut Vec<u8>, more: &[u8]) -> Result<(), NoMemory>
     ensures { OnOk result (out.new.items ≡ out.old.items ++ more.now) }
 {
     out.extend_from_slice(more)?;
@@ -36,21 +35,23 @@ pub(crate) fn append_call(out: &mut Vec<u8>, at: u32, to: u32) -> Result<(), NoM
     put_u32(out, call_word((to - at) / 2))
 }
 
-// The word of a call with this displacement in halfwords.
-#[tactic(auto, unfolding(tc_isa::specs::Spelling::word))]
+/// Returns the word of a call that is appended to a segment of a generated image, by its
+/// displacement in halfwords.
+#[tactic(auto, unfolding(tc_isa::specs::Spelling::word_by_form))]
 fn call_word(k: u32) -> u32
     requires { k < 2 ^ 24 }
-    ensures { result ≡ word B 0x6d 0 (fields 0 0 0 0 k) }
+    ensures { result ≡ word_by_form B 0x6d 0 (fields 0 0 0 0 k) }
 {
     k % 65536 * 65536 + k / 65536 * 256 + 0x6d
 }
 
 // Appends the handler of interrupt p, and zeros up to the next handler.
 #[tactic(auto, using(crate::proofs::ImageLemmas::Lengths::handler_filled))]
-pub(crate) fn append_filled(out: &mut Vec<u8>, n: u32, p: u8) -> Result<(), NoMemory>
+pub(crate) fn append_filled_handler(out: &mut Vec<u8>, n: u32, p: u8) -> Result<(), NoMemory>
     requires some { 1 ≤ n }
     requires few { n ≤ 500 }
-    ensures { OnOk result (out.new.items ≡ out.old.items ++ filled 320 (handler n p)) }
+    ensures { OnOk result (out.new.items ≡ out.old.items
+        ++ zero_padded_bytes 320 (generated_handler n p)) }
 {
     append_handler(out, n, p)?;
     append_zeros(out, 308)

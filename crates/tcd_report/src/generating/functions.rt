@@ -1,40 +1,40 @@
-// The functions of a generated image.
-ghost use Rattle.std.specs.Prelude.{◌≡◌, ◌≤◌, ◌<◌, ◌+◌, ◌*◌, ◌++◌, OnOk, IfOk, length};
-ghost use Rattle.tcd_report.specs.Generated.{function_at, call_if_below, function_code, functions, main_code, table, handler};
-ghost use Rattle.tcd_base.specs.Bytes.{filled};
+// The functions of a generated image, its main program, and the handler of an interrupt.
+ghost use Rattle.std.specs.Prelude.{◌≡◌, ◌≤◌, ◌<◌, ◌+◌, ◌*◌, ◌++◌, OnOk, IfOk};
+ghost use Rattle.tcd_report.specs.Generated.{generated_function_at, call_if_below, function_code, generated_functions, main_code, generated_handler, zero_padded_bytes};
 
-use crate::generating::appending::{append, append_call, append_zeros};
+use crate::generating::appending::{append_call, append_segment_bytes, append_zeros};
 use std::alloc::Global;
-use tcd_base::{NoMemory, put_u32};
+use tcd_base::NoMemory;
 
 /// The bytes of all functions.
-pub(crate) fn functions(alloc: Global, n: u32) -> Result<Vec<u8>, NoMemory>
+pub(crate) fn generated_functions(alloc: Global, n: u32) -> Result<Vec<u8>, NoMemory>
     requires some { 1 ≤ n }
     requires few { n ≤ 500 }
-    ensures { IfOk result (λ v. v.items ≡ functions n) }
+    ensures { IfOk result (λ v. v.items ≡ generated_functions n) }
 {
     let mut out = Vec::new(alloc);
     for i in 0..n - 1 {
-        append_filled(&mut out, n, i)?;
+        append_filled_function(&mut out, n, i)?;
     }
     append_function(&mut out, n, n - 1)?;
     Ok(out)
 }
 
 /// The address of function i.
-pub(crate) fn function_at(i: u32) -> u32
+pub(crate) fn generated_function_at(i: u32) -> u32
     requires { i < 1024 }
-    ensures { result ≡ function_at i }
+    ensures { result ≡ generated_function_at i }
 {
     0x8000_8000 + 32 * i
 }
 
 // Appends function i, and zeros up to the next function.
 #[tactic(auto, using(crate::proofs::ImageLemmas::Lengths::function_short))]
-fn append_filled(out: &mut Vec<u8>, n: u32, i: u32) -> Result<(), NoMemory>
+fn append_filled_function(out: &mut Vec<u8>, n: u32, i: u32) -> Result<(), NoMemory>
     requires few { n ≤ 500 }
     requires within { i < n }
-    ensures { OnOk result (out.new.items ≡ out.old.items ++ filled 32 (function_code n i)) }
+    ensures { OnOk result (out.new.items ≡ out.old.items
+        ++ zero_padded_bytes 32 (function_code n i)) }
 {
     let start = out.len();
     append_function(out, n, i)?;
@@ -50,24 +50,24 @@ fn append_function(out: &mut Vec<u8>, n: u32, i: u32) -> Result<(), NoMemory>
     requires within { i < n }
     ensures { OnOk result (out.new.items ≡ out.old.items ++ function_code n i) }
 {
-    let at = function_at(i);
+    let at = generated_function_at(i);
     // sub16.a a10, 8; st16.w [a10], d15
-    append(out, &[0x20, 0x08, 0x74, 0xaf])?;
+    append_segment_bytes(out, &[0x20, 0x08, 0x74, 0xaf])?;
     append_call_if_below(out, n, at + 4, 2 * i + 1)?;
     append_call_if_below(out, n, at + 8, 2 * i + 2)?;
     // ret16
-    append(out, &[0x00, 0x90])
+    append_segment_bytes(out, &[0x00, 0x90])
 }
 
 // Appends a call of function i, if i is below n.
 fn append_call_if_below(out: &mut Vec<u8>, n: u32, at: u32, i: u32) -> Result<(), NoMemory>
     requires few { n ≤ 500 }
     requires low { 0x80008000 ≤ at }
-    requires forward { i < n → at ≤ function_at i }
+    requires forward { i < n → at ≤ generated_function_at i }
     ensures { OnOk result (out.new.items ≡ out.old.items ++ call_if_below n at i) }
 {
     if i < n {
-        append_call(out, at, function_at(i))?;
+        append_call(out, at, generated_function_at(i))?;
     }
     Ok(())
 }
@@ -89,27 +89,18 @@ pub(crate) fn main_code() -> [u8; 32]
     ]
 }
 
-/// The table with the addresses of sixteen functions, from which the main program takes one.
-pub(crate) fn table(alloc: Global, n: u32) -> Result<Vec<u8>, NoMemory>
-    requires some { 1 ≤ n }
-    requires few { n ≤ 500 }
-    ensures { IfOk result (λ v. v.items ≡ table n) }
-{
-    let mut out = Vec::new(alloc);
-    for j in 0..16 {
-        put_u32(&mut out, function_at(j % n))?;
-    }
-    Ok(out)
-}
-
 // Appends the handler of interrupt p: `bisr16 p`, a call of the last function, `rslcx`, `rfe16`.
 #[tactic(auto, using(crate::proofs::ImageLemmas::Instructions::handler_bytes))]
 pub(crate) fn append_handler(out: &mut Vec<u8>, n: u32, p: u8) -> Result<(), NoMemory>
     requires some { 1 ≤ n }
     requires few { n ≤ 500 }
-    ensures { OnOk result (out.new.items ≡ out.old.items ++ handler n p) }
+    ensures { OnOk result (out.new.items ≡ out.old.items ++ generated_handler n p) }
 {
-    append(out, &[0xe0, p])?;
-    append_call(out, 0x8000_2002 + 32 * u32::from(p), function_at(n - 1))?;
-    append(out, &[0x0d, 0x00, 0x40, 0x02, 0x00, 0x80])
+    append_segment_bytes(out, &[0xe0, p])?;
+    append_call(
+        out,
+        0x8000_2002 + 32 * u32::from(p),
+        generated_function_at(n - 1),
+    )?;
+    append_segment_bytes(out, &[0x0d, 0x00, 0x40, 0x02, 0x00, 0x80])
 }

@@ -1,13 +1,13 @@
 // The files of a generated image and of its plan.
 ghost use Rattle.std.specs.Prelude.{◌≡◌, ◌≤◌, ◌^◌, IfOk, Ok, length};
-ghost use Rattle.elf_image.specs.ReadElf.{image_of};
+ghost use Rattle.elf_image.specs.ReadElf.{image_of_file};
 ghost use Rattle.elf_image.specs.WrittenElf.{file_of};
-ghost use Rattle.tcd_plan.specs.Plans.{Gives};
+ghost use Rattle.tcd_plan.specs.Plans.{GivesPlan};
 ghost use Rattle.tcd_report.specs.Generated.{generated_image};
 ghost use Rattle.tcd_report.specs.Generated.Planned.{generated_plan, generated_text};
 
-use crate::generating::functions::{functions, main_code, table};
-use crate::generating::program_segments::{system_code, vectors};
+use crate::generating::functions::{generated_functions, main_code};
+use crate::generating::program_segments::{generated_table, generated_vectors, system_code};
 use elf_image::{Image, Segment, read_segments};
 use std::alloc::Global;
 use tcd_base::NoMemory;
@@ -32,31 +32,31 @@ pub fn generate(alloc: Global, n: u32) -> Result<Generated, NoMemory>
     ensures small { IfOk result (λ g. length g.elf.items ≤ 2 ^ 30) }
 
     // Reading the file gives the image.
-    ensures image { IfOk result (λ g. image_of g.elf.items ≡ Ok (generated_image n)) }
+    ensures image { IfOk result (λ g. image_of_file g.elf.items ≡ Ok (generated_image n)) }
     ensures text { IfOk result (λ g. g.plan.items ≡ generated_text) }
 
     // Reading the text gives the plan.
-    ensures plan { IfOk result (λ g. Gives g.plan.items (Ok generated_plan)) }
+    ensures plan { IfOk result (λ g. GivesPlan g.plan.items (Ok generated_plan)) }
 {
-    let image = image(alloc, n)?;
+    let image = image_of_functions(alloc, n)?;
     let Ok(elf) = image.write(alloc) else {
         return Err(NoMemory);
     };
-    let plan = Vec::from_slice(alloc, plan_text().as_bytes())?;
+    let plan = Vec::from_slice(alloc, generated_plan_text().as_bytes())?;
     Ok(Generated { elf, plan })
 }
 
 // The image of n functions.
-fn image(alloc: Global, n: u32) -> Result<Image, NoMemory>
+fn image_of_functions(alloc: Global, n: u32) -> Result<Image, NoMemory>
     requires some { 1 ≤ n }
     requires few { n ≤ 500 }
     ensures { IfOk result (λ i. i ≡ generated_image n) }
 {
     let main = Vec::from_slice(alloc, &main_code())?;
     let system = Vec::from_slice(alloc, &system_code())?;
-    let table = table(alloc, n)?;
-    let vectors = vectors(alloc, n)?;
-    let functions = functions(alloc, n)?;
+    let table = generated_table(alloc, n)?;
+    let vectors = generated_vectors(alloc, n)?;
+    let functions = generated_functions(alloc, n)?;
     let segments = Vec::from_array(
         alloc,
         [
@@ -90,7 +90,7 @@ fn image(alloc: Global, n: u32) -> Result<Image, NoMemory>
 }
 
 // The text of the plan, the same for each image.
-fn plan_text() -> &'static str
+fn generated_plan_text() -> &'static str
     ensures { result.now ≡ generated_text }
 {
     r#"{"rom":[{"at":"0x80000000","len":"0x20000"}],"ram":[{"at":"0xD0010000","len":"0x8000"}],"devices":[{"at":"0xF0000000","len":"0x100","lo":0,"hi":15}],"csa":{"at":"0xD0000000","areas":256,"reserve":16},"sp":"0xD0018000","isp":"0xD0014000","biv":"0x80002000","btv":"0x80004000","irqs":[10,20,30,40,50,60,70,80,90,100,110,120,130,140,150,160],"traps":["sys"],"start":{"ie":1,"ccpn":0,"is":0},"globals":{"a0":0,"a1":0,"a8":0,"a9":0}}"#

@@ -1,13 +1,14 @@
-// The segments of a generated image, except its functions.
+// The table, the vectors, and the handler of system calls of a generated image.
 ghost use Rattle.std.specs.Prelude.{◌≡◌, ◌≤◌, ◌<◌, ◌+◌, ◌*◌, IfOk};
-ghost use Rattle.tcd_report.specs.Generated.{handler, vectors, system_code};
+ghost use Rattle.tcd_report.specs.Generated.{generated_handler, generated_vectors, system_code, generated_function_at, generated_table};
 
-use crate::generating::appending::append_filled;
-use crate::generating::functions::append_handler;
+use crate::generating::appending::append_filled_handler;
+use crate::generating::functions::{append_handler, generated_function_at};
 use std::alloc::Global;
-use tcd_base::NoMemory;
+use tcd_base::{NoMemory, put_u32};
 
-/// The handler of system calls: `rfe16`.
+/// Returns the bytes of the segment of a generated image that has the handler of system calls:
+/// `rfe16`.
 #[tactic(auto, using(crate::proofs::ImageLemmas::Instructions::system_bytes))]
 pub(crate) fn system_code() -> [u8; 2]
     ensures { result ≡ system_code }
@@ -16,15 +17,29 @@ pub(crate) fn system_code() -> [u8; 2]
 }
 
 /// The handlers of the interrupts 10, 20 .. 160.
-pub(crate) fn vectors(alloc: Global, n: u32) -> Result<Vec<u8>, NoMemory>
+pub(crate) fn generated_vectors(alloc: Global, n: u32) -> Result<Vec<u8>, NoMemory>
     requires some { 1 ≤ n }
     requires few { n ≤ 500 }
-    ensures { IfOk result (λ v. v.items ≡ vectors n) }
+    ensures { IfOk result (λ v. v.items ≡ generated_vectors n) }
 {
     let mut out = Vec::new(alloc);
     for j in 0..15 {
-        append_filled(&mut out, n, 10 * j + 10)?;
+        append_filled_handler(&mut out, n, 10 * j + 10)?;
     }
     append_handler(&mut out, n, 160)?;
+    Ok(out)
+}
+
+/// Returns the segment of the table of a generated image: the addresses of sixteen functions, from
+/// which the main program takes one.
+pub(crate) fn generated_table(alloc: Global, n: u32) -> Result<Vec<u8>, NoMemory>
+    requires some { 1 ≤ n }
+    requires few { n ≤ 500 }
+    ensures { IfOk result (λ v. v.items ≡ generated_table n) }
+{
+    let mut out = Vec::new(alloc);
+    for j in 0..16 {
+        put_u32(&mut out, generated_function_at(j % n))?;
+    }
     Ok(out)
 }

@@ -1,6 +1,6 @@
 // The entries of the frames that an instruction enters.
 ghost use Rattle.std.specs.Prelude.{◌≡◌, ◌++◌, ◌∷◌, [], OnOk, not, if◌then◌else◌};
-ghost use Rattle.tc_isa.specs.InBounds.{IsShape, IsSize};
+ghost use Rattle.tc_isa.specs.InBounds.{IsShape, IsShapeAccessSize};
 ghost use Rattle.value_domain.specs.State.{AreValues};
 ghost use Rattle.vd_transfer.specs.EffectsOnStates.{address_of};
 ghost use Rattle.depth_cert.specs.declared.keys.Key.{Key};
@@ -10,7 +10,7 @@ ghost use Rattle.tcd_report.specs.Graphs.{entries_in, misaligned_rule, called_of
 
 use crate::graphs::successors::push_targets;
 use crate::judged::Judged;
-use cfg_recover::{aln_key, is_aligned, sys_key};
+use cfg_recover::{aln_key, is_flow_access_aligned, sys_key};
 use depth_cert::Key;
 use tc_isa::Shape;
 use tcd_base::NoMemory;
@@ -18,7 +18,8 @@ use tcd_plan::Plan;
 use value_domain::State;
 use vd_transfer::address_by;
 
-/// Appends the functions that an instruction of this shape calls.
+/// Appends the entries of the frames that a call enters: the functions that an instruction of this
+/// shape calls.
 pub(crate) fn push_called(
     all: &mut Vec<u32>,
     plan: &Plan,
@@ -36,8 +37,8 @@ pub(crate) fn push_called(
     }
 }
 
-/// Fills the list with the entry of the handler of system calls if the instruction is a system
-/// call, else with nothing, instead of what it held.
+/// Fills the list, instead of what it held, with the entry of the frame that the instruction enters
+/// if it is a system call, else with nothing.
 pub(crate) fn set_system_call(
     all: &mut Vec<u32>,
     plan: &Plan,
@@ -53,8 +54,8 @@ pub(crate) fn set_system_call(
     Ok(())
 }
 
-/// Fills the list with the entry of the handler of misaligned accesses if the instruction's access
-/// may be misaligned, else with nothing, instead of what it held.
+/// Fills the list, instead of what it held, with the entry of the frame that the instruction enters
+/// if its access may be misaligned, else with nothing.
 pub(crate) fn set_misaligned(
     all: &mut Vec<u32>,
     judged: &Judged,
@@ -75,7 +76,8 @@ pub(crate) fn set_misaligned(
     Ok(())
 }
 
-// Whether the instruction's access may be misaligned.
+/// Returns true if the instruction's access may be misaligned, so that the instruction enters a
+/// frame.
 fn is_misaligned(judged: &Judged, s: &State, shape: Shape) -> bool
     requires values { AreValues judged.now.bounds.now s.now.regs }
     requires shape { IsShape shape }
@@ -90,16 +92,16 @@ fn is_misaligned(judged: &Judged, s: &State, shape: Shape) -> bool
     }
 }
 
-// Whether an access of this shape and size may be misaligned. A function of its own, as it has room
-// for a value.
+/// Returns true if an access of this shape and size may be misaligned, and so enters a frame. A
+/// function of its own, as it has room for a value.
 #[inline(never)]
 fn accesses_misaligned(judged: &Judged, s: &State, shape: Shape, size: u8) -> bool
     requires values { AreValues judged.now.bounds.now s.now.regs }
     requires shape { IsShape shape }
-    requires size { IsSize size }
+    requires size { IsShapeAccessSize size }
     ensures { let j = judged.now in
         result ≡ not (are_aligned (address_of j.bounds.now j.plan.now shape s.now) size) }
 {
     let at = address_by(judged.bounds, judged.plan, shape, s);
-    !is_aligned(judged.bounds, &at, size)
+    !is_flow_access_aligned(judged.bounds, &at, size)
 }

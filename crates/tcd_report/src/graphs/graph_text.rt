@@ -6,12 +6,15 @@ ghost use Rattle.value_domain.specs.State.{AreValues};
 ghost use Rattle.cfg_recover.specs.LocalFaults.{IsFaultless};
 ghost use Rattle.tcd_report.specs.Graphs.{ArePointLines, AreNodeLines, key_front};
 ghost use Rattle.tcd_report.specs.Graphs.Handlers.{KnowsHandlers};
-ghost use Rattle.tcd_report.specs.Judging.{IsJudged, GrowsBy};
+ghost use Rattle.tcd_report.specs.Judging.{IsJudged};
+ghost use Rattle.tcd_report.specs.Texts.{GrowsBy};
 ghost use Rattle.depth_cert.specs.Points.{point_of};
 
 use crate::graphs::edges::{Edges, find_edges, no_edges};
 use crate::graphs::handlers::set_front;
-use crate::graphs::lines::{append_edges, append_leaving, set_address, set_key};
+use crate::graphs::lines::{
+    append_edges, append_leaving, set_node_line_front, set_point_line_front,
+};
 use crate::judged::Judged;
 use cfg_recover::KnownCodes;
 use depth_cert::Key;
@@ -31,8 +34,8 @@ pub(crate) struct Drawing {
     pub(crate) ways: Edges,
 }
 
-/// A graph without lines.
-pub(crate) fn no_lines(alloc: Global) -> Drawing
+/// Returns the graph as text before its first node: without lines.
+pub(crate) fn empty_graph_text(alloc: Global) -> Drawing
     ensures text { string_bytes result.text ≡ [] }
     ensures handlers { (plan : PlanData) → KnowsHandlers plan result.ways.irq }
 {
@@ -44,7 +47,7 @@ pub(crate) fn no_lines(alloc: Global) -> Drawing
     }
 }
 
-/// Appends the lines of a node's points.
+/// Appends a node to the text of the graph: the lines of its points, one point after another.
 pub(crate) fn append_node<'a>(
     graph: &mut Drawing,
     judged: &Judged,
@@ -60,7 +63,7 @@ pub(crate) fn append_node<'a>(
         (string_bytes graph.old.text) (string_bytes graph.new.text)) }
     ensures handlers { OnOk result (KnowsHandlers judged.now.plan.now graph.new.ways.irq) }
 {
-    set_key(&mut graph.key_front, &node.key)?;
+    set_node_line_front(&mut graph.key_front, &node.key)?;
     node.walk(walk);
     while let Some(addr) = walk.step() {
         append_point(graph, judged, codes, &node.key, addr, walk.state())?;
@@ -95,7 +98,7 @@ fn append_point(
         unreachable!()
     };
     find_edges(&mut graph.ways, judged, key, addr, s, &found)?;
-    set_address(&mut graph.front, graph.key_front.as_str(), addr)?;
+    set_point_line_front(&mut graph.front, graph.key_front.as_str(), addr)?;
     set_front(&mut graph.ways.irq, graph.front.as_str())?;
     append_edges(&mut graph.text, graph.front.as_str(), &graph.ways)?;
     append_leaving(&mut graph.text, graph.front.as_str(), found.shape)

@@ -1,16 +1,18 @@
 // The handlers of the interrupts that may come at a point, and their lines.
-ghost use Rattle.std.specs.Prelude.{◌≡◌, ◌+◌, ◌≤◌, OnOk, codes, length};
-ghost use Rattle.cfg_recover.specs.Entries.{vectors_in, irqs_of};
-ghost use Rattle.tcd_report.specs.Graphs.{each_once, end_to, lines_to};
-ghost use Rattle.tcd_report.specs.Graphs.Handlers.{HasLines, KnowsHandlers, with_front};
+ghost use Rattle.std.specs.Prelude.{◌≡◌, ◌+◌, ◌≤◌, OnOk, codes, length, ◌<◌, ◌++◌, string_bytes, ◌^◌, ◌∷◌, [], ℕ, slice_index};
+ghost use Rattle.cfg_recover.specs.Entries.{irqs_of};
+ghost use Rattle.tcd_report.specs.Graphs.Handlers.{irq_entry_vectors, HasHandlerLines, KnowsHandlers, with_handler_front};
+ghost use Rattle.tcd_report.specs.Graphs.{each_address_once, line_end_to, lines_to};
 ghost use Rattle.tcd_plan.specs.PlanData.{PlanData};
+ghost use Rattle.std.specs.Str.{IsAscii};
+ghost use Rattle.tcd_text.specs.Digits.{hex_word};
 
 use crate::graphs::addresses::keep_once;
 use cfg_recover::{interrupts, irq_key};
 use std::alloc::Global;
 use tcd_base::NoMemory;
 use tcd_plan::Plan;
-use tcd_text::hex_word;
+use tcd_text::{append_ascii, hex_word};
 use value_domain::State;
 
 // The length of the end of a handler's line.
@@ -28,7 +30,8 @@ pub(crate) struct Handlers {
     pub(crate) front: usize,
 }
 
-/// No handlers: interrupts are off.
+/// Returns the handlers that may come while interrupts are off: none, and no lines of them for the
+/// graph.
 pub(crate) fn no_handlers(alloc: Global) -> Handlers
     ensures { (plan : PlanData) → KnowsHandlers plan result }
 {
@@ -51,7 +54,8 @@ pub(crate) fn find_handlers(
 ) -> Result<(), NoMemory>
     requires { KnowsHandlers plan.now known.old }
     ensures entries { OnOk result
-        (known.new.entries.items ≡ each_once (vectors_in plan.now (irqs_of plan.now s.now))) }
+        (known.new.entries.items
+        ≡ each_address_once (irq_entry_vectors plan.now (irqs_of plan.now s.now))) }
     ensures known { OnOk result (KnowsHandlers plan.now known.new) }
 {
     if known.ie == s.ie && known.ccpn == s.ccpn {
@@ -69,7 +73,7 @@ pub(crate) fn find_handlers(
 
 // Fills the list with the entries of the handlers of these interrupts, instead of what it held.
 fn set_vectors(all: &mut Vec<u32>, plan: &Plan, irqs: &[u8]) -> Result<(), NoMemory>
-    ensures { OnOk result (all.new.items ≡ vectors_in plan.now irqs.now) }
+    ensures { OnOk result (all.new.items ≡ irq_entry_vectors plan.now irqs.now) }
 {
     all.clear();
     for irq in irqs {
@@ -81,7 +85,7 @@ fn set_vectors(all: &mut Vec<u32>, plan: &Plan, irqs: &[u8]) -> Result<(), NoMem
 /// Makes this the front of the lines of handlers. If it is as long as the front before it, it is
 /// written over that one.
 pub(crate) fn set_front(known: &mut Handlers, front: &str) -> Result<(), NoMemory>
-    requires { HasLines known.old.front known.old.entries.items known.old.lines.items }
+    requires { HasHandlerLines known.old.front known.old.entries.items known.old.lines.items }
     ensures lines { OnOk result (known.new.lines.items
         ≡ lines_to front.now (codes "irq ") known.new.entries.items) }
     ensures known { OnOk result
@@ -110,30 +114,52 @@ fn make_lines(lines: &mut Vec<u8>, front: &str, entries: &[u32]) -> Result<(), N
 
 // Writes a front over those of the lines of handlers with these entries.
 fn write_fronts(lines: &mut [u8], front: &[u8], entries: &[u32])
-    requires { HasLines (length front.now) entries.now lines.old }
+    requires { HasHandlerLines (length front.now) entries.now lines.old }
     ensures { lines.new ≡ lines_to front.now (codes "irq ") entries.now }
 {
     let mut at = 0;
     for _ in 0..entries.len() {
-        write_front(lines, at, front);
+        write_handler_front(lines, at, front);
         at += front.len() + IRQ_END;
     }
 }
 
-// Writes a front at a place.
-fn write_front(lines: &mut [u8], at: usize, front: &[u8])
+/// Writes the front of one handler's line at its place in the lines of the handlers.
+fn write_handler_front(lines: &mut [u8], at: usize, front: &[u8])
     requires { at + length front.now ≤ length lines.old }
-    ensures { lines.new ≡ with_front lines.old at front.now }
+    ensures { lines.new ≡ with_handler_front lines.old at front.now }
 {
     lines[at..at + front.len()].copy_from_slice(front);
 }
 
 // The end of the line of a handler with this entry.
 fn irq_end(entry: u32) -> [u8; IRQ_END]
-    ensures { result ≡ end_to (codes "irq ") entry }
+    ensures { result ≡ line_end_to (codes "irq ") entry }
 {
     let w = hex_word(entry);
     [
         b'i', b'r', b'q', b' ', w[0], w[1], w[2], w[3], w[4], w[5], w[6], w[7], b'\n',
     ]
 }
+
+/// Appends the lines of the handlers of interrupts, which are made already, to the graph's text.
+pub(crate) fn append_handlers(
+    text: &mut String,
+    front: &str,
+    known: &Handlers,
+) -> Result<(), NoMemory>
+    requires ascii { IsAscii front.now }
+    requires lines { known.now.lines.items
+        ≡ lines_to front.now (codes "irq ") known.now.entries.items }
+    ensures { OnOk result (string_bytes text.new
+        ≡ string_bytes text.old ++ lines_to front.now (codes "irq ") known.now.entries.items) }
+{
+    read_handler_entries(&known.entries);
+    append_ascii(text, &known.lines)
+}
+
+/// Gives a fact about the entries of handlers: each is below 2^32, as its type says. It does
+/// nothing else.
+pub(crate) fn read_handler_entries(addresses: &[u32])
+    ensures { (k : ℕ) → slice_index addresses.now k < 2 ^ 32 }
+{}

@@ -1,19 +1,19 @@
 // The lines of a point in the graph.
-ghost use Rattle.std.specs.Prelude.{◌≡◌, ◌<◌, ◌^◌, ◌++◌, ◌∷◌, [], ℕ, OnOk, codes, slice_index, string_bytes};
+ghost use Rattle.std.specs.Prelude.{◌≡◌, ◌<◌, ◌++◌, ◌∷◌, [], OnOk, codes, string_bytes};
 ghost use Rattle.tcd_text.specs.Digits.{hex_word};
-ghost use Rattle.tcd_report.specs.Graphs.{end_to, key_front, lines_to, ways_text, leaving_text};
+ghost use Rattle.tcd_report.specs.Graphs.{line_end_to, key_front, lines_to, ways_text, leaving_text};
 ghost use Rattle.std.specs.Str.{IsAscii};
 
 use crate::graphs::edges::Edges;
-use crate::graphs::handlers::Handlers;
-use crate::texts::{append, append_key};
+use crate::graphs::handlers::append_handlers;
+use crate::texts::{append_key, extend_text};
 use depth_cert::Key;
 use tc_isa::Shape;
 use tcd_base::NoMemory;
 use tcd_text::{append_ascii, append_hex_word, hex_word};
 
 /// Makes the front of all lines of a node.
-pub(crate) fn set_key(front: &mut String, key: &Key) -> Result<(), NoMemory>
+pub(crate) fn set_node_line_front(front: &mut String, key: &Key) -> Result<(), NoMemory>
     ensures front { OnOk result (string_bytes front.new ≡ key_front key.now) }
     ensures ascii { OnOk result (IsAscii (key_front key.now)) }
 {
@@ -22,18 +22,22 @@ pub(crate) fn set_key(front: &mut String, key: &Key) -> Result<(), NoMemory>
     let _prio = key.prio;
     front.clear();
     append_key(front, key)?;
-    append(front, ": ")
+    extend_text(front, ": ")
 }
 
 /// Makes the front of all lines of a point from that of its node.
-pub(crate) fn set_address(front: &mut String, key_front: &str, addr: u32) -> Result<(), NoMemory>
+pub(crate) fn set_point_line_front(
+    front: &mut String,
+    key_front: &str,
+    addr: u32,
+) -> Result<(), NoMemory>
     ensures { OnOk result
         (string_bytes front.new ≡ key_front.now ++ (hex_word addr ++ 32 ∷ [])) }
 {
     front.clear();
-    append(front, key_front)?;
+    extend_text(front, key_front)?;
     append_hex_word(front, addr)?;
-    append(front, " ")
+    extend_text(front, " ")
 }
 
 /// Appends the lines of a point, except that of its own return.
@@ -63,33 +67,6 @@ fn append_lines(text: &mut String, front: &str, word: &str, targets: &[u32]) -> 
     Ok(())
 }
 
-// Appends a line that ends with a word and an address.
-fn append_line(text: &mut String, front: &str, word: &str, to: u32) -> Result<(), NoMemory>
-    ensures { OnOk result (string_bytes text.new
-        ≡ string_bytes text.old ++ (front.now ++ end_to word.now to)) }
-{
-    append(text, front)?;
-    append(text, word)?;
-    append_target(text, to)
-}
-
-// Appends the lines of these handlers.
-fn append_handlers(text: &mut String, front: &str, known: &Handlers) -> Result<(), NoMemory>
-    requires ascii { IsAscii front.now }
-    requires lines { known.now.lines.items
-        ≡ lines_to front.now (codes "irq ") known.now.entries.items }
-    ensures { OnOk result (string_bytes text.new
-        ≡ string_bytes text.old ++ lines_to front.now (codes "irq ") known.now.entries.items) }
-{
-    are_addresses(&known.entries);
-    append_ascii(text, &known.lines)
-}
-
-// Addresses are below 2^32, as their type says.
-fn are_addresses(addresses: &[u32])
-    ensures { (k : ℕ) → slice_index addresses.now k < 2 ^ 32 }
-{}
-
 // Appends the address that a line ends with, and a line feed.
 fn append_target(text: &mut String, to: u32) -> Result<(), NoMemory>
     ensures { OnOk result
@@ -102,19 +79,30 @@ fn append_target(text: &mut String, to: u32) -> Result<(), NoMemory>
     )
 }
 
-/// Appends the line of a return, if the instruction is one.
+// Appends a line that ends with a word and an address.
+fn append_line(text: &mut String, front: &str, word: &str, to: u32) -> Result<(), NoMemory>
+    ensures { OnOk result (string_bytes text.new
+        ≡ string_bytes text.old ++ (front.now ++ line_end_to word.now to)) }
+{
+    extend_text(text, front)?;
+    extend_text(text, word)?;
+    append_target(text, to)
+}
+
+/// Appends the line of a point's own return, which ends with `ret` or `rfe` and no address, if its
+/// instruction is a return.
 pub(crate) fn append_leaving(text: &mut String, front: &str, shape: Shape) -> Result<(), NoMemory>
     ensures { OnOk result (string_bytes text.new
         ≡ string_bytes text.old ++ leaving_text front.now shape) }
 {
     match shape {
         Shape::Ret => {
-            append(text, front)?;
-            append(text, "ret\n")
+            extend_text(text, front)?;
+            extend_text(text, "ret\n")
         }
         Shape::Rfe => {
-            append(text, front)?;
-            append(text, "rfe\n")
+            extend_text(text, front)?;
+            extend_text(text, "rfe\n")
         }
         _ => Ok(()),
     }

@@ -87,7 +87,7 @@ fn push_side(
     ensures { let j = judged.now in OnOk result (all.new.items ≡ all.old.items
         ++ jumped_in (jump_on to (refine_of j.bounds.now j.plan.now shape s.now taken))) }
 {
-    if is_possible(judged, shape, s, taken) {
+    if is_successor_possible(judged, shape, s, taken) {
         all.push(to)?;
     }
     Ok(())
@@ -95,7 +95,7 @@ fn push_side(
 
 // Whether a side of a branch is possible. A function of its own, as it has room for a change.
 #[inline(never)]
-fn is_possible(judged: &Judged, shape: Shape, s: &State, taken: bool) -> bool
+fn is_successor_possible(judged: &Judged, shape: Shape, s: &State, taken: bool) -> bool
     requires shape { IsShape shape }
     requires values { AreValues judged.now.bounds.now s.now.regs }
     ensures { let j = judged.now in
@@ -105,8 +105,8 @@ fn is_possible(judged: &Judged, shape: Shape, s: &State, taken: bool) -> bool
     change_on(judged.bounds, judged.plan, shape, s, taken, &mut c)
 }
 
-/// Appends the addresses where a jump or a call may go. A function of its own, as it has room for a
-/// list of them.
+/// Appends the addresses where a point goes on by a jump, or those that its call enters. A function
+/// of its own, as it has room for a list of them.
 #[inline(never)]
 pub(crate) fn push_targets(
     all: &mut Vec<u32>,
@@ -170,14 +170,14 @@ fn push_return(all: &mut Vec<u32>, cert: &PackedCert, key: &Key, back: u32) -> R
     ensures { OnOk result
         (all.new.items ≡ all.old.items ++ back_by cert.now (resume key.now back)) }
 {
-    if has_exit(cert, key) {
+    if can_node_return(cert, key) {
         all.push(back)?;
     }
     Ok(())
 }
 
 // Whether the node of this key has an exit.
-fn has_exit(cert: &PackedCert, key: &Key) -> bool
+fn can_node_return(cert: &PackedCert, key: &Key) -> bool
     ensures { result
         ≡ option_map_or (λ n. is_some n.exit) (find_node key.now cert.now.nodes) false }
 {

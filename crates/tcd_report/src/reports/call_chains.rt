@@ -1,17 +1,17 @@
 // The longest call chain that begins in a node, by those of the nodes that it calls.
 ghost use Rattle.std.specs.Prelude.{Contains};
-ghost use Rattle.tcd_report.specs.Reports.Heights.{IsMostOf, HasRowAt, AreLow};
+ghost use Rattle.tcd_report.specs.Reports.Heights.{IsGreatestHeightOf, HasCalleeHeightAt, AreHeightsLow};
 ghost use Rattle.tcd_report.specs.Judging.{IsJudged};
 
 use crate::judged::Judged;
-use crate::reports::heights::rows_at;
+use crate::reports::heights::height_at_point;
 use cfg_recover::KnownCodes;
 use depth_cert::Key;
 use packed_cert::{PackedNode, PointWalk};
 use std::collections::HashMap;
 
 /// The length of the longest call chain that begins in a node.
-pub(crate) fn rows_from<'a>(
+pub(crate) fn longest_chain_from<'a>(
     judged: &Judged,
     heights: &HashMap<Key, u32>,
     codes: &mut KnownCodes,
@@ -19,16 +19,17 @@ pub(crate) fn rows_from<'a>(
     walk: &mut PointWalk<'a>,
 ) -> u32
     requires judged { IsJudged judged.now }
-    requires low { AreLow heights.now }
+    requires low { AreHeightsLow heights.now }
     requires stands { Contains judged.now.cert.now.nodes node.now }
     ensures { let j = judged.now in
-        IsMostOf (HasRowAt j.image.now j.plan.now j.cert.now heights.now node.now.key)
+        IsGreatestHeightOf (HasCalleeHeightAt j.image.now j.plan.now j.cert.now heights.now
+        node.now.key)
         node.now.points result }
 {
     let mut most = 0;
     node.walk(walk);
     while let Some(addr) = walk.step() {
-        most = rows_at(judged, heights, codes, &node.key, addr, walk.state()).max(most);
+        most = height_at_point(judged, heights, codes, &node.key, addr, walk.state()).max(most);
     }
     most
 }

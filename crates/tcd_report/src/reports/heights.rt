@@ -2,7 +2,7 @@
 ghost use Rattle.std.specs.Prelude.{◌≡◌, ℕ, [], Some, Contains, IfOk, map, unwrap_or};
 ghost use Rattle.std.specs.HashMap.{get};
 ghost use Rattle.depth_cert.specs.Nodes.{NodeData};
-ghost use Rattle.tcd_report.specs.Reports.Heights.{TellsHeights, IsMost, IsMostOf, HasRow, HasRowAt, AreLow};
+ghost use Rattle.tcd_report.specs.Reports.Heights.{TellsHeights, IsGreatestHeight, IsGreatestHeightOf, HasCalleeHeight, HasCalleeHeightAt, AreHeightsLow};
 ghost use Rattle.tcd_report.specs.Reports.{rank_of};
 ghost use Rattle.depth_cert.specs.Keys.{key_eq, call_kind};
 ghost use Rattle.tcd_report.specs.Judging.{IsJudged};
@@ -13,7 +13,7 @@ ghost use Rattle.cfg_recover.specs.LocalFaults.{IsFaultless};
 ghost use Rattle.depth_cert.specs.Points.{point_of};
 
 use crate::judged::Judged;
-use crate::reports::call_chains::rows_from;
+use crate::reports::call_chains::longest_chain_from;
 use cfg_recover::{KnownCodes, entered_key, targets};
 use depth_cert::{CALL, Key};
 use packed_cert::{PackedCert, PointWalk};
@@ -37,7 +37,7 @@ pub(crate) fn heights(alloc: Global, judged: &Judged) -> Result<HashMap<Key, u32
     let cert = judged.cert;
     // Reading a field gives the facts that hold for every certificate.
     let _version = cert.version();
-    let mut order = ranks(alloc, cert)?;
+    let mut order = height_ranks(alloc, cert)?;
     order.sort()?;
     let mut heights = HashMap::new(alloc);
     let mut codes = KnownCodes::new();
@@ -46,14 +46,14 @@ pub(crate) fn heights(alloc: Global, judged: &Judged) -> Result<HashMap<Key, u32
         let Some(node) = cert.node(key) else {
             unreachable!()
         };
-        let rows = rows_from(judged, &heights, &mut codes, &node, &mut walk);
+        let rows = longest_chain_from(judged, &heights, &mut codes, &node, &mut walk);
         heights.insert(*key, rows)?;
     }
     Ok(heights)
 }
 
 // The needs and keys of the nodes.
-fn ranks(alloc: Global, cert: &PackedCert) -> Result<Vec<(u16, Key)>, NoMemory>
+fn height_ranks(alloc: Global, cert: &PackedCert) -> Result<Vec<(u16, Key)>, NoMemory>
     ensures { IfOk result (λ v. v.items ≡ map rank_of cert.now.nodes) }
 {
     let mut ranks = Vec::new(alloc);
@@ -67,7 +67,7 @@ fn ranks(alloc: Global, cert: &PackedCert) -> Result<Vec<(u16, Key)>, NoMemory>
 }
 
 // The length of the longest call chain that begins with the instruction at a point.
-pub(crate) fn rows_at(
+pub(crate) fn height_at_point(
     judged: &Judged,
     heights: &HashMap<Key, u32>,
     codes: &mut KnownCodes,
@@ -76,18 +76,18 @@ pub(crate) fn rows_at(
     s: &State,
 ) -> u32
     requires judged { IsJudged judged.now }
-    requires low { AreLow heights.now }
+    requires low { AreHeightsLow heights.now }
     requires faultless { let j = judged.now in
         IsFaultless j.bounds.now j.image.now j.plan.now key.now addr s.now }
     ensures { let j = judged.now in
-        IsMost (HasRowAt j.image.now j.plan.now j.cert.now heights.now key.now
+        IsGreatestHeight (HasCalleeHeightAt j.image.now j.plan.now j.cert.now heights.now key.now
         (point_of addr s.now)) result }
 {
     let Some(found) = codes.located(judged.image, judged.plan, addr) else {
         unreachable!()
     };
     match found.shape {
-        Shape::Call { to } => rows_called(judged.plan, heights, key, addr, s, to),
+        Shape::Call { to } => height_of_call(judged.plan, heights, key, addr, s, to),
         _ => 0,
     }
 }
@@ -95,7 +95,7 @@ pub(crate) fn rows_at(
 // The length of the longest call chain that begins with a call. A function of its own, as it has
 // room for a list of functions.
 #[inline(never)]
-fn rows_called(
+fn height_of_call(
     plan: &Plan,
     heights: &HashMap<Key, u32>,
     key: &Key,
@@ -103,32 +103,36 @@ fn rows_called(
     s: &State,
     to: Target,
 ) -> u32
-    requires low { AreLow heights.now }
+    requires low { AreHeightsLow heights.now }
     requires target { IsTarget to }
-    ensures { IsMostOf (λ t. HasRow heights.now (flows.entered_key key.now call_kind t))
+    ensures { IsGreatestHeightOf
+        (λ t. HasCalleeHeight heights.now (flows.entered_key key.now call_kind t))
         (unwrap_or (targets_of plan.now s.now addr to) []) result }
 {
     let functions = targets(plan, s, addr, to);
-    rows_into(heights, key, functions.as_slice())
+    height_of_calls(heights, key, functions.as_slice())
 }
 
-// The length of the longest call chain that begins with a call of one of these functions.
-fn rows_into(heights: &HashMap<Key, u32>, key: &Key, targets: &[u32]) -> u32
-    requires { AreLow heights.now }
-    ensures { IsMostOf (λ t. HasRow heights.now (flows.entered_key key.now call_kind t))
+/// Returns the length of the longest call chain that begins with a call of one of these functions:
+/// the greatest of their heights, plus 1, or 0 if none has a height.
+fn height_of_calls(heights: &HashMap<Key, u32>, key: &Key, targets: &[u32]) -> u32
+    requires { AreHeightsLow heights.now }
+    ensures { IsGreatestHeightOf
+        (λ t. HasCalleeHeight heights.now (flows.entered_key key.now call_kind t))
         targets.now result }
 {
     let mut most = 0;
     for target in targets {
-        most = row_into(heights, key, *target).max(most);
+        most = height_of_callee(heights, key, *target).max(most);
     }
     most
 }
 
 // The length of the longest call chain that begins with a call of this function.
-fn row_into(heights: &HashMap<Key, u32>, key: &Key, target: u32) -> u32
-    requires { AreLow heights.now }
-    ensures { IsMost (HasRow heights.now (flows.entered_key key.now call_kind target)) result }
+fn height_of_callee(heights: &HashMap<Key, u32>, key: &Key, target: u32) -> u32
+    requires { AreHeightsLow heights.now }
+    ensures { IsGreatestHeight
+        (HasCalleeHeight heights.now (flows.entered_key key.now call_kind target)) result }
 {
     match heights.get(&entered_key(key, CALL, target)) {
         Some(height) => *height + 1,

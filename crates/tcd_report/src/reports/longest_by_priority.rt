@@ -3,7 +3,7 @@ ghost use Rattle.std.specs.Prelude.{◌≡◌, ◌++◌, ℕ, Some, Contains, On
 ghost use Rattle.std.specs.HashMap.{get};
 ghost use Rattle.std.specs.Option.{option_copied};
 ghost use Rattle.depth_cert.specs.Nodes.{NodeData};
-ghost use Rattle.tcd_report.specs.Reports.Longest.{IsGreatest, priorities, AtPrio, greater, row_of};
+ghost use Rattle.tcd_report.specs.Reports.Longest.{IsLongestIfAny, priorities, AtPrio, longest_with, row_of};
 ghost use Rattle.depth_cert.specs.Keys.{key_eq};
 ghost use Rattle.tcd_report.specs.Reports.Longest as spec;
 ghost use Rattle.serde_json.specs.View.{view};
@@ -32,7 +32,8 @@ pub(crate) fn longest_by_priority(
     requires { (n : NodeData) → Contains cert.now.nodes n
         → (h : ℕ) × (get key_eq heights.now n.key ≡ Some h) }
     ensures { IfOk result
-        (λ rows. (p : ℕ) → IsGreatest (AtPrio heights.now cert.now.nodes p) (get nat_eq rows p)) }
+        (λ rows. (p : ℕ) → IsLongestIfAny (AtPrio heights.now cert.now.nodes p)
+        (get nat_eq rows p)) }
 {
     let mut rows = HashMap::new(alloc);
     for i in 0..cert.len() {
@@ -43,15 +44,15 @@ pub(crate) fn longest_by_priority(
             unreachable!()
         };
         let prio = u16::from(node.key.prio);
-        let most = greater_of(rows.get(&prio), *height);
+        let most = longest_so_far(rows.get(&prio), *height);
         rows.insert(prio, most)?;
     }
     Ok(rows)
 }
 
 // The greater of a number, if there is one, and another number.
-fn greater_of(known: Option<&u32>, height: u32) -> u32
-    ensures { result ≡ greater (option_copied known.entry) height }
+fn longest_so_far(known: Option<&u32>, height: u32) -> u32
+    ensures { result ≡ longest_with (option_copied known.entry) height }
 {
     match known {
         None => height,

@@ -3,7 +3,7 @@ ghost use Rattle.std.specs.Prelude.{◌≡◌, OnOk, IfOk};
 ghost use Rattle.serde_json.specs.Data.{put as with_member};
 ghost use Rattle.serde_json.specs.View.{view, members_view};
 ghost use Rattle.cfg_recover.specs.RulesHoldOrFail.{certified_need};
-ghost use Rattle.tcd_report.specs.Reports.{count, node_data, nodes_data, rows_data, whole_data};
+ghost use Rattle.tcd_report.specs.Reports.{reported_count, reported_node, nodes_data, rows_data, whole_data};
 
 use crate::reports::longest_by_priority::{LongestCalls, row_value};
 use crate::texts::append_key;
@@ -15,7 +15,8 @@ use std::alloc::Global;
 use tcd_base::NoMemory;
 use tcd_plan::Plan;
 
-// The need of the start node.
+/// Returns the certified need for the text of the report: the need of the start node, or 0 if there
+/// is none.
 pub(crate) fn need_of_start(image: &Image, plan: &Plan, cert: &PackedCert) -> u32
     ensures { result ≡ certified_need image.now plan.now cert.now }
 {
@@ -37,29 +38,29 @@ pub(crate) fn whole_value(
         ≡ whole_data plan.now.areas (view calls) certified (view nodes) plan.now.reserve) }
 {
     let mut members = Map::new(alloc);
-    put_count(&mut members, alloc, "areas", plan.areas)?;
-    put_value(&mut members, alloc, "calls", calls)?;
-    put_count(&mut members, alloc, "certified", certified)?;
-    put_value(&mut members, alloc, "nodes", nodes)?;
-    put_count(&mut members, alloc, "reserve", plan.reserve)?;
+    put_report_count(&mut members, alloc, "areas", plan.areas)?;
+    put_report_value(&mut members, alloc, "calls", calls)?;
+    put_report_count(&mut members, alloc, "certified", certified)?;
+    put_report_value(&mut members, alloc, "nodes", nodes)?;
+    put_report_count(&mut members, alloc, "reserve", plan.reserve)?;
     Ok(Value::Object(members))
 }
 
 // Puts a member that is a number into an object.
-fn put_count(
+fn put_report_count(
     members: &mut Map<String, Value>,
     alloc: Global,
     name: &str,
     n: u32,
 ) -> Result<(), NoMemory>
     ensures { OnOk result (members_view members.new.entries
-        ≡ with_member name.now (count n) (members_view members.old.entries)) }
+        ≡ with_member name.now (reported_count n) (members_view members.old.entries)) }
 {
-    put_value(members, alloc, name, Value::from(n))
+    put_report_value(members, alloc, name, Value::from(n))
 }
 
 // Puts a member into an object.
-fn put_value(
+fn put_report_value(
     members: &mut Map<String, Value>,
     alloc: Global,
     name: &str,
@@ -87,9 +88,10 @@ pub(crate) fn nodes_value(alloc: Global, cert: &PackedCert) -> Result<Value, NoM
     Ok(Value::Array(values))
 }
 
-// A node: its key, its need, and the number of its points.
+/// Returns a node as the text of the report has it: an object with its key, its need, and the
+/// number of its points.
 fn node_value(alloc: Global, node: &PackedNode<'_>) -> Result<Value, NoMemory>
-    ensures { IfOk result (λ v. view v ≡ node_data node.now) }
+    ensures { IfOk result (λ v. view v ≡ reported_node node.now) }
 {
     let mut key = String::new(alloc);
     append_key(&mut key, &node.key)?;
@@ -97,7 +99,8 @@ fn node_value(alloc: Global, node: &PackedNode<'_>) -> Result<Value, NoMemory>
     Ok(value)
 }
 
-// The longest call chains of the priorities.
+/// Returns the longest call chains of the priorities as the text of the report has them: an array
+/// of objects.
 pub(crate) fn rows_value(alloc: Global, rows: &[LongestCalls]) -> Result<Value, NoMemory>
     ensures { IfOk result (λ v. view v ≡ rows_data rows.now) }
 {

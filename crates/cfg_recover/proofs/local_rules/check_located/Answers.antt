@@ -5,10 +5,10 @@ use Rattle.cfg_recover.specs.Code.{LocatesCode}
 use Rattle.cfg_recover.proofs.LocalLaws.{IsLocalFault-broken, LocalHolds-found}
 use Rattle.cfg_recover.proofs.local_rules.check_located.Goals as goal
 
-pub returns-in-Some-first_fault-clause-fault : goal.returns-in-Some-first_fault-clause-fault
-returns-in-Some-first_fault-clause-fault c image p there =
+pub returns-in-Some-first_local_fault-clause-fault : goal.returns-in-Some-first_local_fault-clause-fault
+returns-in-Some-first_local_fault-clause-fault c image p there =
     let code = subst (λ (o : Option Located). LocatesCode image c.args.plan.now p o) c.in-Some.is there in
-    IsLocalFault-broken c.args.b.now image c.args.plan.now c.args.key.now p c.args.s.now _ _ _ code (c.in-Some-first_fault.ensures p)
+    IsLocalFault-broken c.args.b.now image c.args.plan.now c.args.key.now p c.args.s.now _ _ _ code (c.in-Some-first_local_fault.ensures p)
 
 pub returns-in-None-clause-found : goal.returns-in-None-clause-found
 returns-in-None-clause-found c image p there =

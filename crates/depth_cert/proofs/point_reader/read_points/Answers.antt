@@ -26,9 +26,9 @@ returns-in_err-read_state-clause-err c =
 pub loop-i-preserved : goal.loop-i-preserved
 loop-i-preserved c =
     let at : c.len-at.result - 1 ≡ length c.loop-i.points.items = omega (arith, c.len-at.ensures, c.in_ok-push.ensures.len) in
-    let blank = get_last c.loop-i.points.items c.push.new.self.items c.blank.result c.index_mut.result.now _ _ c.in_ok-push.ensures.items at c.index_mut.ensures.value in
-    let addr = ap (λ p. p.addr) blank ∙ c.blank.ensures in
-    let last = set_last c.loop-i.points.items c.push.new.self.items c.blank.result (record { addr = c.index_mut.result.now.addr; state = c.read_state.new.out }) _ c.in_ok-push.ensures.items at in
+    let blank = get_last c.loop-i.points.items c.push.new.self.items c.blank_point_for_reading.result c.index_mut.result.now _ _ c.in_ok-push.ensures.items at c.index_mut.ensures.value in
+    let addr = ap (λ p. p.addr) blank ∙ c.blank_point_for_reading.ensures in
+    let last = set_last c.loop-i.points.items c.push.new.self.items c.blank_point_for_reading.result (record { addr = c.index_mut.result.now.addr; state = c.read_state.new.out }) _ c.in_ok-push.ensures.items at in
     let read = point_reads c.args.version c.loop-i.points.items c.loop-i.c _ c.read_state.new.c c.in_ok-addr.addr c.read_state.new.out (rw c.loop-i.invariant.last at c.in_ok-addr.ensures.read) c.in_ok-read_state.ensures.ok in
     record {
       read =

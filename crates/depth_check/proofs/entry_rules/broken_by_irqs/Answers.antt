@@ -13,8 +13,8 @@ pub loop-p-preserved : goal.loop-p-preserved
 loop-p-preserved c = record {
   found =
       interrupts_more c.args.at.now.cert.now c.args.at.now.node.now c.args.at.now.point.state.now c.args.at.now.plan.now (state_after c.args.at.now.point.state.now c.args.entry) (state_after c.args.at.now.point.state.now c.loop-p.entry) c.irq_key.result c.args.irqs.now c.loop-p.p-index c.loop-p.found
-      c.broken_by_entry-one.result c.least-found.result
-      c.loop-p-test.true c.irq_key.ensures (ap (λ (e : Change). state_after c.args.at.now.point.state.now e) c.loop-p.invariant.same) c.least-found.ensures c.loop-p.invariant.found c.broken_by_entry-one.ensures;
+      c.broken_by_entry-one.result c.lesser_broken_rule-found.result
+      c.loop-p-test.true c.irq_key.ensures (ap (λ (e : Change). state_after c.args.at.now.point.state.now e) c.loop-p.invariant.same) c.lesser_broken_rule-found.ensures c.loop-p.invariant.found c.broken_by_entry-one.ensures;
   same = c.loop-p.invariant.same;
 }
 

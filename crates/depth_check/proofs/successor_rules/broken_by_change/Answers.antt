@@ -1,9 +1,9 @@
 use Rattle.std.proofs.Common.{Option, None, Bool, ap, sym, subst, ◌∙◌}
 use Rattle.value_domain.specs.declared.states.State.{State}
 use Rattle.vd_transfer.specs.Changes.{state_after}
-use Rattle.vd_transfer.specs.Branches.{possible}
+use Rattle.vd_transfer.specs.Branches.{possible_side}
 use Rattle.cfg_recover.specs.Duties.{jump_on}
-use Rattle.depth_check.specs.LeastBroken.{unless, Breaks}
+use Rattle.depth_check.specs.LeastBroken.{broken_rule_unless, LeastBrokenByDuties}
 use Rattle.depth_check.proofs.DutyLaws.{nothing_found, point_found}
 use Rattle.depth_check.proofs.RuleLaws.{values_well}
 use Rattle.depth_check.proofs.successor_rules.broken_by_change.Goals as goal
@@ -15,14 +15,14 @@ pub returns-then-not-change_on : goal.returns-then-not-change_on
 returns-then-not-change_on c =
     let t = c.args.at.now in
     let s = t.point.state.now in
-    let told = ap (λ (b : Bool). possible b (state_after s c.change_on.new.c)) (sym c.if-not-change_on.true) ∙ c.change_on.ensures.refine in
-    subst (λ (o : Option State). Breaks t (jump_on c.args.to o) None) told (nothing_found t.cert.now t.node.now s)
+    let told = ap (λ (b : Bool). possible_side b (state_after s c.change_on.new.c)) (sym c.if-not-change_on.true) ∙ c.change_on.ensures.refine in
+    subst (λ (o : Option State). LeastBrokenByDuties t (jump_on c.args.to o) None) told (nothing_found t.cert.now t.node.now s)
 
 pub returns : goal.returns
 returns c =
     let t = c.args.at.now in
     let s = t.point.state.now in
-    let told = ap (λ (b : Bool). possible b (state_after s c.change_on.new.c)) (sym c.if-not-change_on.false) ∙ c.change_on.ensures.refine in
-    rw c.unless.ensures
-    (subst (λ (o : Option State). Breaks t (jump_on c.args.to o) (unless c.has_changed_next.result 4)) told
+    let told = ap (λ (b : Bool). possible_side b (state_after s c.change_on.new.c)) (sym c.if-not-change_on.false) ∙ c.change_on.ensures.refine in
+    rw c.rule_unless.ensures
+    (subst (λ (o : Option State). LeastBrokenByDuties t (jump_on c.args.to o) (broken_rule_unless c.has_changed_next.result 4)) told
     (point_found t.cert.now t.node.now s (state_after s c.change_on.new.c) c.args.to c.has_changed_next.result c.has_changed_next.ensures))

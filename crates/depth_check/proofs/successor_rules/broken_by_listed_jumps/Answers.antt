@@ -1,10 +1,10 @@
 use Rattle.std.proofs.Common.{◌≡◌, ◌∙◌, List, [], ℕ, Option, Some, true, subst}
 use Rattle.std.specs.Prelude.{IfSome, unwrap_or}
 use Rattle.vd_transfer.specs.Registers.{reg_of}
-use Rattle.cfg_recover.specs.LocalRules.{named_by}
+use Rattle.cfg_recover.specs.LocalRules.{targets_named_by}
 use Rattle.cfg_recover.specs.Duties.{jumps_to}
-use Rattle.depth_check.specs.CheckedRegisters.{JumpsHold}
-use Rattle.depth_check.specs.LeastBroken.{Finds}
+use Rattle.depth_check.specs.CheckedRegisters.{RegisterJumpsHold}
+use Rattle.depth_check.specs.LeastBroken.{FindsLeastBroken}
 use Rattle.depth_check.specs.DutiesHold.{DutiesHold, HasPoints}
 use Rattle.cfg_recover.proofs.OperationLaws.{same_word}
 use Rattle.depth_check.proofs.Deciding.{yes}
@@ -16,12 +16,12 @@ pub returns-then-eq-clause-found : goal.returns-then-eq-clause-found
 returns-then-eq-clause-found c =
     let t = c.args.at.now in
     let s = t.point.state.now in
-    let holds : JumpsHold t.plan.now t.node.now s c.args.r =
-    subst (λ (o : Option ℕ). IfSome o (JumpsHold t.plan.now t.node.now s)) (same_word c.args.jumped.now c.args.r c.eq.result c.eq.ensures c.if-eq.true) c.requires.jumped in
-    points_found t.cert.now t.node.now s s (unwrap_or (named_by (reg_of t.plan.now s c.args.r)) []) true (yes _ holds)
+    let holds : RegisterJumpsHold t.plan.now t.node.now s c.args.r =
+    subst (λ (o : Option ℕ). IfSome o (RegisterJumpsHold t.plan.now t.node.now s)) (same_word c.args.jumped.now c.args.r c.eq.result c.eq.ensures c.if-eq.true) c.requires.jumped in
+    points_found t.cert.now t.node.now s s (unwrap_or (targets_named_by (reg_of t.plan.now s c.args.r)) []) true (yes _ holds)
 
 -- all targets have points
-found_all : (c : Then-has_points) → JumpsHold c.args.at.now.plan.now c.args.at.now.node.now c.args.at.now.point.state.now c.args.r
+found_all : (c : Then-has_points) → RegisterJumpsHold c.args.at.now.plan.now c.args.at.now.node.now c.args.at.now.point.state.now c.args.r
 found_all c =
     let t = c.args.at.now in
     subst (λ (l : List ℕ). HasPoints t.node.now t.point.state.now l) (c.as_slice.ensures.value ∙ c.targets-targets.ensures) (c.has_points.ensures.0 c.if-has_points.true)
@@ -30,7 +30,7 @@ pub returns-then-has_points-clause-found : goal.returns-then-has_points-clause-f
 returns-then-has_points-clause-found c =
     let t = c.args.at.now in
     let s = t.point.state.now in
-    points_found t.cert.now t.node.now s s (unwrap_or (named_by (reg_of t.plan.now s c.args.r)) []) true (yes _ (found_all c))
+    points_found t.cert.now t.node.now s s (unwrap_or (targets_named_by (reg_of t.plan.now s c.args.r)) []) true (yes _ (found_all c))
 
 pub returns-then-has_points-clause-jumped : goal.returns-then-has_points-clause-jumped
 returns-then-has_points-clause-jumped c = found_all c
@@ -39,5 +39,5 @@ pub returns-else-has_points-clause-found : goal.returns-else-has_points-clause-f
 returns-else-has_points-clause-found c =
     let t = c.args.at.now in
     let s = t.point.state.now in
-    subst (λ (l : List ℕ). Finds (DutiesHold t.cert.now t.node.now s (jumps_to s l)) (Some 4)) (c.as_slice.ensures.value ∙ c.targets-targets.ensures)
+    subst (λ (l : List ℕ). FindsLeastBroken (DutiesHold t.cert.now t.node.now s (jumps_to s l)) (Some 4)) (c.as_slice.ensures.value ∙ c.targets-targets.ensures)
     (rw c.if-has_points.false at (points_found t.cert.now t.node.now s s c.as_slice.result.now c.has_points.result c.has_points.ensures))

@@ -16,7 +16,7 @@ apply-requires c =
     let t = c.args.table.now in
     let v = c.args.v.now in
     let x = Point v.key v.addr in
-    let free = sym (c.has_work.ensures _ c.requires.visited.stands) ∙ c.if-has_work.false in
+    let free = sym (c.has_queued_mark.ensures _ c.requires.visited.stands) ∙ c.if-has_queued_mark.false in
     let had = had_at t.places t.near x _ c.in-Some.own.now (sym c.in-Some.ensures.entry) c.in-Some.ensures.value c.requires.visited.stands in
     same_Some c.in-Some.own.now.value (state v.state.now) (sym (ap (option_map (λ (m : Marked Known). m.value)) had) ∙ c.requires.visited.at free)
 
@@ -27,11 +27,11 @@ unreachable-requires c =
 pub returns-then-len-lt2-clause-ok : goal.returns-then-len-lt2-clause-ok
 returns-then-len-lt2-clause-ok c before paid = paid
 
-pub returns-then-has_work-clause-ok : goal.returns-then-has_work-clause-ok
-returns-then-has_work-clause-ok c before paid = paid
+pub returns-then-has_queued_mark-clause-ok : goal.returns-then-has_queued_mark-clause-ok
+returns-then-has_queued_mark-clause-ok c before paid = paid
 
 pub returns-clause-ok : goal.returns-clause-ok
 returns-clause-ok c before paid =
     let v = c.args.v.now in
     call_noted _ _ _ v.key v.addr v.state.now before c.args.table.now c.of.result c.args.targets.now.items (subst (λ (w : Known). IsCallOf c.of.result v.key c.args.targets.now.items w) (c.in_ok-entry.ensures ∙ ap state c.requires.entry) c.of.ensures)
-    c.requires.visited.proper (sym (c.has_work.ensures _ c.requires.visited.stands) ∙ c.if-has_work.false) paid
+    c.requires.visited.proper (sym (c.has_queued_mark.ensures _ c.requires.visited.stands) ∙ c.if-has_queued_mark.false) paid

@@ -8,5 +8,5 @@ pub returns : goal.returns
 returns c =
     let v = c.args.v.now in
     let f = c.args.found.now in
-    c.in_ok-add_access.ensures
-    ∙ ap (λ (l : List Key). l ++ entered_in (access_by v f)) (c.in_ok-add_entries.ensures ∙ ap (λ (l : List Key). l ++ entered_in (entries_by v f.shape f.size)) c.new-keys.ensures.items)
+    c.in_ok-add_misaligned_frame.ensures
+    ∙ ap (λ (l : List Key). l ++ entered_in (access_by v f)) (c.in_ok-add_entered_frames.ensures ∙ ap (λ (l : List Key). l ++ entered_in (entries_by v f.shape f.size)) c.new-keys.ensures.items)

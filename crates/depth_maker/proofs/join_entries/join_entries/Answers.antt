@@ -6,8 +6,8 @@ join_call-requires-clause-owes c = rw c.in-Call.is at c.requires.owes
 pub returns-in-Call-clause-ok : goal.returns-in-Call-clause-ok
 returns-in-Call-clause-ok c = rw c.in-Call.is c.join_call.ensures.ok
 
-pub join_system_call-requires-clause-owes : goal.join_system_call-requires-clause-owes
-join_system_call-requires-clause-owes c = rw c.in-Syscall.is at c.requires.owes
+pub join_system_call_entry-requires-clause-owes : goal.join_system_call_entry-requires-clause-owes
+join_system_call_entry-requires-clause-owes c = rw c.in-Syscall.is at c.requires.owes
 
 pub returns-in-Syscall-clause-ok : goal.returns-in-Syscall-clause-ok
-returns-in-Syscall-clause-ok c = rw c.in-Syscall.is c.join_system_call.ensures.ok
+returns-in-Syscall-clause-ok c = rw c.in-Syscall.is c.join_system_call_entry.ensures.ok

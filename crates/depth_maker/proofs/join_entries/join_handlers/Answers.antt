@@ -5,8 +5,8 @@ use Rattle.cfg_recover.proofs.FlowDuties.{told_irqs-is}
 use Rattle.depth_maker.specs.VisitDuties.{OwesAll, JoinedBy}
 use Rattle.depth_maker.proofs.join_entries.join_handlers.Goals as goal
 
-pub join_irqs-requires-clause-owes : goal.join_irqs-requires-clause-owes
-join_irqs-requires-clause-owes c =
+pub join_each_handler_entry-requires-clause-owes : goal.join_each_handler_entry-requires-clause-owes
+join_each_handler_entry-requires-clause-owes c =
     let v = c.args.v.now in
     subst (λ (l : List Owed). OwesAll v l)
     (sym (told_irqs-is v.ground.now.plan.now v.key v.state.now _ _ c.handler_change-entry.ensures.entry c.requires.irqs)) c.requires.owes
@@ -14,5 +14,5 @@ join_irqs-requires-clause-owes c =
 pub returns-clause-ok : goal.returns-clause-ok
 returns-clause-ok c =
     let v = c.args.v.now in
-    subst (λ (l : List Owed). OnOk c.join_irqs.result (JoinedBy v c.args.table.now c.join_irqs.new.table l))
-    (told_irqs-is v.ground.now.plan.now v.key v.state.now _ _ c.handler_change-entry.ensures.entry c.requires.irqs) c.join_irqs.ensures.ok
+    subst (λ (l : List Owed). OnOk c.join_each_handler_entry.result (JoinedBy v c.args.table.now c.join_each_handler_entry.new.table l))
+    (told_irqs-is v.ground.now.plan.now v.key v.state.now _ _ c.handler_change-entry.ensures.entry c.requires.irqs) c.join_each_handler_entry.ensures.ok

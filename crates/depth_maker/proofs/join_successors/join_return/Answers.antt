@@ -10,8 +10,8 @@ use Rattle.depth_maker.proofs.VisitLemmas.{exit_known}
 use Rattle.depth_maker.proofs.PartLemmas.{has_duty, resume_asks, on_resume, duties_queued, duties_resume_none}
 use Rattle.depth_maker.proofs.join_successors.join_return.Goals as goal
 
-pub returns-then-has_work-clause-ok : goal.returns-then-has_work-clause-ok
-returns-then-has_work-clause-ok c = duties_queued _ _ _ _ _ _ c.args.table.now _ c.requires.visited (sym (c.has_work.ensures _ c.requires.visited.stands) ∙ c.if-has_work.true)
+pub returns-then-has_queued_mark-clause-ok : goal.returns-then-has_queued_mark-clause-ok
+returns-then-has_queued_mark-clause-ok c = duties_queued _ _ _ _ _ _ c.args.table.now _ c.requires.visited (sym (c.has_queued_mark.ensures _ c.requires.visited.stands) ∙ c.if-has_queued_mark.true)
 
 pub returns-in_default-clause-ok : goal.returns-in_default-clause-ok
 returns-in_default-clause-ok c =
@@ -22,23 +22,23 @@ unreachable-requires c =
     let e = exit_known _ _ _ c.args.table.now c.args.key c.in-Some.place.now.value c.requires.visited.fine (sym (ap (option_map (λ (m : Marked Known). m.value)) c.in-Some.ensures.value)) in
     subst (λ (w : Known). IsNoExit w) e.1 c.in_default-exit.ensures.none
 
-pub join_at-requires-clause-fine : goal.join_at-requires-clause-fine
-join_at-requires-clause-fine c = c.requires.visited.fine
+pub join_at_place-requires-clause-fine : goal.join_at_place-requires-clause-fine
+join_at_place-requires-clause-fine c = c.requires.visited.fine
 
-pub join_at-requires-clause-near : goal.join_at-requires-clause-near
-join_at-requires-clause-near c = c.requires.visited.stands
+pub join_at_place-requires-clause-near : goal.join_at_place-requires-clause-near
+join_at_place-requires-clause-near c = c.requires.visited.stands
 
-pub join_at-requires-clause-incoming : goal.join_at-requires-clause-incoming
-join_at-requires-clause-incoming c =
+pub join_at_place-requires-clause-incoming : goal.join_at_place-requires-clause-incoming
+join_at_place-requires-clause-incoming c =
     let v = c.args.v.now in
     let x = exit_in c.in_ok-copy.copy in
     let there : value_for c.args.table.now.places (spots.Exit c.args.key) ≡ Some (leaving x) =
     sym (ap (option_map (λ (m : Marked Known). m.value)) c.in-Some.ensures.value) ∙ ap (λ (w : Known). Some w) (c.in-Some-exit.ensures.some ∙ ap leaving (sym c.in_ok-copy.ensures)) in
     resume_asks _ _ _ v.key v.addr v.state.now c.args.table.now c.args.key c.args.back x there
-    (has_duty _ _ _ v.key v.addr v.state.now c.args.table.now (resume c.args.key c.args.back) c.requires.visited (sym (c.has_work.ensures _ c.requires.visited.stands) ∙ c.if-has_work.false) c.requires.owes)
+    (has_duty _ _ _ v.key v.addr v.state.now c.args.table.now (resume c.args.key c.args.back) c.requires.visited (sym (c.has_queued_mark.ensures _ c.requires.visited.stands) ∙ c.if-has_queued_mark.false) c.requires.owes)
 
-pub join_at-requires-clause-at : goal.join_at-requires-clause-at
-join_at-requires-clause-at c = c.requires.visited.at (sym (c.has_work.ensures _ c.requires.visited.stands) ∙ c.if-has_work.false)
+pub join_at_place-requires-clause-at : goal.join_at_place-requires-clause-at
+join_at_place-requires-clause-at c = c.requires.visited.at (sym (c.has_queued_mark.ensures _ c.requires.visited.stands) ∙ c.if-has_queued_mark.false)
 
 pub returns-clause-ok : goal.returns-clause-ok
 returns-clause-ok c =
@@ -46,4 +46,4 @@ returns-clause-ok c =
     let x = exit_in c.in_ok-copy.copy in
     let there : value_for c.args.table.now.places (spots.Exit c.args.key) ≡ Some (leaving x) =
     sym (ap (option_map (λ (m : Marked Known). m.value)) c.in-Some.ensures.value) ∙ ap (λ (w : Known). Some w) (c.in-Some-exit.ensures.some ∙ ap leaving (sym c.in_ok-copy.ensures)) in
-    on_resume _ _ _ v.key v.addr v.state.now c.args.table.now c.join_at.new.table 4 c.args.key c.args.back x c.join_at.result there c.requires.registered c.join_at.ensures.ok
+    on_resume _ _ _ v.key v.addr v.state.now c.args.table.now c.join_at_place.new.table 4 c.args.key c.args.back x c.join_at_place.result there c.requires.registered c.join_at_place.ensures.ok

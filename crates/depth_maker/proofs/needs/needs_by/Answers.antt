@@ -5,7 +5,7 @@ use Rattle.std.specs.declared.vec.Vec.{Vec}
 use Rattle.depth_maker.specs.Needs.{NeedsOn}
 use Rattle.depth_maker.specs.Recursing.{IsRecursion}
 use Rattle.depth_cert.specs.declared.keys.Key.{Key}
-use Rattle.frame_places.specs.RowNeeds.{IsWithin, LeastNeeds}
+use Rattle.frame_places.specs.RowNeeds.{AreRowsWithin, LeastNeeds}
 use Rattle.depth_maker.proofs.CountedLemmas.{few_spots}
 use Rattle.depth_maker.proofs.NeedSteps.{recursion_above, source_within, source_needs}
 use Rattle.depth_maker.proofs.needs.needs_by.Goals as goal
@@ -18,7 +18,7 @@ least_needs-requires-clause-nodes c =
 
 pub least_needs-requires-clause-within : goal.least_needs-requires-clause-within
 least_needs-requires-clause-within c =
-    subst (λ (l : List Key). IsWithin c.args.rows.now (length l)) (sym c.requires.frames) (source_within c.args.source.now c.args.rows.now c.requires.source c.requires.rows)
+    subst (λ (l : List Key). AreRowsWithin c.args.rows.now (length l)) (sym c.requires.frames) (source_within c.args.source.now c.args.rows.now c.requires.source c.requires.rows)
 
 pub soon_needs-requires-clause-nodes : goal.soon_needs-requires-clause-nodes
 soon_needs-requires-clause-nodes c =
@@ -28,29 +28,29 @@ soon_needs-requires-clause-nodes c =
 
 pub soon_needs-requires-clause-within : goal.soon_needs-requires-clause-within
 soon_needs-requires-clause-within c =
-    subst (λ (l : List Key). IsWithin c.args.rows.now (length l)) (sym c.requires.frames) (source_within c.args.source.now c.args.rows.now c.requires.source c.requires.rows)
+    subst (λ (l : List Key). AreRowsWithin c.args.rows.now (length l)) (sym c.requires.frames) (source_within c.args.source.now c.args.rows.now c.requires.source c.requires.rows)
 
 pub returns-in-Some-needs : goal.returns-in-Some-needs
 returns-in-Some-needs c =
     let h =
-    source_needs c.args.source.now c.args.rows.now c.usable-cap.result c.requires.source c.requires.rows c.usable-cap.ensures.areas (Ok c.in_ok-needs.needs) c.in_ok-needs.needs refl
-    (subst (λ (l : List Key). LeastNeeds (length l) c.args.rows.now c.usable-cap.result (Ok c.in_ok-needs.needs)) c.requires.frames c.in_ok-needs.ensures)
+    source_needs c.args.source.now c.args.rows.now c.need_limit-cap.result c.requires.source c.requires.rows c.need_limit-cap.ensures.areas (Ok c.in_ok-needs.needs) c.in_ok-needs.needs refl
+    (subst (λ (l : List Key). LeastNeeds (length l) c.args.rows.now c.need_limit-cap.result (Ok c.in_ok-needs.needs)) c.requires.frames c.in_ok-needs.ensures)
     in
     subst (λ (o : Option (Vec ℕ Global)). NeedsOn c.args.source.now o) c.in-Some-needs.is h
 
 pub returns-in-None : goal.returns-in-None
 returns-in-None c =
     let h =
-    source_needs c.args.source.now c.args.rows.now c.usable-cap.result c.requires.source c.requires.rows c.usable-cap.ensures.areas (Ok c.in_ok-needs.needs) c.in_ok-needs.needs refl
-    (subst (λ (l : List Key). LeastNeeds (length l) c.args.rows.now c.usable-cap.result (Ok c.in_ok-needs.needs)) c.requires.frames c.in_ok-needs.ensures)
+    source_needs c.args.source.now c.args.rows.now c.need_limit-cap.result c.requires.source c.requires.rows c.need_limit-cap.ensures.areas (Ok c.in_ok-needs.needs) c.in_ok-needs.needs refl
+    (subst (λ (l : List Key). LeastNeeds (length l) c.args.rows.now c.need_limit-cap.result (Ok c.in_ok-needs.needs)) c.requires.frames c.in_ok-needs.ensures)
     in
     (subst (λ (o : Option (Vec ℕ Global)). NeedsOn c.args.source.now o) c.in-None.is h, c.in_ok-recurs.ensures)
 
 pub returns-in-Some : goal.returns-in-Some
 returns-in-Some c =
-    let h = subst (λ (o : Option (Vec ℕ Global)). IfSome o (λ needs. LeastNeeds (length c.args.frames.now) c.args.rows.now c.usable-cap.result (Ok (Some needs)))) c.in-Some.is c.in_ok-soon.ensures in
-    source_needs c.args.source.now c.args.rows.now c.usable-cap.result c.requires.source c.requires.rows c.usable-cap.ensures.areas (Ok (Some c.in-Some.found)) (Some c.in-Some.found) refl
-    (subst (λ (l : List Key). LeastNeeds (length l) c.args.rows.now c.usable-cap.result (Ok (Some c.in-Some.found))) c.requires.frames h)
+    let h = subst (λ (o : Option (Vec ℕ Global)). IfSome o (λ needs. LeastNeeds (length c.args.frames.now) c.args.rows.now c.need_limit-cap.result (Ok (Some needs)))) c.in-Some.is c.in_ok-soon.ensures in
+    source_needs c.args.source.now c.args.rows.now c.need_limit-cap.result c.requires.source c.requires.rows c.need_limit-cap.ensures.areas (Ok (Some c.in-Some.found)) (Some c.in-Some.found) refl
+    (subst (λ (l : List Key). LeastNeeds (length l) c.args.rows.now c.need_limit-cap.result (Ok (Some c.in-Some.found))) c.requires.frames h)
 
 pub returns-in-Some-recurs : goal.returns-in-Some-recurs
 returns-in-Some-recurs c =

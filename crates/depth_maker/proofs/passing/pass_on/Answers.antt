@@ -13,8 +13,8 @@ use Rattle.depth_maker.proofs.passing.pass_on.Goals as goal
 pub returns-in_default : goal.returns-in_default
 returns-in_default c = all_left c.args.site.now.ground.now c.args.table.now c.requires.fine
 
-pub returns-then-not-is_last_and_quiet : goal.returns-then-not-is_last_and_quiet
-returns-then-not-is_last_and_quiet c = all_left c.args.site.now.ground.now c.args.table.now c.requires.fine
+pub returns-then-not-may_pass_state_on : goal.returns-then-not-may_pass_state_on
+returns-then-not-may_pass_state_on c = all_left c.args.site.now.ground.now c.args.table.now c.requires.fine
 
 pub unreachable-requires : goal.unreachable-requires
 unreachable-requires c =
@@ -43,7 +43,7 @@ returns-in-None c =
     let s = c.args.table.now in
     let e = own_state _ _ _ s v.key v.addr _ c.in-Some-get_index.own.now c.requires.fine (sym c.in-Some-get_index.ensures.entry) c.in-Some-get_index.ensures.value c.requires.near in
     let asks = subst (AsksOn v.ground.now s (Point v.key c.in-Some.to)) (sym (c.in_ok-value.ensures ∙ e.1)) (passing_asks _ _ _ v.key v.addr e.0 s c.in-Some.to e.2 c.in-Some.ensures) in
-    let quiet = c.is_last_and_quiet.ensures c.if-not-is_last_and_quiet.false e.0 e.2 in
+    let quiet = c.may_pass_state_on.ensures c.if-not-may_pass_state_on.false e.0 e.2 in
     let passes = c.in-Some.ensures in
     let laws = lawful _ _ _ v.ground.now.sound in (
       passed_on _ _ _ v.key v.addr e.0 s c.in-Some.to e.2 passes laws _ c.requires.fine (visited_at _ _ _ laws s v.key v.addr e.0 c.requires.fine c.requires.near e.2).proper quiet.0 quiet.1

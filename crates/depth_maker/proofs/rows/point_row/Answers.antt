@@ -1,5 +1,5 @@
 use Rattle.std.proofs.Common.{subst, sym}
-use Rattle.depth_cert.specs.Known.{state, IsStateAt}
+use Rattle.depth_cert.specs.Known.{state, IsKnownState}
 use Rattle.frame_places.specs.declared.places.Spot.TheVariants.{Point}
 use Rattle.depth_maker.specs.TableView.{seen}
 use Rattle.depth_maker.proofs.RowSteps.{all_known, done_proper, known_there, read_there}
@@ -16,7 +16,7 @@ local_check-requires c =
     let s = c.args.source.now in
     let at = c.args.at.now in
     let done = (c.requires.source).done in
-    let there = read_there s.ground.now s.table.now done at.key at.addr _ c.state.result.now (known_there s at c.requires.at) (subst (IsStateAt at.known.now.value) (sym c.state.ensures) c.read_state.ensures) in
+    let there = read_there s.ground.now s.table.now done at.key at.addr _ c.state.result.now (known_there s at c.requires.at) (subst (IsKnownState at.known.now.value) (sym c.state.ensures) c.read_state.ensures) in
     (done_proper s.ground.now s.table.now done (Point at.key at.addr) (state c.state.result.now) there).values
 
 pub row_with-requires-clause-proper : goal.row_with-requires-clause-proper
@@ -24,7 +24,7 @@ row_with-requires-clause-proper c =
     let s = c.args.source.now in
     let at = c.args.at.now in
     let done = (c.requires.source).done in
-    let there = read_there s.ground.now s.table.now done at.key at.addr _ c.state.result.now (known_there s at c.requires.at) (subst (IsStateAt at.known.now.value) (sym c.state.ensures) c.read_state.ensures) in
+    let there = read_there s.ground.now s.table.now done at.key at.addr _ c.state.result.now (known_there s at c.requires.at) (subst (IsKnownState at.known.now.value) (sym c.state.ensures) c.read_state.ensures) in
     done_proper s.ground.now s.table.now done (Point at.key at.addr) (state c.state.result.now) there
 
 pub returns : goal.returns
@@ -33,7 +33,7 @@ returns c =
     let s = c.args.source.now in
     let at = c.args.at.now in
     let source = c.requires.source in
-    let there = read_there s.ground.now s.table.now source.done at.key at.addr _ c.state.result.now (known_there s at c.requires.at) (subst (IsStateAt at.known.now.value) (sym c.state.ensures) c.read_state.ensures) in
+    let there = read_there s.ground.now s.table.now source.done at.key at.addr _ c.state.result.now (known_there s at c.requires.at) (subst (IsKnownState at.known.now.value) (sym c.state.ensures) c.read_state.ensures) in
     (c.state.result.now, there, c.in_ok-row_with-in-Ok.ensures s.table.now.frames.items (record { all = source.numbers; taken = source.handlers }) (all_known _ s.table.now source.done there) (c.requires.at).node)
 
 pub unreachable-requires : goal.unreachable-requires
@@ -42,5 +42,5 @@ unreachable-requires c =
     let s = c.args.source.now in
     let at = c.args.at.now in
     let done = (c.requires.source).done in
-    let there = read_there s.ground.now s.table.now done at.key at.addr _ c.state.result.now (known_there s at c.requires.at) (subst (IsStateAt at.known.now.value) (sym c.state.ensures) c.read_state.ensures) in
+    let there = read_there s.ground.now s.table.now done at.key at.addr _ c.state.result.now (known_there s at c.requires.at) (subst (IsKnownState at.known.now.value) (sym c.state.ensures) c.read_state.ensures) in
     c.in-Err.ensures.fault.fails (done.faultless at.key at.addr c.state.result.now there _)

@@ -3,7 +3,7 @@ use Rattle.std.specs.Prelude.{map}
 use Rattle.std.proofs.lemmas.List.{map-append}
 use Rattle.std.proofs.lemmas.List.Elements.{Contains-append_left, Contains-append_right}
 use Rattle.depth_cert.specs.declared.keys.Key.{Key}
-use Rattle.frame_places.specs.Numbers.{number_in}
+use Rattle.frame_places.specs.Numbers.{frame_number_in}
 use Rattle.depth_maker.specs.EnteredFrames.{entered_in}
 use Rattle.depth_maker.specs.InterruptHandlers.{nodes_taken}
 use Rattle.depth_maker.specs.VisitDuties.{access_by, entries_by, interrupts_by}
@@ -23,7 +23,7 @@ returns c frames are all node =
     let first =
     c.in_ok-into.ensures frames are.all
     (λ k i. all.entered f c.requires.found k (subst (λ (l : List Key). Contains l k) (sym whole) (Contains-append_left own irqs k (subst (λ (l : List Key). Contains l k) keys i))))
-    ∙ ap (λ (l : List Key). map (number_in frames) l) keys in
+    ∙ ap (λ (l : List Key). map (frame_number_in frames) l) keys in
     let second = nodes_taken-is g.plan.now frames v.key v.state.now c.args.source.now.handlers.now are.taken (λ k i. all.entered f c.requires.found k (subst (λ (l : List Key). Contains l k) (sym whole) (Contains-append_right own irqs k i))) in
     record {
       found = f;
@@ -31,8 +31,8 @@ returns c frames are all node =
       node = node;
       held = c.len.ensures.value;
       into =
-          c.in_ok-add_taken.ensures
+          c.in_ok-add_taken_handlers.ensures
           ∙ ap (λ (l : List ℕ). l ++ nodes_taken (v.state.now).ie (v.state.now).ccpn c.args.source.now.handlers.now) first
-          ∙ ap (λ (l : List ℕ). map (number_in frames) own ++ l) second
-          ∙ sym (ap (map (number_in frames)) whole ∙ map-append (number_in frames) own irqs);
+          ∙ ap (λ (l : List ℕ). map (frame_number_in frames) own ++ l) second
+          ∙ sym (ap (map (frame_number_in frames)) whole ∙ map-append (frame_number_in frames) own irqs);
     }

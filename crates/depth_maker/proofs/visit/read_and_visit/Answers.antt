@@ -1,6 +1,6 @@
 use Rattle.std.proofs.Common.{ap, subst, sym}
 use Rattle.std.specs.Option.{option_map}
-use Rattle.depth_cert.specs.Known.{Known, IsStateAt}
+use Rattle.depth_cert.specs.Known.{Known, IsKnownState}
 use Rattle.frame_places.specs.declared.places.Marked.{Marked}
 use Rattle.frame_places.specs.declared.places.Spot.TheVariants.{Point}
 use Rattle.frame_places.proofs.NearbyLemmas.{had_at, nowhere}
@@ -26,7 +26,7 @@ visit_point-requires-clause-visited c =
     let v = c.args.site.now in
     let s = c.args.table.now in
     let at = state_there _ _ _ s v.key v.addr _ c.in-Some.place.now c.state.result.now c.requires.fine (sym c.in-Some.ensures.entry) c.in-Some.ensures.value c.requires.near
-    (subst (IsStateAt c.in-Some.place.now.value) (sym c.state.ensures) c.read_state.ensures) in
+    (subst (IsKnownState c.in-Some.place.now.value) (sym c.state.ensures) c.read_state.ensures) in
     visited_at _ _ _ (lawful _ _ _ v.ground.now.sound) s v.key v.addr c.state.result.now c.requires.fine c.requires.near at
 
 pub visit_point-requires-clause-at : goal.visit_point-requires-clause-at
@@ -35,4 +35,4 @@ visit_point-requires-clause-at c =
     let v = c.args.site.now in
     let s = c.args.table.now in
     state_there _ _ _ s v.key v.addr _ c.in-Some.place.now c.state.result.now c.requires.fine (sym c.in-Some.ensures.entry) c.in-Some.ensures.value c.requires.near
-    (subst (IsStateAt c.in-Some.place.now.value) (sym c.state.ensures) c.read_state.ensures)
+    (subst (IsKnownState c.in-Some.place.now.value) (sym c.state.ensures) c.read_state.ensures)

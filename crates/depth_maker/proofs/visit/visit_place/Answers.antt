@@ -4,7 +4,7 @@ use Rattle.frame_places.specs.declared.places.Spot.{Spot}
 use Rattle.frame_places.specs.declared.places.Spot.TheVariants.{Exit, Point}
 use Rattle.frame_places.proofs.NearbyLemmas.{nowhere, one_there, there}
 use Rattle.depth_maker.specs.EnteredFrames.{IsPlainIn}
-use Rattle.depth_maker.specs.Visits.{PointJoinedOn}
+use Rattle.depth_maker.specs.Visits.{VisitJoinsPointOn}
 use Rattle.depth_maker.proofs.PartLemmas.{near_left}
 use Rattle.depth_maker.proofs.PassingLaws.{visited_again}
 use Rattle.depth_maker.proofs.VisitLemmas.{duties_exit}
@@ -18,7 +18,7 @@ returns-in_default-at-clause-ok c x stands =
     let s = c.args.table.now in
     let k = c.in_default-at.field-0 in
     let same : Exit k ≡ x = sym c.in_default-at.is ∙ one_there s.places s.near x c.in-Some.at.now _ (sym c.in-Some.ensures.entry) stands in
-    subst (λ (z : Spot). PointJoinedOn c.args.ground.now s s z) same (duties_exit _ _ _ s k c.requires.fine)
+    subst (λ (z : Spot). VisitJoinsPointOn c.args.ground.now s s z) same (duties_exit _ _ _ s k c.requires.fine)
 
 pub pass_on-requires-clause-near : goal.pass_on-requires-clause-near
 pass_on-requires-clause-near c =
@@ -31,7 +31,7 @@ returns-then-branch-clause-ok c x stands =
     let s = c.args.table.now in
     let same : Point c.in-Point.key c.in-Point.addr ≡ x = sym c.in-Point.is ∙ one_there s.places s.near x c.in-Some.at.now _ (sym c.in-Some.ensures.entry) stands in
     let h = rw c.if-branch.true at c.in_ok-pass_on.ensures in
-    subst (λ (z : Spot). PointJoinedOn c.args.ground.now s c.pass_on.new.table z) same h.0
+    subst (λ (z : Spot). VisitJoinsPointOn c.args.ground.now s c.pass_on.new.table z) same h.0
 
 pub returns-then-branch-clause-plain : goal.returns-then-branch-clause-plain
 returns-then-branch-clause-plain c x stands t =
@@ -58,7 +58,7 @@ returns-clause-ok c x stands =
     let s = c.args.table.now in
     let h = rw c.if-branch.false at c.in_ok-pass_on.ensures in
     let same : Point c.in-Point.key c.in-Point.addr ≡ x = sym c.in-Point.is ∙ one_there s.places s.near x c.in-Some.at.now _ (sym c.in-Some.ensures.entry) stands in
-    subst (λ (z : Spot). OnOk c.read_and_visit.result (PointJoinedOn c.args.ground.now s c.read_and_visit.new.table z)) same
+    subst (λ (z : Spot). OnOk c.read_and_visit.result (VisitJoinsPointOn c.args.ground.now s c.read_and_visit.new.table z)) same
     (visited_again c.args.ground.now s c.pass_on.new.table c.read_and_visit.new.table (Point c.in-Point.key c.in-Point.addr) c.read_and_visit.result h.entries h.keeps c.read_and_visit.ensures.ok)
 
 pub returns-clause-plain : goal.returns-clause-plain

@@ -7,24 +7,24 @@ use Rattle.elf_image.proofs.headers.loads_of.Goals as goal
 use Rattle.elf_image.proofs.headers.loads_of.Goals.{then-len-eq64-via-then-len-eq64, then-len-eq64-via-else-len-eq64+then-header-total, then-has_bytes+else-len-eq64+else-header-total+in_ok-push, else-has_bytes}
 
 pub loop-number-init : goal.loop-number-init
-loop-number-init c = subst (λ (hs : List Header). LoadsSoFar c.args.bytes.now 0 c.half_at-count.result hs 0) (sym c.new-loads.ensures.items) (loads_none c.args.bytes.now c.half_at-count.result c.half_at-count.ensures)
+loop-number-init c = subst (λ (hs : List Header). LoadsSoFar c.args.bytes.now 0 c.elf_half_at-count.result hs 0) (sym c.new-loads.ensures.items) (loads_none c.args.bytes.now c.elf_half_at-count.result c.elf_half_at-count.ensures)
 
 pub header_at-header-requires-clause-whole : goal.header_at-header-requires-clause-whole
-header_at-header-requires-clause-whole c = headers_whole c.args.bytes.now c.loop-number.number c.requires.good (omega (arith, c.half_at-count.ensures))
+header_at-header-requires-clause-whole c = headers_whole c.args.bytes.now c.loop-number.number c.requires.good (omega (arith, c.elf_half_at-count.ensures))
 
 pub returns-then-len-eq64-clause-err : goal.returns-then-len-eq64-clause-err
 returns-then-len-eq64-clause-err c =
     let has = sym c.has_bytes.ensures ∙ c.if-has_bytes.true in
     elim c.then-len-eq64.branch [
-      | then-len-eq64-via-then-len-eq64 w ↦ inr (refl, loads_many _ c.loop-number.number c.half_at-count.result _ c.loop-number.loads.items c.loop-number.total c.loop-number.invariant (omega arith) c.header_at-header.ensures has (omega (arith, c.loop-number.loads.ok.0)))
-      | then-len-eq64-via-else-len-eq64+then-header-total w ↦ inr (refl, loads_long _ c.loop-number.number c.half_at-count.result _ c.loop-number.loads.items c.loop-number.total c.loop-number.invariant (omega arith) c.header_at-header.ensures has (omega arith))
+      | then-len-eq64-via-then-len-eq64 w ↦ inr (refl, loads_many _ c.loop-number.number c.elf_half_at-count.result _ c.loop-number.loads.items c.loop-number.total c.loop-number.invariant (omega arith) c.header_at-header.ensures has (omega (arith, c.loop-number.loads.ok.0)))
+      | then-len-eq64-via-else-len-eq64+then-header-total w ↦ inr (refl, loads_long _ c.loop-number.number c.elf_half_at-count.result _ c.loop-number.loads.items c.loop-number.total c.loop-number.invariant (omega arith) c.header_at-header.ensures has (omega arith))
     ]
 
 pub loop-number-preserved : goal.loop-number-preserved
 loop-number-preserved c =
     let bytes = c.args.bytes.now in
     let i = c.loop-number.number in
-    let n = c.half_at-count.result in
+    let n = c.elf_half_at-count.result in
     let before = c.loop-number.loads in
     elim c.if-has_bytes.branch [
       | then-has_bytes+else-len-eq64+else-header-total+in_ok-push w ↦
@@ -38,5 +38,5 @@ loop-number-preserved c =
 pub returns-clause-ok : goal.returns-clause-ok
 returns-clause-ok c =
     let inv = c.loop-number.invariant in
-    let all = loads_all c.args.bytes.now c.loop-number.number c.half_at-count.result c.loop-number.loads.items c.loop-number.total inv (omega arith) in
+    let all = loads_all c.args.bytes.now c.loop-number.number c.elf_half_at-count.result c.loop-number.loads.items c.loop-number.total inv (omega arith) in
     (all, ap is_large (sym all) ∙ loads_fit c.loop-number.loads.items c.loop-number.total inv.sum inv.few inv.small)

@@ -1,7 +1,7 @@
 use Rattle.std.proofs.Common.{subst, refl, List}
 use Rattle.std.proofs.lemmas.List.{take_all}
 use Rattle.depth_cert.specs.declared.keys.Key.{Key}
-use Rattle.frame_places.specs.Numbers.{AreNumbers}
+use Rattle.frame_places.specs.Numbers.{AreFrameNumbers}
 use Rattle.frame_places.proofs.NumberLemmas.{numbers_none, numbers_more}
 use Rattle.frame_places.proofs.numbers.number_frames.Goals as goal
 
@@ -13,4 +13,4 @@ loop-i-preserved c =
     numbers_more c.loop-i.numbers _ c.args.frames.now c.loop-i.i _ _ c.loop-i-test.true c.requires refl (λ q. c.in_ok-insert.ensures.updates.0 q) c.loop-i.invariant
 
 pub returns : goal.returns
-returns c = subst (λ (l : List Key). AreNumbers c.loop-i.numbers c.args.frames.now l) (take_all c.loop-i.i c.args.frames.now c.loop-i-test.false) c.loop-i.invariant
+returns c = subst (λ (l : List Key). AreFrameNumbers c.loop-i.numbers c.args.frames.now l) (take_all c.loop-i.i c.args.frames.now c.loop-i-test.false) c.loop-i.invariant

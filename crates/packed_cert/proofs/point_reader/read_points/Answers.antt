@@ -3,7 +3,7 @@ use Rattle.std.proofs.Math.Seq.{get_or-append_seam}
 use Rattle.std.proofs.lemmas.Result.{err_from_is_err_and}
 use Rattle.std.proofs.lemmas.Bool.{ne_eqb}
 use Rattle.std.proofs.lemmas.List.Elements.{All-push}
-use Rattle.depth_cert.specs.Grammar.{points_at, point_after, last_of, address_after}
+use Rattle.depth_cert.specs.Grammar.{points_at, point_after, last_number_read, address_after}
 use Rattle.tcd_base.proofs.ManyLaws.{many_more, many_fail, many_end}
 use Rattle.depth_cert.proofs.ManyLaws.{rising_map_push, last_of-push}
 use Rattle.depth_cert.proofs.PointReads.{address_fails, state_fails}
@@ -12,7 +12,8 @@ use Rattle.value_domain.specs.declared.states.State.{State}
 use Rattle.std.specs.Prelude.{IsTrue}
 use Rattle.packed_cert.specs.declared.places.ReadState.{ReadState}
 use Rattle.packed_cert.specs.ChangedRows.{ChangesRow}
-use Rattle.packed_cert.specs.PointsInBytes.{read_or, state_in, points_in, HasState}
+use Rattle.packed_cert.specs.PointsInBytes.{state_in, points_in, HasState}
+use Rattle.packed_cert.specs.ValuesInBytes.{read_from_bytes_or}
 use Rattle.value_domain.specs.State.{no_state}
 use Rattle.packed_cert.specs.Moves.{StandsBefore, IsMoved}
 use Rattle.packed_cert.proofs.RowLaws.{moves_push, moved_next}
@@ -26,7 +27,7 @@ returns-in_err-addr-clause-err c =
     let before = points_in c.args.version c.args.bytes.now c.loop-i.points.items in
     let e = rw c.loop-i.invariant.last at c.in_err-addr.ensures.read in
     let fault = many_fail (point_after c.args.version) c.in_ok-count.count c.loop-i.i before c.read_point_count.new.c c.loop-i.c _ c.loop-i-test.true c.loop-i.invariant.read
-    (address_fails c.args.version before c.loop-i.c _ (ap (λ (l : _). address_after (last_of l) c.loop-i.c) (addresses_in c.args.version c.args.bytes.now c.loop-i.points.items) ∙ e)) in
+    (address_fails c.args.version before c.loop-i.c _ (ap (λ (l : _). address_after (last_number_read l) c.loop-i.c) (addresses_in c.args.version c.args.bytes.now c.loop-i.points.items) ∙ e)) in
     rw (p.1, p.2, c.in_ok-count.ensures.read) fault
 
 pub returns-in_err-read-clause-err : goal.returns-in_err-read-clause-err
@@ -36,7 +37,7 @@ returns-in_err-read-clause-err c =
     let before = points_in c.args.version c.args.bytes.now c.loop-i.points.items in
     let e = rw c.loop-i.invariant.last at c.in_ok-addr.ensures.read in
     let fault = many_fail (point_after c.args.version) c.in_ok-count.count c.loop-i.i before c.read_point_count.new.c c.loop-i.c _ c.loop-i-test.true c.loop-i.invariant.read
-    (state_fails c.args.version before c.loop-i.c _ _ _ (ap (λ (l : _). address_after (last_of l) c.loop-i.c) (addresses_in c.args.version c.args.bytes.now c.loop-i.points.items) ∙ e) c.in_err-read.ensures.err) in
+    (state_fails c.args.version before c.loop-i.c _ _ _ (ap (λ (l : _). address_after (last_number_read l) c.loop-i.c) (addresses_in c.args.version c.args.bytes.now c.loop-i.points.items) ∙ e) c.in_err-read.ensures.err) in
     rw (p.1, p.2, c.in_ok-count.ensures.read) fault
 
 pub loop-i-preserved : goal.loop-i-preserved
@@ -50,7 +51,7 @@ loop-i-preserved c =
     let q = c.read_address.new.c in
     let item : PackedPoint = record { addr = c.in_ok-addr.addr; place = c.in_ok-read.read.at.start; row = c.for_point-kept.result.row; same = c.for_point-kept.result.same } in
     let stands = c.in_ok-read.ensures.held in
-    let is : state_in version bytes item.place ≡ c.read_state_like.new.out = ap (read_or no_state) stands.read in
+    let is : state_in version bytes item.place ≡ c.read_state_like.new.out = ap (read_from_bytes_or no_state) stands.read in
     let there : HasState version bytes item.place = (_, stands.read) in
     let more = point_more version bytes ps item c.loop-i.c q _ _ is e c.in_ok-read.ensures.ok in
     let pushed : c.push.new.self.items ≡ ps ++ item ∷ [] = c.in_ok-push.ensures.items in

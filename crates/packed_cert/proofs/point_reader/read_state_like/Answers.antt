@@ -10,10 +10,10 @@ returns-then-same-at-clause-ok c =
     let from = c.args.c.now in
     let stands = rw c.in-Some.is at c.requires.before in
     let n = at.end - at.start in
-    let all = c.count_same_before-same.ensures in
-    let there : c.place-place.result + c.count_same_before-same.result ≡ from.place + n = omega (arith, c.place-place.ensures.place, c.if-same-at.true) in
-    let moved : c.move_to.new.c ≡ record from { place = from.place + n } = c.move_to.ensures ∙ ap (λ (k : ℕ). let p : Place = record from { place = k } in p) there in
-    state_again c.args.version n c.args.bytes.now c.args.out.now at from c.move_to.new.c (λ k. (c.type_inv.bytes k).fits) stands c.requires.same (omega (arith, stands.order))
+    let all = c.count_repeated_before-same.ensures in
+    let there : c.place-place.result + c.count_repeated_before-same.result ≡ from.place + n = omega (arith, c.place-place.ensures.place, c.if-same-at.true) in
+    let moved : c.pass_unread_values_to.new.c ≡ record from { place = from.place + n } = c.pass_unread_values_to.ensures ∙ ap (λ (k : ℕ). let p : Place = record from { place = k } in p) there in
+    state_again c.args.version n c.args.bytes.now c.args.out.now at from c.pass_unread_values_to.new.c (λ k. (c.type_inv.bytes k).fits) stands c.requires.same (omega (arith, stands.order))
     (moved, omega (arith, all.second, there), rw (c.if-same-at.true, c.place-place.ensures.place) at all.same)
 
 pub returns-then-same-at-clause-row : goal.returns-then-same-at-clause-row

@@ -4,8 +4,7 @@ use Rattle.value_domain.specs.Values.{IsBelow, any_val}
 use Rattle.value_domain.proofs.RegLaws.{below_more}
 use Rattle.depth_cert.specs.Exits.{with_lower_from}
 use Rattle.depth_cert.proofs.ExitValues.{with_lower_length}
-use Rattle.packed_cert.specs.ValuesAtPlaces.{behind}
-use Rattle.packed_cert.specs.ValuesInBytes.{value_in, values_in}
+use Rattle.packed_cert.specs.ValuesInBytes.{place_after_value, value_in, values_in}
 use Rattle.packed_cert.proofs.ValueShapes.{left_first, length-values_in, stands_at}
 use Rattle.packed_cert.proofs.LowerLaws.{LeftBehind, lower_before, lower_step}
 use Rattle.packed_cert.proofs.restored_values.are_restored_below.Goals as goal
@@ -30,13 +29,13 @@ next_lower-from-requires-clause-low c = (lower_step c.args.lower.version c.args.
 pub bounds-high-at : goal.bounds-high-at
 bounds-high-at c =
     let l = left_first c.args.high.version c.args.high.bytes.now c.loop-i.at 27 c.loop-i.i (values_in c.args.high.version c.args.high.bytes.now c.args.high.place 27) (omega arith) (length-values_in c.args.high.version c.args.high.bytes.now c.args.high.place 27) c.loop-i.invariant.have c.loop-i.invariant.left in
-    (stands_at c.args.high.version c.args.high.bytes.now c.loop-i.at c.are_bytes.ensures l.0).inside
+    (stands_at c.args.high.version c.args.high.bytes.now c.loop-i.at c.packed_bytes_below_256.ensures l.0).inside
 
 pub overflow_add-at : goal.overflow_add-at
 overflow_add-at c =
     let l = left_first c.args.high.version c.args.high.bytes.now c.loop-i.at 27 c.loop-i.i (values_in c.args.high.version c.args.high.bytes.now c.args.high.place 27) (omega arith) (length-values_in c.args.high.version c.args.high.bytes.now c.args.high.place 27) c.loop-i.invariant.have c.loop-i.invariant.left in
-    let next : c.loop-i.at + c.length_by-at.result ≡ behind c.args.high.bytes.now c.loop-i.at = ap (λ (k : ℕ). c.loop-i.at + k) c.length_by-at.ensures in
-    let within : c.loop-i.at + c.length_by-at.result ≤ length c.args.high.bytes.now = rw next (stands_at c.args.high.version c.args.high.bytes.now c.loop-i.at c.are_bytes.ensures l.0).within in
+    let next : c.loop-i.at + c.value_length_by_tag-at.result ≡ place_after_value c.args.high.bytes.now c.loop-i.at = ap (λ (k : ℕ). c.loop-i.at + k) c.value_length_by_tag-at.ensures in
+    let within : c.loop-i.at + c.value_length_by_tag-at.result ≤ length c.args.high.bytes.now = rw next (stands_at c.args.high.version c.args.high.bytes.now c.loop-i.at c.packed_bytes_below_256.ensures l.0).within in
     omega (arith, within, c.requires.high_short)
 
 pub returns-then-not-is_restored_below : goal.returns-then-not-is_restored_below
@@ -56,7 +55,7 @@ loop-i-preserved c =
     let low = with_lower_from 0 (values_in c.args.lower.version c.args.lower.bytes.now c.args.lower.place 14) c.args.regs.now in
     let l = left_first c.args.high.version c.args.high.bytes.now c.loop-i.at 27 c.loop-i.i (values_in c.args.high.version c.args.high.bytes.now c.args.high.place 27) (omega arith) (length-values_in c.args.high.version c.args.high.bytes.now c.args.high.place 27) c.loop-i.invariant.have c.loop-i.invariant.left in
     let step = lower_step c.args.lower.version c.args.lower.bytes.now c.args.lower.place c.loop-i.i c.loop-i.from c.args.regs.now (omega arith) (omega arith) c.loop-i.invariant.lower in
-    let next : c.loop-i.at + c.length_by-at.result ≡ behind c.args.high.bytes.now c.loop-i.at = ap (λ (k : ℕ). c.loop-i.at + k) c.length_by-at.ensures in
+    let next : c.loop-i.at + c.value_length_by_tag-at.result ≡ place_after_value c.args.high.bytes.now c.loop-i.at = ap (λ (k : ℕ). c.loop-i.at + k) c.value_length_by_tag-at.ensures in
     let here : IsBelow (get_or low c.loop-i.i any_val) (value_in c.args.high.version c.args.high.bytes.now c.loop-i.at) =
     subst (λ (v : Val). IsBelow v (value_in c.args.high.version c.args.high.bytes.now c.loop-i.at)) (sym step.is) (c.is_restored_below.ensures.0 c.if-not-is_restored_below.false)
     in

@@ -4,7 +4,7 @@ use Rattle.value_domain.specs.declared.values.Val.{Val}
 use Rattle.value_domain.specs.declared.values.Val.TheVariants.{Set}
 use Rattle.value_domain.specs.Values.{IsBelow, IsMember}
 use Rattle.value_domain.proofs.RangeLaws.{below_any}
-use Rattle.depth_cert.specs.Points.{IsWellOf}
+use Rattle.depth_cert.specs.Points.{IsWellCertValue}
 use Rattle.packed_cert.specs.ValuesInBytes.{words_at}
 use Rattle.packed_cert.proofs.ValueShapes.{stands_at, long_set, set_rising}
 use Rattle.packed_cert.proofs.values_at_places.is_below_at.Goals as goal
@@ -28,20 +28,20 @@ returns-then-has_words_at c =
     let is = s.shape.set (omega (arith, c.if-tag-eq0.false)) (omega (arith, c.if-tag-gt-MOST_WORDS.false)) in
     ((λ t x m. subst (λ (w : Val). IsMember x w) (c.has_words_at.ensures c.if-has_words_at.true ∙ sym is) m), (λ below. refl))
 
-pub are_among-requires-clause-within : goal.are_among-requires-clause-within
-are_among-requires-clause-within c =
+pub are_words_covered_at-requires-clause-within : goal.are_words_covered_at-requires-clause-within
+are_words_covered_at-requires-clause-within c =
     let s = stands_at c.args.version c.args.bytes.now c.args.place (λ k. (c.type_inv.bytes k).fits) c.requires.stands in
     omega (arith, s.within, long_set (get_or c.args.bytes.now c.args.place 0) (omega (arith, c.if-tag-eq0.false)) (omega (arith, c.if-tag-gt-MOST_WORDS.false)))
 
-pub are_among-requires-clause-words : goal.are_among-requires-clause-words
-are_among-requires-clause-words c =
+pub are_words_covered_at-requires-clause-words : goal.are_words_covered_at-requires-clause-words
+are_words_covered_at-requires-clause-words c =
     let s = stands_at c.args.version c.args.bytes.now c.args.place (λ k. (c.type_inv.bytes k).fits) c.requires.stands in
-    set_rising c.args.version _ (subst (IsWellOf c.args.version) (s.shape.set (omega (arith, c.if-tag-eq0.false)) (omega (arith, c.if-tag-gt-MOST_WORDS.false))) s.well)
+    set_rising c.args.version _ (subst (IsWellCertValue c.args.version) (s.shape.set (omega (arith, c.if-tag-eq0.false)) (omega (arith, c.if-tag-gt-MOST_WORDS.false))) s.well)
 
 pub returns-in-Set : goal.returns-in-Set
 returns-in-Set c =
     let s = stands_at c.args.version c.args.bytes.now c.args.place (λ k. (c.type_inv.bytes k).fits) c.requires.stands in
     let is = s.shape.set (omega (arith, c.if-tag-eq0.false)) (omega (arith, c.if-tag-gt-MOST_WORDS.false)) in
     let words = words_at c.args.bytes.now (c.args.place + 1) (get_or c.args.bytes.now c.args.place 0) in
-    subst (λ (w : Val). IsTrue c.are_among.result ↔ IsBelow c.args.v.now w) (sym is)
-    (subst (λ (v : Val). IsTrue c.are_among.result ↔ IsBelow v (Set words)) (sym c.in-Set.is) (rw c.as_slice.ensures.items at c.are_among.ensures))
+    subst (λ (w : Val). IsTrue c.are_words_covered_at.result ↔ IsBelow c.args.v.now w) (sym is)
+    (subst (λ (v : Val). IsTrue c.are_words_covered_at.result ↔ IsBelow v (Set words)) (sym c.in-Set.is) (rw c.as_slice.ensures.items at c.are_words_covered_at.ensures))

@@ -9,7 +9,7 @@ changed_given-requires-clause-place c =
     let h = rw c.in-Changed.is at c.requires.place in
     omega (arith, h, length-changed c.in-Changed.s.now c.in-Changed.c.now (omega arith))
 
-pub value_after-requires-clause-place : goal.value_after-requires-clause-place
-value_after-requires-clause-place c =
+pub incoming_value_after-requires-clause-place : goal.incoming_value_after-requires-clause-place
+incoming_value_after-requires-clause-place c =
     let h = rw c.in-After.is at c.requires.place in
     omega (arith, h, with_lower_length (all_values c.in-After.exit.now.lower.value) c.in-After.s.now.regs)

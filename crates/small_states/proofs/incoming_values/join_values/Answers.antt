@@ -1,10 +1,10 @@
 use Rattle.std.proofs.Common.{◌∙◌, ◌+◌, ◌++◌, ◌∷◌, [], ℕ, List, length, replicate, take, subst, ap, sym, arith}
 use Rattle.std.proofs.lemmas.List.{take_all}
 use Rattle.value_domain.specs.declared.values.Val.{Val}
-use Rattle.value_domain.specs.State.{join_of, joined_regs}
-use Rattle.value_domain.specs.Values.{IsValue, any_val}
+use Rattle.value_domain.specs.State.{joined_regs}
+use Rattle.value_domain.specs.Values.{join_of, IsValue, any_val}
 use Rattle.small_states.specs.Incoming.{incoming_values}
-use Rattle.small_states.specs.CompactForms.{all_values, front}
+use Rattle.small_states.specs.CompactForms.{all_values, compact_front}
 use Rattle.small_states.specs.declared.values.SpacedValue.{SpacedValue}
 use Rattle.small_states.proofs.SparseLemmas.{all_few, is_within, joined_few, joined_more, joined_rest, known_place, length-front}
 use Rattle.small_states.proofs.incoming_values.join_values.Goals as goal
@@ -112,7 +112,7 @@ add_anys-requires c =
     let v = c.as_slice-known.ensures.value in
     let known = c.args.left.now.known.items in
     let ws = incoming_values c.args.incoming.now in
-    let whole = ap (λ (l : List SpacedValue). length (front l)) (take_all c.loop-n.n known (rw v at c.loop-n-test.false)) in
+    let whole = ap (λ (l : List SpacedValue). length (compact_front l)) (take_all c.loop-n.n known (rw v at c.loop-n-test.false)) in
     omega (
       arith,
       c.count_incoming-count.ensures.long,
@@ -132,7 +132,7 @@ returns c =
     let rest = c.args.left.now.rest in
     let ws = incoming_values c.args.incoming.now in
     let values = joined_regs b (all_values c.args.left.now) ws in
-    let whole = c.loop-n.invariant.0 ∙ ap (λ (l : List SpacedValue). length (front l)) (take_all c.loop-n.n known (rw v at c.loop-n-test.false)) in
+    let whole = c.loop-n.invariant.0 ∙ ap (λ (l : List SpacedValue). length (compact_front l)) (take_all c.loop-n.n known (rw v at c.loop-n-test.false)) in
     c.add_anys.ensures
     ∙ ap (λ (l : List Val). l ++ replicate rest any_val) (c.loop-n.invariant.1 ∙ ap (λ (m : ℕ). take m values) whole)
     ∙ joined_rest b known rest ws c.requires.long c.requires.left c.requires.incoming

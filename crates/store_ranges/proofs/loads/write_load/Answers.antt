@@ -9,4 +9,4 @@ returns-in-Set-clause-sound c =
 
 pub returns-in-Span-clause-sound : goal.returns-in-Span-clause-sound
 returns-in-Span-clause-sound c =
-    rw (c.write_span.ensures.loaded, ← c.plan.view_is) (span_sound c.args.b.now c.args.image.now (plan_data c.plan.inside) c.args.at.now c.args.load.size c.args.load.signed c.plan.invariant c.requires.at.well)
+    rw (c.write_loads_of_span.ensures.loaded, ← c.plan.view_is) (span_sound c.args.b.now c.args.image.now (plan_data c.plan.inside) c.args.at.now c.args.load.size c.args.load.signed c.plan.invariant c.requires.at.well)

@@ -9,8 +9,8 @@ use Rattle.cfg_recover.proofs.FirstFault.{all_more, item_values}
 use Rattle.task_chains.proofs.FaultLaws.{all_apart, first_fails}
 use Rattle.task_chains.proofs.faults.task_fault.Goals as goal
 
-pub node_fault-requires : goal.node_fault-requires
-node_fault-requires c =
+pub node_task_fault-requires : goal.node_task_fault-requires
+node_task_fault-requires c =
     item_values c.args.view.now c.args.plan.now c.args.cert.now c.of-bounds.result c.deref-node-items.result.now c.loop-node.node-index c.node-item.result c.requires
     (c.of-bounds.ensures ∙ ap (λ (t : CertData). limits_for c.args.plan.now t.version) c.cert.view_is) (c.deref-node-items.ensures.value ∙ ap (λ (t : CertData). t.nodes) c.cert.view_is) c.loop-node-test.true c.node-item.is
 

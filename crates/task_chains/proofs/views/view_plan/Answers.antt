@@ -3,8 +3,8 @@ use Rattle.std.proofs.lemmas.Result.{MatchResult-at_ok}
 use Rattle.tcd_plan.specs.PlanData.{PlanData, IsPlan, plan_data}
 use Rattle.task_chains.specs.declared.task_lists.Task.{Task}
 use Rattle.task_chains.specs.Tasks.{TasksData, AreTasks}
-use Rattle.tcd_plan.specs.Cutting.{ranges_without}
-use Rattle.task_chains.specs.Views.{any_device}
+use Rattle.tcd_plan.specs.Cutting.{cut_plan_ranges}
+use Rattle.task_chains.specs.Views.{any_view_device}
 use Rattle.task_chains.proofs.ViewPlan.{view_is_plan}
 use Rattle.task_chains.proofs.ViewParts.{plan_parts}
 use Rattle.task_chains.proofs.views.view_plan.Goals as goal
@@ -18,9 +18,9 @@ invariant_of-result c =
     let sp = ap (λ (l : List Task). (slice_index_or l c.args.u (record { entry = 0; sp = 0 })).sp) (c.as_slice-2.ensures.value ∙ ap (λ (t : TasksData). t.list) c.tasks.view_is) in
     let at = ap (λ (t : TasksData). t.block) c.tasks.view_is in
     let devices =
-    c.devices_without.ensures ∙ ap (λ x. c.args.plan.now.devices ++ map any_device (ranges_without x c.block_size.result c.args.plan.now.ram)) at
-    ∙ ap (λ k. c.args.plan.now.devices ++ map any_device (ranges_without c.args.tasks.now.block k c.args.plan.now.ram)) c.block_size.ensures in
+    c.devices_beside_block.ensures ∙ ap (λ x. c.args.plan.now.devices ++ map any_view_device (cut_plan_ranges x c.block_size.result c.args.plan.now.ram)) at
+    ∙ ap (λ k. c.args.plan.now.devices ++ map any_view_device (cut_plan_ranges c.args.tasks.now.block k c.args.plan.now.ram)) c.block_size.ensures in
     let e =
-    plan_parts (plan_data c.plan.inside) c.args.plan.now c.args.tasks.now c.args.u c.unwrap.result.items c.new.result.items c.devices_without.result.items c.unwrap-2.result.items _ c.starts_enabled.result
-    c.plan.view_is rom c.new.ensures devices irqs sp c.starts_enabled.ensures in
+    plan_parts (plan_data c.plan.inside) c.args.plan.now c.args.tasks.now c.args.u c.unwrap.result.items c.new.result.items c.devices_beside_block.result.items c.unwrap-2.result.items _ c.is_task_start_enabled.result
+    c.plan.view_is rom c.new.ensures devices irqs sp c.is_task_start_enabled.ensures in
     subst IsPlan (sym e) (view_is_plan ok c.args.tasks.now are c.requires.fit c.args.u c.requires.task)

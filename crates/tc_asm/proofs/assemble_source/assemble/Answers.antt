@@ -25,20 +25,20 @@ draft_of_lines-requires-clause-known c =
     (labels_source c.args.source.now c.in_ok-read.read c.deref.result.now _ c.in_ok-labels.ensures.symbols c.deref.ensures.value c.in_ok-read.ensures.items c.in_ok-read.ensures.lines)
     c.deref.result.now c.deref.ensures.value c.in_ok-read.ensures.items _ c.in_ok-labels.ensures.new
 
-pub finish-requires : goal.finish-requires
-finish-requires c =
+pub emit_object-requires : goal.emit_object-requires
+emit_object-requires c =
     subst IsDraft
     (sym (whole_draft _ _ _ _ _ c.in_ok-draft.ensures.ok
     (symbols_again c.args.source.now c.in_ok-read.read c.in_ok-read.ensures.lines _
     (labels_source c.args.source.now c.in_ok-read.read c.deref.result.now _ c.in_ok-labels.ensures.symbols c.deref.ensures.value c.in_ok-read.ensures.items c.in_ok-read.ensures.lines))
-    c.with_known.ensures))
+    c.draft_with_known_symbols.ensures))
     c.in_ok-draft.ensures.whole
 
 pub returns-clause-ok : goal.returns-clause-ok
 returns-clause-ok c =
     let same = labels_source c.args.source.now c.in_ok-read.read c.deref.result.now _ c.in_ok-labels.ensures.symbols c.deref.ensures.value c.in_ok-read.ensures.items c.in_ok-read.ensures.lines in
-    object_source c.args.source.now c.in_ok-read.read c.in_ok-read.ensures.lines _ _ _ c.in_ok-finish.ensures
-    (whole_draft _ _ _ _ _ c.in_ok-draft.ensures.ok (symbols_again c.args.source.now c.in_ok-read.read c.in_ok-read.ensures.lines _ same) c.with_known.ensures)
+    object_source c.args.source.now c.in_ok-read.read c.in_ok-read.ensures.lines _ _ _ c.in_ok-emit_object.ensures
+    (whole_draft _ _ _ _ _ c.in_ok-draft.ensures.ok (symbols_again c.args.source.now c.in_ok-read.read c.in_ok-read.ensures.lines _ same) c.draft_with_known_symbols.ensures)
     same
 
 pub returns-clause-kept : goal.returns-clause-kept

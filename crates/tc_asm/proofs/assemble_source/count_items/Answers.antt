@@ -12,7 +12,7 @@ count-requires-clause-added c = c.requires c.loop-item.item-index _ (omega arith
 pub loop-item-preserved : goal.loop-item-preserved
 loop-item-preserved c = record {
   alike = alike_next c.args.items.now c.loop-item.item-index c.loop-item.draft c.args.draft.now c.loop-item.invariant.alike _ _ (omega arith) c.in_ok-new.ensures.alike;
-  new = new_more c.args.items.now c.loop-item.item-index _ (omega arith) c.loop-item.draft c.args.draft.now c.loop-item.all_new _ _ _ _ c.loop-item.invariant.alike c.has_symbol_room-room.ensures c.in_ok-new.ensures.new c.and_new-all_new.ensures c.loop-item.invariant.new;
+  new = new_more c.args.items.now c.loop-item.item-index _ (omega arith) c.loop-item.draft c.args.draft.now c.loop-item.all_new _ _ _ _ c.loop-item.invariant.alike c.has_symbol_room-room.ensures c.in_ok-new.ensures.new c.are_items_new-all_new.ensures c.loop-item.invariant.new;
 }
 
 pub returns-clause-symbols : goal.returns-clause-symbols

@@ -6,7 +6,7 @@ use Rattle.tc_stmt.specs.Items.{item_of}
 use Rattle.tc_stmt.specs.LinesRead.{lines_read, lines_of}
 use Rattle.tc_asm.specs.KnownSymbols.{kept}
 use Rattle.tc_stmt.specs.Lines.{LineData}
-use Rattle.tc_asm.specs.Drafts.{drafted}
+use Rattle.tc_asm.specs.DraftedSources.{draft_from_lines}
 use Rattle.tc_asm.specs.DraftInvariants.{IsDraft}
 use Rattle.tc_asm.proofs.Passes.{drafted_more, kept_more as rules_more, least_here, behind_here, read_here, read_behind}
 use Rattle.tc_asm.proofs.KeptLaws.{IsDraft-start, IsDraft-more}
@@ -26,7 +26,7 @@ pub loop-i-preserved : goal.loop-i-preserved
 loop-i-preserved c =
     let lines = c.as_slice-lines.result.now in
     let ls = lines_of c.args.source.now in
-    let so_far = drafted c.args.labels.now (take c.loop-i.i ls) in
+    let so_far = draft_from_lines c.args.labels.now (take c.loop-i.i ls) in
     let here = read_here lines c.loop-i.i _ c.loop-i.rest.now (omega arith) ls c.loop-i.invariant.rest in
     let rule = kept_line c.args.known c.args.labels.now ls c.loop-i.i _ _ here c.loop-i.draft c.loop-i.invariant.so_far c.loop-i.invariant.new _ c.in_ok-rule.ensures.rule in
     record {
@@ -42,7 +42,7 @@ pub loop-i-preserved-then-line-eq-NO_RULE : goal.loop-i-preserved-then-line-eq-N
 loop-i-preserved-then-line-eq-NO_RULE c =
     let lines = c.as_slice-lines.result.now in
     let ls = lines_of c.args.source.now in
-    let so_far = drafted c.args.labels.now (take c.loop-i.i ls) in
+    let so_far = draft_from_lines c.args.labels.now (take c.loop-i.i ls) in
     let here = read_here lines c.loop-i.i _ c.loop-i.rest.now (omega arith) ls c.loop-i.invariant.rest in
     let none = c.if-line-eq0.true in
     let rule = kept_line c.args.known c.args.labels.now ls c.loop-i.i _ _ here c.loop-i.draft c.loop-i.invariant.so_far c.loop-i.invariant.new 15 (blank_rule c.args.known c.args.labels.now c.loop-i.draft _ _ _ none c.if-line-eq-NO_RULE.true) in
@@ -58,7 +58,7 @@ pub returns-then-rule-ne-NO_RULE-clause-bad : goal.returns-then-rule-ne-NO_RULE-
 returns-then-rule-ne-NO_RULE-clause-bad c =
     let ls = lines_of c.args.source.now in
     let here = read_here c.as_slice-lines.result.now c.loop-i.i _ c.loop-i.rest.now (omega arith) ls c.loop-i.invariant.rest in
-    least_here ls c.loop-i.i _ _ here c.args.labels.now (drafted c.args.labels.now (take c.loop-i.i ls)) _ c.requires.labels refl
+    least_here ls c.loop-i.i _ _ here c.args.labels.now (draft_from_lines c.args.labels.now (take c.loop-i.i ls)) _ c.requires.labels refl
     (kept_line c.args.known c.args.labels.now ls c.loop-i.i _ _ here c.loop-i.draft c.loop-i.invariant.so_far c.loop-i.invariant.new _ c.in_ok-rule.ensures.rule)
     c.if-rule-ne-NO_RULE.true c.loop-i.invariant.rules
 
@@ -72,6 +72,6 @@ returns-clause-rules c =
 
 pub returns-clause-whole : goal.returns-clause-whole
 returns-clause-whole c =
-    subst (λ (ls : List LineData). IsDraft (drafted c.args.labels.now ls))
+    subst (λ (ls : List LineData). IsDraft (draft_from_lines c.args.labels.now ls))
     (take_all c.loop-i.i (lines_of c.args.source.now) (past c.args.source.now c.as_slice-lines.result.now c.loop-i.i c.as_slice-lines.ensures.value (omega arith)))
     c.loop-i.invariant.whole

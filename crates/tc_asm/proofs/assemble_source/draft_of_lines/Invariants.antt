@@ -1,8 +1,7 @@
 use Rattle.std.proofs.Common.{◌≡◌, true, take, drop, map}
 use Rattle.tc_stmt.specs.Items.{item_of}
 use Rattle.tc_stmt.specs.Lines.{items_in}
-use Rattle.tc_asm.specs.DraftedSources.{KeepsRules}
-use Rattle.tc_asm.specs.Drafts.{drafted}
+use Rattle.tc_asm.specs.DraftedSources.{KeepsRules, draft_from_lines}
 use Rattle.tc_asm.specs.DraftInvariants.{IsDraft}
 use Rattle.tc_asm.specs.KnownSymbols.{kept, are_new}
 use Rattle.tc_stmt.specs.LinesRead.{lines_read, lines_of}
@@ -10,9 +9,9 @@ use Rattle.tc_asm.proofs.assemble_source.draft_of_lines.Given as goal
 
 abbrev pub invariant-loop-i : goal.invariant-loop-i
 invariant-loop-i l = record {
-  so_far : kept l.known l.draft ≡ kept l.known (drafted l.labels (take l.i (lines_of l.source)));
-  whole : IsDraft (drafted l.labels (take l.i (lines_of l.source)));
+  so_far : kept l.known l.draft ≡ kept l.known (draft_from_lines l.labels (take l.i (lines_of l.source)));
+  whole : IsDraft (draft_from_lines l.labels (take l.i (lines_of l.source)));
   rules : KeepsRules (lines_of l.source) l.i;
   rest : drop l.i (lines_of l.source) ≡ lines_read (drop l.i l.lines) (map item_of l.rest);
-  new : l.known ≡ true → are_new l.labels (drafted l.labels (take l.i (lines_of l.source))) (items_in (drop l.i (lines_of l.source))) ≡ true;
+  new : l.known ≡ true → are_new l.labels (draft_from_lines l.labels (take l.i (lines_of l.source))) (items_in (drop l.i (lines_of l.source))) ≡ true;
 }

@@ -5,7 +5,7 @@ use Rattle.tc_isa.specs.Forms.{bounds, fields}
 use Rattle.tc_isa.specs.InBounds.{IsBelow}
 use Rattle.tc_isa.proofs.Made.{inst_within, row_of_inst}
 use Rattle.tc_stmt.proofs.Places.{wants_here}
-use Rattle.tc_disasm.specs.Texts.{text_of}
+use Rattle.tc_disasm.specs.Texts.{instruction_text}
 use Rattle.tc_disasm.proofs.RowLaws.{wants_listed, wants_within, text_here}
 use Rattle.tc_disasm.proofs.instructions.append_instruction.Goals as goal
 
@@ -29,5 +29,5 @@ append_row-requires-clause-fits c = subst (λ (r : RowData). IsBelow (fields c.i
 pub returns : goal.returns
 returns c =
     subst (λ (t : List ℕ). OnOk c.append_row.result (string_bytes c.append_row.new.text ≡ string_bytes c.args.text.now ++ t))
-    (text_here c.rows.result.now c.from-place.result _ _ c.inst.invariant c.rows.ensures.rows c.from-place.ensures ∙ ap text_of c.inst.view_is)
+    (text_here c.rows.result.now c.from-place.result _ _ c.inst.invariant c.rows.ensures.rows c.from-place.ensures ∙ ap instruction_text c.inst.view_is)
     c.append_row.ensures

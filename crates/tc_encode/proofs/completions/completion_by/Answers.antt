@@ -9,16 +9,16 @@ use Rattle.tc_encode.proofs.Finds.{none_map}
 use Rattle.tc_encode.proofs.Goes.{goes_from, goes_least, both_some}
 use Rattle.tc_encode.proofs.completions.completion_by.Goals as goal
 
-pub join-rest-requires-clause-second : goal.join-rest-requires-clause-second
-join-rest-requires-clause-second c = (row_at c.args.place _ c.requires.place).second
+pub word_of_fields-rest-requires-clause-second : goal.word_of_fields-rest-requires-clause-second
+word_of_fields-rest-requires-clause-second c = (row_at c.args.place _ c.requires.place).second
 
-pub join-rest-requires-clause-below : goal.join-rest-requires-clause-below
-join-rest-requires-clause-below c = subst (λ (f : Fields). IsBelow f (bounds c.args.row.now.form)) (sym c.least_of.ensures) (row_at c.args.place _ c.requires.place).has_least.below
+pub word_of_fields-rest-requires-clause-below : goal.word_of_fields-rest-requires-clause-below
+word_of_fields-rest-requires-clause-below c = subst (λ (f : Fields). IsBelow f (bounds c.args.row.now.form)) (sym c.least_completion_fields.ensures) (row_at c.args.place _ c.requires.place).has_least.below
 
 pub returns-clause-some : goal.returns-clause-some
-returns-clause-some c = both_some c.inst_by.result c.inst_by.ensures.some c.inst_by.ensures.place (λ i m same. goes_from c.args.place c.args.n c.args.part c.join-rest.result c.span_of-span.result (row_of c.args.row.now) i c.requires.place c.requires.longer c.requires.part c.span_of-span.ensures.span same m)
+returns-clause-some c = both_some c.decode_row_word.result c.decode_row_word.ensures.some c.decode_row_word.ensures.place (λ i m same. goes_from c.args.place c.args.n c.args.part c.word_of_fields-rest.result c.word_part_span-span.result (row_of c.args.row.now) i c.requires.place c.requires.longer c.requires.part c.word_part_span-span.ensures.span same m)
 
 pub returns-clause-none : goal.returns-clause-none
-returns-clause-none c = none_map c.inst_by.result c.inst_by.ensures.none (λ none i g same.
-    let x = goes_least c.args.place c.args.n c.args.part c.join-rest.result c.span_of-span.result (row_of c.args.row.now) i c.requires.place c.requires.low c.requires.high c.span_of-span.ensures.span (c.join-rest.ensures ∙ ap (word_of (row_of c.args.row.now)) c.least_of.ensures) same g in
+returns-clause-none c = none_map c.decode_row_word.result c.decode_row_word.ensures.none (λ none i g same.
+    let x = goes_least c.args.place c.args.n c.args.part c.word_of_fields-rest.result c.word_part_span-span.result (row_of c.args.row.now) i c.requires.place c.requires.low c.requires.high c.word_part_span-span.ensures.span (c.word_of_fields-rest.ensures ∙ ap (word_of (row_of c.args.row.now)) c.least_completion_fields.ensures) same g in
     none x.0 x.2 x.1)

@@ -5,25 +5,25 @@ use Rattle.tc_isa.specs.InBounds.{IsBelow}
 use Rattle.tc_isa.specs.Spelling.{word_of}
 use Rattle.tc_isa.proofs.TableFacts.{row_at}
 use Rattle.tc_isa.proofs.Made.{at_listed, inst_within, row_of_inst}
-use Rattle.tc_encode.specs.Decoding.{need_of}
+use Rattle.tc_encode.specs.Decoding.{decoded_length}
 use Rattle.tc_encode.proofs.Encodes.{encoded, padded}
 use Rattle.tc_encode.proofs.encoding.encode.Goals as goal
 
 pub bounds-rows-from : goal.bounds-rows-from
 bounds-rows-from c = subst (λ n. n < length c.rows.result.now) (sym c.from.ensures) (inst_within c.rows.result.now _ c.rows.ensures.rows c.inst.invariant)
 
-pub join-word-requires-clause-second : goal.join-word-requires-clause-second
-join-word-requires-clause-second c = (row_at c.from.result _ (at_listed c.rows.result.now c.from.result _ c.rows.ensures.rows (subst (λ n. n < length c.rows.result.now) (sym c.from.ensures) (inst_within c.rows.result.now _ c.rows.ensures.rows c.inst.invariant)))).second
+pub word_of_fields-word-requires-clause-second : goal.word_of_fields-word-requires-clause-second
+word_of_fields-word-requires-clause-second c = (row_at c.from.result _ (at_listed c.rows.result.now c.from.result _ c.rows.ensures.rows (subst (λ n. n < length c.rows.result.now) (sym c.from.ensures) (inst_within c.rows.result.now _ c.rows.ensures.rows c.inst.invariant)))).second
 
-pub join-word-requires-clause-below : goal.join-word-requires-clause-below
-join-word-requires-clause-below c = subst (λ (r : RowData). IsBelow (fields c.inst.inside.c c.inst.inside.s1 c.inst.inside.s2 c.inst.inside.n c.inst.inside.k) (bounds r.form)) (row_of_inst c.rows.result.now c.from.result _ _ c.inst.invariant c.rows.ensures.rows c.from.ensures) c.inst.invariant.fits.below
+pub word_of_fields-word-requires-clause-below : goal.word_of_fields-word-requires-clause-below
+word_of_fields-word-requires-clause-below c = subst (λ (r : RowData). IsBelow (fields c.inst.inside.c c.inst.inside.s1 c.inst.inside.s2 c.inst.inside.n c.inst.inside.k) (bounds r.form)) (row_of_inst c.rows.result.now c.from.result _ _ c.inst.invariant c.rows.ensures.rows c.from.ensures) c.inst.invariant.fits.below
 
 pub returns-clause-spells : goal.returns-clause-spells
 returns-clause-spells c =
     let row = row_of_inst c.rows.result.now c.from.result _ _ c.inst.invariant c.rows.ensures.rows c.from.ensures in
-    rw (← c.inst.view_is) (encoded _ c.inst.invariant c.join-word.result c.length_by.result c.to_le_bytes.result (c.join-word.ensures ∙ ap (λ (r : RowData). word_of r (fields c.inst.inside.c c.inst.inside.s1 c.inst.inside.s2 c.inst.inside.n c.inst.inside.k)) (sym row)) c.to_le_bytes.ensures (c.length_by.ensures ∙ ap (λ (r : RowData). need_of r.op1) (sym row)))
+    rw (← c.inst.view_is) (encoded _ c.inst.invariant c.word_of_fields-word.result c.decoded_length.result c.to_le_bytes.result (c.word_of_fields-word.ensures ∙ ap (λ (r : RowData). word_of r (fields c.inst.inside.c c.inst.inside.s1 c.inst.inside.s2 c.inst.inside.n c.inst.inside.k)) (sym row)) c.to_le_bytes.ensures (c.decoded_length.ensures ∙ ap (λ (r : RowData). decoded_length r.op1) (sym row)))
 
 pub returns-clause-rest : goal.returns-clause-rest
 returns-clause-rest c =
     let row = row_of_inst c.rows.result.now c.from.result _ _ c.inst.invariant c.rows.ensures.rows c.from.ensures in
-    padded _ c.inst.invariant c.join-word.result c.length_by.result c.to_le_bytes.result (c.join-word.ensures ∙ ap (λ (r : RowData). word_of r (fields c.inst.inside.c c.inst.inside.s1 c.inst.inside.s2 c.inst.inside.n c.inst.inside.k)) (sym row)) c.to_le_bytes.ensures (c.length_by.ensures ∙ ap (λ (r : RowData). need_of r.op1) (sym row))
+    padded _ c.inst.invariant c.word_of_fields-word.result c.decoded_length.result c.to_le_bytes.result (c.word_of_fields-word.ensures ∙ ap (λ (r : RowData). word_of r (fields c.inst.inside.c c.inst.inside.s1 c.inst.inside.s2 c.inst.inside.n c.inst.inside.k)) (sym row)) c.to_le_bytes.ensures (c.decoded_length.ensures ∙ ap (λ (r : RowData). decoded_length r.op1) (sym row))

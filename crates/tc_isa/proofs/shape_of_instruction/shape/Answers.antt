@@ -8,11 +8,11 @@ use Rattle.tc_isa.proofs.shape_of_instruction.shape.Goals as goal
 pub bounds-row_meanings-from : goal.bounds-row_meanings-from
 bounds-row_meanings-from c = meanings_enough c.row_meanings.result.now c.from.result _ c.row_meanings.ensures c.from.ensures c.inst.invariant
 
-pub shape_by-requires : goal.shape_by-requires
-shape_by-requires c = small _ c.inst.invariant
+pub shape_from_fields-requires : goal.shape_from_fields-requires
+shape_from_fields-requires c = small _ c.inst.invariant
 
 pub returns-clause-shape : goal.returns-clause-shape
-returns-clause-shape c = c.shape_by.ensures ∙ shaped c.row_meanings.result.now c.from.result _ _ c.row_meanings.ensures c.from.ensures c.inst.invariant ∙ ap shape_of c.inst.view_is
+returns-clause-shape c = c.shape_from_fields.ensures ∙ shaped c.row_meanings.result.now c.from.result _ _ c.row_meanings.ensures c.from.ensures c.inst.invariant ∙ ap shape_of c.inst.view_is
 
 pub returns-clause-bounded : goal.returns-clause-bounded
-returns-clause-bounded c = subst IsShape (sym (c.shape_by.ensures ∙ shaped c.row_meanings.result.now c.from.result _ _ c.row_meanings.ensures c.from.ensures c.inst.invariant)) (shape_is _ c.inst.invariant)
+returns-clause-bounded c = subst IsShape (sym (c.shape_from_fields.ensures ∙ shaped c.row_meanings.result.now c.from.result _ _ c.row_meanings.ensures c.from.ensures c.inst.invariant)) (shape_is _ c.inst.invariant)

@@ -11,9 +11,9 @@ pub returns-clause-globals : goal.returns-clause-globals
 returns-clause-globals c =
     let v : SymbolData = record { name = c.symbol.inside.name.now; kind = c.symbol.inside.kind; section = c.symbol.inside.section; offset = c.symbol.inside.offset } in
     let is : is_global v ≡ true = grind (arith, common_steps, c.if-not-is_global.false) in
-    on_ok c.add_name.result _ _
+    on_ok c.add_definition.result _ _
     (λ h placed p before at rel q.
     h placed before rel q
     ∙ symbol_globals placed p c.args.object v before q at is
     ∙ ap (λ (s : SymbolData). global_address (before ++ map (global_data p.bases) (filter is_global (s ∷ []))) q) c.symbol.view_is)
-    c.add_name.ensures.globals
+    c.add_definition.ensures.globals

@@ -15,8 +15,8 @@ returns-in_err-placed-clause-err c =
     let p = err_from_is_err_and c.from_residual-in_err-placed.result c.from_residual-in_err-placed.ensures.1 in
     rw (p.1, p.2) (linked_told c.args.objects.now c.args.layout.now (refusal_of c.in_err-placed.field-0.0) c.in_err-placed.ensures.err)
 
-pub make-requires : goal.make-requires
-make-requires c =
+pub make_linked_image-requires : goal.make_linked_image-requires
+make_linked_image-requires c =
     let e : c.deref.result.now ≡ placed_of c.args.layout.now c.args.objects.now = c.deref.ensures.value ∙ c.in_ok-placed.ensures.placed in
     record {
       globals = c.in_ok-names.ensures.globals c.deref.result.now (ap (map (λ (p : PlacedData). p.object)) e ∙ placed_objects c.args.layout.now.places [] c.args.objects.now);
@@ -27,9 +27,9 @@ make-requires c =
 pub returns-clause-ok : goal.returns-clause-ok
 returns-clause-ok c =
     let e : c.deref.result.now ≡ placed_of c.args.layout.now c.args.objects.now = c.deref.ensures.value ∙ c.in_ok-placed.ensures.placed in
-    subst (λ (r : Result ImageData Refusal). IfOk c.make.result (λ image. r ≡ Ok image)) (linked_made c.args.objects.now c.args.layout.now c.deref.result.now c.in_ok-placed.ensures.none e) c.make.ensures.ok
+    subst (λ (r : Result ImageData Refusal). IfOk c.make_linked_image.result (λ image. r ≡ Ok image)) (linked_made c.args.objects.now c.args.layout.now c.deref.result.now c.in_ok-placed.ensures.none e) c.make_linked_image.ensures.ok
 
 pub returns-clause-err : goal.returns-clause-err
 returns-clause-err c =
     let e : c.deref.result.now ≡ placed_of c.args.layout.now c.args.objects.now = c.deref.ensures.value ∙ c.in_ok-placed.ensures.placed in
-    subst (λ (r : Result ImageData Refusal). IfErr c.make.result (λ x. IfSome (refusal_of x) (λ q. r ≡ Err q))) (linked_made c.args.objects.now c.args.layout.now c.deref.result.now c.in_ok-placed.ensures.none e) c.make.ensures.err
+    subst (λ (r : Result ImageData Refusal). IfErr c.make_linked_image.result (λ x. IfSome (refusal_of x) (λ q. r ≡ Err q))) (linked_made c.args.objects.now c.args.layout.now c.deref.result.now c.in_ok-placed.ensures.none e) c.make_linked_image.ensures.err

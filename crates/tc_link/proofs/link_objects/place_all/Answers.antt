@@ -2,7 +2,7 @@ use Rattle.std.proofs.Common.{◌≡◌, ◌∙◌, [], List, Option, Some, None
 use Rattle.std.specs.Prelude.{IfSome, IfOk, IfErr}
 use Rattle.std.proofs.lemmas.Result.{err_from_is_err_and}
 use Rattle.tc_link.specs.Layouts.{PlaceData, LayoutData}
-use Rattle.tc_link.specs.Placing.{sections_of, placed_after}
+use Rattle.tc_link.specs.Placing.{sections_to_link, placed_after}
 use Rattle.tc_link.specs.Refusals.{refused_early, Refusal, no_place_in, no_room_after}
 use Rattle.tc_link.specs.Errors.{IsRefusal, refusal_of}
 use Rattle.tc_link.proofs.LinkLaws.{early_none, told_twice, told_missing, told_place, told_room, err_told, ok_told}
@@ -36,8 +36,8 @@ returns-clause-none c =
     let e : c.deref.result.now ≡ c.args.layout.now.places = c.deref.ensures.value ∙ ap (λ (l : LayoutData). l.places) c.layout.view_is in
     let e2 : c.deref-2.result.now ≡ c.args.layout.now.places = c.deref-2.ensures.value ∙ ap (λ (l : LayoutData). l.places) c.layout.view_is in
     let none : no_place_in c.args.layout.now.places c.args.objects.now ≡ None = ap (λ (ps : List PlaceData). no_place_in ps c.args.objects.now) (sym e) ∙ c.in_ok-check_places.ensures.ok in
-    ok_told c.placed_of.result (λ _. no_room_after c.deref-2.result.now [] (sections_of c.args.objects.now) ≡ None) (refused_early c.args.layout.now c.args.objects.now ≡ None)
-    (λ _ room. early_none c.args.objects.now c.args.layout.now c.in_ok-check_repeated.ensures.ok c.in_ok-check_missing.ensures.ok none (ap (λ (ps : List PlaceData). no_room_after ps [] (sections_of c.args.objects.now)) (sym e2) ∙ room))
+    ok_told c.placed_of.result (λ _. no_room_after c.deref-2.result.now [] (sections_to_link c.args.objects.now) ≡ None) (refused_early c.args.layout.now c.args.objects.now ≡ None)
+    (λ _ room. early_none c.args.objects.now c.args.layout.now c.in_ok-check_repeated.ensures.ok c.in_ok-check_missing.ensures.ok none (ap (λ (ps : List PlaceData). no_room_after ps [] (sections_to_link c.args.objects.now)) (sym e2) ∙ room))
     c.placed_of.ensures.room
 
 pub returns-clause-err : goal.returns-clause-err
@@ -45,6 +45,6 @@ returns-clause-err c =
     let e : c.deref.result.now ≡ c.args.layout.now.places = c.deref.ensures.value ∙ ap (λ (l : LayoutData). l.places) c.layout.view_is in
     let e2 : c.deref-2.result.now ≡ c.args.layout.now.places = c.deref-2.ensures.value ∙ ap (λ (l : LayoutData). l.places) c.layout.view_is in
     let none : no_place_in c.args.layout.now.places c.args.objects.now ≡ None = ap (λ (ps : List PlaceData). no_place_in ps c.args.objects.now) (sym e) ∙ c.in_ok-check_places.ensures.ok in
-    let h = subst (λ (ps : List PlaceData). IfErr c.placed_of.result (IsRefusal (no_room_after ps [] (sections_of c.args.objects.now)))) e2 c.placed_of.ensures.err in
-    err_told c.placed_of.result (no_room_after c.args.layout.now.places [] (sections_of c.args.objects.now)) (refused_early c.args.layout.now c.args.objects.now)
+    let h = subst (λ (ps : List PlaceData). IfErr c.placed_of.result (IsRefusal (no_room_after ps [] (sections_to_link c.args.objects.now)))) e2 c.placed_of.ensures.err in
+    err_told c.placed_of.result (no_room_after c.args.layout.now.places [] (sections_to_link c.args.objects.now)) (refused_early c.args.layout.now c.args.objects.now)
     (λ x t. told_room c.args.objects.now c.args.layout.now x c.in_ok-check_repeated.ensures.ok c.in_ok-check_missing.ensures.ok none t) h

@@ -2,7 +2,7 @@ use Rattle.std.proofs.Common.{◌≡◌, ◌++◌, ◌∙◌, ℕ, List, None, O
 use Rattle.std.specs.Prelude.{IfSome}
 use Rattle.std.proofs.lemmas.Result.{err_from_is_err_and}
 use Rattle.tc_object.specs.Objects.{SectionData, ObjectData, IsObject}
-use Rattle.tc_link.specs.Placing.{sections_of, placed_after, bases_after}
+use Rattle.tc_link.specs.Placing.{sections_to_link, placed_after, bases_after}
 use Rattle.tc_link.specs.Refusals.{Refusal, no_room_after}
 use Rattle.tc_link.specs.PlaceSizes.{AreTaken}
 use Rattle.tc_link.specs.Errors.{refusal_of}
@@ -25,7 +25,7 @@ loop-object-preserved c =
     let i : ℕ = c.loop-object.object-index in
     let o : ObjectData = c.object-item.result in
     let all : List ObjectData = c.args.objects.now in
-    let before : List SectionData = sections_of (take i all) in
+    let before : List SectionData = sections_to_link (take i all) in
     let inv = c.loop-object.invariant in
     let e : c.deref.result.now ≡ o.sections = c.deref.ensures.value ∙ ap (λ (x : ObjectData). x.sections) c.object.view_is in
     let bases : c.in_ok-bases.bases.items ≡ bases_after c.args.places.now before o.sections = c.in_ok-bases.ensures.bases before inv.taken ∙ ap (bases_after c.args.places.now before) e in
@@ -44,7 +44,7 @@ returns-in_err-bases-clause-err c =
     let i : ℕ = c.loop-object.object-index in
     let o : ObjectData = c.object-item.result in
     let all : List ObjectData = c.args.objects.now in
-    let before : List SectionData = sections_of (take i all) in
+    let before : List SectionData = sections_to_link (take i all) in
     let inv = c.loop-object.invariant in
     let e : c.deref.result.now ≡ o.sections = c.deref.ensures.value ∙ ap (λ (x : ObjectData). x.sections) c.object.view_is in
     let x : Option Refusal = refusal_of c.in_err-bases.field-0.0 in

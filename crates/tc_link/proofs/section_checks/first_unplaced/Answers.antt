@@ -1,12 +1,12 @@
 use Rattle.std.proofs.Common.{◌&&◌, ◌||◌, ◌∙◌, not, Bool, Some, refl, sym, ap, ℕ, List, length, ltb}
 use Rattle.tc_object.specs.Objects.{SectionData}
 use Rattle.tc_link.specs.Layouts.{is_placed}
-use Rattle.tc_link.specs.Refusals.{first_at, no_place, no_place_of, has_symbol}
+use Rattle.tc_link.specs.Refusals.{first_refusal_from, no_place, no_place_of, has_symbol}
 use Rattle.tc_link.proofs.FirstLaws.{more_item, found_item, then_yes, then_no}
 use Rattle.tc_link.proofs.section_checks.first_unplaced.Goals as goal
 
 pub loop-number-init : goal.loop-number-init
-unfolding first_at
+unfolding first_refusal_from
 loop-number-init c = λ symbols held. refl
 
 pub returns-then-is_unplaced : goal.returns-then-is_unplaced

@@ -2,13 +2,13 @@ use Rattle.std.proofs.Common.{◌≡◌, ◌∙◌, Some, None, refl, sym, ap, �
 use Rattle.std.specs.Option.{option_map}
 use Rattle.std.specs.Borrow.{Bor}
 use Rattle.tc_object.specs.Objects.{ObjectData}
-use Rattle.tc_link.specs.Refusals.{first_at, twice, twice_of, twice_in}
+use Rattle.tc_link.specs.Refusals.{first_refusal_from, twice, twice_of, twice_in}
 use Rattle.tc_link.proofs.FirstLaws.{more_item, found_item, first_end}
 use Rattle.tc_link.proofs.TwiceLaws.{none_twice}
 use Rattle.tc_link.proofs.symbol_checks.check_repeated.Goals as goal
 
 pub loop-object-init : goal.loop-object-init
-unfolding first_at
+unfolding first_refusal_from
 loop-object-init c = refl
 
 pub returns-in-Some-clause-err : goal.returns-in-Some-clause-err
@@ -16,22 +16,22 @@ unfolding twice_in
 returns-in-Some-clause-err c =
     let x : ObjectData = c.object-item.result in
     let e : c.deref.result.now ≡ x.symbols = c.deref.ensures.value ∙ ap (λ (o : ObjectData). o.symbols) c.object.view_is in
-    let inner : first_at (twice_of c.args.objects.now) 0 x.symbols ≡ Some (twice c.in-Some.name.now) =
-    ap (first_at (twice_of c.args.objects.now) 0) (sym e) ∙ c.first_repeated.ensures c.args.objects.now c.requires ∙ ap (option_map (λ (n : Bor (List ℕ)). twice n.now)) c.in-Some.is in
-    found_item (λ _ (o : ObjectData). first_at (twice_of c.args.objects.now) 0 o.symbols) c.args.objects.now c.loop-object.object-index x (twice c.in-Some.name.now) c.loop-object-test.true c.object-item.is c.loop-object.invariant inner
+    let inner : first_refusal_from (twice_of c.args.objects.now) 0 x.symbols ≡ Some (twice c.in-Some.name.now) =
+    ap (first_refusal_from (twice_of c.args.objects.now) 0) (sym e) ∙ c.first_repeated.ensures c.args.objects.now c.requires ∙ ap (option_map (λ (n : Bor (List ℕ)). twice n.now)) c.in-Some.is in
+    found_item (λ _ (o : ObjectData). first_refusal_from (twice_of c.args.objects.now) 0 o.symbols) c.args.objects.now c.loop-object.object-index x (twice c.in-Some.name.now) c.loop-object-test.true c.object-item.is c.loop-object.invariant inner
     ∙ ap (λ (n : List ℕ). Some (twice n)) (sym c.in_ok-from_str.ensures.ok)
 
 pub loop-object-preserved : goal.loop-object-preserved
 loop-object-preserved c =
     let x : ObjectData = c.object-item.result in
     let e : c.deref.result.now ≡ x.symbols = c.deref.ensures.value ∙ ap (λ (o : ObjectData). o.symbols) c.object.view_is in
-    let inner : first_at (twice_of c.args.objects.now) 0 x.symbols ≡ None =
-    ap (first_at (twice_of c.args.objects.now) 0) (sym e) ∙ c.first_repeated.ensures c.args.objects.now c.requires ∙ ap (option_map (λ (n : Bor (List ℕ)). twice n.now)) c.in_default.is in
-    more_item (λ _ (o : ObjectData). first_at (twice_of c.args.objects.now) 0 o.symbols) c.args.objects.now c.loop-object.object-index x c.loop-object-test.true c.object-item.is c.loop-object.invariant inner
+    let inner : first_refusal_from (twice_of c.args.objects.now) 0 x.symbols ≡ None =
+    ap (first_refusal_from (twice_of c.args.objects.now) 0) (sym e) ∙ c.first_repeated.ensures c.args.objects.now c.requires ∙ ap (option_map (λ (n : Bor (List ℕ)). twice n.now)) c.in_default.is in
+    more_item (λ _ (o : ObjectData). first_refusal_from (twice_of c.args.objects.now) 0 o.symbols) c.args.objects.now c.loop-object.object-index x c.loop-object-test.true c.object-item.is c.loop-object.invariant inner
 
 pub returns-clause-ok : goal.returns-clause-ok
 unfolding twice_in
-returns-clause-ok c = first_end (λ _ (o : ObjectData). first_at (twice_of c.args.objects.now) 0 o.symbols) c.args.objects.now c.loop-object.object-index c.loop-object-test.false c.loop-object.invariant
+returns-clause-ok c = first_end (λ _ (o : ObjectData). first_refusal_from (twice_of c.args.objects.now) 0 o.symbols) c.args.objects.now c.loop-object.object-index c.loop-object-test.false c.loop-object.invariant
 
-pub returns-then-are_single-clause-ok : goal.returns-then-are_single-clause-ok
-returns-then-are_single-clause-ok c = none_twice c.args.objects.now (c.are_single.ensures c.if-are_single.true c.args.objects.now c.requires)
+pub returns-then-are_globals_single-clause-ok : goal.returns-then-are_globals_single-clause-ok
+returns-then-are_globals_single-clause-ok c = none_twice c.args.objects.now (c.are_globals_single.ensures c.if-are_globals_single.true c.args.objects.now c.requires)

@@ -1,11 +1,11 @@
 use Rattle.std.proofs.Common.{◌∙◌, Some, refl, sym, ap, ℕ, List}
 use Rattle.tc_object.specs.Objects.{SymbolData}
-use Rattle.tc_link.specs.Refusals.{first_at, twice, twice_of}
+use Rattle.tc_link.specs.Refusals.{first_refusal_from, twice, twice_of}
 use Rattle.tc_link.proofs.FirstLaws.{more_item, found_item, then_yes, then_no}
 use Rattle.tc_link.proofs.symbol_checks.first_repeated.Goals as goal
 
 pub loop-symbol-init : goal.loop-symbol-init
-unfolding first_at
+unfolding first_refusal_from
 loop-symbol-init c = λ objects h. refl
 
 pub returns-then-is_repeated : goal.returns-then-is_repeated

@@ -11,8 +11,8 @@ use Rattle.tc_mem.proofs.page_numbers.page_numbers.Goals as goal
 pub loop-range-preserved : goal.loop-range-preserved
 loop-range-preserved c = λ q h.
     elim (in_more c.args.ranges.now c.loop-range.range-index (record { at = 0; len = 0 }) q c.loop-range-test.true h) [
-      | inl before ↦ c.in_ok-add_numbers.ensures.kept (q / 4096) (c.loop-range.invariant q before)
-      | inr here ↦ c.in_ok-add_numbers.ensures.added q here.0 here.1
+      | inl before ↦ c.in_ok-add_page_numbers.ensures.kept (q / 4096) (c.loop-range.invariant q before)
+      | inr here ↦ c.in_ok-add_page_numbers.ensures.added q here.0 here.1
     ]
 
 pub returns-clause-rising : goal.returns-clause-rising

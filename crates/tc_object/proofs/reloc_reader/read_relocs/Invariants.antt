@@ -1,10 +1,10 @@
 use Rattle.std.proofs.Common.{◌≡◌, ◌-◌, []}
-use Rattle.tcd_base.specs.FieldReaders.{many_at}
+use Rattle.tcd_base.specs.FieldReaders.{many_fields_at}
 use Rattle.tc_object.specs.Grammar.{reloc_after}
 use Rattle.tc_object.proofs.reloc_reader.read_relocs.Given as goal
 
 abbrev pub invariant-loop-i : goal.invariant-loop-i
 invariant-loop-i l = record {
-  read : many_at (reloc_after l.sections l.symbols) l.count [] l.initial.c ≡ many_at (reloc_after l.sections l.symbols) (l.count - l._i) l.relocs.items l.c;
+  read : many_fields_at (reloc_after l.sections l.symbols) l.count [] l.initial.c ≡ many_fields_at (reloc_after l.sections l.symbols) (l.count - l._i) l.relocs.items l.c;
   bytes : l.c.bytes ≡ l.initial.c.bytes;
 }

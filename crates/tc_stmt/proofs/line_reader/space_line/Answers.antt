@@ -1,5 +1,6 @@
 use Rattle.std.proofs.Common.{sym, subst, arith}
-use Rattle.tc_stmt.specs.Lines.{LineData, Adds}
+use Rattle.tc_stmt.specs.Lines.{LineData}
+use Rattle.tc_stmt.specs.LinesRead.{Adds}
 use Rattle.tc_stmt.proofs.LoopLaws.{space_line-one, space_line-other}
 use Rattle.tc_stmt.proofs.line_reader.space_line.Goals as goal
 
@@ -10,5 +11,5 @@ returns-then-os-ne1 c =
 
 pub returns : goal.returns
 returns c =
-    let P : LineData → Type 0 = λ l. Adds l c.one_space.result c.args.items.now.items c.one_space.new.items.items in
-    subst P (sym (space_line-one c.args.os.now _ (omega arith))) c.one_space.ensures
+    let P : LineData → Type 0 = λ l. Adds l c.space_operand_line.result c.args.items.now.items c.space_operand_line.new.items.items in
+    subst P (sym (space_line-one c.args.os.now _ (omega arith))) c.space_operand_line.ensures

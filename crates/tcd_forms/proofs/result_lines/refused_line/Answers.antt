@@ -9,8 +9,8 @@ pub returns : goal.returns
 unfolding refused_line
 returns c =
     let l0 = c.in_ok-line.line.items in
-    four_pieces (codes "refused K") (decimal c.args.rule) (codes " at ") _ _ _ l0 c.append.new.line.items c.append-2.new.line.items c.append_key.new.line.items
+    four_pieces (codes "refused K") (decimal c.args.rule) (codes " at ") _ _ _ l0 c.append_to_printed_line.new.line.items c.append_to_printed_line-2.new.line.items c.append_key_to_line.new.line.items
     c.in_ok-line.ensures
-    (c.in_ok-append.ensures ∙ ap (λ (l : List ℕ). l0 ++ l) c.hex_word.ensures)
-    c.in_ok-append-2.ensures
-    c.in_ok-append_key.ensures
+    (c.in_ok-append_to_printed_line.ensures ∙ ap (λ (l : List ℕ). l0 ++ l) c.hex_word.ensures)
+    c.in_ok-append_to_printed_line-2.ensures
+    c.in_ok-append_key_to_line.ensures

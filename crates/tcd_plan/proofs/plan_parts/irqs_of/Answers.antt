@@ -13,5 +13,5 @@ overflow_cast-unwrap_or c =
     let i = c.loop-place.place-index in
     let within : i < length (map view places) = omega (arith, length-map places view) in
     let here : irq_of (view item) < 2 ^ 8 = subst (λ (d : Data). irq_of d < 2 ^ 8) (get_or-map view places i item ∙ ap view (sym c.place-item.is)) (c.requires.bytes i (view item) within) in
-    let is : c.unwrap_or.result ≡ irq_of (view item) = cc (c.unwrap_or.ensures, c.number_of.ensures) in
+    let is : c.unwrap_or.result ≡ irq_of (view item) = cc (c.unwrap_or.ensures, c.json_number_of.ensures) in
     omega (arith, is, here)

@@ -4,4 +4,4 @@ use Rattle.tcd_plan.proofs.texts.key_text.Goals as goal
 
 pub returns : goal.returns
 returns c =
-    slice_get-texts c.texts.result.now _ c.args.key.0 _ c.texts.ensures.texts (omega (arith, c.texts.ensures.count))
+    slice_get-texts c.printed_key_texts.result.now _ c.args.key.0 _ c.printed_key_texts.ensures.texts (omega (arith, c.printed_key_texts.ensures.count))

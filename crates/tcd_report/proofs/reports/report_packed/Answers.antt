@@ -6,7 +6,7 @@ use Rattle.serde_json.specs.Written.{compact_text, has_float}
 use Rattle.depth_cert.specs.Nodes.{NodeData}
 use Rattle.depth_cert.specs.Certs.{CertData, IsCert}
 use Rattle.cfg_recover.specs.RulesHoldOrFail.{certified_need}
-use Rattle.tcd_report.specs.Reports.Longest.{priorities, AtPrio, rows_below, IsGreatest}
+use Rattle.tcd_report.specs.Reports.Longest.{priorities, AtPrio, rows_below, IsLongestIfAny}
 use Rattle.tcd_report.specs.declared.reports.longest_by_priority.LongestCalls.{LongestCalls}
 use Rattle.tcd_report.specs.Reports.{nodes_data, rows_data, whole_data, report_data}
 use Rattle.tcd_report.proofs.ReportLemmas.LongestLaws.{prios_are, rows_longest}
@@ -22,7 +22,7 @@ returns c =
     let heights = c.in_ok-heights.heights in
     let row : ℕ → Option ℕ = get nat_eq c.in_ok-known.known in
     let rows : List LongestCalls = rows_below row priorities in
-    let greatest : (p : ℕ) → IsGreatest (AtPrio heights cert.nodes p) (row p) = c.in_ok-known.ensures in
+    let greatest : (p : ℕ) → IsLongestIfAny (AtPrio heights cert.nodes p) (row p) = c.in_ok-known.ensures in
     let rows_are : c.in_ok-rows.rows.items ≡ rows = c.in_ok-rows.ensures ∙ ap (rows_below row) c.priority_count.ensures in
     let calls_are : view c.in_ok-calls.calls ≡ rows_data rows = c.in_ok-calls.ensures ∙ ap rows_data (c.deref.ensures.value ∙ rows_are) in
     let nodes_are : view c.in_ok-nodes.nodes ≡ nodes_data cert.nodes = c.in_ok-nodes.ensures in
@@ -36,5 +36,5 @@ returns c =
       rows = rows;
       prios = prios_are image plan cert is heights c.in_ok-heights.ensures.tells c.in_ok-heights.ensures.all row greatest priorities;
       longest = rows_longest image plan cert is heights c.in_ok-heights.ensures.tells c.in_ok-heights.ensures.all row greatest priorities;
-      is = c.in_ok-append.ensures ∙ ap (λ l. l ++ 10 ∷ []) (c.in_ok-text.ensures.text plain ∙ ap compact_text value_is);
+      is = c.in_ok-extend_text.ensures ∙ ap (λ l. l ++ 10 ∷ []) (c.in_ok-text.ensures.text plain ∙ ap compact_text value_is);
     }

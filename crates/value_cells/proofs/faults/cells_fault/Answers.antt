@@ -13,14 +13,14 @@ use Rattle.cfg_recover.proofs.FirstFault.{all_more, item_values}
 use Rattle.value_cells.proofs.FaultLaws.{all_keep, first_breaks, cells_fit}
 use Rattle.value_cells.proofs.faults.cells_fault.Goals as goal
 
-pub node_break-requires-clause-values : goal.node_break-requires-clause-values
-node_break-requires-clause-values c =
+pub node_cells_fault-requires-clause-values : goal.node_cells_fault-requires-clause-values
+node_cells_fault-requires-clause-values c =
     item_values c.args.image.now c.with_cells-other.result c.args.cert.now c.of-bounds.result c.deref-node-items.result.now c.loop-node.node-index c.node-item.result
     (subst (λ (p : PlanData). Accepts c.args.image.now p c.args.cert.now) (sym c.with_cells-other.ensures) c.requires.accepted)
     (c.of-bounds.ensures ∙ ap (λ (t : CertData). limits_for c.with_cells-other.result t.version) c.cert.view_is) (c.deref-node-items.ensures.value ∙ ap (λ (t : CertData). t.nodes) c.cert.view_is) c.loop-node-test.true c.node-item.is
 
-pub node_break-requires-clause-cells : goal.node_break-requires-clause-cells
-node_break-requires-clause-cells c =
+pub node_cells_fault-requires-clause-cells : goal.node_cells_fault-requires-clause-cells
+node_cells_fault-requires-clause-cells c =
     subst (λ (l : List Cell). All (λ (d : Cell). d.at + 4 ≤ 2 ^ 32) l) (sym c.list.ensures) (cells_fit c.args.plan.now c.args.cells.now (subst IsPlan c.plan.view_is c.plan.invariant) c.requires.cells)
 
 pub returns-in-Some-clause-some : goal.returns-in-Some-clause-some

@@ -1,6 +1,5 @@
 use Rattle.std.proofs.Common.{List, ℕ, min, take, ◌++◌}
-use Rattle.value_domain.specs.Sets.{alignment_log2}
-use Rattle.value_domain.specs.Values.{IsExtent}
+use Rattle.value_domain.specs.Sets.{alignment_log2, IsExtent}
 use Rattle.value_domain.proofs.lattice.extent_with.Given as goal
 
 abbrev pub invariant-loop-x : goal.invariant-loop-x

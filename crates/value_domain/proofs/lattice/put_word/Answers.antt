@@ -1,7 +1,8 @@
 use Rattle.std.proofs.Common.{◌≡◌, ◌∙◌, arith, length, ap, sym, subst}
 use Rattle.std.proofs.lemmas.Bool.{false≢true}
 use Rattle.value_domain.specs.declared.values.Val.{Val}
-use Rattle.value_domain.specs.Values.{IsMember, IsExtent, members}
+use Rattle.value_domain.specs.Values.{IsMember, members}
+use Rattle.value_domain.specs.Sets.{IsExtent}
 use Rattle.value_domain.proofs.PutLaws.{with_member, with_room, with_wider, same_words}
 use Rattle.value_domain.proofs.lattice.put_word.Goals as goal
 use Rattle.value_domain.proofs.lattice.put_word.Goals.{in-Set+else-as_slice-most_words, in_default}

@@ -2,4 +2,4 @@ use Rattle.value_domain.proofs.Loops.{extent_places}
 use Rattle.value_domain.proofs.lattice.set_extent.Goals as goal
 
 pub returns : goal.returns
-returns c = extent_places c.args.words.now c.least_step.result c.requires c.least_step.ensures
+returns c = extent_places c.args.words.now c.extent_step.result c.requires c.extent_step.ensures

@@ -16,5 +16,5 @@ returns-then-words-most_words c =
 pub returns : goal.returns
 returns c =
     c.write_span.ensures
-    ∙ rw c.least_step.ensures
+    ∙ rw c.extent_step.ensures
     (span_words c.args.b.now c.args.words.now c.requires.rising c.requires.some (omega (arith, c.if-words-most_words.false, c.most_words.ensures.most_words)))

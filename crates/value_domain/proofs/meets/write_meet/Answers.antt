@@ -5,6 +5,6 @@ use Rattle.value_domain.proofs.meets.write_meet.Goals as goal
 pub returns-in-Span-clause-meet : goal.returns-in-Span-clause-meet
 returns-in-Span-clause-meet c =
     let well = rw c.in-Span.is at c.requires.value.well in
-    c.span_in.ensures.meet
+    c.write_meet_of_span.ensures.meet
     ∙ rw (c.in-Span.is, c.max.ensures, c.min.ensures, c.max-in-Span.ensures)
     (meet_range c.args.b.now c.args.lo c.args.last c.args.step c.in-Span.first c.in-Span.end c.in-Span.own c.requires.step well.0)

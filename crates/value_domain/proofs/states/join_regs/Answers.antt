@@ -2,8 +2,8 @@ use Rattle.std.proofs.Common.{◌≡◌, ◌∙◌, sym, ap, arith, set, take, s
 use Rattle.std.proofs.lemmas.List.{take_all}
 use Rattle.std.proofs.Math.ListN.{length-set}
 use Rattle.value_domain.specs.declared.values.Val.{Val}
-use Rattle.value_domain.specs.State.{joined_regs, join_of}
-use Rattle.value_domain.specs.Values.{IsValue, cover, members, any_val}
+use Rattle.value_domain.specs.State.{joined_regs}
+use Rattle.value_domain.specs.Values.{join_of, IsValue, cover, members, any_val}
 use Rattle.value_domain.proofs.RegLaws.{read_at, regs_more, regs_left, regs_same, length-joined}
 use Rattle.value_domain.proofs.states.join_regs.Goals as goal
 use Rattle.value_domain.proofs.states.join_regs.Goals.{then-not-are_same, else-not-are_same}

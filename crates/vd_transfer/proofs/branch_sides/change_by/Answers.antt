@@ -3,11 +3,11 @@ use Rattle.value_domain.specs.declared.states.State.{State}
 use Rattle.vd_transfer.specs.Branches.{with_lowered_counter}
 use Rattle.vd_transfer.proofs.branch_sides.change_by.Goals as goal
 
-pub returns-then-not-narrow_by-clause-refine : goal.returns-then-not-narrow_by-clause-refine
-returns-then-not-narrow_by-clause-refine c =
-    ap (λ (t : Option State). with_lowered_counter c.args.b.now c.args.plan.now c.args.test.x c.args.lowers t) (rw c.if-not-narrow_by.true at c.narrow_by.ensures.refined)
+pub returns-then-not-narrow_on_side-clause-refine : goal.returns-then-not-narrow_on_side-clause-refine
+returns-then-not-narrow_on_side-clause-refine c =
+    ap (λ (t : Option State). with_lowered_counter c.args.b.now c.args.plan.now c.args.test.x c.args.lowers t) (rw c.if-not-narrow_on_side.true at c.narrow_on_side.ensures.refined)
 
 pub returns-clause-refine : goal.returns-clause-refine
 returns-clause-refine c =
-    c.lower_counter.ensures.lowered
-    ∙ ap (λ (t : Option State). with_lowered_counter c.args.b.now c.args.plan.now c.args.test.x c.args.lowers t) (rw c.if-not-narrow_by.false at c.narrow_by.ensures.refined)
+    c.lower_branch_counter.ensures.lowered
+    ∙ ap (λ (t : Option State). with_lowered_counter c.args.b.now c.args.plan.now c.args.test.x c.args.lowers t) (rw c.if-not-narrow_on_side.false at c.narrow_on_side.ensures.refined)

@@ -9,4 +9,4 @@ returns-in-Some-clause-value c =
 
 pub returns-in-None-clause-value : goal.returns-in-None-clause-value
 returns-in-None-clause-value c =
-    rw (c.fixed.ensures, ← c.plan.view_is) (fixed_is_value c.args.b.now (plan_data c.plan.inside) c.args.r c.most_words-most_words.ensures.limits c.plan.invariant.words.globals)
+    rw (c.fixed_register_value.ensures, ← c.plan.view_is) (fixed_is_value c.args.b.now (plan_data c.plan.inside) c.args.r c.most_words-most_words.ensures.limits c.plan.invariant.words.globals)

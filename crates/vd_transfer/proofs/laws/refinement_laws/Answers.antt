@@ -1,9 +1,9 @@
 use Rattle.std.proofs.Common.{◌≡◌, ℕ, Bool, true, List}
 use Rattle.std.specs.List.{filter, list_any}
-use Rattle.tc_isa.specs.Arithmetic.{signed_place}
+use Rattle.tc_isa.specs.Arithmetic.{signed_order_place}
 use Rattle.value_domain.specs.Sets.{Among, Within}
 use Rattle.value_domain.proofs.MeetLaws.{among_filter, filter_has, any_among, among_any}
-use Rattle.vd_transfer.specs.Relations.{is_related, kept_by}
+use Rattle.vd_transfer.specs.Relations.{is_related, related_words}
 use Rattle.vd_transfer.specs.Signs.{kept_signed}
 use Rattle.vd_transfer.proofs.laws.refinement_laws.Goals as goal
 
@@ -19,10 +19,10 @@ module _ (test : ℕ → ℕ → Bool) where
       filter_has (λ x. list_any (test x) ws2) z vs2 (there z f.0) (among_any (test z) r.0 ws2 (here r.0 r.1) r.2)
 
 pub returns : goal.returns
-unfolding kept_by kept_signed
+unfolding related_words kept_signed
 returns c = λ rel. record {
   sound = kept_sound (is_related rel);
   monotone = kept_monotone (is_related rel);
-  signed_sound = kept_sound (λ x y. is_related rel (signed_place x) (signed_place y));
-  signed_monotone = kept_monotone (λ x y. is_related rel (signed_place x) (signed_place y));
+  signed_sound = kept_sound (λ x y. is_related rel (signed_order_place x) (signed_order_place y));
+  signed_monotone = kept_monotone (λ x y. is_related rel (signed_order_place x) (signed_order_place y));
 }

@@ -7,9 +7,9 @@ use Rattle.vd_transfer.proofs.operations.add_result.Goals as goal
 pub returns-then-met-k-clause-cover : goal.returns-then-met-k-clause-cover
 returns-then-met-k-clause-cover c =
     with_member c.args.b.now c.args.v.now c.args.z c.requires.value
-    (subst (λ (y : ℕ). IsMember y c.args.v.now) c.if-met-k.true (c.requires.met c.slot_of-k.result (omega arith)))
+    (subst (λ (y : ℕ). IsMember y c.args.v.now) c.if-met-k.true (c.requires.met c.met_result_slot-k.result (omega arith)))
 
 pub returns-clause-met : goal.returns-clause-met
 returns-clause-met c =
     rw c.add_word.ensures.cover
-    (met_more c.args.b.now c.args.v.now c.args.met.now c.slot_of-k.result c.args.z c.requires.value.well (omega arith) c.requires.met)
+    (met_more c.args.b.now c.args.v.now c.args.met.now c.met_result_slot-k.result c.args.z c.requires.value.well (omega arith) c.requires.met)

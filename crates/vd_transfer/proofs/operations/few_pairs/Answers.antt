@@ -8,7 +8,7 @@ use Rattle.vd_transfer.proofs.operations.few_pairs.Goals as goal
 pub loop-x-init : goal.loop-x-init
 loop-x-init c =
     let small : c.alu.result < 2 ^ 32 = c.alu.type_inv in
-    rw (c.write_word.ensures.word, ← c.alu.ensures)
+    rw (c.write_constant.ensures.word, ← c.alu.ensures)
     (record {
       cover = cover-one c.args.b.now c.alu.result c.most_words-most_words.ensures.limits small ∙ ap (cover c.args.b.now) (pairs-none c.args.op c.alu.result c.args.ys.now);
       value = one_value c.args.b.now c.alu.result c.most_words-most_words.ensures.limits small;

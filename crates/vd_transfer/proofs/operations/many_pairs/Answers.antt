@@ -8,7 +8,7 @@ use Rattle.vd_transfer.proofs.operations.many_pairs.Goals as goal
 pub loop-i-init : goal.loop-i-init
 loop-i-init c =
     let small : c.alu-first.result < 2 ^ 32 = c.alu-first.type_inv in
-    rw (c.write_word.ensures.word, ← c.alu-first.ensures)
+    rw (c.write_constant.ensures.word, ← c.alu-first.ensures)
     (record {
       within = omega arith;
       cover = cover-one c.args.b.now c.alu-first.result c.most_words-most_words.ensures.limits small ∙ ap (cover c.args.b.now) (pairs-none c.args.op c.alu-first.result c.args.ys.now);
@@ -21,11 +21,11 @@ pub loop-i-preserved : goal.loop-i-preserved
 loop-i-preserved c = record {
   within = omega arith;
   cover =
-      rw c.fill.ensures at c.add_row.ensures.cover
+      rw c.fill_results.ensures at c.add_result_row.ensures.cover
       ∙ pairs_more c.args.b.now c.loop-i.out c.args.op _ c.loop-i.i c.args.xs.now c.args.ys.now c.loop-i-test.true c.loop-i.invariant.cover;
-  value = c.add_row.ensures.value;
-  met = c.add_row.ensures.met;
-  eights = c.add_row.ensures.eights;
+  value = c.add_result_row.ensures.value;
+  met = c.add_result_row.ensures.met;
+  eights = c.add_result_row.ensures.eights;
 }
 
 pub returns-else-i-xs-clause-cover : goal.returns-else-i-xs-clause-cover
@@ -35,5 +35,5 @@ returns-else-i-xs-clause-cover c =
 
 pub returns-then-i-xs-clause-cover : goal.returns-then-i-xs-clause-cover
 returns-then-i-xs-clause-cover c =
-    c.widen.ensures.cover ∙ pairs_rest c.args.b.now c.loop-i.out c.args.op _ c.loop-i.i c.args.xs.now c.args.ys.now c.loop-i.invariant.cover
+    c.widen_by_results.ensures.cover ∙ pairs_rest c.args.b.now c.loop-i.out c.args.op _ c.loop-i.i c.args.xs.now c.args.ys.now c.loop-i.invariant.cover
     ∙ pairs_first c.args.b.now c.args.op c.args.xs.now c.args.ys.now c.requires.left c.requires.right

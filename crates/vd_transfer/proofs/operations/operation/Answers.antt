@@ -8,8 +8,8 @@ returns-in-Set-w-clause-cover c = rw (c.in-Set.is, c.in-Set-w.is, c.all_pairs.en
 
 pub returns-in-Span-w-clause-cover : goal.returns-in-Span-w-clause-cover
 unfolding results
-returns-in-Span-w-clause-cover c = rw c.from_row.ensures.cover (rw (c.in-Set.is, c.in-Span-w.is) refl)
+returns-in-Span-w-clause-cover c = rw c.write_operation_row.ensures.cover (rw (c.in-Set.is, c.in-Span-w.is) refl)
 
 pub returns-in-Span-clause-cover : goal.returns-in-Span-clause-cover
 unfolding results
-returns-in-Span-clause-cover c = rw c.from_row-in-Span.ensures.cover (rw (c.in-Span.is) refl)
+returns-in-Span-clause-cover c = rw c.write_operation_row-in-Span.ensures.cover (rw (c.in-Span.is) refl)

@@ -1,5 +1,5 @@
 use Rattle.std.proofs.Common.{◌∙◌, ◌++◌, ap, append_assoc}
-use Rattle.value_domain.specs.Meets.{cover_some}
+use Rattle.value_domain.specs.Meets.{cover_of_meet}
 use Rattle.value_domain.specs.Values.{members}
 use Rattle.value_domain.proofs.RangeLaws.{members_below}
 use Rattle.vd_transfer.proofs.SignLaws.{kept_parts, part}
@@ -8,13 +8,13 @@ use Rattle.vd_transfer.proofs.signed_refinement.narrow_signed.Goals as goal
 pub returns-clause-kept : goal.returns-clause-kept
 returns-clause-kept c =
     let vs = members c.args.v.now in
-    let i1 = c.parts.result.0 in
-    let i2 = c.parts.result.1 in
-    let j1 = c.parts-2.result.0 in
-    let j2 = c.parts-2.result.1 in
+    let i1 = c.signed_interval_parts.result.0 in
+    let i2 = c.signed_interval_parts.result.1 in
+    let j1 = c.signed_interval_parts-2.result.0 in
+    let j2 = c.signed_interval_parts-2.result.1 in
     let reached = rw (c.signed_place.ensures, c.signed_place-2.ensures) at c.words_reached.ensures in
-    c.add_meet.ensures.more ((part i1 vs ++ part i2 vs) ++ part j1 vs)
-    (c.add_meet-three.ensures.more (part i1 vs ++ part i2 vs) (c.add_meet-two.ensures.more (part i1 vs) c.write_meet-one.ensures.meet))
-    ∙ ap (cover_some c.args.b.now) (append_assoc (part i1 vs ++ part i2 vs) (part j1 vs) (part j2 vs))
+    c.add_refined_members.ensures.more ((part i1 vs ++ part i2 vs) ++ part j1 vs)
+    (c.add_refined_members-three.ensures.more (part i1 vs ++ part i2 vs) (c.add_refined_members-two.ensures.more (part i1 vs) c.write_meet-one.ensures.meet))
+    ∙ ap (cover_of_meet c.args.b.now) (append_assoc (part i1 vs ++ part i2 vs) (part j1 vs) (part j2 vs))
     ∙ kept_parts c.args.b.now c.args.rel vs (members c.args.w.now) c.words_reached.result.0 c.words_reached.result.1 i1 i2 j1 j2 c.signed_range-low.result.0 c.signed_range-low.result.1
-    c.requires.order c.signed_range-low.ensures (members_below c.args.v.now c.requires.left.well) reached c.parts.ensures c.parts-2.ensures
+    c.requires.order c.signed_range-low.ensures (members_below c.args.v.now c.requires.left.well) reached c.signed_interval_parts.ensures c.signed_interval_parts-2.ensures

@@ -16,12 +16,12 @@ returns-then-has-clause-change c = λ loaded.
       | else-s w ↦ w.c-is ∙ w.if-s.false ∙ ap (λ (b : Bool). b && upper) (sym w.if-s.false)
     ]
     in
-    rw (low, c.keep.ensures.kept, c.copy_value.ensures)
+    rw (low, c.keep.ensures.kept, c.copy_to.ensures)
     (hit_state c.args.b.now c.args.plan.now s loaded c.args.operation c.args.self.now c.args.c.now c.requires.operation c.requires.results (c.has.ensures c.if-has.true))
 
 pub returns-then-has-clause-values : goal.returns-then-has-clause-values
 returns-then-has-clause-values c =
-    rw (c.keep.ensures.kept, c.copy_value.ensures)
+    rw (c.keep.ensures.kept, c.copy_to.ensures)
     (hit_values c.args.b.now c.args.s.now c.args.operation c.args.self.now c.args.c.now c.requires.operation.small c.requires.values c.requires.results (c.has.ensures c.if-has.true))
 
 pub change_of-requires-clause-loaded : goal.change_of-requires-clause-loaded
@@ -52,9 +52,9 @@ returns-then-is_none-clause-results c =
     in
     record {
       gives =
-          c.copy_value-then-is_none.ensures
+          c.copy_to-then-is_none.ensures
           ∙ m.0
           ∙ ap (λ (v : Val). value_of b o.op v (Set o.y.now)) (sym c.set_words.ensures)
           ∙ ap (λ (v : Val). value_of b o.op c.set_words.new.out v) (sym c.set_words-then-is_none.ensures);
-      value = rw c.copy_value-then-is_none.ensures m.1;
+      value = rw c.copy_to-then-is_none.ensures m.1;
     }

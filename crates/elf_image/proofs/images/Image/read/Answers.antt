@@ -38,10 +38,10 @@ pub invariant_of-result : goal.invariant_of-result
 invariant_of-result c =
     let bytes = c.args.bytes.now in
     let loads = c.in_ok-loads.ensures.ok in
-    loaded_is_image bytes c.word_at.result _ (omega arith) (λ k. (c.type_inv.bytes k).fits) (sym c.in_ok-check_segments.ensures) loads.1 (sym (c.in_ok-check_apart.ensures ∙ ap overlap_refusal (c.deref.ensures.value ∙ loads.0))) (c.in_ok-segments.ensures.ok ∙ ap (map (segment_of bytes)) (c.deref-2.ensures.value ∙ loads.0))
+    loaded_is_image bytes c.elf_word_at.result _ (omega arith) (λ k. (c.type_inv.bytes k).fits) (sym c.in_ok-check_segments.ensures) loads.1 (sym (c.in_ok-check_apart.ensures ∙ ap overlap_refusal (c.deref.ensures.value ∙ loads.0))) (c.in_ok-segments.ensures.ok ∙ ap (map (segment_of bytes)) (c.deref-2.ensures.value ∙ loads.0))
 
 pub returns : goal.returns
 returns c =
     let bytes = c.args.bytes.now in
     let loads = c.in_ok-loads.ensures.ok in
-    image_of-loaded bytes c.word_at.result _ c.in_ok-check_start.ensures.refusal c.in_ok-check_segments.ensures loads.1 (c.in_ok-check_apart.ensures ∙ ap overlap_refusal (c.deref.ensures.value ∙ loads.0)) c.word_at.ensures (c.in_ok-segments.ensures.ok ∙ ap (map (segment_of bytes)) (c.deref-2.ensures.value ∙ loads.0))
+    image_of-loaded bytes c.elf_word_at.result _ c.in_ok-check_start.ensures.refusal c.in_ok-check_segments.ensures loads.1 (c.in_ok-check_apart.ensures ∙ ap overlap_refusal (c.deref.ensures.value ∙ loads.0)) c.elf_word_at.ensures (c.in_ok-segments.ensures.ok ∙ ap (map (segment_of bytes)) (c.deref-2.ensures.value ∙ loads.0))

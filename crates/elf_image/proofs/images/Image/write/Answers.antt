@@ -1,7 +1,7 @@
 use Rattle.std.proofs.Common.{◌≡◌, ◌≤◌, ◌^◌, length, IfOk, Ok, sym, ap, ◌∙◌, List, ℕ, subst, rules}
 use Rattle.std.proofs.lemmas.Result.{IfOk-weaker}
 use Rattle.elf_image.specs.Images.{IsImage}
-use Rattle.elf_image.specs.ReadElf.{image_of}
+use Rattle.elf_image.specs.ReadElf.{image_of_file}
 use Rattle.elf_image.specs.WrittenElf.{file_of}
 use Rattle.elf_image.proofs.Again.{length-file_of, image_of-file_of}
 use Rattle.elf_image.proofs.images.Image.write.Goals as goal
@@ -16,4 +16,4 @@ pub returns-clause-again : goal.returns-clause-again
 returns-clause-again c =
     let image : IsImage c.args.self.now = subst IsImage c.self.view_is c.self.invariant in
     let bytes : IfOk c.file_of.result (λ v. v.items ≡ file_of c.args.self.now) = search rules in
-    IfOk-weaker c.file_of.result (λ v. v.items ≡ file_of c.args.self.now) (λ v. image_of v.items ≡ Ok c.args.self.now) (λ v e. ap image_of e ∙ image_of-file_of c.args.self.now image) bytes
+    IfOk-weaker c.file_of.result (λ v. v.items ≡ file_of c.args.self.now) (λ v. image_of_file v.items ≡ Ok c.args.self.now) (λ v e. ap image_of_file e ∙ image_of-file_of c.args.self.now image) bytes

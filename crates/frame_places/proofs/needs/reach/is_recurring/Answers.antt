@@ -1,17 +1,17 @@
 use Rattle.std.proofs.Common.{◌∙◌, List, Bool, subst, sym, ap, length}
-use Rattle.frame_places.specs.NodeGraph.{AreBetween, AreReaching}
+use Rattle.frame_places.specs.NodeGraph.{AreEdgesBetween, AreReaching}
 use Rattle.frame_places.proofs.ReachLemmas.{recurring_marks, sources_below}
 use Rattle.frame_places.proofs.needs.reach.is_recurring.Goals as goal
 
 pub nodes_reaching_by-requires-clause-sources : goal.nodes_reaching_by-requires-clause-sources
 nodes_reaching_by-requires-clause-sources c = sources_below c.args.edges.now c.args.sources.now c.args.nodes c.requires.sources c.requires.edges
 
-pub enters_marked-requires : goal.enters_marked-requires
-enters_marked-requires c =
+pub has_marked_next-requires : goal.has_marked_next-requires
+has_marked_next-requires c =
     let are = c.in_ok-marks.ensures c.args.edges.now c.requires.sources in
-    subst (AreBetween c.args.edges.now) (sym (ap (λ (l : List Bool). length l) c.as_slice.ensures.value ∙ are.each)) c.requires.edges
+    subst (AreEdgesBetween c.args.edges.now) (sym (ap (λ (l : List Bool). length l) c.as_slice.ensures.value ∙ are.each)) c.requires.edges
 
 pub returns : goal.returns
 returns c =
-    recurring_marks c.args.edges.now c.args.nodes c.args.node c.as_slice.result.now c.enters_marked.result
-    (subst (AreReaching c.args.edges.now c.args.nodes c.args.node) (sym c.as_slice.ensures.value) (c.in_ok-marks.ensures c.args.edges.now c.requires.sources)) c.enters_marked.ensures
+    recurring_marks c.args.edges.now c.args.nodes c.args.node c.as_slice.result.now c.has_marked_next.result
+    (subst (AreReaching c.args.edges.now c.args.nodes c.args.node) (sym c.as_slice.ensures.value) (c.in_ok-marks.ensures c.args.edges.now c.requires.sources)) c.has_marked_next.ensures

@@ -5,14 +5,14 @@ use Rattle.packed_cert.specs.declared.places.NodePlaces.{NodePlaces}
 use Rattle.packed_cert.proofs.NodeReads.{count_in}
 use Rattle.packed_cert.proofs.certs.PackedCert.count_points.Goals as goal
 
-pub count_places-requires : goal.count_places-requires
-count_places-requires c =
+pub count_packed_points-requires : goal.count_packed_points-requires
+count_packed_points-requires c =
     subst (λ (k : ℕ). k ≤ 2 ^ 16)
     (count_in c.self.inside.version c.self.inside.bytes.items c.self.inside.nodes.items ∙ ap (λ (l : List NodePlaces). sum_by (λ (n : NodePlaces). length n.points.items) l) (sym c.deref.ensures.value))
     c.self.invariant.limits.points
 
 pub returns : goal.returns
 returns c =
-    c.count_places.ensures ∙ ap (λ (l : List NodePlaces). sum_by (λ (n : NodePlaces). length n.points.items) l) c.deref.ensures.value
+    c.count_packed_points.ensures ∙ ap (λ (l : List NodePlaces). sum_by (λ (n : NodePlaces). length n.points.items) l) c.deref.ensures.value
     ∙ sym (count_in c.self.inside.version c.self.inside.bytes.items c.self.inside.nodes.items)
     ∙ ap (λ (d : CertData). count_points d.nodes) c.self.view_is

@@ -1,5 +1,5 @@
 use Rattle.std.proofs.Common.{◌≡◌, ◌≤◌, ◌∙◌, ◌+◌, ℕ, length, ap, arith}
-use Rattle.packed_cert.specs.ValuesAtPlaces.{at}
+use Rattle.packed_cert.specs.ValuesInBytes.{place_in_bytes}
 use Rattle.packed_cert.proofs.PointPlaces.{took}
 use Rattle.packed_cert.proofs.StateShapes.{exit_context}
 use Rattle.packed_cert.proofs.NodeReads.{whole_exit}
@@ -13,5 +13,5 @@ returns c =
     let inside : x ≤ length bytes = omega (arith, (exit_context c.self.inside.version bytes x h.0.0 h.0.1 h.1).inside) in
     let moved = took c.take-front.result _ x (length bytes) (rw c.new-c.ensures at c.take-front.ensures.there) (rw c.new-c.ensures at c.take-front.ensures.moved) inside in
     let there : 0 + x ≡ x = omega arith in
-    whole_exit c.self.inside.version bytes x c.read_exit-read.result c.read_exit-read.new.out c.take-front.new.self _ (moved ∙ ap (λ (k : ℕ). at bytes k) there) h c.read_exit-read.ensures.ok c.read_exit-read.ensures.err
+    whole_exit c.self.inside.version bytes x c.read_exit-read.result c.read_exit-read.new.out c.take-front.new.self _ (moved ∙ ap (λ (k : ℕ). place_in_bytes bytes k) there) h c.read_exit-read.ensures.ok c.read_exit-read.ensures.err
     ∙ c.self.view_is

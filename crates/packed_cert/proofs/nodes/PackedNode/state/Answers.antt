@@ -10,14 +10,14 @@ use Rattle.packed_cert.proofs.nodes.PackedNode.state.Goals.{else-at-points-via-t
 pub at-requires : goal.at-requires
 at-requires c = record {
   short = c.self.invariant.short;
-  state = c.self.invariant.states c.place_of-at.result _ c.if-at-points.true;
+  state = c.self.invariant.states c.node_point_place-at.result _ c.if-at-points.true;
 }
 
 pub returns-then-points-at : goal.returns-then-points-at
 returns-then-points-at c =
     ap (λ (s : State). Some s) c.at.ensures
     ∙ sym (ap (λ (n : NodeData). state_of c.args.addr n.points) (sym c.self.view_is)
-    ∙ ap (option_map (λ (p : Point). p.state)) (point_found c.self.inside.version c.self.inside.bytes.now c.args.addr c.place_of-at.result _ c.self.inside.points.now c.if-at-points.true c.place_of-at.ensures c.if-points-at.true))
+    ∙ ap (option_map (λ (p : Point). p.state)) (point_found c.self.inside.version c.self.inside.bytes.now c.args.addr c.node_point_place-at.result _ c.self.inside.points.now c.if-at-points.true c.node_point_place-at.ensures c.if-points-at.true))
 
 pub returns : goal.returns
 returns c =
@@ -25,7 +25,7 @@ returns c =
     sym (ap (λ (n : NodeData). state_of c.args.addr n.points) (sym c.self.view_is)
     ∙ ap (option_map (λ (p : Point). p.state)) (elim c.else-at-points.branch [
       | else-at-points-via-then-at-points+else-points-at w ↦
-          point_missing c.self.inside.version c.self.inside.bytes.now c.args.addr c.place_of-at.result _ c.self.inside.points.now rising c.place_of-at.ensures w.if-points-at.false
+          point_missing c.self.inside.version c.self.inside.bytes.now c.args.addr c.node_point_place-at.result _ c.self.inside.points.now rising c.node_point_place-at.ensures w.if-points-at.false
       | else-at-points-via-else-at-points w ↦
-          point_past c.self.inside.version c.self.inside.bytes.now c.args.addr c.place_of-at.result c.self.inside.points.now c.place_of-at.ensures w.if-at-points.false
+          point_past c.self.inside.version c.self.inside.bytes.now c.args.addr c.node_point_place-at.result c.self.inside.points.now c.node_point_place-at.ensures w.if-at-points.false
     ]))

@@ -1,6 +1,6 @@
 use Rattle.std.proofs.Common.{◌∙◌, sym, ap, arith}
 use Rattle.value_domain.specs.declared.states.State.{State}
-use Rattle.packed_cert.specs.PointsInBytes.{read_or}
+use Rattle.packed_cert.specs.ValuesInBytes.{read_from_bytes_or}
 use Rattle.value_domain.specs.State.{no_state}
 use Rattle.packed_cert.proofs.StateShapes.{state_context}
 use Rattle.packed_cert.proofs.states.StateAt.locals.Goals as goal
@@ -10,16 +10,16 @@ bounds-self-inside-self-inside c =
     let h = c.self.invariant.state in
     omega (arith, (state_context c.self.inside.version c.self.inside.bytes.now c.self.inside.place h.0.0 h.0.1 h.1).inside)
 
-pub flags_at-requires-clause-within : goal.flags_at-requires-clause-within
-flags_at-requires-clause-within c = let h = c.self.invariant.state in (state_context c.self.inside.version c.self.inside.bytes.now c.self.inside.place h.0.0 h.0.1 h.1).within
+pub state_locals_at-requires-clause-within : goal.state_locals_at-requires-clause-within
+state_locals_at-requires-clause-within c = let h = c.self.invariant.state in (state_context c.self.inside.version c.self.inside.bytes.now c.self.inside.place h.0.0 h.0.1 h.1).within
 
-pub flags_at-requires-clause-few : goal.flags_at-requires-clause-few
-flags_at-requires-clause-few c = let h = c.self.invariant.state in (state_context c.self.inside.version c.self.inside.bytes.now c.self.inside.place h.0.0 h.0.1 h.1).few
+pub state_locals_at-requires-clause-few : goal.state_locals_at-requires-clause-few
+state_locals_at-requires-clause-few c = let h = c.self.invariant.state in (state_context c.self.inside.version c.self.inside.bytes.now c.self.inside.place h.0.0 h.0.1 h.1).few
 
 pub returns : goal.returns
 returns c =
     let h = c.self.invariant.state in
-    c.flags_at.ensures
+    c.state_locals_at.ensures
     ∙ sym (state_context c.self.inside.version c.self.inside.bytes.now c.self.inside.place h.0.0 h.0.1 h.1).locals
-    ∙ sym (ap (λ (s : State). s.locals.items) (ap (read_or no_state) h.1))
+    ∙ sym (ap (λ (s : State). s.locals.items) (ap (read_from_bytes_or no_state) h.1))
     ∙ ap (λ (s : State). s.locals.items) c.self.view_is

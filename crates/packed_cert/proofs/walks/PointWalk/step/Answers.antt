@@ -8,14 +8,14 @@ use Rattle.packed_cert.proofs.walks.PointWalk.step.Goals as goal
 pub returns : goal.returns
 returns c =
     let own = c.self.inside in
-    let s = c.move_on-self-inside.new.room in
-    let row = c.move_on-self-inside.result in
+    let s = c.walk_to_point-self-inside.new.room in
+    let row = c.walk_to_point-self-inside.result in
     let left = points_in own.version own.bytes.now (drop (own.next + 1) own.points.now) in (
-      ap (λ (w : WalkData). w.left) (sym c.self.view_is) ∙ first_left own.version own.bytes.now own.points.now own.next _ s c.if-self.false c.move_on-self-inside.ensures.state,
+      ap (λ (w : WalkData). w.left) (sym c.self.view_is) ∙ first_left own.version own.bytes.now own.points.now own.next _ s c.if-self.false c.walk_to_point-self-inside.ensures.state,
       subst (λ (u : State). KeepsOthers u (record { points = points_in own.version own.bytes.now own.points.now; current = s; anew = take (row.behind - row.first) (drop row.first s.regs); left = left })) (ap (λ (w : WalkData). w.current) c.self.view_is)
-          (keeps_others own.state s row left (points_in own.version own.bytes.now own.points.now) c.move_on-self-inside.ensures.row),
+          (keeps_others own.state s row left (points_in own.version own.bytes.now own.points.now) c.walk_to_point-self-inside.ensures.row),
       ap (λ (w : WalkData). w.points) c.self.view_is,
     )
 
-pub move_on-self-inside-requires-clause-moved : goal.move_on-self-inside-requires-clause-moved
-move_on-self-inside-requires-clause-moved c = c.self.invariant.moves c.self.inside.next _ c.self.inside.state c.if-self.false c.self.invariant.here
+pub walk_to_point-self-inside-requires-clause-moved : goal.walk_to_point-self-inside-requires-clause-moved
+walk_to_point-self-inside-requires-clause-moved c = c.self.invariant.moves c.self.inside.next _ c.self.inside.state c.if-self.false c.self.invariant.here

@@ -3,46 +3,46 @@ use Rattle.value_domain.specs.declared.values.Val.{Val}
 use Rattle.value_domain.specs.declared.values.Val.TheVariants.{Set}
 use Rattle.value_domain.specs.Values.{IsBelow, IsMember}
 use Rattle.value_domain.proofs.RangeLaws.{below_any}
-use Rattle.small_states.specs.SmallValues.{val_of}
+use Rattle.small_states.specs.SmallValues.{small_value_of}
 use Rattle.small_states.proofs.HeldWords.{held_all, set_of}
 use Rattle.small_states.proofs.SameValues.{only_one}
 use Rattle.small_states.proofs.small_value.Small.covers.Goals as goal
 
 pub returns-in-Some : goal.returns-in-Some
 returns-in-Some c =
-    let whole = rw c.in-Some.is at c.only_word.ensures in
+    let whole = rw c.in-Some.is at c.only_register_word.ensures in
     subst (λ (u : Val). IsTrue c.has.result ↔ IsBelow u c.args.self.now) (sym whole) (
       (λ t z m. elim m [ inl e ↦ subst (λ (y : ℕ). IsMember y c.args.self.now) (sym e) (c.has.ensures.0 t) | inr none ↦ absurd none ]),
       (λ below. c.has.ensures.1 (below c.in-Some.x (inl refl))),
     )
 
 pub returns-in-Many : goal.returns-in-Many
-returns-in-Many c = rw (← c.self.view_is, c.in-Many.is) (rw c.as_ref.ensures at c.are_below.ensures)
+returns-in-Many c = rw (← c.self.view_is, c.in-Many.is) (rw c.as_ref.ensures at c.is_below_small_value.ensures)
 
 pub returns-in-Some-words : goal.returns-in-Some-words
 returns-in-Some-words c =
     let words = c.in-Some-words.words.now in
     let ve = set_of c.args.v.now words c.in-Some-words.ensures in
-    let oe = sym c.self.view_is ∙ ap val_of c.in-One.is in
-    subst (λ (u : Val). IsTrue (nat_eq c.held_before.result (length words)) ↔ IsBelow u c.args.self.now) (sym ve)
-    (subst (λ (u : Val). IsTrue (nat_eq c.held_before.result (length words)) ↔ IsBelow (Set words) u) (sym oe)
-    (held_all (c.in-One.x ∷ []) words c.held_before.result c.held_before.ensures.within c.held_before.ensures.held c.held_before.ensures.missing))
+    let oe = sym c.self.view_is ∙ ap small_value_of c.in-One.is in
+    subst (λ (u : Val). IsTrue (nat_eq c.count_held_words.result (length words)) ↔ IsBelow u c.args.self.now) (sym ve)
+    (subst (λ (u : Val). IsTrue (nat_eq c.count_held_words.result (length words)) ↔ IsBelow (Set words) u) (sym oe)
+    (held_all (c.in-One.x ∷ []) words c.count_held_words.result c.count_held_words.ensures.within c.count_held_words.ensures.held c.count_held_words.ensures.missing))
 
 pub returns-in-None : goal.returns-in-None
 returns-in-None c =
     let both = only_one c.in-One.x c.args.v.now in
-    subst (λ (u : Val). IsTrue c.is_below_range.result ↔ IsBelow c.args.v.now u) (sym (sym c.self.view_is ∙ ap val_of c.in-One.is))
+    subst (λ (u : Val). IsTrue c.is_below_range.result ↔ IsBelow c.args.v.now u) (sym (sym c.self.view_is ∙ ap small_value_of c.in-One.is))
     ((λ t. both.0 (c.is_below_range.ensures.0 t)), (λ below. c.is_below_range.ensures.1 (both.1 below)))
 
 pub returns-then-is_the_span : goal.returns-then-is_the_span
 returns-then-is_the_span c =
-    let same = c.is_the_span.ensures.0 c.if-is_the_span.true ∙ sym (sym c.self.view_is ∙ ap val_of c.in-Range.is) in
+    let same = c.is_the_span.ensures.0 c.if-is_the_span.true ∙ sym (sym c.self.view_is ∙ ap small_value_of c.in-Range.is) in
     ((λ t x m. subst (λ (u : Val). IsMember x u) same m), (λ below. refl))
 
 pub returns-else-is_the_span : goal.returns-else-is_the_span
 returns-else-is_the_span c =
-    subst (λ (u : Val). IsTrue c.is_below_range-in-Range.result ↔ IsBelow c.args.v.now u) (sym (sym c.self.view_is ∙ ap val_of c.in-Range.is)) c.is_below_range-in-Range.ensures
+    subst (λ (u : Val). IsTrue c.is_below_range-in-Range.result ↔ IsBelow c.args.v.now u) (sym (sym c.self.view_is ∙ ap small_value_of c.in-Range.is)) c.is_below_range-in-Range.ensures
 
 pub returns-in-Any : goal.returns-in-Any
 returns-in-Any c =
-    ((λ t. subst (λ (u : Val). IsBelow c.args.v.now u) (sym (sym c.self.view_is ∙ ap val_of c.in-Any.is)) (below_any c.args.v.now c.requires.value)), (λ below. refl))
+    ((λ t. subst (λ (u : Val). IsBelow c.args.v.now u) (sym (sym c.self.view_is ∙ ap small_value_of c.in-Any.is)) (below_any c.args.v.now c.requires.value)), (λ below. refl))

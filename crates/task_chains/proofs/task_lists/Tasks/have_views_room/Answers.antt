@@ -1,8 +1,8 @@
 use Rattle.std.proofs.Common.{◌≤◌, ◌++◌, length, map, ap, sym, ◌∙◌, subst}
 use Rattle.std.proofs.lemmas.Bool.{leb-true, le-leb}
 use Rattle.task_chains.specs.Tasks.{TasksData}
-use Rattle.tcd_plan.specs.Cutting.{ranges_without}
-use Rattle.task_chains.specs.Views.{any_device}
+use Rattle.tcd_plan.specs.Cutting.{cut_plan_ranges}
+use Rattle.task_chains.specs.Views.{any_view_device}
 use Rattle.task_chains.proofs.task_lists.Tasks.have_views_room.Goals as goal
 
 pub returns : goal.returns
@@ -11,6 +11,6 @@ returns c =
     let plan = c.args.plan.now in
     let at = ap (λ (t : TasksData). t.block) c.self.view_is in
     let is =
-    c.count_devices.ensures ∙ ap (λ x. length (plan.devices ++ map any_device (ranges_without x c.block_size.result plan.ram))) at
-    ∙ ap (λ k. length (plan.devices ++ map any_device (ranges_without tasks.block k plan.ram))) c.block_size.ensures in
-    (λ t. subst (λ k. k ≤ 16) is (leb-true c.count_devices.result 16 t), λ h. le-leb c.count_devices.result 16 (subst (λ k. k ≤ 16) (sym is) h))
+    c.count_devices_beside_block.ensures ∙ ap (λ x. length (plan.devices ++ map any_view_device (cut_plan_ranges x c.block_size.result plan.ram))) at
+    ∙ ap (λ k. length (plan.devices ++ map any_view_device (cut_plan_ranges tasks.block k plan.ram))) c.block_size.ensures in
+    (λ t. subst (λ k. k ≤ 16) is (leb-true c.count_devices_beside_block.result 16 t), λ h. le-leb c.count_devices_beside_block.result 16 (subst (λ k. k ≤ 16) (sym is) h))

@@ -10,4 +10,4 @@ count_bytes-requires c = λ r e. (c.requires.symbols.some r e).named
 pub returns : goal.returns
 returns c = λ d h.
     code_alike c.args.self.now d _ c.args.row c.args.fields.now (option_map reference_of c.args.r.now) _ c.requires c.in_ok-count_bytes.ensures
-    (c.from-size.ensures ∙ c.code_size.ensures) h
+    (c.from-size.ensures ∙ c.assembled_code_size.ensures) h

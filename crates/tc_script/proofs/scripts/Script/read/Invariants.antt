@@ -1,11 +1,11 @@
 use Rattle.std.proofs.Common.{◌≡◌, ◌+◌, ◌≤◌, length}
-use Rattle.tcd_text.specs.Lines.{lines_of}
-use Rattle.tc_script.specs.ScriptText.{begun, lines_read}
+use Rattle.tcd_text.specs.Lines.{text_lines}
+use Rattle.tc_script.specs.ScriptText.{begun_script, lines_read}
 use Rattle.tc_script.proofs.scripts.Script.read.Given as goal
 
 abbrev pub invariant-lines : goal.invariant-lines
 invariant-lines l = record {
-  result : lines_read l.plan (l.number + 1) (lines_of l.rest) l.draft ≡ lines_read l.plan 1 (lines_of l.fn.bytes) (begun l.plan);
+  result : lines_read l.plan (l.number + 1) (text_lines l.rest) l.draft ≡ lines_read l.plan 1 (text_lines l.fn.bytes) (begun_script l.plan);
   devices : length l.draft.script.bounds ≡ length l.plan.devices;
   left : l.number + length l.rest ≤ length l.fn.bytes;
 }

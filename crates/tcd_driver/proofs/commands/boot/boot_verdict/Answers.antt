@@ -16,7 +16,7 @@ returns-in-Ok c =
 pub returns-in-Err : goal.returns-in-Err
 returns-in-Err c =
     told_more _ _ c.report-in-Err.result c.report-in-Err.ensures
-    (λ r p. unbooted c.in-Err.e c.in-Yes.ensures.judges.0 c.in-Err.ensures (report_is _ (λ t. says Refused t) c.unbooted_line.result r _ c.unbooted_line.ensures p))
+    (λ r p. unbooted c.in-Err.e c.in-Yes.ensures.judges.0 c.in-Err.ensures (report_is _ (λ t. says Refused t) c.refused_boot_line.result r _ c.refused_boot_line.ensures p))
 
 pub returns-in-No : goal.returns-in-No
 returns-in-No c =

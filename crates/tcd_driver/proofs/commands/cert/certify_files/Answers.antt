@@ -12,4 +12,4 @@ returns-in-Err-read_input g c =
 pub returns : goal.returns
 returns g c =
     (leads_read _ _ _ _ _ _ _ c.in-Ok.ensures.leaves c.in-Ok.ensures.later c.in-Ok.ensures.found).comes _ _
-    ((leads_read _ _ _ _ _ _ _ c.in-Ok-read_input.ensures.leaves c.in-Ok-read_input.ensures.later c.in-Ok-read_input.ensures.found).comes _ _ (comes_told _ _ _ c.certify.ensures))
+    ((leads_read _ _ _ _ _ _ _ c.in-Ok-read_input.ensures.leaves c.in-Ok-read_input.ensures.later c.in-Ok-read_input.ensures.found).comes _ _ (comes_told _ _ _ c.certify_image.ensures))

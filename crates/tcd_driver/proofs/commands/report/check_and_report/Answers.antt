@@ -9,13 +9,13 @@ use Rattle.tcd_reading.proofs.ReportLaws.{report_is}
 use Rattle.tcd_driver.proofs.GraphReports.{told_text}
 use Rattle.tcd_driver.proofs.commands.report.check_and_report.Goals as goal
 
-pub report_text-requires : goal.report_text-requires
-report_text-requires c = c.in-Yes.ensures.judges.0
+pub report_command_text-requires : goal.report_command_text-requires
+report_command_text-requires c = c.in-Yes.ensures.judges.0
 
 pub returns-in-Yes : goal.returns-in-Yes
 returns-in-Yes c =
     told_more _ (IsReporting c.args.image.now c.args.plan.now c.args.cert.now) c.report.result c.report.ensures
-    (λ r p. told_text _ (IsReport c.args.image.now c.args.plan.now c.args.cert.now) _ c.report_text.result r c.report_text.ensures p
+    (λ r p. told_text _ (IsReport c.args.image.now c.args.plan.now c.args.cert.now) _ c.report_command_text.result r c.report_command_text.ensures p
     (λ t is e. reported t c.in-Yes.ensures.judges.0 (subst (λ n. Safe c.args.image.now c.args.plan.now n) c.in-Yes.ensures.judges.1 c.in-Yes.ensures.safe) is e))
 
 pub returns-in-No : goal.returns-in-No

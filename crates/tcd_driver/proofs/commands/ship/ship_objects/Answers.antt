@@ -13,5 +13,5 @@ returns-in-Ok c =
 pub returns-in-Err : goal.returns-in-Err
 returns-in-Err c =
     λ ss are. told_more _ _ c.report.result c.report.ensures
-    (λ r p. unlinked_report _ c.args.names.now.elf.now c.args.names.now.cert.now c.args.plan.now c.args.layout.now ss c.args.objects.now c.in-Err.e c.link_line.result r are c.in-Err.ensures.err c.link_line.ensures.line
-    (λ e. was_made _ c.link_line.result p (c.link_line.ensures.memory e)) p)
+    (λ r p. unlinked_report _ c.args.names.now.elf.now c.args.names.now.cert.now c.args.plan.now c.args.layout.now ss c.args.objects.now c.in-Err.e c.bad_link_line.result r are c.in-Err.ensures.err c.bad_link_line.ensures.line
+    (λ e. was_made _ c.bad_link_line.result p (c.bad_link_line.ensures.memory e)) p)

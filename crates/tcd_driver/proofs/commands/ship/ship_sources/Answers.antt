@@ -2,7 +2,7 @@ use Rattle.std.proofs.Common.{◌∙◌, ◌∷◌, ◌++◌, [], ap, arith, sub
 use Rattle.std.specs.Prelude.{map, string_bytes}
 use Rattle.std.proofs.lemmas.List.{length-map}
 use Rattle.tcd_forms.specs.Forms.{SourceData, placed_source_form}
-use Rattle.tcd_driver.specs.Ship.{AreSourcesOf, shipped_by}
+use Rattle.tcd_driver.specs.Ship.{AreSourcesOfObjects, shipped_by}
 use Rattle.tcd_reading.proofs.EachReads.{next_stops, next_memory, all_read, name_here}
 use Rattle.tcd_driver.proofs.ShipReports.{no_sources, more_sources}
 use Rattle.tcd_driver.proofs.commands.ship.ship_sources.Goals as goal
@@ -30,4 +30,4 @@ pub returns : goal.returns
 returns g c =
     all_read SourceData placed_source_form (map string_bytes c.args.names.now.sources.now) (shipped_by c.args.names.now c.args.plan.now c.args.layout.now) _ c.loop-i.i c.loop-i.invariant.sources _ _ c.ship_objects.result
     (let e = length-map c.args.names.now.sources.now string_bytes in omega arith) c.loop-i.invariant.read.leads
-    (c.ship_objects.ensures c.loop-i.invariant.sources (subst (λ os. AreSourcesOf c.loop-i.invariant.sources os) (sym c.deref.ensures.value) c.loop-i.invariant.are))
+    (c.ship_objects.ensures c.loop-i.invariant.sources (subst (λ os. AreSourcesOfObjects c.loop-i.invariant.sources os) (sym c.deref.ensures.value) c.loop-i.invariant.are))

@@ -30,8 +30,8 @@ returns-then-certs-len g c =
     ((leads_read _ _ _ _ _ _ _ c.in-Ok-read_input.ensures.leaves c.in-Ok-read_input.ensures.later c.in-Ok-read_input.ensures.found).comes _ _
     ((leads_read _ _ _ _ _ _ _ c.in-Ok-read_input-2.ensures.leaves c.in-Ok-read_input-2.ensures.later c.in-Ok-read_input-2.ensures.found).comes _ _
     (comes_counted (map string_bytes c.args.certs.now) c.in-Ok-read_input-2.list
-    (IsTaskcerting (map string_bytes c.args.certs.now) c.in-Ok.image c.in-Ok-read_input.board c.in-Ok-read_input-2.list) (g.F.Files.seen c.read_input-3.new.files) c.make_certs.result
-    (length-map c.args.certs.now string_bytes ∙ c.if-certs-len.true ∙ c.len.ensures.value ∙ ap (λ (t : TasksData). length t.list) c.list.view_is) c.make_certs.ensures)))
+    (IsTaskcerting (map string_bytes c.args.certs.now) c.in-Ok.image c.in-Ok-read_input.board c.in-Ok-read_input-2.list) (g.F.Files.seen c.read_input-3.new.files) c.certify_all_tasks.result
+    (length-map c.args.certs.now string_bytes ∙ c.if-certs-len.true ∙ c.len.ensures.value ∙ ap (λ (t : TasksData). length t.list) c.list.view_is) c.certify_all_tasks.ensures)))
 
 pub returns : goal.returns
 returns g c =
@@ -41,4 +41,4 @@ returns g c =
     (comes_miscounted (map string_bytes c.args.certs.now) c.in-Ok-read_input-2.list
     (IsTaskcerting (map string_bytes c.args.certs.now) c.in-Ok.image c.in-Ok-read_input.board c.in-Ok-read_input-2.list) (g.F.Files.seen c.read_input-3.new.files) c.report.result
     (λ same. c.if-certs-len.false (sym (length-map c.args.certs.now string_bytes) ∙ same ∙ sym (c.len.ensures.value ∙ ap (λ (t : TasksData). length t.list) c.list.view_is)))
-    (told_more _ _ c.report.result c.report.ensures (λ r p. report_is _ (λ t. says BadInput t) c.tasks_line.result r _ c.tasks_line.ensures p)))))
+    (told_more _ _ c.report.result c.report.ensures (λ r p. report_is _ (λ t. says BadInput t) c.bad_tasks_line.result r _ c.bad_tasks_line.ensures p)))))

@@ -19,4 +19,4 @@ pub returns : goal.returns
 returns g c =
     (leads_read _ _ _ _ _ _ _ c.in-Ok.ensures.leaves c.in-Ok.ensures.later c.in-Ok.ensures.found).comes _ _
     ((leads_read _ _ _ _ _ _ _ c.in-Ok-read_input.ensures.leaves c.in-Ok-read_input.ensures.later c.in-Ok-read_input.ensures.found).comes _ _
-    ((leads_read _ _ _ _ _ _ _ c.in-Ok-read_input-2.ensures.leaves c.in-Ok-read_input-2.ensures.later c.in-Ok-read_input-2.ensures.found).comes _ _ c.read_certs.ensures))
+    ((leads_read _ _ _ _ _ _ _ c.in-Ok-read_input-2.ensures.leaves c.in-Ok-read_input-2.ensures.later c.in-Ok-read_input-2.ensures.found).comes _ _ c.read_task_certs.ensures))

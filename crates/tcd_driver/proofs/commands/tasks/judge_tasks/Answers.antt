@@ -8,4 +8,4 @@ loop-u-preserved c =
     next_tallied c.args.image.now c.args.plan.now c.args.tasks.now c.args.certs.now c.index-certs-u.result c.loop-u.u c.loop-u.sum c.in-Yes.need c.from-sum.result
     (cert_here c.args.certs.now c.loop-u.u c.index-certs-u.result (omega arith) c.index-certs-u.is) (omega arith) c.loop-u.invariant
     (subst (λ v. JudgesTask c.args.image.now c.args.plan.now c.args.tasks.now c.index-certs-u.result c.loop-u.u v) c.in-Yes.is c.in_ok-need.ensures)
-    (c.from-sum.ensures ∙ c.need_to_count.ensures)
+    (c.from-sum.ensures ∙ c.task_need_to_count.ensures)

@@ -12,7 +12,7 @@ use Rattle.tcd_driver.proofs.commands.tasks.tasks_verdict.Goals as goal
 pub returns-in-Some : goal.returns-in-Some
 returns-in-Some c =
     told_more _ (IsTasksVerdict c.args.image.now c.args.plan.now c.args.tasks.now c.args.certs.now) c.report.result c.report.ensures
-    (λ r p. no_switch c.in-Some.addr c.in-Some.ensures.some (report_is _ (λ t. says Refused t) c.switch_line.result r _ c.switch_line.ensures p))
+    (λ r p. no_switch c.in-Some.addr c.in-Some.ensures.some (report_is _ (λ t. says Refused t) c.refused_switch_line.result r _ c.refused_switch_line.ensures p))
 
 pub returns-then-sum-from : goal.returns-then-sum-from
 returns-then-sum-from c =

@@ -5,8 +5,8 @@ use Rattle.depth_cert.specs.declared.keys.Key.{Key}
 use Rattle.depth_cert.specs.declared.points.Point.{Point}
 use Rattle.depth_cert.specs.Nodes.{NodeData}
 use Rattle.cfg_recover.specs.LocalFaults.{IsFaultless}
-use Rattle.tcd_report.specs.Graphs.{ArePointLines, AreJoined, key_front}
-use Rattle.tcd_report.specs.Judging.{GrowsBy}
+use Rattle.tcd_report.specs.Graphs.{ArePointLines, AreJoinedLines, key_front}
+use Rattle.tcd_report.specs.Texts.{GrowsBy}
 use Rattle.depth_cert.specs.Points.{point_of}
 use Rattle.tcd_report.proofs.GraphLemmas.Joining.{grown_push}
 use Rattle.tcd_report.proofs.JudgedPoints.{point_values, point_faultless}
@@ -51,5 +51,5 @@ pub returns-clause-lines : goal.returns-clause-lines
 returns-clause-lines c =
     let j = c.args.judged.now in
     let inv = c.loop-addr.invariant in
-    subst (λ (l : List Point). GrowsBy (AreJoined (ArePointLines j.image.now j.plan.now j.cert.now (c.args.node.now).key) l) (string_bytes c.args.graph.now.text) (string_bytes c.loop-addr.graph.text))
+    subst (λ (l : List Point). GrowsBy (AreJoinedLines (ArePointLines j.image.now j.plan.now j.cert.now (c.args.node.now).key) l) (string_bytes c.args.graph.now.text) (string_bytes c.loop-addr.graph.text))
     (sym (walked_all (c.args.node.now).points inv.done (c.loop-addr.walk).left inv.split c.in_default.ensures.0)) inv.grown

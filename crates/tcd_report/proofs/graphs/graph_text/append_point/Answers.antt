@@ -14,7 +14,7 @@ use Rattle.tcd_report.proofs.graphs.graph_text.append_point.Goals as goal
 pub append_edges-requires-clause-ascii : goal.append_edges-requires-clause-ascii
 append_edges-requires-clause-ascii c =
     let front_is : c.as_str-3.result.now ≡ line_front c.args.key.now c.args.addr =
-    c.as_str-3.ensures.value ∙ c.in_ok-set_address.ensures ∙ ap (λ l. l ++ (hex_word c.args.addr ++ 32 ∷ [])) (c.as_str.ensures.value ∙ c.requires.front) in
+    c.as_str-3.ensures.value ∙ c.in_ok-set_point_line_front.ensures ∙ ap (λ l. l ++ (hex_word c.args.addr ++ 32 ∷ [])) (c.as_str.ensures.value ∙ c.requires.front) in
     subst IsAscii (sym front_is) (line_front_ascii c.args.key.now c.args.addr (omega arith) c.requires.ascii)
 
 pub append_edges-requires-clause-handlers : goal.append_edges-requires-clause-handlers
@@ -31,8 +31,8 @@ returns-clause-lines c =
     let ways : Edges = record c.find_edges.new.ways { irq = c.set_front.new.known } in
     let are : AreEdges j.cert.now (duties_at j key (point_of c.args.addr c.args.s.now) c.in-Some.found) ways =
     record { to = found.to; call = found.call; back = found.back; sys = found.sys; aln = found.aln; irq = c.in_ok-set_front.ensures.entries ∙ found.irq } in
-    let front_is : string_bytes c.set_address.new.front ≡ line_front key c.args.addr =
-    c.in_ok-set_address.ensures ∙ ap (λ l. l ++ (hex_word c.args.addr ++ 32 ∷ [])) (c.as_str.ensures.value ∙ c.requires.front) in
+    let front_is : string_bytes c.set_point_line_front.new.front ≡ line_front key c.args.addr =
+    c.in_ok-set_point_line_front.ensures ∙ ap (λ l. l ++ (hex_word c.args.addr ++ 32 ∷ [])) (c.as_str.ensures.value ∙ c.requires.front) in
     on_ok_weaker c.append_leaving.result
     (λ whole.
     point_lines j.image.now j.plan.now j.cert.now key (point_of c.args.addr c.args.s.now) c.in-Some.found.shape c.in-Some.found.size j.bounds.now ways before text (string_bytes c.append_leaving.new.text)

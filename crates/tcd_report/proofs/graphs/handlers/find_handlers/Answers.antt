@@ -1,17 +1,17 @@
 use Rattle.std.proofs.Common.{[], ◌∙◌, ap, refl}
 use Rattle.std.specs.Prelude.{codes}
-use Rattle.cfg_recover.specs.Entries.{vectors_in}
-use Rattle.tcd_report.specs.Graphs.{each_once, lines_to}
+use Rattle.tcd_report.specs.Graphs.Handlers.{irq_entry_vectors}
+use Rattle.tcd_report.specs.Graphs.{each_address_once, lines_to}
 use Rattle.tcd_report.proofs.GraphLemmas.HandlerLaws.{known_by}
 use Rattle.tcd_report.proofs.graphs.handlers.find_handlers.Goals as goal
 
 pub returns-clause-entries : goal.returns-clause-entries
 returns-clause-entries c =
-    c.in_ok-keep_once.ensures ∙ ap each_once (c.deref.ensures.value ∙ c.in_ok-set_vectors.ensures ∙ ap (vectors_in c.args.plan.now) (c.as_slice.ensures.value ∙ c.interrupts-irqs.ensures))
+    c.in_ok-keep_once.ensures ∙ ap each_address_once (c.deref.ensures.value ∙ c.in_ok-set_vectors.ensures ∙ ap (irq_entry_vectors c.args.plan.now) (c.as_slice.ensures.value ∙ c.interrupts-irqs.ensures))
 
 pub returns-clause-known : goal.returns-clause-known
 returns-clause-known c =
     let plan = c.args.plan.now in
     known_by plan _ c.args.s.now refl refl
-    (c.in_ok-keep_once.ensures ∙ ap each_once (c.deref.ensures.value ∙ c.in_ok-set_vectors.ensures ∙ ap (vectors_in plan) (c.as_slice.ensures.value ∙ c.interrupts-irqs.ensures)))
+    (c.in_ok-keep_once.ensures ∙ ap each_address_once (c.deref.ensures.value ∙ c.in_ok-set_vectors.ensures ∙ ap (irq_entry_vectors plan) (c.as_slice.ensures.value ∙ c.interrupts-irqs.ensures)))
     (record { front = []; sized = refl; are = c.in_ok-make_lines.ensures ∙ ap (lines_to [] (codes "irq ")) c.deref-2.ensures.value })

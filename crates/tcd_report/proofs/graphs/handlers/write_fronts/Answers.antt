@@ -19,10 +19,10 @@ loop-preserved c =
     let inv = c.loop.invariant in
     record {
       place = ap (λ n. n + (length c.args.front.now + 13)) inv.place ∙ next_place c.loop.counter (length c.args.front.now + 13);
-      size = c.write_front.auto.lines ∙ inv.size;
+      size = c.write_handler_front.auto.lines ∙ inv.size;
       old = inv.old;
       sized = inv.sized;
-      are = c.write_front.ensures ∙ front_more c.args.front.now inv.old c.args.entries.now c.loop.lines c.loop.counter c.loop.at inv.sized inv.place c.loop-test.true inv.are;
+      are = c.write_handler_front.ensures ∙ front_more c.args.front.now inv.old c.args.entries.now c.loop.lines c.loop.counter c.loop.at inv.sized inv.place c.loop-test.true inv.are;
     }
 
 pub returns : goal.returns

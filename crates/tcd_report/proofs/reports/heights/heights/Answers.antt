@@ -6,7 +6,7 @@ use Rattle.std.proofs.lemmas.List.Elements.{Contains-get_or}
 use Rattle.depth_cert.specs.declared.keys.Key.{Key}
 use Rattle.depth_cert.specs.Nodes.{NodeData}
 use Rattle.depth_cert.specs.Certs.{CertData, IsCert}
-use Rattle.tcd_report.specs.Reports.Heights.{IsMostOf, HasRowAt, IsTold}
+use Rattle.tcd_report.specs.Reports.Heights.{IsGreatestHeightOf, HasCalleeHeightAt, HasNodeHeight}
 use Rattle.tcd_report.specs.Reports.{rank_of}
 use Rattle.depth_cert.specs.Keys.{key_cmp}
 use Rattle.tcd_report.proofs.ReportLemmas.HeightLaws.{tells_low, tells_more, has_more, height_is, ranked, callees_known, all_known}
@@ -28,13 +28,13 @@ unreachable-requires c =
     let f : None ≡ Some r.0 = c.in_default.ensures ∙ (r.1).0 in
     cc
 
-pub rows_from-rows-requires-clause-low : goal.rows_from-rows-requires-clause-low
-rows_from-rows-requires-clause-low c =
+pub longest_chain_from-rows-requires-clause-low : goal.longest_chain_from-rows-requires-clause-low
+longest_chain_from-rows-requires-clause-low c =
     let j = c.args.judged.now in
     tells_low j.image.now j.plan.now j.cert.now (c.version-version.ensures.limits) c.requires.accepted c.loop-key.heights c.loop-key.invariant.tells
 
-pub rows_from-rows-requires-clause-stands : goal.rows_from-rows-requires-clause-stands
-rows_from-rows-requires-clause-stands c =
+pub longest_chain_from-rows-requires-clause-stands : goal.longest_chain_from-rows-requires-clause-stands
+longest_chain_from-rows-requires-clause-stands c =
     let cert : CertData = c.args.judged.now.cert.now in
     let is : IsCert cert = c.version-version.ensures.limits in
     let order : List (ℕ × Key) = c.deref-key-items.result.now in
@@ -68,11 +68,11 @@ loop-key-preserved c =
     let sorted : IsSortedBy (λ x y. is_lt (ordering_then (nat_cmp x.0 y.0) (key_cmp x.1 y.1))) order =
     subst (λ (l : List (ℕ × Key)). IsSortedBy (λ x y. is_lt (ordering_then (nat_cmp x.0 y.0) (key_cmp x.1 y.1))) l) (sym c.deref-key-items.ensures.value) c.in_ok-sort.ensures.sorted in
     let heights = c.loop-key.heights in
-    let rows : ℕ = c.rows_from-rows.result in
-    let most : IsMostOf (HasRowAt j.image.now j.plan.now cert heights (r.0).key) (r.0).points rows =
-    subst (λ (n : NodeData). IsMostOf (HasRowAt j.image.now j.plan.now cert heights n.key) n.points rows) node_is c.rows_from-rows.ensures in
+    let rows : ℕ = c.longest_chain_from-rows.result in
+    let most : IsGreatestHeightOf (HasCalleeHeightAt j.image.now j.plan.now cert heights (r.0).key) (r.0).points rows =
+    subst (λ (n : NodeData). IsGreatestHeightOf (HasCalleeHeightAt j.image.now j.plan.now cert heights n.key) n.points rows) node_is c.longest_chain_from-rows.ensures in
     let known = callees_known j.image.now j.plan.now cert is c.requires.accepted heights key_cmp order moved sorted i x r.0 lt at c.loop-key.invariant.all (r.1).1 in
-    let told : IsTold j.image.now j.plan.now cert x.1 rows =
+    let told : HasNodeHeight j.image.now j.plan.now cert x.1 rows =
     record {
       node = r.0;
       stands = ((r.1).1).stands;

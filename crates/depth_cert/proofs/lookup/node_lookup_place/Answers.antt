@@ -1,0 +1,13 @@
+use Rattle.std.proofs.Common.{ltb, ℕ, rules}
+use Rattle.std.proofs.lemmas.List.Sorted.{IsPartitionPoint-from_clause, IsPartitionedBy-ltb}
+use Rattle.depth_cert.specs.Keys.{number_of_key}
+use Rattle.depth_cert.specs.Nodes.{NodeData}
+use Rattle.depth_cert.proofs.FindLaws.{non_decreasing}
+use Rattle.depth_cert.proofs.lookup.node_lookup_place.Goals as goal
+
+pub returns : goal.returns
+returns c =
+    let number : NodeData → ℕ = λ n. number_of_key n.key in
+    IsPartitionPoint-from_clause (λ n. ltb (number n) c.args.number) c.args.nodes.now c.partition_point.result c.partition_point.ensures.partitioned
+    (IsPartitionedBy-ltb number c.args.nodes.now c.args.number (non_decreasing number c.args.nodes.now c.requires))
+    (λ a r f' called. search rules)

@@ -1,0 +1,35 @@
+use Rattle.std.proofs.Common.{sym, subst, ℕ, List, [], ◌∷◌}
+use Rattle.std.proofs.lemmas.List.{take_all}
+use Rattle.depth_cert.specs.declared.keys.Key.{Key}
+use Rattle.cfg_recover.specs.Entries.{call_key}
+use Rattle.cfg_recover.specs.Duties.{owed, resume}
+use Rattle.depth_maker.specs.VisitDuties.{resumes_by, JoinedBy, OwesDuty}
+use Rattle.depth_maker.proofs.Lawful.{lawful}
+use Rattle.depth_maker.proofs.PartLemmas.{duties_more_map, duties_none, owes_at_map, visited_after}
+use Rattle.depth_maker.proofs.calls.join_call_returns.Goals as goal
+
+pub loop-t-init : goal.loop-t-init
+loop-t-init c = duties_none _ _ _ c.args.v.now.key c.args.v.now.addr c.args.v.now.state.now c.args.table.now c.requires.visited.fine
+
+pub join_return_after_entry-requires-clause-visited : goal.join_return_after_entry-requires-clause-visited
+join_return_after_entry-requires-clause-visited c =
+    let v = c.args.v.now in
+    visited_after _ _ _ v.key v.addr v.state.now c.args.table.now _ _ c.requires.visited c.loop-t.invariant
+
+pub join_return_after_entry-requires-clause-owes : goal.join_return_after_entry-requires-clause-owes
+join_return_after_entry-requires-clause-owes c =
+    let v = c.args.v.now in
+    subst (λ (k : Key). OwesDuty v (resume k c.args.back)) (sym c.entered_key-key.ensures)
+    (owes_at_map _ _ _ v.key v.addr v.state.now (λ (n : ℕ). owed 4 (resume (call_key v.key n) c.args.back)) c.args.targets.now c.loop-t.t-index c.loop-t-test.true c.requires.owes)
+
+pub loop-t-preserved : goal.loop-t-preserved
+loop-t-preserved c =
+    let v = c.args.v.now in
+    duties_more_map _ _ _ v.key v.addr v.state.now (lawful _ _ _ v.ground.now.sound) c.args.table.now c.loop-t.table c.join_return_after_entry.new.table (λ (n : ℕ). owed 4 (resume (call_key v.key n) c.args.back))
+    c.args.targets.now c.loop-t.t-index c.loop-t-test.true c.requires.visited c.requires.owes c.loop-t.invariant
+    (subst (λ (k : Key). JoinedBy v c.loop-t.table c.join_return_after_entry.new.table (owed 4 (resume k c.args.back) ∷ [])) c.entered_key-key.ensures c.in_ok-join_return_after_entry.ensures.ok)
+
+pub returns-clause-ok : goal.returns-clause-ok
+returns-clause-ok c =
+    let v = c.args.v.now in
+    subst (λ (l : List ℕ). JoinedBy v c.args.table.now c.loop-t.table (resumes_by v c.args.back l)) (take_all c.loop-t.t-index c.args.targets.now c.loop-t-test.false) c.loop-t.invariant

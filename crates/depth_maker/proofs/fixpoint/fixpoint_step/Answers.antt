@@ -1,0 +1,56 @@
+use Rattle.std.proofs.Common.{refl, sym, ◌∙◌, ◌≡◌, inr, false}
+use Rattle.frame_places.specs.declared.places.Mark.TheVariants.{Open}
+use Rattle.frame_places.specs.Marks.{is_queued, mark_for}
+use Rattle.frame_places.proofs.WorkLemmas.{takes_there}
+use Rattle.depth_maker.specs.declared.table.Table as made
+use Rattle.depth_maker.proofs.Lawful.{lawful}
+use Rattle.depth_maker.proofs.LevelSteps.{same_level, shorter, visited_one}
+use Rattle.depth_maker.proofs.VisitLemmas.{opened, passed_over, same_fine}
+use Rattle.depth_maker.proofs.fixpoint.fixpoint_step.Goals as goal
+
+pub returns-in_default-clause-steps : goal.returns-in_default-clause-steps
+returns-in_default-clause-steps c = (
+  same_fine _ _ _ c.args.table.now _ refl (c.in_default.ensures.empty ∙ sym c.in_default.ensures.none) c.requires.fine,
+  c.requires.none,
+  same_level c.args.table.now _ (λ q. refl) refl refl,
+  c.in_default.ensures.empty,
+)
+
+pub returns-then-not-has_queued_mark-clause-steps : goal.returns-then-not-has_queued_mark-clause-steps
+returns-then-not-has_queued_mark-clause-steps c =
+    let s = c.args.table.now in
+    let number = c.in-Some.number in
+    let takes = c.in-Some.ensures.some in
+    let x = c.requires.fine.listed.known number (takes_there s.work c.pop.new.self number takes) in
+    let idle : is_queued (mark_for s.places x.0) ≡ false = sym (c.has_queued_mark.ensures x.0 x.1) ∙ c.if-not-has_queued_mark.true in (
+      passed_over _ _ _ s _ x.0 number refl takes x.1 idle c.requires.fine,
+      c.requires.none,
+      inr (same_level s _ (λ q. refl) refl refl, shorter s.work c.pop.new.self number takes),
+    )
+
+pub fixpoint_visit-requires-clause-fine : goal.fixpoint_visit-requires-clause-fine
+fixpoint_visit-requires-clause-fine c =
+    let s = c.args.table.now in
+    let number = c.in-Some.number in
+    let takes = c.in-Some.ensures.some in
+    let x = c.requires.fine.listed.known number (takes_there s.work c.pop.new.self number takes) in
+    (opened _ _ _ (lawful _ _ _ c.args.ground.now.sound) s _ x.0 Open (c.begin_visit.ensures x.0 x.1) refl refl refl refl refl c.requires.fine c.requires.none takes x.1).0
+
+pub fixpoint_visit-requires-clause-opened : goal.fixpoint_visit-requires-clause-opened
+fixpoint_visit-requires-clause-opened c =
+    let s = c.args.table.now in
+    let number = c.in-Some.number in
+    let takes = c.in-Some.ensures.some in
+    let x = c.requires.fine.listed.known number (takes_there s.work c.pop.new.self number takes) in
+    (x.0, (opened _ _ _ (lawful _ _ _ c.args.ground.now.sound) s _ x.0 Open (c.begin_visit.ensures x.0 x.1) refl refl refl refl refl c.requires.fine c.requires.none takes x.1).1)
+
+pub returns-clause-steps : goal.returns-clause-steps
+returns-clause-steps c =
+    let s = c.args.table.now in
+    let number = c.in-Some.number in
+    let takes = c.in-Some.ensures.some in
+    let x = c.requires.fine.listed.known number (takes_there s.work c.pop.new.self number takes) in
+    let m = c.begin_visit.ensures x.0 x.1 in
+    let o : made.Table = record s { places = c.begin_visit.new.places; work = c.pop.new.self; near = number } in
+    let v = c.in_ok-fixpoint_visit.ensures.ok in
+    (v.0, v.1, visited_one s o c.fixpoint_visit.new.table (same_level s o m.values refl refl) (shorter s.work c.pop.new.self number takes) v.2)

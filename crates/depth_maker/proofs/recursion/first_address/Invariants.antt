@@ -1,6 +1,0 @@
-use Rattle.std.proofs.Common.{take}
-use Rattle.depth_maker.specs.Recursing.{IsFirstMarked}
-use Rattle.depth_maker.proofs.recursion.first_address.Given as goal
-
-abbrev pub invariant-loop-place : goal.invariant-loop-place
-invariant-loop-place l = IsFirstMarked l.source l.marks l.key (take l.place-index l.points) l.first

@@ -1,5 +1,0 @@
-use Rattle.depth_maker.proofs.RecursSteps.{first_other}
-use Rattle.depth_maker.proofs.recursion.place_with.Goals as goal
-
-pub returns-in-None : goal.returns-in-None
-returns-in-None c ys h = first_other c.args.source.now c.args.marks.now c.args.key ys c.args.place c.args.first h (λ p same m. c.in-None.ensures p same)

@@ -1,7 +1,0 @@
-use Rattle.std.proofs.Common.{take}
-use Rattle.depth_maker.specs.SpelledCert.{WritesPoints}
-use Rattle.depth_maker.specs.Spots.{spots_on}
-use Rattle.depth_maker.proofs.spelling.write_points.Given as goal
-
-abbrev pub invariant-loop-p : goal.invariant-loop-p
-invariant-loop-p l = WritesPoints l.source l.key (take l.p-index (spots_on l.source l.points)) l.initial.out.items l.out.items

@@ -1,0 +1,79 @@
+use Rattle.std.proofs.Common.{◌++◌}
+use Rattle.cfg_recover.specs.Duties.{duties_of, leavings_of}
+use Rattle.depth_maker.specs.VisitDuties.{access_by, entries_by, interrupts_by, successors_by}
+use Rattle.depth_maker.proofs.Lawful.{lawful}
+use Rattle.depth_maker.proofs.PartLemmas.{on_five, owes_back, owes_duties, owes_front, visited_after}
+use Rattle.depth_maker.proofs.visit.join_visit_duties.Goals as goal
+
+pub returns-clause-ok : goal.returns-clause-ok
+unfolding duties_of
+returns-clause-ok c =
+    let v = c.args.v.now in
+    let f = c.args.found.now in
+    on_five _ _ _ v.key v.addr v.state.now (lawful _ _ _ v.ground.now.sound) c.args.table.now c.join_successors.new.table c.join_entries.new.table c.join_access.new.table c.join_interrupts.new.table c.join_leavings.new.table
+    (successors_by v f) (entries_by v f.shape f.size) (access_by v f) (interrupts_by v) (leavings_of v.key v.state.now f.shape) c.join_leavings.result c.requires.visited
+    (owes_duties _ _ _ v.key v.addr v.state.now f c.requires.found) c.in_ok-join_successors.ensures.ok c.in_ok-join_entries.ensures.ok c.in_ok-join_access.ensures.ok c.in_ok-join_interrupts.ensures.ok c.join_leavings.ensures.ok
+
+pub join_successors-requires-clause-owes : goal.join_successors-requires-clause-owes
+unfolding duties_of
+join_successors-requires-clause-owes c =
+    let v = c.args.v.now in
+    let f = c.args.found.now in
+    let a = successors_by v f in let b = entries_by v f.shape f.size in let d = access_by v f in let e = interrupts_by v in let l = leavings_of v.key v.state.now f.shape in
+    owes_front _ _ _ v.key v.addr v.state.now a b (owes_front _ _ _ v.key v.addr v.state.now (a ++ b) d (owes_front _ _ _ v.key v.addr v.state.now (a ++ b ++ d) e (owes_front _ _ _ v.key v.addr v.state.now (a ++ b ++ d ++ e) l (owes_duties _ _ _ v.key v.addr v.state.now f c.requires.found))))
+
+pub join_entries-requires-clause-owes : goal.join_entries-requires-clause-owes
+unfolding duties_of
+join_entries-requires-clause-owes c =
+    let v = c.args.v.now in
+    let f = c.args.found.now in
+    let a = successors_by v f in let b = entries_by v f.shape f.size in let d = access_by v f in let e = interrupts_by v in let l = leavings_of v.key v.state.now f.shape in
+    owes_back _ _ _ v.key v.addr v.state.now a b (owes_front _ _ _ v.key v.addr v.state.now (a ++ b) d (owes_front _ _ _ v.key v.addr v.state.now (a ++ b ++ d) e (owes_front _ _ _ v.key v.addr v.state.now (a ++ b ++ d ++ e) l (owes_duties _ _ _ v.key v.addr v.state.now f c.requires.found))))
+
+pub join_access-requires-clause-owes : goal.join_access-requires-clause-owes
+unfolding duties_of
+join_access-requires-clause-owes c =
+    let v = c.args.v.now in
+    let f = c.args.found.now in
+    let a = successors_by v f in let b = entries_by v f.shape f.size in let d = access_by v f in let e = interrupts_by v in let l = leavings_of v.key v.state.now f.shape in
+    owes_back _ _ _ v.key v.addr v.state.now (a ++ b) d (owes_front _ _ _ v.key v.addr v.state.now (a ++ b ++ d) e (owes_front _ _ _ v.key v.addr v.state.now (a ++ b ++ d ++ e) l (owes_duties _ _ _ v.key v.addr v.state.now f c.requires.found)))
+
+pub join_interrupts-requires-clause-owes : goal.join_interrupts-requires-clause-owes
+unfolding duties_of
+join_interrupts-requires-clause-owes c =
+    let v = c.args.v.now in
+    let f = c.args.found.now in
+    let a = successors_by v f in let b = entries_by v f.shape f.size in let d = access_by v f in let e = interrupts_by v in let l = leavings_of v.key v.state.now f.shape in
+    owes_back _ _ _ v.key v.addr v.state.now (a ++ b ++ d) e (owes_front _ _ _ v.key v.addr v.state.now (a ++ b ++ d ++ e) l (owes_duties _ _ _ v.key v.addr v.state.now f c.requires.found))
+
+pub join_leavings-requires-clause-owes : goal.join_leavings-requires-clause-owes
+unfolding duties_of
+join_leavings-requires-clause-owes c =
+    let v = c.args.v.now in
+    let f = c.args.found.now in
+    let a = successors_by v f in let b = entries_by v f.shape f.size in let d = access_by v f in let e = interrupts_by v in let l = leavings_of v.key v.state.now f.shape in
+    owes_back _ _ _ v.key v.addr v.state.now (a ++ b ++ d ++ e) l (owes_duties _ _ _ v.key v.addr v.state.now f c.requires.found)
+
+pub join_entries-requires-clause-visited : goal.join_entries-requires-clause-visited
+join_entries-requires-clause-visited c = let v = c.args.v.now in visited_after _ _ _ v.key v.addr v.state.now c.args.table.now _ _ c.requires.visited c.in_ok-join_successors.ensures.ok
+
+pub join_access-requires-clause-visited : goal.join_access-requires-clause-visited
+join_access-requires-clause-visited c =
+    let v = c.args.v.now in
+    visited_after _ _ _ v.key v.addr v.state.now _ _ _ (visited_after _ _ _ v.key v.addr v.state.now c.args.table.now _ _ c.requires.visited c.in_ok-join_successors.ensures.ok) c.in_ok-join_entries.ensures.ok
+
+pub join_interrupts-requires-clause-visited : goal.join_interrupts-requires-clause-visited
+join_interrupts-requires-clause-visited c =
+    let v = c.args.v.now in
+    visited_after _ _ _ v.key v.addr v.state.now _ _ _
+    (visited_after _ _ _ v.key v.addr v.state.now _ _ _ (visited_after _ _ _ v.key v.addr v.state.now c.args.table.now _ _ c.requires.visited c.in_ok-join_successors.ensures.ok) c.in_ok-join_entries.ensures.ok)
+    c.in_ok-join_access.ensures.ok
+
+pub join_leavings-requires-clause-visited : goal.join_leavings-requires-clause-visited
+join_leavings-requires-clause-visited c =
+    let v = c.args.v.now in
+    visited_after _ _ _ v.key v.addr v.state.now _ _ _
+    (visited_after _ _ _ v.key v.addr v.state.now _ _ _
+    (visited_after _ _ _ v.key v.addr v.state.now _ _ _ (visited_after _ _ _ v.key v.addr v.state.now c.args.table.now _ _ c.requires.visited c.in_ok-join_successors.ensures.ok) c.in_ok-join_entries.ensures.ok)
+    c.in_ok-join_access.ensures.ok)
+    c.in_ok-join_interrupts.ensures.ok

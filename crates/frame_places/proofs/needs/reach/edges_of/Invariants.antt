@@ -1,6 +1,0 @@
-use Rattle.std.proofs.Common.{take}
-use Rattle.frame_places.specs.NodeGraph.{AreEdges}
-use Rattle.frame_places.proofs.needs.reach.edges_of.Given as goal
-
-abbrev pub invariant-loop-row : goal.invariant-loop-row
-invariant-loop-row l = AreEdges (take l.row-index l.rows) l.edges.keys

@@ -1,6 +1,0 @@
-use Rattle.std.proofs.Common.{ℕ, take, Contains}
-use Rattle.frame_places.specs.Marks.{IsMarked}
-use Rattle.frame_places.proofs.needs.reach.has_marked.Given as goal
-
-abbrev pub invariant-loop-node : goal.invariant-loop-node
-invariant-loop-node l = (t : ℕ) → Contains (take l.node-index l.nodes) t → IsMarked l.marks t → ⊥

@@ -1,8 +1,0 @@
-use Rattle.std.proofs.Common.{refl}
-use Rattle.small_states.proofs.incoming.context_of.Goals as goal
-
-pub returns-in-Changed : goal.returns-in-Changed
-returns-in-Changed c = rw (c.priority-ccpn.ensures, c.in-Changed.is) refl
-
-pub returns-in-Leaving : goal.returns-in-Leaving
-returns-in-Leaving c = rw (c.priority-ccpn.ensures, c.in-Leaving.is) refl

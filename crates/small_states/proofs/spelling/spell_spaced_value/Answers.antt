@@ -1,0 +1,48 @@
+use Rattle.std.proofs.Common.{◌∙◌, ◌++◌, ℕ, List, replicate, ap, subst, sym}
+use Rattle.std.proofs.lemmas.List.{append-nil}
+use Rattle.std.proofs.lemmas.Result.{on_ok_weaker}
+use Rattle.value_domain.specs.declared.values.Val.{Val}
+use Rattle.value_domain.specs.declared.values.Val.TheVariants.{Set, Span}
+use Rattle.value_domain.specs.Values.{IsWell}
+use Rattle.depth_cert.specs.Spelling.{bytes_of_value}
+use Rattle.small_states.specs.SmallValues.{small_value_of}
+use Rattle.small_states.proofs.HeldWords.{set_of}
+use Rattle.small_states.proofs.spelling.spell_spaced_value.Goals as goal
+
+pub put_set-requires : goal.put_set-requires
+put_set-requires c =
+    let value = sym c.v.view_is ∙ ap small_value_of c.in-Many.is ∙ sym c.as_ref.ensures ∙ set_of c.as_ref.result.now c.in-Some.words.now c.in-Some.ensures in
+    (subst IsWell value c.requires).few
+
+pub returns-in-Some : goal.returns-in-Some
+returns-in-Some c =
+    let value = sym c.v.view_is ∙ ap small_value_of c.in-Many.is ∙ sym c.as_ref.ensures ∙ set_of c.as_ref.result.now c.in-Some.words.now c.in-Some.ensures in
+    on_ok_weaker c.put_set.result
+    (λ e.
+    e
+    ∙ ap (λ (l : List ℕ). l ++ bytes_of_value (Set c.in-Some.words.now)) c.in_ok-put_anys.ensures
+    ∙ ap (λ (u : Val). ((c.args.out.now.items ++ c.args.gathered.now) ++ replicate c.args.anys 0) ++ bytes_of_value u) (sym value)) c.put_set.ensures
+
+pub put_range-requires : goal.put_range-requires
+put_range-requires c =
+    let value = sym c.v.view_is ∙ ap small_value_of c.in-Range.is in
+    (subst IsWell value c.requires).0
+
+pub returns-in-Range : goal.returns-in-Range
+returns-in-Range c =
+    let value = sym c.v.view_is ∙ ap small_value_of c.in-Range.is in
+    on_ok_weaker c.put_range.result
+    (λ e.
+    e
+    ∙ ap (λ (l : List ℕ). l ++ bytes_of_value (Span c.in-Range.lo c.in-Range.last c.in-Range.step)) c.in_ok-put_anys.ensures
+    ∙ ap (λ (u : Val). ((c.args.out.now.items ++ c.args.gathered.now) ++ replicate c.args.anys 0) ++ bytes_of_value u) (sym value)) c.put_range.ensures
+
+pub returns : goal.returns
+returns c =
+    let out = c.spell.new.out.items in
+    on_ok_weaker c.spell.result
+    (λ e.
+    ap (λ (l : List ℕ). out ++ l) c.in_ok-flush.ensures.none
+    ∙ append-nil out
+    ∙ e
+    ∙ ap (λ (l : List ℕ). l ++ bytes_of_value c.args.v.now) (c.in_ok-flush.ensures.added ∙ c.in_ok-put_anys.ensures)) c.spell.ensures

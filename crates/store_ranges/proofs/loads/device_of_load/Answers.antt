@@ -1,0 +1,8 @@
+use Rattle.tcd_plan.specs.PlanData.{plan_data}
+use Rattle.store_ranges.proofs.LoadLaws.{device_bounds}
+use Rattle.store_ranges.proofs.loads.device_of_load.Goals as goal
+
+pub returns-clause-bounds : goal.returns-clause-bounds
+returns-clause-bounds c =
+    let found = rw c.as_slice.ensures.value at c.device_range_at.ensures in
+    device_bounds (plan_data c.plan.inside) _ c.device_range_at.result c.plan.invariant found

@@ -1,5 +1,0 @@
-use Rattle.tcd_text.proofs.LineLaws.{lines_of-first}
-use Rattle.tcd_text.proofs.cuts.cut_line.Goals as goal
-
-pub returns-clause-lines : goal.returns-clause-lines
-returns-clause-lines c = rw (c.front_of.ensures, c.rest_of.ensures, c.line_end-end.ensures.end) (lines_of-first c.args.text.now c.requires)

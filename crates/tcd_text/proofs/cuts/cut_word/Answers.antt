@@ -1,9 +1,0 @@
-use Rattle.std.proofs.Common.{◌∙◌, sym}
-use Rattle.tcd_text.proofs.LineLaws.{split_at, split_whole}
-use Rattle.tcd_text.proofs.cuts.cut_word.Goals as goal
-
-pub returns-in-None : goal.returns-in-None
-returns-in-None c = split_whole c.args.text.now (sym c.find_blank.ensures.value ∙ c.in-None.is)
-
-pub returns-in-Some : goal.returns-in-Some
-returns-in-Some c = rw (c.front_of.ensures, c.rest_of.ensures) (split_at c.args.text.now c.in-Some.place (sym c.find_blank.ensures.value ∙ c.in-Some.is))
