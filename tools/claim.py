@@ -38,9 +38,10 @@ TOP = pathlib.Path(__file__).resolve().parent.parent
 HEADLINES = "tcd_driver.specs.Headlines"
 #: What part 2 begins with: which certificates are accepted, and which files are taken.
 LATER = (
-    "Accepts", "IsAcceptedWith", "IsAcceptedForTask", "IsLeastOfItsVersion", "EachIsRefused",
-    "KeepsCells", "KeepsApart", "CertData", "certificate_of", "bytes_of",
-    "refusal_of", "ImageErr", "PlanErr",
+    "Accepts", "IsAcceptedWithNeed", "IsAcceptedForTask", "IsLeastOfItsVersion", "EachIsRefused",
+    "KeepsCells", "KeepsApart", "CertData", "certificate_of",
+    "bytes_of", "bytes_of_cert", "bytes_of_routine", "assembled_code",
+    "refusal_of", "plan_refusal", "image_refusal", "reloc_value_refusal", "ImageErr", "PlanErr",
 )
 #: Two lists of one table, which are shown row by row beside each other.
 BESIDE = ("listed", "meanings")
